@@ -1,9 +1,10 @@
--- Known differences between a server and the rules, and how they are read. All of it is our own: docs/HISTORIES.md#allowances.
+-- Known differences between a server and the rules, and how they are read.
+-- Every rule here is the project's own: docs/HISTORIES.md#allowances.
 --     words_of          the words of a kind of statement
---     kind_of           the kind of what a session asks for
---     others_for        the rules' numbers for which a number that was seen may stand, beside itself
+--     kind_of           the kind of a request
+--     others_for        the rules' numbers for which a number that was seen may stand, in addition to its own
 --     allowance_of      what a line allows
---     allowances_of     what the lines of a text allow, or the number of the first that isn't so
+--     allowances_of     what the lines of a text allow, or the number of the first line that isn't an allowance
 --     IsAllowFaultOf    why a text couldn't be read
 use Rattle.std.specs.Prelude.{◌≡◌, ℕ, ◌+◌, ◌==◌, nat_lt, Bool, ◌&&◌, bytes_eq, if◌then◌else◌, Option, Some, None, Result, Ok, Err, List, [], ◌∷◌, codes, replicate, slice_get, slice_set}
 use Rattle.xa_xid.specs.Bytes.{unblank}
@@ -21,7 +22,7 @@ use Rattle.xa_record.specs.declared.allow_fault.AllowFault.{AllowFault}
 use Rattle.xa_record.specs.declared.allow_fault.AllowFault.TheVariants.{Line as LineFault, NoMemory}
 use Rattle.xa_record.specs.Lines.{is_silent}
 
--- the words of a statement's canonical form beside identifiers, keys and values
+-- the words of a statement's canonical form without identifiers, keys and values
 abbrev pub words_of : StatementKind → List ℕ
 words_of Start = codes "XA START"
 words_of End = codes "XA END"
@@ -52,12 +53,13 @@ kind_of_statement (ItsPut key value) = Some Put
 kind_of_statement (ItsDel key) = Some Del
 kind_of_statement ItsDisconnect = Some Disconnect
 
--- the kind of what a session asks for; a text that isn't a statement has none
+-- the kind of a request; a text that isn't a statement has none
 abbrev pub kind_of : Request → Option StatementKind
 kind_of (Given statement) = kind_of_statement statement
 kind_of Unread = None
 
--- the allowance lets the server's number stand for the rules' one, as the answer to a statement of this kind
+-- the allowance lets the server's number stand for the rules' number, as the answer to a statement of this
+-- kind
 abbrev pub lets_stand : Allowance → StatementKind → ℕ → Bool
 lets_stand one kind number = one.server == number && bytes_eq (words_of one.kind) (words_of kind)
 
@@ -66,16 +68,16 @@ abbrev pub allowed_for : List Allowance → StatementKind → ℕ → List ℕ
 allowed_for [] kind number = []
 allowed_for (one ∷ more) kind number = if lets_stand one kind number then one.rules ∷ allowed_for more kind number else allowed_for more kind number
 
--- so it is as the answer to what has such a kind, or none
+-- the same for a request that has such a kind, or none
 abbrev pub others_for : List Allowance → Option StatementKind → ℕ → List ℕ
 others_for allowances None number = []
 others_for allowances (Some kind) number = allowed_for allowances kind number
 
--- at each session's number, the kind of what it called for last
+-- at each session's number, the kind of the statement that it called for last
 abbrev pub no_kinds : List (Option StatementKind)
 no_kinds = replicate 17 None
 
--- once this event is seen
+-- after this event
 abbrev pub kinds_after : Event → List (Option StatementKind) → List (Option StatementKind)
 kinds_after (Call session request) kinds = slice_set kinds session (kind_of request)
 kinds_after event kinds = kinds
@@ -84,7 +86,7 @@ abbrev pub kind_at : Option (Option StatementKind) → Option StatementKind
 kind_at None = None
 kind_at (Some kind) = kind
 
--- the kind of what the session called for last
+-- the kind of the statement that the session called for last
 abbrev pub kind_asked : List (Option StatementKind) → ℕ → Option StatementKind
 kind_asked kinds session = kind_at (slice_get kinds session)
 
@@ -98,16 +100,16 @@ allowance_by rules kind None rest = None
 allowance_by rules kind (Some server) [] = allowance_within rules kind server
 allowance_by rules kind (Some server) (byte ∷ rest) = None
 
--- behind the words of the kind stands the server's number, and nothing behind that
+-- after the words of the kind comes the server's number, and nothing else
 abbrev pub allowance_with : ℕ → StatementKind → List ℕ → Option Allowance
 allowance_with rules kind text = allowance_by rules kind (number_of_word (first_word text)) (behind_word text)
 
--- behind XA COMMIT stands ONE PHASE
+-- after XA COMMIT comes ONE PHASE
 unfoldable pub one_phase_allowed : ℕ → List ℕ → List ℕ → Option Allowance
 one_phase_allowed rules word text =
     if bytes_eq word (codes "ONE") && bytes_eq (first_word text) (codes "PHASE:") then allowance_with rules CommitOnePhase (behind_word text) else None
 
--- behind XA stands a word, and the text behind it
+-- after XA come a word and a text
 unfoldable pub xa_allowed : ℕ → List ℕ → List ℕ → Option Allowance
 xa_allowed rules word text =
     if bytes_eq word (codes "START:") then allowance_with rules Start text else
@@ -118,7 +120,7 @@ xa_allowed rules word text =
     if bytes_eq word (codes "ROLLBACK:") then allowance_with rules Rollback text else
     if bytes_eq word (codes "RECOVER:") then allowance_with rules Recover text else None
 
--- behind the rules' number stands a word, and the text behind it
+-- after the rules' number come a word and a text
 unfoldable pub allowed : ℕ → List ℕ → List ℕ → Option Allowance
 allowed rules word text =
     if bytes_eq word (codes "XA") then xa_allowed rules (first_word text) (behind_word text) else
@@ -131,7 +133,8 @@ abbrev pub allowance_from : Option ℕ → List ℕ → Option Allowance
 allowance_from None text = None
 allowance_from (Some rules) text = allowed rules (first_word text) (behind_word text)
 
--- what a text allows, from its first byte on that isn't a blank: the rules' number, the words of a kind of statement with a colon, the server's number
+-- what a text allows that doesn't begin with a blank: the rules' number, the words of a kind of statement
+-- with a colon, the server's number
 unfoldable pub allowance_of : List ℕ → Option Allowance
 allowance_of text = allowance_from (number_of_word (first_word text)) (behind_word text)
 
@@ -139,7 +142,7 @@ abbrev pub and_more : Allowance → Result (List Allowance) ℕ → Result (List
 and_more one (Ok more) = Ok (one ∷ more)
 and_more one (Err number) = Err number
 
--- what the first line allows, if it isn't faulty, before what the others do
+-- what the first line allows, if it isn't faulty, followed by what the others allow
 abbrev pub first_allows : Result (Option Allowance) ℕ → Result (List Allowance) ℕ → Result (List Allowance) ℕ
 first_allows (Err number) rest = Err number
 first_allows (Ok None) rest = rest
@@ -149,20 +152,20 @@ abbrev pub or_faulty : ℕ → Option Allowance → Result (Option Allowance) �
 or_faulty number None = Err number
 or_faulty number (Some one) = Ok (Some one)
 
--- what the line of this number allows: nothing where it is blank or a comment
+-- what the line of this number allows: nothing if it is blank or a comment
 abbrev pub line_allows : ℕ → List ℕ → Result (Option Allowance) ℕ
 line_allows number line = if is_silent line then Ok None else or_faulty number (allowance_of (unblank line))
 
--- what lines allow, the first of which has this number, or the number of the first that isn't so
+-- what lines allow, the first of which has this number, or the number of the first that isn't an allowance
 unfoldable pub allowances_in : ℕ → List (List ℕ) → Result (List Allowance) ℕ
 allowances_in number [] = Ok []
 allowances_in number (line ∷ lines) = first_allows (line_allows number line) (allowances_in (number + 1) lines)
 
--- what the lines of a text allow, or the number of the first that isn't so
+-- what the lines of a text allow, or the number of the first that isn't an allowance
 unfoldable pub allowances_of : List ℕ → Result (List Allowance) ℕ
 allowances_of text = allowances_in 1 (lines_of text)
 
--- the number of that line, unless there was no memory
+-- the fault has the number of that line, unless there was no memory
 abbrev pub IsAllowFaultOf : Result (List Allowance) ℕ → AllowFault → Type 0
 IsAllowFaultOf said (LineFault number) = said ≡ Err number
 IsAllowFaultOf said NoMemory = Unit {0}

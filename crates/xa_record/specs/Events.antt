@@ -1,9 +1,9 @@
 -- Which events the lines of a record say.
---     request_called     what a session asks for that calls for a text
---     IsSeen             what is seen is what a return shows, rows in ascending order
+--     request_called     the request of a session that calls for a text
+--     IsSeen             what is seen is what a return shows, with rows in ascending order
 --     IsEvent            an event is what happens
---     AreEvents          so it is with each
---     AreCalls           the events of calls are those calls
+--     AreEvents          each event is what happens on its line
+--     AreCalls           the event of each call is that call
 use Rattle.std.specs.Prelude.{◌≡◌, ℕ, Option, Result, Ok, Err, List, [], ◌∷◌}
 use Rattle.std.specs.List.{AllZip}
 use Rattle.std.specs.List.Sorted.{IsPermutation, IsSorted}
@@ -26,11 +26,12 @@ abbrev pub request_read : Result Statement ℕ → Request
 request_read (Ok statement) = Given statement
 request_read (Err place) = Unread
 
--- what a session asks for that calls for a text; one that isn't a statement is answered 1064
+-- the request of a session that calls for a text; a text that isn't a statement is answered 1064
 abbrev pub request_called : List ℕ → Request
 request_called text = request_read (read_of text)
 
--- what is seen is what a return shows, rows in ascending order; a refusal stands for its number, and for those that the list has
+-- what is seen is what a return shows, with rows in ascending order; a refusal stands for its number, and for
+-- those in the list
 abbrev pub IsSeen : List ℕ → Shown → Seen → Type 0
 IsSeen others ShowsOk seen = seen ≡ SeenOk
 IsSeen others (ShowsValue value) seen = seen ≡ SeenValue value
@@ -39,12 +40,13 @@ IsSeen others (ShowsRows rows) seen = ⊥
 IsSeen others (ShowsError number) (SeenError numbers) = (numbers.seen ≡ number) × (numbers.others.items ≡ others)
 IsSeen others (ShowsError number) seen = ⊥
 
--- the rules' numbers for which what is shown may stand beside its own, as the answer to what has this kind
+-- the rules' numbers for which what is shown may stand in addition to its own, as the answer to a statement
+-- of this kind
 abbrev pub others_shown : List Allowance → Option StatementKind → Shown → List ℕ
 others_shown allowances kind (ShowsError number) = others_for allowances kind number
 others_shown allowances kind shown = []
 
--- an event is what happens, where the sessions called for these kinds last
+-- an event is what happens; sessions called for statements of these kinds last
 abbrev pub IsEvent : List Allowance → List (Option StatementKind) → Told → Event → Type 0
 IsEvent allowances kinds (Calls session text) event = event ≡ Call session (request_called text)
 IsEvent allowances kinds (Returns session shown) (Return other seen) =
@@ -53,14 +55,15 @@ IsEvent allowances kinds (Returns session shown) event = ⊥
 IsEvent allowances kinds (ReturnsUnknown session) event = event ≡ Unknown session
 IsEvent allowances kinds (Leaves session) event = event ≡ Lost session
 
--- so it is with each, one event for each line, where the sessions called for these kinds before
+-- one event for each line, and each is what happens there; sessions called for statements of these kinds
+-- before
 unfoldable pub AreEventsAfter : List Allowance → List (Option StatementKind) → List NumberedEvent → List Event → Type 0
 AreEventsAfter allowances kinds [] [] = Unit {0}
 AreEventsAfter allowances kinds (one ∷ numbered) (event ∷ events) =
     IsEvent allowances kinds one.told event × AreEventsAfter allowances (kinds_after event kinds) numbered events
 AreEventsAfter allowances kinds numbered events = ⊥
 
--- so it is with each, where no session called before
+-- the same, if no session called before
 abbrev pub AreEvents : List Allowance → List NumberedEvent → List Event → Type 0
 AreEvents allowances numbered events = AreEventsAfter allowances no_kinds numbered events
 
@@ -69,6 +72,6 @@ abbrev pub IsCallOf : Told → Event → Type 0
 IsCallOf (Calls session text) event = event ≡ Call session (request_called text)
 IsCallOf told event = Unit {0}
 
--- so it is with each
+-- the event of each call is that call
 abbrev pub AreCalls : List NumberedEvent → List Event → Type 0
 AreCalls numbered events = AllZip (λ one event. IsCallOf one.told event) numbered events

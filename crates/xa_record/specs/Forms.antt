@@ -1,9 +1,9 @@
--- In which forms a report is written. All of it is our own: docs/HISTORIES.md#verdicts.
+-- The forms of a report. Every rule here is the project's own: docs/HISTORIES.md#verdicts.
 --     plain_text       as lines
---     text_value       lines as strings of JSON
---     report_value     as a JSON object, a definition for each of its keys
+--     text_value       a text as a JSON string
+--     report_value     as a JSON object, with a definition for each of its keys
 --     json_text        the text of that object, on one line
---     text_in          in the form that is asked
+--     text_in          in the form that is asked for
 use Rattle.std.specs.Prelude.{ℕ, Option, Some, None, List, [], ◌∷◌, ◌++◌, codes, decimal, encode_utf8_all}
 use Rattle.json.specs.Json.{Json, string, number, array, object, Items, no_items, item, Members, no_members, member}
 use Rattle.json.specs.Print.{print}
@@ -14,7 +14,7 @@ use Rattle.xa_record.specs.declared.form.Form.TheVariants.{Plain, Json as AsJson
 use Rattle.xa_record.specs.VerdictText.{line_text, answers_text}
 use Rattle.xa_record.specs.Reports.{Reason, Report, Faulty, Empty, Legal, Illegal, Undecided}
 
--- the lines of an order below its head, and those of a store
+-- the lines of an order after its heading, and those of a store
 abbrev pub reason_text : Option Reason → List ℕ
 reason_text None = []
 reason_text (Some reason) = codes "ORDER BEFORE\n" ++ reason.order ++ codes "STATE\n" ++ reason.state
@@ -27,7 +27,8 @@ plain_text (Legal order) = codes "LEGAL\n" ++ order
 plain_text (Illegal line texts reason) = line_text (codes "ILLEGAL") line ++ answers_text texts ++ reason_text reason
 plain_text (Undecided line) = line_text (codes "UNDECIDED") line
 
--- a text as a string of JSON: each byte is the character of its number, so that one that isn't ASCII is of two bytes there
+-- a text as a JSON string: each byte becomes the character with its number, so a byte from 128 on takes two
+-- bytes
 abbrev pub text_value : List ℕ → Json
 text_value text = string (encode_utf8_all text)
 
@@ -47,7 +48,7 @@ with_verdict word members = member (codes "verdict") (string word) members
 abbrev pub with_line : ℕ → Members → Members
 with_line line members = member (codes "line") (number (decimal line)) members
 
--- the key of what could have been answered
+-- the key of the possible answers
 abbrev pub with_could_be : List (List ℕ) → Members → Members
 with_could_be texts members = member (codes "could_be") (texts_value texts) members
 
@@ -67,7 +68,7 @@ abbrev pub with_reason : Option Reason → Members → Members
 with_reason None members = members
 with_reason (Some reason) members = with_order reason.order (with_state reason.state members)
 
--- the keys of a report, in this order; those that don't apply are left out
+-- the keys of a report, in this order; keys that don't apply are left out
 abbrev pub report_members : Report → Members
 report_members (Faulty faults) = with_verdict (codes "FAULTY") (with_faulty faults no_members)
 report_members Empty = with_verdict (codes "EMPTY") no_members
@@ -80,7 +81,7 @@ report_members (Undecided line) = with_verdict (codes "UNDECIDED") (with_line li
 abbrev pub report_value : Report → Json
 report_value report = object (report_members report)
 
--- the text of that object, with no blank between its parts, and a line feed
+-- the text of that object, without blanks between its parts, and a line feed
 abbrev pub json_text : Report → List ℕ
 json_text report = print (json_tokens (report_value report)) ++ codes "\n"
 

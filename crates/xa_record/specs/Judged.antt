@@ -1,10 +1,10 @@
--- What judging a record comes to. All of it is our own: docs/HISTORIES.md.
---     record_bytes, record_reads     how long a record is at most;  how often it is read
---     IsJudgement            this is told of some right verdict on what the lines say
---     IsReportedOf           so it is with lines of which none is faulty: where they say nothing there is no verdict
---     IsReported             this is told of what was read
+-- What judging a record comes to. Every rule here is the project's own: docs/HISTORIES.md.
+--     record_bytes, record_reads     the greatest length of a record;  the greatest number of reads
+--     IsJudgement            a report is that of some right verdict on what the lines say
+--     IsReportedOf           a report is right for lines without a fault; if they say nothing there is no verdict
+--     IsReported             a report is right for what was read
 --     IsJudged               a record of this text ends so, and this is written for it
---     AppendsJudged          the writer got that
+--     AppendsJudged          the writer got that text
 --     AfterJudgeFault        what a fault leaves in the writer
 use Rattle.std.specs.Prelude.{◌≡◌, ℕ, Option, List, [], ◌∷◌, IfSome}
 use Rattle.std.specs.Io.KnownBytes.{Keeps, Appends}
@@ -31,8 +31,8 @@ record_bytes = 16777216
 abbrev pub record_reads : ℕ
 record_reads = 33554432
 
--- some verdict on the events that the lines say, from a server that holds nothing on, is right, its order gives the answers of its moves where it is run, and this
--- is told of it
+-- some verdict on the events that the lines say, beginning with a server that holds nothing, is right; its
+-- order, run as a script, gives the answers of its moves; and this is the report of it
 pub record IsJudgement (allowances : List Allowance) (numbered : List NumberedEvent) (asked : Asked) (report : Report) : Type 0 where
   pub events : List Event
   pub verdict : Verdict
@@ -41,17 +41,17 @@ pub record IsJudgement (allowances : List Allowance) (numbered : List NumberedEv
   pub replayed : IsReplayed numbered events verdict
   pub is : IsReportOf asked numbered events verdict report
 
--- lines of which none is faulty are judged where something happens on them; else there is nothing to judge
+-- lines without a fault are judged if something happens on them; else there is nothing to judge
 abbrev pub IsReportedOf : List Allowance → List NumberedEvent → Asked → Report → Type 0
 IsReportedOf allowances [] asked report = report ≡ Empty
 IsReportedOf allowances (one ∷ more) asked report = IsJudgement allowances (one ∷ more) asked report
 
--- where a line is faulty, the faulty lines are told, and nothing else
+-- if a line is faulty, only the faulty lines are reported
 abbrev pub IsReportedWith : List Allowance → List ℕ → List NumberedEvent → Asked → Report → Type 0
 IsReportedWith allowances [] numbered asked report = IsReportedOf allowances numbered asked report
 IsReportedWith allowances (byte ∷ faults) numbered asked report = report ≡ Faulty (byte ∷ faults)
 
--- what is told of what was read
+-- what is reported of what was read
 abbrev pub IsReported : List Allowance → Notes → Asked → Report → Type 0
 IsReported allowances notes asked report = IsReportedWith allowances notes.faults notes.told asked report
 
@@ -66,7 +66,7 @@ pub record IsJudged (written : List ℕ) (allowances : List Allowance) (asked : 
 abbrev pub AppendsJudged : List Allowance → Asked → Outcome → List ℕ → Option (List ℕ) → Option (List ℕ) → Type 0
 AppendsJudged allowances asked outcome written old new = (text : List ℕ) × IsJudged written allowances asked outcome text × Appends old new text
 
--- the writer got a prefix of that
+-- the writer got a prefix of that text
 abbrev pub AppendsJudgedPrefix : List Allowance → Asked → List ℕ → Option (List ℕ) → Option (List ℕ) → Type 0
 AppendsJudgedPrefix allowances asked written old new = (outcome : Outcome) × (text : List ℕ) × IsJudged written allowances asked outcome text × AppendsPrefix old new text
 
@@ -78,7 +78,8 @@ IsJudgedText allowances asked written text = (outcome : Outcome) × IsJudged wri
 abbrev pub IsFaultOfJudging : List ℕ → ScriptFault → Type 0
 IsFaultOfJudging written fault = fault ≡ NoMemory
 
--- what a fault leaves in the writer: a prefix where a write failed, else nothing; judging has no fault of a race
+-- what a fault leaves in the writer: a prefix of the text if a write failed, else nothing. Judging has no
+-- fault of a race
 abbrev pub AfterJudgeFault : List Allowance → Asked → ScriptFault → Option (List ℕ) → Option (List ℕ) → Option (List ℕ) → Type 0
 AfterJudgeFault allowances asked Write input old new = IfSome input (λ written. AppendsJudgedPrefix allowances asked written old new)
 AfterJudgeFault allowances asked Full input old new = ⊥

@@ -1,13 +1,13 @@
 -- How the program keeps what it reads, as the definitions see it.
---     rows_kept                 the identifiers that these texts say
+--     rows_kept                 the identifiers of these texts
 --     shown_kept, told_kept, line_kept      what a return shows;  what happens to a session;  what a line says
 --     numbered_kept                what happens, with its line's number
 --     awaited_kept              rows that are still to come
 --     notes_kept                what was read so far
---     reason_kept, report_kept     why no order explains a line;  what is told of a record
---     text_told, text_at        what is called for where this happens;  at this place of what happens
+--     reason_kept, report_kept     what explains an illegal verdict;  what is reported of a record
+--     text_told, text_at        the text of a call;  the text of the call at a place
 --     calls_kept                at each session's number, the text that it called for last
---     with_place                at each session's number, the place of its last call, once this happens there
+--     with_place                at each session's number, the place of its last call, after this happens
 use Rattle.std.specs.Prelude.{ℕ, Option, Some, None, List, [], ◌∷◌, map, slice_get, slice_set}
 use Rattle.std.specs.Borrow.{Bor}
 use Rattle.xa_xid.specs.declared.xid.Xid.{Xid}
@@ -35,7 +35,7 @@ abbrev pub row_before : Option Xid → List Xid → List Xid
 row_before None rows = rows
 row_before (Some row) rows = row ∷ rows
 
--- the identifiers that these texts say
+-- the identifiers of these texts
 abbrev pub rows_kept : List (Bor (List ℕ)) → List Xid
 rows_kept [] = []
 rows_kept (text ∷ texts) = row_before (row_said text.now) (rows_kept texts)
@@ -78,11 +78,11 @@ abbrev pub notes_kept : NotesRead → Notes
 notes_kept notes =
     record { told = map numbered_kept notes.numbered.items; faults = notes.faults.items; presence = notes.presence; awaited = option_map awaited_kept notes.pending }
 
--- why no order explains a line
+-- what explains an illegal verdict
 abbrev pub reason_kept : ReasonFound → Reason
 reason_kept reason = record { order = reason.order.items; state = reason.state.items }
 
--- what is told of a record
+-- what is reported of a record
 abbrev pub report_kept : ReportMade → Report
 report_kept (FaultyMade faults) = Faulty faults.items
 report_kept EmptyMade = Empty
@@ -90,7 +90,7 @@ report_kept (LegalMade order) = Legal order.items
 report_kept (IllegalMade number texts reason) = Illegal number (map (λ text. text.items) texts.keys) (option_map reason_kept reason)
 report_kept (UndecidedMade number) = Undecided number
 
--- what is called for where this happens, nothing if it is no call
+-- the text of a call; empty if this is no call
 abbrev pub text_told : Told → List ℕ
 text_told (Calls session text) = text
 text_told other = []
@@ -99,7 +99,7 @@ abbrev pub text_numbered : Option NumberedEvent → List ℕ
 text_numbered None = []
 text_numbered (Some numbered) = text_told numbered.told
 
--- what is called for at this place of what happens
+-- the text of the call at this place
 abbrev pub text_at : List NumberedEvent → Option ℕ → List ℕ
 text_at numbered None = []
 text_at numbered (Some place) = text_numbered (slice_get numbered place)
@@ -108,7 +108,7 @@ text_at numbered (Some place) = text_numbered (slice_get numbered place)
 abbrev pub calls_kept : List NumberedEvent → LastCalls → List (List ℕ)
 calls_kept numbered calls = map (text_at numbered) calls.places
 
--- at each session's number, the place of its last call, once this happens there
+-- at each session's number, the place of its last call, after this happens at a place
 abbrev pub with_place : ℕ → Told → List (Option ℕ) → List (Option ℕ)
 with_place place (Calls session text) places = slice_set places session (Some place)
 with_place place other places = places

@@ -1,10 +1,10 @@
--- What a line of a record says. All of it is our own: docs/HISTORIES.md#records.
+-- What a line of a record says. Every rule here is the project's own: docs/HISTORIES.md#records.
 --     Shown            what a return shows
 --     Told             what happens to a session: it calls for a text, its call returns, or its client is gone
 --     LineSaid         what a line says
---     is_silent        it is blank, or a comment
+--     is_silent        a line is blank, or a comment
 --     trimmed          a text without the blanks at its end
---     reading_of_line  what this line says
+--     reading_of_line  what a line says
 use Rattle.std.specs.Prelude.{ℕ, nat_lt, Bool, ◌||◌, bytes_eq, if◌then◌else◌, Option, Some, None, Ok, Err, List, [], ◌∷◌, codes, reverse}
 use Rattle.xa_xid.specs.Bytes.{unblank}
 use Rattle.xa_xid.specs.Literal.{Reading, literal_ahead}
@@ -48,7 +48,7 @@ pub data LineSaid : Type 0 where
   -- the client of a session found that the server had closed its connection
   Closed : ℕ → LineSaid
 
--- it is blank, or a comment
+-- the line is blank, or a comment
 abbrev pub is_silent : List ℕ → Bool
 is_silent line = is_empty_line (unblank line) || is_comment_line line
 
@@ -56,27 +56,27 @@ is_silent line = is_empty_line (unblank line) || is_comment_line line
 unfoldable pub trimmed : List ℕ → List ℕ
 trimmed text = reverse (unblank (reverse text))
 
--- nothing stands behind what is said
+-- no text follows what is said
 abbrev pub alone : LineSaid → List ℕ → LineSaid
 alone said [] = said
 alone said (byte ∷ rest) = Bad
 
--- the value behind VALUE
+-- the value after VALUE
 abbrev pub value_said : ℕ → Reading Text → LineSaid
 value_said session (Ok (value, rest)) = alone (Says (Returns session (ShowsValue (Some value)))) (unblank rest)
 value_said session (Err fault) = Bad
 
--- how many rows stand behind ROWS
+-- the number of rows after ROWS
 abbrev pub rows_said : ℕ → Option ℕ → List ℕ → LineSaid
 rows_said session None rest = Bad
 rows_said session (Some count) rest = alone (Awaits session count) rest
 
--- the number of a refusal, 0 to 65,535; what stands behind it says nothing
+-- the number of a refusal, 0 to 65,535; what follows it says nothing
 abbrev pub error_said : ℕ → Option ℕ → LineSaid
 error_said session None = Bad
 error_said session (Some number) = if nat_lt number 65536 then Says (Returns session (ShowsError number)) else Bad
 
--- what stands behind `<`: a word, and the text behind it
+-- what a word after `<` and the text after it say
 unfoldable pub return_said : ℕ → List ℕ → List ℕ → LineSaid
 return_said session word text =
     if bytes_eq word (codes "OK") then alone (Says (Returns session ShowsOk)) text else
@@ -85,17 +85,17 @@ return_said session word text =
     if bytes_eq word (codes "ROWS") then rows_said session (number_of_word (first_word text)) (behind_word text) else
     if bytes_eq word (codes "ERROR") then error_said session (leading_number text) else Bad
 
--- what stands behind `?`: what stands behind its word says nothing
+-- what a word after `?` says; what follows it says nothing
 abbrev pub unknown_said : ℕ → List ℕ → LineSaid
 unknown_said session word = if bytes_eq word (codes "ERROR") then Says (ReturnsUnknown session) else Bad
 
--- what stands behind `!`
+-- what a word after `!` and the text after it say
 unfoldable pub loss_said : ℕ → List ℕ → List ℕ → LineSaid
 loss_said session word text =
     if bytes_eq word (codes "LOST") then alone (Says (Leaves session)) text else
     if bytes_eq word (codes "GONE") then alone (Closed session) text else Bad
 
--- what a session's line says: a sign, and the text behind it
+-- what a session's line says: a sign, and the text after it
 unfoldable pub session_said : ℕ → List ℕ → List ℕ → LineSaid
 session_said session sign text =
     if bytes_eq sign (codes ">") then Says (Calls session (trimmed text)) else
@@ -103,7 +103,7 @@ session_said session sign text =
     if bytes_eq sign (codes "?") then unknown_said session (first_word text) else
     if bytes_eq sign (codes "!") then loss_said session (first_word text) (behind_word text) else Bad
 
--- what a line says that is not silent, by its session and the text behind that
+-- what a line says that isn't silent: a session, and the text after it
 abbrev pub filled_said : Line → LineSaid
 filled_said Blank = Nothing
 filled_said BadLine = Bad

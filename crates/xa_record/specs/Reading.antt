@@ -1,15 +1,14 @@
--- How a record is read, line by line. All of it is our own: docs/HISTORIES.md#records.
--- Faulty lines are written in ascending order, each once: what is written for those among the rows of a return is held until that return is judged, and comes
--- behind it.
+-- How a record is read, line by line. Every rule here is the project's own: docs/HISTORIES.md#records.
+-- Faulty lines are written in ascending order, each once. What is written for those among the rows of a return is held until that return is
+-- read whole, and comes after it.
 --     cause_of            why what happens to a session is faulty, by what the lines before say of it
 --     fault_text          what is written for a faulty line
 --     Awaited             rows that are still to come, and the faulty lines among those that came
 --     Notes               what was read so far
---     note_of             the notes once this has happened
---     note_closed         the notes once a connection was found closed
+--     note_of             the notes after this happens
+--     note_closed         the notes after a connection was found closed
 --     noted_line          the notes after a line
---     notes_of            the notes after these lines
---     faults_in, told_in  what is written for the faulty lines of a record;  what happens in it, each with its line's number
+--     notes_of            the notes after the lines of a text
 use Rattle.std.specs.Prelude.{ℕ, zero, suc, ◌+◌, ◌-◌, ◌==◌, Bool, true, false, if◌then◌else◌, Option, Some, None, List, [], ◌∷◌, ◌++◌, codes, decimal, slice_get, slice_set, replicate}
 use Rattle.std.specs.List.{insert}
 use Rattle.xa_xid.specs.Bytes.{unblank}
@@ -29,14 +28,15 @@ session_of (Returns session shown) = session
 session_of (ReturnsUnknown session) = session
 session_of (Leaves session) = session
 
--- what is then said of the session
+-- what the lines say of the session after this
 abbrev pub presence_after : Told → Presence
 presence_after (Calls session text) = Open
 presence_after (Returns session shown) = Idle
 presence_after (ReturnsUnknown session) = Idle
 presence_after (Leaves session) = Lost
 
--- a call of a session with an open call is faulty, a return to one without, and anything of one that is lost
+-- a call of a session with an open call is faulty, a return to one without, and anything of one whose client
+-- is gone
 abbrev pub cause_of : Option Presence → Told → Option LineFault
 cause_of (Some Open) (Calls session text) = Some (OpenCall session)
 cause_of (Some Idle) (Returns session shown) = Some (NoOpenCall session)
@@ -56,7 +56,8 @@ cause_text (WasLost session) = codes "session " ++ decimal session ++ codes " is
 abbrev pub fault_text : ℕ → LineFault → List ℕ
 fault_text number fault = codes "LINE " ++ decimal number ++ codes ": " ++ cause_text fault ++ codes "\n"
 
--- rows that are still to come, to a session, behind the line of this number; those that have come; and what is written for the lines that aren't rows
+-- rows that are still to come, for the return of a session on the line of this number; those that have come;
+-- and what is written for the lines that aren't rows
 pub record Awaited : Type 0 where
   pub session : ℕ
   pub number : ℕ
@@ -76,7 +77,7 @@ pub record Notes : Type 0 where
   pub presence : List Presence
   pub awaited : Option Awaited
 
--- before the first line; place 0 is no session's
+-- before the first line; place 0 belongs to no session
 abbrev pub no_notes : Notes
 no_notes = record { told = []; faults = []; presence = replicate 17 Idle; awaited = None }
 
@@ -84,7 +85,7 @@ no_notes = record { told = []; faults = []; presence = replicate 17 Idle; awaite
 unfoldable pub blamed : Notes → ℕ → LineFault → Notes
 blamed notes number fault = record notes { faults = notes.faults ++ fault_text number fault }
 
--- these lines are faulty too, and come behind all before
+-- these lines are faulty too, and come after all before
 abbrev pub blamed_too : Notes → List ℕ → Notes
 blamed_too notes faults = record notes { faults = notes.faults ++ faults }
 
@@ -106,13 +107,13 @@ is_return_of session (Returns other shown) = other == session
 is_return_of session (ReturnsUnknown other) = other == session
 is_return_of session told = false
 
--- one more than so many that end with a return, or 1 where this is a return
+-- one more than so many that end with a return, or 1 if this is a return
 abbrev pub one_more : ℕ → Bool → ℕ
 one_more zero true = 1
 one_more zero false = 0
 one_more (suc count) returns = suc (suc count)
 
--- how much happens up to the session's last return and with it; nothing where it has none
+-- how many events there are up to and including the session's last return; 0 if it has none
 unfoldable pub up_to_return : ℕ → List NumberedEvent → ℕ
 up_to_return session [] = 0
 up_to_return session (one ∷ more) = one_more (up_to_return session more) (is_return_of session one.told)
@@ -125,29 +126,30 @@ closed_if None notes number session =
     }
 closed_if (Some fault) notes number session = blamed notes number fault
 
--- the connection was closed at any time since the session's last return: its client is gone from there on, or the line is faulty
+-- the connection was closed at any time since the session's last return: its client is gone from there on, or
+-- the line is faulty
 abbrev pub note_closed : Notes → ℕ → ℕ → Notes
 note_closed notes number session = closed_if (cause_of (slice_get notes.presence session) (Leaves session)) notes number session
 
--- all rows have come: the call returns them, and behind its line come the faulty lines among its rows
+-- all rows have come: the call returns them, and after its line come the faulty lines among its rows
 abbrev pub returned : Notes → Awaited → Notes
 returned notes awaited = blamed_too (note_of notes awaited.number (Returns awaited.session (ShowsRows awaited.rows))) awaited.faults
 
--- where all rows have come, the call returns them; else the others are still to come
+-- if all rows have come, the call returns them; else the others are still to come
 abbrev pub awaiting : Notes → Awaited → Notes
 awaiting notes awaited = if awaited.missing == 0 then returned notes awaited else record notes { awaited = Some awaited }
 
--- one row has come, or a line that isn't written as one is
+-- one row has come, or a line that isn't one
 unfoldable pub with_row : Notes → Awaited → ℕ → Option Xid → Notes
 with_row notes awaited number None = awaiting notes (record awaited { missing = awaited.missing - 1; faults = awaited.faults ++ fault_text number NotARow })
 with_row notes awaited number (Some xid) = awaiting notes (record awaited { missing = awaited.missing - 1; rows = awaited.rows ++ xid ∷ [] })
 
--- a line where a row is to stand
+-- a line in the place of a row
 unfoldable pub noted_row : Notes → Awaited → ℕ → List ℕ → Notes
 noted_row notes awaited number line =
     if is_silent line then notes else with_row (record notes { awaited = None }) awaited number (row_said (unblank line))
 
--- a line where none is
+-- a line that isn't in the place of a row
 unfoldable pub noted_said : Notes → ℕ → LineSaid → Notes
 noted_said notes number Nothing = notes
 noted_said notes number Bad = blamed notes number NotALine
@@ -168,7 +170,8 @@ unfoldable pub noted_lines : Notes → ℕ → List (List ℕ) → Notes
 noted_lines notes number [] = notes
 noted_lines notes number (line ∷ lines) = noted_lines (noted_line notes number line) (number + 1) lines
 
--- rows that are still to come where the record ends are missing; the faulty lines among those that came stand behind the return's line
+-- rows that are still to come when the record ends are missing; the faulty lines among those that came follow
+-- the return's line
 abbrev pub ended_by : Option Awaited → Notes → Notes
 ended_by None notes = notes
 ended_by (Some awaited) notes = blamed_too (blamed notes awaited.number RowsMissing) awaited.faults

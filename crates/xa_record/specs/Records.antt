@@ -1,11 +1,11 @@
--- What the lines of a record tell, and which of them is the first faulty one, a rule for each kind of line and of fault. The rules know no order of reading:
--- Reading.antt says how lines are read one by one.
---     RowsOf              so many rows stand on these lines
---     on_next_line        this happens on the line behind these
---     EndsInReturn, HasNoReturn      the last that happens is a return to the session;  none is
---     presence_in, Fits   what is said of a session by what happens;  this can happen next
---     Tells               the lines tell what happens, and none is faulty
---     filled, AreRows     how many of the lines aren't silent;  those are rows
+-- What the lines of a record tell, and which of them is the first faulty one: a rule for each kind of line and of fault.
+-- The rules know no order of reading; Reading.antt says how lines are read one by one.
+--     RowsOf              so many rows are on these lines
+--     on_next_line        this happens on the line after these
+--     EndsInReturn, HasNoReturn      the last event is a return to the session;  none is
+--     presence_in, Fits   what the events say of a session;  this can happen next
+--     Tells               the lines tell these events, and none is faulty
+--     filled, AreRows     how many of the lines aren't silent;  each of these is a row
 --     HasFault            the first faulty line has this number, for this cause
 --     Begins              a text begins with this one
 use Rattle.std.specs.Prelude.{◌≡◌, ◌⊎◌, ℕ, suc, ◌+◌, ◌==◌, ◌<◌, ◌≤◌, true, false, if◌then◌else◌, Option, Some, None, List, [], ◌∷◌, ◌++◌, length}
@@ -20,7 +20,7 @@ use Rattle.xa_record.specs.Lines.{Shown, ShowsRows, Told, Calls, Returns, Return
 use Rattle.xa_record.specs.Rows.{row_said}
 use Rattle.xa_record.specs.Reading.{NumberedEvent, is_return_of, session_of, presence_after, cause_of}
 
--- so many rows stand on these lines, with blank lines and comments before each of them
+-- so many rows are on these lines, with blank lines and comments before each of them
 pub data RowsOf : ℕ → List (List ℕ) → List Xid → Type 0 where
   no_row : RowsOf 0 [] []
   silent_row : {count : ℕ} {line : List ℕ} {lines : List (List ℕ)} {rows : List Xid} → is_silent line ≡ true → RowsOf (suc count) lines rows
@@ -28,20 +28,20 @@ pub data RowsOf : ℕ → List (List ℕ) → List Xid → Type 0 where
   one_row : {count : ℕ} {line : List ℕ} {lines : List (List ℕ)} {xid : Xid} {rows : List Xid} → is_silent line ≡ false → row_said (unblank line) ≡ Some xid
       → RowsOf count lines rows → RowsOf (suc count) (line ∷ lines) (xid ∷ rows)
 
--- this happens on the line behind these
+-- this happens on the line after these
 abbrev pub on_next_line : List (List ℕ) → Told → NumberedEvent
 on_next_line lines told = record { number = length lines + 1; told = told }
 
--- the last that happens is a return to the session, or nothing happens
+-- the last event is a return to the session, or there is no event
 abbrev pub EndsInReturn : ℕ → List NumberedEvent → Type 0
 EndsInReturn session list = (list ≡ []) ⊎ ((front : List NumberedEvent) × (one : NumberedEvent) × (list ≡ front ++ one ∷ []) × (is_return_of session one.told ≡ true))
 
--- none of it is a return to the session
+-- none of the events is a return to the session
 abbrev pub HasNoReturn : ℕ → List NumberedEvent → Type 0
 HasNoReturn session [] = Unit {0}
 HasNoReturn session (one ∷ more) = (is_return_of session one.told ≡ false) × HasNoReturn session more
 
--- what is said of the session once this has happened: a client that is gone stays so
+-- what is said of the session after this: a client that is gone stays gone
 abbrev pub presence_then : Presence → Told → Presence
 presence_then Lost told = Lost
 presence_then Idle told = presence_after told
@@ -52,11 +52,11 @@ presence_from session presence [] = presence
 presence_from session presence (one ∷ more) =
     presence_from session (if session_of one.told == session then presence_then presence one.told else presence) more
 
--- what is said of the session by what happens
+-- what the events say of the session
 abbrev pub presence_in : ℕ → List NumberedEvent → Presence
 presence_in session list = presence_from session Idle list
 
--- why this can't happen next, by what is said of its session; none where it can
+-- why this can't happen next, by what the events say of its session; None if it can
 abbrev pub cause_next : List NumberedEvent → Told → Option LineFault
 cause_next list told = cause_of (Some (presence_in (session_of told) list)) told
 
@@ -64,7 +64,7 @@ cause_next list told = cause_of (Some (presence_in (session_of told) list)) told
 abbrev pub Fits : List NumberedEvent → Told → Type 0
 Fits list told = cause_next list told ≡ None
 
--- the lines tell this, in this order, and none is faulty
+-- the lines tell these events, in this order, and none of the lines is faulty
 pub data Tells : List (List ℕ) → List NumberedEvent → Type 0 where
   -- no line tells nothing
   no_line : Tells [] []
@@ -101,7 +101,7 @@ filled (line ∷ lines) = if is_silent line then filled lines else suc (filled l
 abbrev pub AreRows : List (List ℕ) → Type 0
 AreRows lines = AllByRecursion (λ line. (is_silent line ≡ true) ⊎ ((xid : Xid) × (row_said (unblank line) ≡ Some xid))) lines
 
--- the first faulty line of these has this number, and this is why
+-- the first faulty line of these has this number, for this cause
 pub data HasFault : List (List ℕ) → ℕ → LineFault → Type 0 where
   -- a line that isn't written as one
   bad_line : (lines : List (List ℕ)) (line : List ℕ) (more : List (List ℕ)) (list : List NumberedEvent) → Tells lines list → reading_of_line line ≡ Bad

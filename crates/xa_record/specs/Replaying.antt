@@ -1,14 +1,15 @@
--- The script that is written for an order, and what its lines give. All of it is our own: docs/HISTORIES.md#verdicts.
+-- The script that is written for an order, and what its lines give.
+-- Every rule here is the project's own: docs/HISTORIES.md#verdicts.
 --     effect_line, order_lines     the line of an effect;  the lines of an order
 --     joined                       lines, each with a line feed
---     GivesRequest                 a line gives a request of a session
+--     GivesRequest                 a line gives a session's request
 --     AnswersSo                    what `run` writes for a request
---     requested                    what takes effect by an act of a session
+--     requested                    what an act of a session carries out
 --     AreEffects                   the lines give what takes effect, in order, along moves that lead through the events
---     AreWellCalled                what sessions call for begins with no blank, and is written so that it is read as the same
+--     AreWellCalled                what sessions call for begins with no blank, and is written so that it is read back
 --     IsAnswered                   what `run` writes for what takes effect
---     AnswersAlong                 so it does for each effect, in order, along moves that lead through the events
---     IsReplayed                   so it is with the order of a legal verdict
+--     AnswersAlong                 the same for each effect, in order, along moves that lead through the events
+--     IsReplayed                   the same for the order of a legal verdict
 use Rattle.std.specs.Prelude.{◌≡◌, ◌≢◌, ℕ, ◌==◌, true, not, Option, Some, None, Ok, List, [], ◌∷◌, ◌++◌, codes, decimal, slice_get}
 use Rattle.std.specs.List.{AllByRecursion, list_all}
 use Rattle.xa_xid.specs.Bytes.{unblank}
@@ -67,7 +68,7 @@ pub record GivesRequest (line : List ℕ) (session : ℕ) (request : Request) : 
   pub given : line_of line ≡ Given session text
   pub asks : request ≡ request_read (read_of text)
 
--- what `run` writes for the request: the reply, or that the text is no statement
+-- what `run` writes for the request: the reply, or that the text isn't a statement
 abbrev pub AnswersSo : State → ℕ → Request → List ℕ → Type 0
 AnswersSo state session (Asked statement) written = written ≡ answer_text (decimal session) (reply_text (converts statement) (reply_to state session statement))
 AnswersSo state session Unread written = (place : ℕ) × (written ≡ answer_text (decimal session) (syntax_text place))
@@ -81,7 +82,7 @@ open_request (Some (Answered answer)) = None
 open_request (Some (Gone request)) = request
 open_request (Some Left) = None
 
--- what takes effect by an act of a session
+-- what an act of a session carries out
 abbrev pub requested : Config → ℕ → Act → Option Request
 requested config session ItsStatement = open_request (slice_get config.clients session)
 requested config session ItsDisconnect = Some (Asked Disconnect)
@@ -104,7 +105,7 @@ AreEffects old [] [] [] = Unit {0}
 AreEffects old [] [] (line ∷ lines) = ⊥
 AreEffects old (event ∷ events) [] lines = ⊥
 
--- the canonical form of a statement is read as that statement, and is no more than a line
+-- the canonical form of a statement is read as that statement, and has no line feed
 pub record IsWrittenBack (statement : Statement) : Type 0 where
   pub spelled : Spells (statement_text statement) statement
   pub whole : HasNoFeed (statement_text statement)
@@ -128,7 +129,7 @@ pub record IsBare (text : List ℕ) : Type 0 where
   pub bare : unblank text ≡ text
   pub whole : HasNoFeed text
 
--- so it is with what is told
+-- if this is a call, its text is so
 abbrev pub IsBareTold : Told → Type 0
 IsBareTold (Calls session text) = IsBare text
 IsBareTold (Returns session shown) = Unit {0}
@@ -138,7 +139,8 @@ IsBareTold (Leaves session) = Unit {0}
 abbrev pub AreBare : List NumberedEvent → Type 0
 AreBare numbered = AllByRecursion (λ one. IsBareTold one.told) numbered
 
--- a text that a session calls for begins with no blank and has no line feed; where it is a statement, that is written back
+-- a text that a session calls for begins with no blank and has no line feed; if it is a statement, that is
+-- written back
 pub record IsWellCalled (text : List ℕ) : Type 0 where
   pub bare : unblank text ≡ text
   pub whole : HasNoFeed text
@@ -150,12 +152,12 @@ IsWellTold (Returns session shown) = Unit {0}
 IsWellTold (ReturnsUnknown session) = Unit {0}
 IsWellTold (Leaves session) = Unit {0}
 
--- so it is with each call
+-- that is so of each call
 abbrev pub AreWellCalled : List NumberedEvent → Type 0
 AreWellCalled [] = Unit {0}
 AreWellCalled (numbered ∷ more) = IsWellTold numbered.told × AreWellCalled more
 
--- a statement that is called for is written back, unless it isn't supported
+-- the statement of a call is written back, unless it is unsupported
 abbrev pub IsWrittenCall : Event → Type 0
 IsWrittenCall (Call session (Asked statement)) = statement ≢ Unsupported → IsWrittenBack statement
 IsWrittenCall event = Unit {0}
@@ -176,7 +178,8 @@ AnswersAlong old (event ∷ events) (Seeing ∷ moves) written = (mid : Config) 
 AnswersAlong old [] [] written = written ≡ []
 AnswersAlong old (event ∷ events) [] written = ⊥
 
--- the order of a legal verdict, run as a script, gives the answers that its moves give, by which what was seen is explained
+-- the order of a legal verdict, run as a script, gives the answers of its moves, by which what was seen is
+-- explained
 abbrev pub IsReplayed : List NumberedEvent → List Event → Verdict → Type 0
 IsReplayed numbered events (LegalBy moves) =
     AnswersAlong (opening_config no_state) events moves.items (transcript (order_text no_calls numbered moves.items))

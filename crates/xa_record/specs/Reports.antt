@@ -1,11 +1,11 @@
--- What is told of a record, in whichever form it is written. All of it is our own: docs/HISTORIES.md#verdicts.
+-- What is reported of a record, in any form. Every rule here is the project's own: docs/HISTORIES.md#verdicts.
 --     Reason              an order that explains what is before a line, and the store after it
---     Report              what is told
+--     Report              what is reported
 --     outcome_of          which of the five ends it is
 --     keys_named          the rows that calls name, each once, ascending
 --     IsReason            the order explains what is before a place, and the store is the one after it
---     IsReasonSought      so it is where that is asked, unless too many configurations are before the place
---     IsReportOf          what is told of a verdict
+--     IsReasonSought      if it is asked for, there is such a reason, unless too many configurations precede the place
+--     IsReportOf          what is reported of a verdict
 use Rattle.std.specs.Prelude.{◌≡◌, ℕ, Bool, true, false, Option, Some, None, List, [], ◌∷◌, take}
 use Rattle.std.specs.BTreeSet.{insert_key}
 use Rattle.xa_xid.specs.Xid.{bytes_cmp}
@@ -32,7 +32,7 @@ pub record Reason : Type 0 where
   pub order : List ℕ
   pub state : List ℕ
 
--- what is told of a record
+-- what is reported of a record
 pub data Report : Type 0 where
   -- what is written for its faulty lines
   Faulty : List ℕ → Report
@@ -53,7 +53,7 @@ outcome_of (Legal order) = IsLegal
 outcome_of (Illegal number texts reason) = IsIllegal
 outcome_of (Undecided number) = IsUndecided
 
--- the row that a statement names, put among these; XA COMMIT, XA ROLLBACK and DISCONNECT name none
+-- these rows and the one that a statement names; XA COMMIT, XA ROLLBACK and DISCONNECT name none
 abbrev pub with_row_of : Statement → List (List ℕ) → List (List ℕ)
 with_row_of (Get key) keys = insert_key bytes_cmp keys key
 with_row_of (Put key value) keys = insert_key bytes_cmp keys key
@@ -64,7 +64,7 @@ abbrev pub with_row_called : Event → List (List ℕ) → List (List ℕ)
 with_row_called (Call session (Given statement)) keys = with_row_of statement keys
 with_row_called event keys = keys
 
--- these rows, and those that calls name, each once, ascending by their bytes
+-- these rows and those that calls name, each once, ascending by their bytes
 unfoldable pub with_rows_called : List (List ℕ) → List Event → List (List ℕ)
 with_rows_called keys [] = keys
 with_rows_called keys (event ∷ events) = with_rows_called (with_row_called event keys) events
@@ -73,7 +73,8 @@ with_rows_called keys (event ∷ events) = with_rows_called (with_row_called eve
 abbrev pub keys_named : List Event → List (List ℕ)
 keys_named events = with_rows_called [] events
 
--- moves lead through what is seen; the order is theirs, and the store is the one to which they lead: every branch, and the rows that calls name
+-- moves lead through what is seen; the order is theirs, and the store is the one to which they lead: every
+-- branch, and the rows that calls name
 pub record IsReason (numbered : List NumberedEvent) (events : List Event) (reason : Reason) : Type 0 where
   pub moves : List Move
   pub config : Config
@@ -81,17 +82,17 @@ pub record IsReason (numbered : List NumberedEvent) (events : List Event) (reaso
   pub order_is : reason.order ≡ order_text no_calls numbered moves
   pub state_is : reason.state ≡ listing config.state (keys_named events)
 
--- the reason is one of what is seen; there is none only where too many configurations are before a place of that
+-- the reason explains what is seen; it is missing only if too many configurations precede a place of that
 abbrev pub IsReasonFound : List NumberedEvent → List Event → ℕ → Option Reason → Type 0
 IsReasonFound numbered events limit (Some reason) = IsReason numbered events reason
 IsReasonFound numbered events limit None = (place : ℕ) × IsWide no_state events limit place
 
--- the reason is found where it is asked
+-- the reason is found if it is asked for
 abbrev pub IsReasonSought : Bool → List NumberedEvent → List Event → ℕ → Option Reason → Type 0
 IsReasonSought true numbered events limit reason = IsReasonFound numbered events limit reason
 IsReasonSought false numbered events limit reason = reason ≡ None
 
--- what is told of a verdict on what happens, which are these events
+-- what is reported of a verdict on these events
 abbrev pub IsReportOf : Asked → List NumberedEvent → List Event → Verdict → Report → Type 0
 IsReportOf asked numbered events (LegalBy moves) report = report ≡ Legal (order_text no_calls numbered moves.items)
 IsReportOf asked numbered events (IllegalAt place answers) report =

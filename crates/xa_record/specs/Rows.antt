@@ -1,6 +1,6 @@
--- The rows of a return, as XA RECOVER CONVERT XID prints them: formatID, the lengths of gtrid and bqual, and the bytes of both as one.
---     leading_number     the number that a text's first digits are
---     row_said           the identifier that a line is written as
+-- The rows of a return, as XA RECOVER CONVERT XID prints them: formatID, the lengths of gtrid and bqual, and the bytes of both together.
+--     leading_number     the number of a text's first digits
+--     row_said           the identifier that a line is
 use Rattle.std.specs.Prelude.{ℕ, ◌+◌, ◌==◌, ◌&&◌, nat_le, if◌then◌else◌, Option, Some, None, Result, Ok, Err, List, ◌∷◌, take, drop}
 use Rattle.hex.specs.Hex.{decode_sized}
 use Rattle.hex.specs.declared.error.FromHexError.{FromHexError}
@@ -10,22 +10,22 @@ use Rattle.xa_xid.specs.declared.byte_class.ByteClass.TheVariants.{Decimal}
 use Rattle.xa_xid.specs.declared.xid.Xid.{Xid}
 use Rattle.xa_lines.specs.Script.{is_empty_line, first_word, behind_word, number_of_word}
 
--- the number that a text's first digits are
+-- the number of a text's first digits
 unfoldable pub leading_number : List ℕ → Option ℕ
 leading_number text = number_of_word (front (belongs Decimal) text)
 
--- the digits of a word behind its `0x`
+-- the digits of a word after its `0x`
 abbrev pub digits_named : List ℕ → Option (List ℕ)
 digits_named (zero_digit ∷ letter ∷ digits) = if zero_digit == 48 && letter == 120 then Some digits else None
 digits_named word = None
 
--- the identifier of these bytes, the first of which are its gtrid
+-- the identifier with these bytes, first those of its gtrid
 abbrev pub xid_of : ℕ → ℕ → Result (List ℕ) FromHexError → Option Xid
 xid_of format_id gtrid (Ok bytes) =
     Some (record { format_id = format_id; gtrid = record { items = take gtrid bytes }; bqual = record { items = drop gtrid bytes } })
 xid_of format_id gtrid (Err fault) = None
 
--- the identifier of a formatID, of the lengths of gtrid and bqual, and of the digits of both
+-- the identifier with this formatID, these lengths of gtrid and bqual, and these digits for both
 unfoldable pub xid_written : ℕ → ℕ → ℕ → List ℕ → Option Xid
 xid_written format_id gtrid bqual digits =
     if nat_le gtrid text_bytes && nat_le bqual text_bytes then xid_of format_id gtrid (decode_sized digits (gtrid + bqual)) else None
@@ -34,12 +34,12 @@ abbrev pub xid_with : Option ℕ → Option ℕ → Option ℕ → Option (List 
 xid_with (Some format_id) (Some gtrid) (Some bqual) (Some digits) = xid_written format_id gtrid bqual digits
 xid_with format_id gtrid bqual digits = None
 
--- the identifier of four words, behind which nothing stands
+-- the identifier of four words, if no text follows them
 unfoldable pub row_of : List ℕ → List ℕ → List ℕ → List ℕ → Option Xid
 row_of first second third fourth =
     if is_empty_line (behind_word fourth) then xid_with (number_of_word (first_word first)) (number_of_word (first_word second)) (number_of_word (first_word third))
     (digits_named (first_word fourth)) else None
 
--- the identifier that a line is written as, from its first byte on that isn't a blank
+-- the identifier that a line is, from its first byte on that isn't a blank
 unfoldable pub row_said : List ℕ → Option Xid
 row_said text = row_of text (behind_word text) (behind_word (behind_word text)) (behind_word (behind_word (behind_word text)))

@@ -1,9 +1,9 @@
--- How the parts of a verdict are written. All of it is our own: docs/HISTORIES.md#verdicts.
---     call_text          a statement in its canonical form, or what a session called for as it was written
+-- How the parts of a verdict are written. Every rule here is the project's own: docs/HISTORIES.md#verdicts.
+--     call_text          a statement in its canonical form, or else the text that a session called for
 --     order_text         the effects of an order as a script
---     answer_text        what could have been answered
+--     answer_text        an answer that was possible
 --     texts_of           the texts of answers, each once, ascending by their bytes
---     line_number_at     the number of the line on which something happens
+--     line_number_at     the number of the line on which the event at a place happens
 use Rattle.std.specs.Prelude.{ℕ, true, Option, Some, None, Result, Ok, Err, List, [], ◌∷◌, ◌++◌, codes, decimal, slice_get, slice_set, replicate}
 use Rattle.std.specs.BTreeSet.{insert_key}
 use Rattle.xa_xid.specs.Xid.{bytes_cmp}
@@ -21,7 +21,7 @@ use Rattle.xa_judge.specs.declared.moves.Move.TheVariants.{Event as Seeing, Effe
 use Rattle.xa_record.specs.Lines.{Told, Calls}
 use Rattle.xa_record.specs.Reading.{NumberedEvent}
 
--- the canonical form of a statement, or its text where it has none
+-- the canonical form of a statement, or its text if it has none
 abbrev pub canonical_text : Statement → List ℕ → List ℕ
 canonical_text Unsupported text = text
 canonical_text statement text = statement_text statement
@@ -43,7 +43,7 @@ abbrev pub text_of_call : Option (List ℕ) → List ℕ
 text_of_call None = []
 text_of_call (Some text) = call_text text
 
--- what of a session takes effect
+-- what the session's act carries out
 abbrev pub act_text : Act → Option (List ℕ) → List ℕ
 act_text ItsStatement call = text_of_call call
 act_text ItsDisconnect call = codes "DISCONNECT"
@@ -52,7 +52,7 @@ act_text ItsDisconnect call = codes "DISCONNECT"
 abbrev pub effect_text : List (List ℕ) → ℕ → Act → List ℕ
 effect_text calls session act = decimal session ++ codes " " ++ act_text act (slice_get calls session) ++ codes "\n"
 
--- the effects of an order, where what happens is this and the sessions called for these texts before
+-- the effects of an order, if these events happen and the sessions called for these texts before
 unfoldable pub order_text : List (List ℕ) → List NumberedEvent → List Move → List ℕ
 order_text calls numbered [] = []
 order_text calls numbered (Effect session act ∷ moves) = effect_text calls session act ++ order_text calls numbered moves
@@ -63,12 +63,12 @@ order_text calls (numbered ∷ more) (Seeing ∷ moves) = order_text (with_call 
 abbrev pub no_calls : List (List ℕ)
 no_calls = replicate 17 []
 
--- a reply as `run` prints it, rows as CONVERT XID prints them
+-- a reply as `run` prints it, with rows as CONVERT XID prints them
 abbrev pub answer_text : Answer → List ℕ
 answer_text (Replied reply) = reply_text true reply
 answer_text NotRead = codes "ERROR 1064"
 
--- texts with those of answers put among them, each once, ascending by their bytes
+-- these texts and those of answers, each once, ascending by their bytes
 unfoldable pub with_answers : List (List ℕ) → List Answer → List (List ℕ)
 with_answers texts [] = texts
 with_answers texts (answer ∷ answers) = with_answers (insert_key bytes_cmp texts (answer_text answer)) answers
@@ -77,7 +77,7 @@ with_answers texts (answer ∷ answers) = with_answers (insert_key bytes_cmp tex
 abbrev pub texts_of : List Answer → List (List ℕ)
 texts_of answers = with_answers [] answers
 
--- what is written for texts of answers
+-- what is written for the texts of answers
 unfoldable pub answers_text : List (List ℕ) → List ℕ
 answers_text [] = []
 answers_text (text ∷ texts) = codes "COULD BE " ++ text ++ codes "\n" ++ answers_text texts
@@ -86,7 +86,7 @@ abbrev pub number_of_line : Option NumberedEvent → ℕ
 number_of_line None = 0
 number_of_line (Some numbered) = numbered.number
 
--- the number of the line on which something happens
+-- the number of the line on which the event at this place happens
 abbrev pub line_number_at : List NumberedEvent → ℕ → ℕ
 line_number_at numbered place = number_of_line (slice_get numbered place)
 

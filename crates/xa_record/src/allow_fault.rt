@@ -9,7 +9,7 @@ pub enum AllowFault {
     /// The line of this number, counted from 1, is the first that isn't an allowance.
     #[error("allow line {0}: not an allowance")]
     Line(u64),
-    /// There was no memory for them.
+    /// An allocation failed.
     #[error("out of memory")]
     NoMemory,
 }

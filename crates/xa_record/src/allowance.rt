@@ -6,26 +6,30 @@ use crate::statement_kind::StatementKind;
 use std::alloc::Global;
 use xa_xid::NoMemory;
 
-/// Where the rules refuse a statement of the kind with one number, the server may give another.
+/// A known difference: if the rules refuse a statement of this kind with one number, the server may give
+/// another.
+///
+/// Own rule: docs/HISTORIES.md#allowances.
 #[derive(Clone, Copy, Debug, PartialEq, Eq)]
 pub struct Allowance {
-    /// The number that the rules give.
+    /// The number of the rules, in `[0, 65535]`.
     pub rules: u16,
     /// The kind of statement.
     pub kind: StatementKind,
-    /// The number that the server may give.
+    /// The number that the server may give, in `[0, 65535]`.
     pub server: u16,
 }
 
 impl Allowance {
-    /// Whether it lets the server's number stand for the rules' one, as the answer to a statement of this kind.
+    /// Whether it lets the server's number stand for the rules' number, as the answer to a statement of this
+    /// kind.
     fn lets_stand(&self, kind: StatementKind, number: u16) -> bool
         ensures { result ≡ lets_stand_so self.now kind number }
     {
         self.server == number && self.kind.words() == kind.words()
     }
 
-    /// Appends the rules' number, where it lets the server's one stand for it.
+    /// Appends the rules' number, if the server's number may stand for it.
     fn push_allowed(
         &self,
         others: &mut Vec<u16>,
@@ -41,7 +45,7 @@ impl Allowance {
     }
 }
 
-/// The rules' numbers for which the allowances let a number stand, as the answer to a statement of this kind.
+/// The rules' numbers for which a number may stand, as the answer to a statement of this kind.
 fn others_allowed(
     alloc: Global,
     allowances: &[Allowance],
@@ -57,7 +61,10 @@ fn others_allowed(
     Ok(others)
 }
 
-/// The rules' numbers for which the allowances let a number stand, as the answer to what has such a kind, or none.
+/// Returns the rules' numbers for which a number may stand by the allowances, as the answer to a request of
+/// this kind. For a request without a kind there is none.
+///
+/// May return `NoMemory`.
 pub fn others_for(
     alloc: Global,
     allowances: &[Allowance],

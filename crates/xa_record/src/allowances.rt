@@ -1,4 +1,4 @@
-//! Reads allowances.
+//! Reads known differences between a server and the rules.
 ghost use Rattle.std.specs.Prelude.{◌≡◌, ◌++◌, IfOk, OnOk, IfErr, Ok, option_to_list};
 ghost use Rattle.xa_lines.specs.Script.{first_word, behind_word as behind_word_of, number_of_word};
 ghost use Rattle.xa_record.specs.Allowances.{allowance_with, one_phase_allowed, xa_allowed, allowed as allowed_by, allowance_of, line_allows, allowances_of, IsAllowFaultOf};
@@ -12,7 +12,7 @@ use std::alloc::Global;
 use xa_lines::{number_in, split_line, split_word};
 use xa_xid::{NoMemory, skip_blanks};
 
-/// The allowance, where the text behind the words of the kind is the server's number.
+/// The allowance, if the text after the words of the kind is the server's number.
 fn with_number(rules: u64, kind: StatementKind, text: &[u8]) -> Option<Allowance>
     ensures { result ≡ allowance_with rules kind text.now }
 {
@@ -33,7 +33,7 @@ fn with_number(rules: u64, kind: StatementKind, text: &[u8]) -> Option<Allowance
     }
 }
 
-/// What is allowed behind `XA COMMIT`.
+/// What is allowed by a text after `XA COMMIT`.
 #[tactic(auto, unfolding(crate::specs::Allowances::one_phase_allowed))]
 fn one_phase(rules: u64, word: &[u8], text: &[u8]) -> Option<Allowance>
     ensures { result ≡ one_phase_allowed rules word.now text.now }
@@ -46,7 +46,7 @@ fn one_phase(rules: u64, word: &[u8], text: &[u8]) -> Option<Allowance>
     }
 }
 
-/// What is allowed behind `XA`.
+/// What is allowed by a text after `XA`.
 #[tactic(auto, unfolding(crate::specs::Allowances::xa_allowed))]
 fn xa(rules: u64, word: &[u8], text: &[u8]) -> Option<Allowance>
     ensures { result ≡ xa_allowed rules word.now text.now }
@@ -70,7 +70,7 @@ fn xa(rules: u64, word: &[u8], text: &[u8]) -> Option<Allowance>
     }
 }
 
-/// What is allowed behind the rules' number.
+/// What is allowed by a text after the rules' number.
 #[tactic(auto, unfolding(crate::specs::Allowances::allowed))]
 fn allowed(rules: u64, word: &[u8], text: &[u8]) -> Option<Allowance>
     ensures { result ≡ allowed_by rules word.now text.now }
@@ -90,7 +90,7 @@ fn allowed(rules: u64, word: &[u8], text: &[u8]) -> Option<Allowance>
     }
 }
 
-/// What the text allows. It begins with no blank.
+/// What the text allows. It doesn't begin with a blank.
 #[tactic(auto, unfolding(crate::specs::Allowances::allowance_of))]
 fn read_allowance(text: &[u8]) -> Option<Allowance>
     ensures { result ≡ allowance_of text.now }
@@ -104,7 +104,7 @@ fn read_allowance(text: &[u8]) -> Option<Allowance>
     }
 }
 
-/// What the line of this number allows, or its number where it isn't an allowance.
+/// What the line of this number allows, or its number if it isn't an allowance.
 fn read_allow_line(number: u64, line: &[u8]) -> Result<Option<Allowance>, u64>
     ensures { result ≡ line_allows number line.now }
 {
@@ -130,15 +130,21 @@ fn push_found(list: &mut Vec<Allowance>, found: Option<Allowance>) -> Result<(),
     }
 }
 
-/// Reads allowances, one on a line: `NUMBER WORDS: NUMBER`, the rules' number, the words of a kind of statement, the server's.
+/// Reads known differences between a server and the rules, one on each line.
 ///
-/// It is cut into lines as a script is; blank lines and comments say nothing. Numbers are 0 to 65,535.
-/// Errors: `Line` with the number of the first line that isn't so, counted from 1; `NoMemory`.
-/// May answer `NoMemory`. Doesn't wait.
+/// A line is `NUMBER WORDS: NUMBER`: the number of the rules, the words of a kind of statement, and the
+/// number of the server. Both numbers are in `[0, 65535]`. Lines are cut as in a script; blank lines and
+/// comments say nothing.
+/// Errors: `Line` with the number, from 1 on, of the first line that isn't an allowance; `NoMemory` if an
+/// allocation failed.
+/// May return `NoMemory`. Doesn't wait.
 /// Own rule: docs/HISTORIES.md#allowances.
 #[tactic(auto, unfolding(crate::specs::Allowances::allowances_of))]
 pub fn read_allowances(alloc: Global, text: &[u8]) -> Result<Vec<Allowance>, AllowFault>
+    // Proved (records, allowances): A text of allowances is read as what its lines allow. If a line isn't an
+    //   allowance, the fault names the first such line.
     ensures read { IfOk result (λ list. allowances_of text.now ≡ Ok list.items) }
+    // Proved (records, allowances)
     ensures fault { IfErr result (IsAllowFaultOf (allowances_of text.now)) }
 {
     let mut list = Vec::new(alloc);

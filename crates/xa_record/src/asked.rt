@@ -1,14 +1,17 @@
-//! What is asked of judging a record.
+//! How a record is to be judged.
 
 use crate::form::Form;
 
-/// What is asked of judging a record.
+/// How a record is to be judged.
+///
+/// Own rule: docs/HISTORIES.md#options.
 #[derive(Clone, Copy, Debug, PartialEq, Eq)]
 pub struct Asked {
-    /// The greatest number of configurations that are kept before a return.
+    /// The greatest number of different configurations that may precede an event.
     pub limit: usize,
-    /// In which form the verdict is written.
+    /// The form in which the verdict is written.
     pub form: Form,
-    /// Whether an order that explains what is before an illegal line, and the store after it, are written too.
+    /// Whether an ILLEGAL verdict also has an order that explains what is before its line, and the store
+    /// after that order.
     pub explains: bool,
 }

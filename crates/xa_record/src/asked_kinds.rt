@@ -1,4 +1,4 @@
-//! What kinds of statements sessions called for last.
+//! The kinds of statements that sessions called for last.
 ghost use Rattle.std.specs.Prelude.{◌≡◌};
 ghost use Rattle.xa_record.specs.Allowances.{no_kinds, kinds_after, kind_asked};
 
@@ -6,21 +6,21 @@ use crate::statement_kind::StatementKind;
 use xa_judge::Event;
 use xa_xid::SessionNo;
 
-/// At each session's number, the kind of what it called for last.
+/// At each session's number, the kind of the statement that it called for last.
 #[derive(Clone, Copy)]
 pub struct AskedKinds {
     kinds: [Option<StatementKind>; 17],
 }
 
 impl AskedKinds {
-    /// No session has called.
+    /// Begins before any session has called.
     pub fn none() -> AskedKinds
         ensures { result.kinds ≡ no_kinds }
     {
         AskedKinds { kinds: [None; 17] }
     }
 
-    /// This event is seen next.
+    /// Takes note of the next event.
     pub fn follow(&mut self, event: &Event)
         ensures { self.new.kinds ≡ kinds_after event.now self.old.kinds }
     {
@@ -34,7 +34,7 @@ impl AskedKinds {
         }
     }
 
-    /// The kind of what the session called for last.
+    /// Returns the kind of the statement that the session called for last, if that has one.
     pub fn of(&self, session: SessionNo) -> Option<StatementKind>
         ensures { result ≡ kind_asked self.now.kinds session }
     {

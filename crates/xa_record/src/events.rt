@@ -17,7 +17,7 @@ use xa_judge::{ErrorNumbers, Event, Request, Seen, SharedRequest, SharedSeen};
 use xa_statement::read_statement;
 use xa_xid::{NoMemory, Xid, copy_of};
 
-/// What a session asks for that calls for this text.
+/// The request of a session that calls for this text.
 fn request_of(text: &[u8]) -> Request
     ensures { result ≡ request_called text.now }
 {
@@ -27,7 +27,7 @@ fn request_of(text: &[u8]) -> Request
     }
 }
 
-/// Puts the identifier of a text behind the others.
+/// Appends the identifier of a text, if it is one.
 fn push_row(rows: &mut Vec<Xid>, text: &[u8]) -> Result<(), NoMemory>
     ensures { OnOk result (rows.new.items ≡ rows.old.items ++ row_before (row_said text.now) []) }
 {
@@ -61,7 +61,7 @@ fn ascending(alloc: Global, texts: &[&[u8]]) -> Result<Vec<Xid>, NoMemory>
     Ok(sorted)
 }
 
-/// What is seen where a return shows this as the answer to what has this kind, rows in ascending order.
+/// What a return shows, as the answer to a statement of this kind. Rows are in ascending order.
 fn seen_of(
     alloc: Global,
     allowances: &[Allowance],
@@ -85,7 +85,7 @@ fn seen_of(
     }
 }
 
-/// The same, which all returns share that show `OK`, and all that show `NONE`.
+/// The same, shared by all returns that show `OK`, and by all that show `NONE`.
 fn shared_seen_of(
     alloc: Global,
     allowances: &[Allowance],
@@ -105,7 +105,7 @@ fn shared_seen_of(
     }
 }
 
-/// The event that is what happens.
+/// The event of a line.
 fn event_of(
     alloc: Global,
     allowances: &[Allowance],
@@ -132,13 +132,20 @@ fn event_of(
     }
 }
 
-/// The events that are what happens, in order.
+/// Returns the events of the lines, in order.
+///
+/// A refusal that was seen stands for its own number, and for those that the allowances let it stand for.
+/// May return `NoMemory`.
 pub fn events_of(
     alloc: Global,
     allowances: &[Allowance],
     numbered: &[NumberedEvent],
 ) -> Result<Vec<Event>, NoMemory>
+    // Proved (records, events): The events that are judged are those that the lines say. A refusal that was
+    //   seen stands for its own number, and for those that the allowances let it stand for, as the answer to
+    //   a statement of the kind that its session called for.
     ensures are { IfOk result (λ events. AreEvents allowances.now (map numbered_kept numbered.now) events.items) }
+    // Proved (records, events)
     ensures calls { IfOk result (λ events. AreCalls (map numbered_kept numbered.now) events.items) }
 {
     let mut events = Vec::new(alloc);

@@ -1,4 +1,4 @@
-//! Explains why no order explains a line.
+//! Explains an ILLEGAL verdict: an order of what comes before its line, and the store after that order.
 ghost use Rattle.std.specs.Prelude.{◌≡◌, ◌<◌, ℕ, length, IfOk, MatchOption, take};
 ghost use Rattle.xa_server.specs.State.{no_state};
 ghost use Rattle.xa_judge.specs.Explained.{Config, opening_config, LeadsThrough, Explained};
@@ -20,7 +20,7 @@ use xa_lines::with_listing;
 use xa_server::Server;
 use xa_xid::NoMemory;
 
-/// The store to which moves lead that lead through what is seen.
+/// The store to which moves lead, which lead through the events.
 fn store_after(
     alloc: Global,
     base: &Server,
@@ -36,7 +36,7 @@ fn store_after(
     }
 }
 
-/// The lines of the store after moves that lead through what is seen: every branch, and the rows that calls name.
+/// The lines of the store to which moves lead: every branch, and the rows that calls name.
 fn state_lines(alloc: Global, events: &[Event], moves: &[Move]) -> Result<Vec<u8>, NoMemory>
     requires { (config : Config) × LeadsThrough (opening_config no_state) events.now moves.now config }
     ensures { IfOk result (λ text. (config : Config) × LeadsThrough (opening_config no_state) events.now moves.now config
@@ -48,7 +48,7 @@ fn state_lines(alloc: Global, events: &[Event], moves: &[Move]) -> Result<Vec<u8
     with_listing(alloc, Vec::new(alloc), &store, rows.as_slice())
 }
 
-/// An order by moves that lead through what is seen before a place, and the store after it.
+/// An order of the moves, which lead through the events before a place, and the store after it.
 fn reason_by(
     alloc: Global,
     text: &[u8],
@@ -66,7 +66,8 @@ fn reason_by(
     Ok(Reason { order, state })
 }
 
-/// Moves that lead through what is seen; or none, where too many configurations are before a place of that.
+/// Moves that lead through the events, which are explained; or None if too many configurations precede one of
+/// them.
 fn moves_through<P: Progress>(
     alloc: Global,
     limit: usize,
@@ -85,8 +86,8 @@ fn moves_through<P: Progress>(
     }
 }
 
-/// An order that explains what is seen in the record of this text before a place, and the store after it; or none, where it passes
-/// the limit.
+/// An order that explains what happens in the record of this text before a place, and the store after it; or
+/// None if that passes the limit.
 fn reason_of<P: Progress>(
     alloc: Global,
     limit: usize,
@@ -107,7 +108,11 @@ fn reason_of<P: Progress>(
     }
 }
 
-/// The reason why no order explains what happens at this place in the record of this text, where that is asked.
+/// Returns an order that explains what happens before this place in the record of this text, and the store
+/// after it, if `asked` asks for that and the limit allows it.
+///
+/// The events before the place are judged once more.
+/// May return `NoMemory`.
 pub fn reason_for<P: Progress>(
     alloc: Global,
     asked: Asked,

@@ -1,10 +1,10 @@
-//! In which form a verdict is written.
+//! The forms of a verdict.
 
-/// In which form a verdict is written.
+/// The form in which a verdict is written.
 #[derive(Clone, Copy, Debug, PartialEq, Eq)]
 pub enum Form {
-    /// Lines, of which the first begins with a word for the verdict.
+    /// Lines. The first one begins with the word of the verdict.
     Plain,
-    /// One JSON object on a line.
+    /// One JSON object on one line.
     Json,
 }

@@ -17,7 +17,7 @@ use std::collections::BTreeSet;
 use xa_lines::split_line;
 use xa_xid::NoMemory;
 
-/// The text as characters: each byte is the character of its number.
+/// The text as characters: each byte becomes the character with its number.
 #[tactic(auto, using(crate::proofs::JsonTexts::characters_more))]
 fn characters(alloc: Global, text: &[u8]) -> Result<String, NoMemory>
     ensures { IfOk result (λ string. string_bytes string ≡ encode_utf8_all text.now) }
@@ -29,7 +29,7 @@ fn characters(alloc: Global, text: &[u8]) -> Result<String, NoMemory>
     Ok(string)
 }
 
-/// Writes a text as a string.
+/// Writes a text as a JSON string.
 fn write_text(alloc: Global, writer: &mut Writer, text: &[u8]) -> Result<(), NoMemory>
     ensures tokens { OnOk result (writer.new.tokens ≡ writer.old.tokens ++ json_tokens (text_value text.now)) }
     ensures before { writer.new.before ≡ writer.old.before }
@@ -69,7 +69,7 @@ fn write_lines(alloc: Global, writer: &mut Writer, text: &[u8]) -> Result<(), No
     writer.end_array()
 }
 
-/// Writes the key of the verdict.
+/// Writes the key of the verdict and its value.
 fn write_verdict(writer: &mut Writer, word: &str) -> Result<(), NoMemory>
     ensures tokens { OnOk result (writer.new.tokens ≡ writer.old.tokens ++ key (codes "verdict") ∷ string word.now ∷ []) }
     ensures before { writer.new.before ≡ writer.old.before }
@@ -78,7 +78,7 @@ fn write_verdict(writer: &mut Writer, word: &str) -> Result<(), NoMemory>
     writer.string(word)
 }
 
-/// Writes the key of a line's number.
+/// Writes the key of the line's number and its value.
 fn write_line(writer: &mut Writer, line: u64) -> Result<(), NoMemory>
     ensures tokens { OnOk result (writer.new.tokens ≡ writer.old.tokens ++ key (codes "line") ∷ number (decimal line) ∷ []) }
     ensures before { writer.new.before ≡ writer.old.before }
@@ -87,7 +87,7 @@ fn write_line(writer: &mut Writer, line: u64) -> Result<(), NoMemory>
     writer.u64(line)
 }
 
-/// Writes the key of what could have been answered.
+/// Writes the key of the possible answers and its value.
 fn write_could_be(
     alloc: Global,
     writer: &mut Writer,
@@ -101,7 +101,7 @@ fn write_could_be(
     write_texts(alloc, writer, texts)
 }
 
-/// Writes a key, and lines as its value.
+/// Writes a key with lines as its value.
 fn write_lines_of(
     alloc: Global,
     writer: &mut Writer,
@@ -115,7 +115,8 @@ fn write_lines_of(
     write_lines(alloc, writer, lines)
 }
 
-/// Writes the keys of the order before a line and of the store after it, where they are told, and the object's end.
+/// Writes the keys of the order before a line and of the store after it, if these are given, and the end of
+/// the object.
 fn end_with_reason(
     alloc: Global,
     writer: &mut Writer,
@@ -134,7 +135,7 @@ fn end_with_reason(
     }
 }
 
-/// Writes the keys of a report, and the object's end.
+/// Writes the keys of a report, and the end of the object.
 fn write_members(alloc: Global, writer: &mut Writer, report: &Report) -> Result<(), NoMemory>
     ensures tokens { OnOk result (writer.new.tokens ≡ writer.old.tokens ++ members_tokens (report_members (report_kept report.now))) }
     ensures before { writer.new.before ≡ writer.old.before }
@@ -168,7 +169,10 @@ fn write_members(alloc: Global, writer: &mut Writer, report: &Report) -> Result<
     }
 }
 
-/// The text of a report as a JSON object on a line.
+/// Returns a report as a JSON object on one line.
+///
+/// May return `NoMemory`.
+/// Own rule: docs/HISTORIES.md#verdicts.
 pub fn json_text(alloc: Global, report: &Report) -> Result<Vec<u8>, NoMemory>
     ensures { IfOk result (λ text. text.items ≡ text_of_report (report_kept report.now)) }
 {

@@ -24,14 +24,14 @@ use xa_judge::{Event, Progress, judge_telling};
 use xa_server::Server;
 use xa_xid::NoMemory;
 
-/// What judging a record comes to, and what is written for it.
+/// How judging a record ended, and what is written for it.
 #[derive(Drop)]
 pub struct Judged {
     pub outcome: Outcome,
     pub text: Vec<u8>,
 }
 
-/// The events that were read of a record. Its lines are let go.
+/// The events that were read of a record. Its lines are freed.
 fn events_read(
     alloc: Global,
     allowances: &[Allowance],
@@ -43,7 +43,7 @@ fn events_read(
     events_of(alloc, allowances, notes.numbered.as_slice())
 }
 
-/// What is told of the record of this text, which these events happen in.
+/// What is reported of the record of this text, whose events these are.
 fn verdict_on<P: Progress>(
     alloc: Global,
     text: &[u8],
@@ -62,7 +62,7 @@ fn verdict_on<P: Progress>(
     report_of(alloc, asked, text, events, &verdict, progress)
 }
 
-/// What is told of the record of this text.
+/// What is reported of the record of this text.
 fn report_on<P: Progress>(
     alloc: Global,
     text: &[u8],
@@ -93,13 +93,16 @@ fn text_in(alloc: Global, form: Form, report: &Report) -> Result<Vec<u8>, NoMemo
     }
 }
 
-/// Judges the record of this text. Where nothing happens in it there is no verdict.
+/// Judges the record of this text, and returns how that ended and the text of the verdict.
 ///
-/// The server holds nothing at first. Its answers may differ from the rules' as the allowances say. At most `asked.limit`
-/// configurations are kept before a return; where an illegal line is explained, what is before it is judged once more, and nothing
-/// is explained where that passes the limit. `progress` is told how far judging is.
-/// May answer `NoMemory`. Doesn't wait.
-/// Own rule: docs/HISTORIES.md.
+/// The server holds nothing at first. `allowances` are known differences between its answers and the rules.
+/// If more than `asked.limit` different configurations can precede an event, the end is `Undecided`. With
+/// `asked.explains` the part before an ILLEGAL line is judged once more; if that passes the limit, it isn't
+/// explained. If lines are faulty, or nothing happens, there is no verdict. `progress` is told how far
+/// judging is.
+/// Errors: `NoMemory` if an allocation failed.
+/// May return `NoMemory`. Doesn't wait.
+/// Own rule: docs/HISTORIES.md#verdicts.
 pub fn judge_text<P: Progress>(
     alloc: Global,
     text: &[u8],
@@ -107,6 +110,27 @@ pub fn judge_text<P: Progress>(
     asked: Asked,
     progress: &mut P,
 ) -> Result<Judged, NoMemory>
+    // Proved (records, judged-faulty): A record with a faulty line ends as faulty, and exactly its faulty
+    //   lines are written, each with its cause.
+    // Proved (records, judged-empty): A record without a faulty line and without an event ends as empty, and
+    //   `EMPTY` is written.
+    // Proved (records, judged-verdict): Every other record ends with a verdict that is right for the events
+    //   of its lines, beginning with a server that holds nothing, and that verdict is written.
+    // Proved (records, judged-allowances): In a record that is judged, a refusal stands for its own number,
+    //   and for those that the allowances let it stand for.
+    // Proved (records, judged-forms): The text of a verdict is its lines, or that of a JSON object with a
+    //   definition for each key.
+    // Proved (records, illegal-answer-texts): The answers of an ILLEGAL verdict are written as texts, each
+    //   once, ascending by bytes.
+    // Proved (records, illegal-answers)
+    // Proved (records, illegal-explained): If an ILLEGAL verdict is explained, its order is that of moves
+    //   that lead through what was seen before its place. The store is listed to which they lead: every
+    //   branch, and each row that a call before the place names, once, ascending.
+    // Proved (records, illegal-unexplained): An ILLEGAL verdict that is to be explained lacks its order and
+    //   store only if more configurations than allowed come before a place of what was seen before it.
+    // Proved (records, order-replayed): The order that is written for a legal record, run as a script by a
+    //   server that holds nothing, gives for each effect, in order, the answer that its session has there,
+    //   along the moves by which the record is explained. `run` reads orders of up to 1,048,576 bytes.
     ensures { IfOk result (λ judged. IsJudged text.now allowances.now asked judged.outcome judged.text.items) }
 {
     let report = report_on(alloc, text, allowances, asked, progress)?;

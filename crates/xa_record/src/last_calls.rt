@@ -1,25 +1,25 @@
-//! Where the last call of each session stands.
+//! The places of the last calls of sessions.
 ghost use Rattle.std.specs.Prelude.{◌≡◌, Some, None, replicate, slice_get};
 ghost use Rattle.xa_record.specs.Kept.{told_kept, with_place};
 
 use crate::line_event::LineEvent;
 use xa_xid::SessionNo;
 
-/// At each session's number, the place of its last call among what happens.
+/// At each session's number, the place of its last call among the events.
 #[derive(Drop)]
 pub struct LastCalls {
     places: [Option<usize>; 17],
 }
 
 impl LastCalls {
-    /// No session has called.
+    /// Begins before any session has called.
     pub fn none() -> LastCalls
         ensures { result.places ≡ replicate 17 None }
     {
         LastCalls { places: [None; 17] }
     }
 
-    /// This happens next, at this place.
+    /// Takes note of what happens next, at this place.
     pub fn follow(&mut self, place: usize, line_event: &LineEvent)
         ensures { self.new.places ≡ with_place place (told_kept line_event.now) self.old.places }
     {
@@ -31,7 +31,7 @@ impl LastCalls {
         }
     }
 
-    /// The place of the session's last call.
+    /// Returns the place of the session's last call, if it has called.
     pub fn place_of(&self, session: SessionNo) -> Option<usize>
         ensures { slice_get self.now.places session ≡ Some result }
     {

@@ -1,4 +1,4 @@
-//! What holds of all records, as contracts of functions that do nothing.
+//! What holds of all records: laws, stated as contracts of functions that do nothing.
 ghost use Rattle.std.specs.Prelude.{◌≡◌, ◌≢◌, ℕ, List, []};
 ghost use Rattle.xa_server.specs.State.{State};
 ghost use Rattle.xa_judge.specs.declared.event.Event.{Event};
@@ -15,38 +15,52 @@ ghost use Rattle.xa_record.specs.declared.line_fault.LineFault.{LineFault};
 ghost use Rattle.xa_record.specs.Reading.{NumberedEvent, fault_text, notes_of};
 ghost use Rattle.xa_record.specs.Records.{Tells, HasFault, Begins};
 
-/// What is read of a record of which no line is faulty is what its lines tell by the rules; and where these let lines tell something, no
-/// line is faulty, and that is what is read.
+/// States that a record without a faulty line is read as its lines tell by the rules, and that lines that
+/// tell something by the rules have no fault. Does nothing when it is called.
 ///
 /// Takes no memory. Doesn't wait. Own rule: docs/HISTORIES.md#records.
 pub fn lines_tell_what_is_read()
+    // Proved (records, lines-tell): What is read of a record without a faulty line is what its lines tell by
+    //   rules, one for each kind of line. If these rules let lines tell something, none is faulty, and that
+    //   is what is read.
     ensures told { (text : List ℕ) → (notes_of text).faults ≡ [] → Tells (lines_of text) (notes_of text).told }
+    // Proved (records, lines-tell)
     ensures only { (text : List ℕ) (list : List NumberedEvent) → Tells (lines_of text) list → ((notes_of text).faults ≡ []) × (list ≡ (notes_of text).told) }
 {}
 
-/// Of a record with a faulty line one is the first by the rules, for one cause, and that is written first.
+/// States that one line of a record with faulty lines is the first faulty one by the rules, for one cause,
+/// and is written first. Does nothing when it is called.
 ///
 /// Takes no memory. Doesn't wait. Own rule: docs/HISTORIES.md#records.
 pub fn first_fault_is_written_first()
+    // Proved (records, first-fault): If a record has faulty lines, one is the first by rules, one for each
+    //   kind of fault. What is written begins with its number and its cause.
     ensures found { (text : List ℕ) → (notes_of text).faults ≢ [] → (number : ℕ) × (fault : LineFault) × HasFault (lines_of text) number fault }
+    // Proved (records, first-fault)
     ensures first { (text : List ℕ) (number : ℕ) (fault : LineFault) → HasFault (lines_of text) number fault
         → Begins (notes_of text).faults (fault_text number fault) }
 {}
 
-/// The order that is written for a legal record is a script: each of its lines gives, to the session, the request that takes
-/// effect there, so that `run` answers each as the effect was answered, and goes through the same states.
+/// States that the order that is written for a legal record is a script that gives the answers of that order.
+/// Does nothing when it is called.
 ///
+/// Each line of the order gives the session the request that takes effect there. So `run` answers each line
+/// as the effect was answered, and goes through the same states.
 /// Takes no memory. Doesn't wait. Own rule: docs/HISTORIES.md#verdicts.
 pub fn order_is_replayed()
+    // Proved (records, order-replayed)
     ensures written { (calls : List (List ℕ)) (numbered : List NumberedEvent) (moves : List Move) → order_text calls numbered moves ≡ joined (order_lines calls numbered moves) }
+    // Proved (records, order-replayed)
     ensures effects { (base : State) (allowances : List Allowance) (numbered : List NumberedEvent) (events : List Event) (moves : List Move) (new : Config)
         → AreWellCalled numbered
         → AreEvents allowances numbered events
         → LeadsThrough (opening_config base) events moves new
         → AreEffects (opening_config base) events moves (order_lines no_calls numbered moves) }
+    // Proved (records, order-replayed)
     ensures answers { (state : State) (line : List ℕ) (session : ℕ) (request : Request)
         → GivesRequest line session request
         → AnswersSo state session request (answer_of state (line_of line)) }
+    // Proved (records, order-replayed)
     ensures states { (state : State) (line : List ℕ) (session : ℕ) (request : Request)
         → GivesRequest line session request
         → state_after_line state (line_of line) ≡ next_state state session request }

@@ -1,4 +1,4 @@
-//! What a line of a record says.
+//! Reads a line of a record.
 ghost use Rattle.std.specs.Prelude.{◌≡◌, Some};
 ghost use Rattle.xa_lines.specs.Script.{first_word, behind_word as behind_word_of, number_of_word};
 ghost use Rattle.xa_record.specs.Rows.{leading_number as leading_number_of};
@@ -16,21 +16,21 @@ use xa_xid::{ByteClass, Bytes, SessionNo, literal_of, skip_blanks};
 /// What a line of a record says.
 #[derive(Drop)]
 pub enum RecordLine<'a> {
-    /// Nothing.
+    /// Nothing: it is blank, or a comment.
     Nothing,
-    /// It isn't written as a line of a record is.
+    /// Nothing that a line of a record can say.
     Bad,
     /// This happens.
     Happens(LineEvent<'a>),
     /// A call of the session returns this value.
     Value(SessionNo, Bytes),
-    /// A call of the session returns so many rows, which stand on the next lines.
+    /// A call of the session returns this many rows, which follow on the next lines.
     Rows(SessionNo, u64),
-    /// The client of the session found that the server had closed its connection.
+    /// The session's client found that the server had closed its connection.
     Closed(SessionNo),
 }
 
-/// Whether the line is blank or a comment.
+/// Tells whether the line is blank or a comment.
 pub fn is_silent(line: &[u8]) -> bool
     ensures { result ≡ is_silent_line line.now }
 {
@@ -52,7 +52,7 @@ fn trimmed(text: &[u8]) -> &[u8]
     rest
 }
 
-/// The return, where nothing stands behind it.
+/// The return, if no text follows.
 fn alone<'a>(session: SessionNo, shown: Shown<'a>, rest: &'a [u8]) -> RecordLine<'a>
     ensures { line_kept result ≡ alone (Says (Returns session (shown_kept shown.entry))) rest.now }
 {
@@ -63,7 +63,7 @@ fn alone<'a>(session: SessionNo, shown: Shown<'a>, rest: &'a [u8]) -> RecordLine
     }
 }
 
-/// The return of a value, where nothing stands behind it.
+/// The return of a value, if no text follows.
 fn value_alone(session: SessionNo, value: Bytes, rest: &[u8]) -> RecordLine<'_>
     ensures { line_kept result ≡ alone (Says (Returns session (ShowsValue (Some value)))) rest.now }
 {
@@ -74,7 +74,7 @@ fn value_alone(session: SessionNo, value: Bytes, rest: &[u8]) -> RecordLine<'_>
     }
 }
 
-/// What `VALUE` says, with the text behind it.
+/// What `VALUE` and the text after it say.
 fn value(session: SessionNo, text: &[u8]) -> RecordLine<'_>
     ensures { line_kept result ≡ value_said session (literal_ahead text.now) }
 {
@@ -84,7 +84,7 @@ fn value(session: SessionNo, text: &[u8]) -> RecordLine<'_>
     }
 }
 
-/// What `ROWS` says, with the text behind it.
+/// What `ROWS` and the text after it say.
 fn rows(session: SessionNo, text: &[u8]) -> RecordLine<'_>
     ensures { line_kept result ≡ rows_said session (number_of_word (first_word text.now)) (behind_word_of text.now) }
 {
@@ -101,7 +101,7 @@ fn rows(session: SessionNo, text: &[u8]) -> RecordLine<'_>
     }
 }
 
-/// What `ERROR` says, with the text behind it.
+/// What `ERROR` and the text after it say.
 fn error(session: SessionNo, text: &[u8]) -> RecordLine<'_>
     ensures { line_kept result ≡ error_said session (leading_number_of text.now) }
 {
@@ -117,7 +117,7 @@ fn error(session: SessionNo, text: &[u8]) -> RecordLine<'_>
     }
 }
 
-/// What stands behind `<`.
+/// What a word after `<` and the text after it say.
 #[tactic(auto, unfolding(crate::specs::Lines::return_said))]
 fn returned<'a>(session: SessionNo, word: &[u8], text: &'a [u8]) -> RecordLine<'a>
     ensures { line_kept result ≡ return_said session word.now text.now }
@@ -137,7 +137,7 @@ fn returned<'a>(session: SessionNo, word: &[u8], text: &'a [u8]) -> RecordLine<'
     }
 }
 
-/// What stands behind `?`.
+/// What a word after `?` says.
 fn unknown(session: SessionNo, word: &[u8]) -> RecordLine<'_>
     ensures { line_kept result ≡ unknown_said session word.now }
 {
@@ -148,7 +148,7 @@ fn unknown(session: SessionNo, word: &[u8]) -> RecordLine<'_>
     }
 }
 
-/// What stands behind `!`.
+/// What a word after `!` and the text after it say.
 #[tactic(auto, unfolding(crate::specs::Lines::loss_said))]
 fn loss<'a>(session: SessionNo, word: &[u8], text: &'a [u8]) -> RecordLine<'a>
     ensures { line_kept result ≡ loss_said session word.now text.now }
@@ -164,7 +164,7 @@ fn loss<'a>(session: SessionNo, word: &[u8], text: &'a [u8]) -> RecordLine<'a>
     }
 }
 
-/// What a session's line says.
+/// What the line of a session says.
 #[tactic(auto, unfolding(crate::specs::Lines::session_said))]
 fn session_line<'a>(session: SessionNo, sign: &[u8], text: &'a [u8]) -> RecordLine<'a>
     ensures { line_kept result ≡ session_said session sign.now text.now }
@@ -184,12 +184,13 @@ fn session_line<'a>(session: SessionNo, sign: &[u8], text: &'a [u8]) -> RecordLi
     }
 }
 
-/// What a line of a record says.
+/// Reads a line of a record, without its line feed.
 ///
-/// The line is without its line feed. Takes no memory. Doesn't wait.
+/// Takes no memory. Doesn't wait.
 /// Own rule: docs/HISTORIES.md#records.
 #[tactic(auto, unfolding(crate::specs::Lines::reading_of_line))]
 pub fn read_record_line(line: &[u8]) -> RecordLine<'_>
+    // Proved (records, line-read): What a line of a record says is what its definition says.
     ensures { line_kept result ≡ reading_of_line line.now }
 {
     if is_silent(line) {

@@ -11,11 +11,11 @@ use xa_xid::SessionNo;
 /// What happens to a session.
 #[derive(Drop)]
 pub enum LineEvent<'a> {
-    /// It calls for what this text asks for.
+    /// It calls for this text.
     Call(SessionNo, &'a [u8]),
-    /// Its call returns so.
+    /// Its call returns this.
     Return(SessionNo, Shown<'a>),
-    /// Its call returns, and what it returned isn't known.
+    /// Its call returns, with an answer that isn't known.
     Unknown(SessionNo),
     /// Its client is gone, at this line or at any time since its last return.
     Lost(SessionNo),
@@ -29,7 +29,7 @@ pub struct NumberedEvent<'a> {
 }
 
 impl LineEvent<'_> {
-    /// The session to which it happens.
+    /// Returns the session to which it happens.
     pub fn session(&self) -> SessionNo
         ensures { result ≡ session_of (told_kept self.now) }
     {
@@ -41,7 +41,7 @@ impl LineEvent<'_> {
         }
     }
 
-    /// Whether a call of the session returns.
+    /// Tells whether a call of the session returns.
     pub fn returns_to(&self, session: SessionNo) -> bool
         ensures { result ≡ is_return_of session (told_kept self.now) }
     {
@@ -53,7 +53,7 @@ impl LineEvent<'_> {
         }
     }
 
-    /// What is then said of the session.
+    /// Returns what the lines say of the session after this.
     pub fn presence(&self) -> Presence
         ensures { result ≡ presence_after (told_kept self.now) }
     {
@@ -65,7 +65,7 @@ impl LineEvent<'_> {
         }
     }
 
-    /// Why its line is faulty, where the session has no open call.
+    /// Why its line is faulty, if the session has no open call.
     fn fault_idle(&self) -> Option<LineFault>
         ensures { result ≡ cause_of (Some Presence.Idle) (told_kept self.now) }
     {
@@ -77,7 +77,7 @@ impl LineEvent<'_> {
         }
     }
 
-    /// Why its line is faulty, where the session has an open call.
+    /// Why its line is faulty, if the session has an open call.
     fn fault_open(&self) -> Option<LineFault>
         ensures { result ≡ cause_of (Some Presence.Open) (told_kept self.now) }
     {
@@ -89,7 +89,7 @@ impl LineEvent<'_> {
         }
     }
 
-    /// Why its line is faulty, where the session's client is gone.
+    /// Why its line is faulty, if the session's client is gone.
     fn fault_lost(&self) -> Option<LineFault>
         ensures { result ≡ cause_of (Some Presence.Lost) (told_kept self.now) }
     {
@@ -101,7 +101,7 @@ impl LineEvent<'_> {
         }
     }
 
-    /// Why its line is faulty, by what the lines before say of the session.
+    /// Returns why its line is faulty, by what the lines before say of the session; None if it isn't.
     pub fn fault(&self, before: Option<&Presence>) -> Option<LineFault>
         ensures { result ≡ cause_of (option_copied before.entry) (told_kept self.now) }
     {

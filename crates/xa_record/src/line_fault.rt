@@ -8,17 +8,17 @@ use xa_xid::{NoMemory, SessionNo};
 /// Why a line of a record is faulty.
 #[derive(Clone, Copy, Debug, PartialEq, Eq)]
 pub enum LineFault {
-    /// It isn't written as a line of a record is.
+    /// It doesn't have the form of any line of a record.
     NotALine,
-    /// It isn't written as a row is, where a row is to stand.
+    /// A row has to follow, and it doesn't have the form of a row.
     NotARow,
-    /// The record ends before all rows of a return.
+    /// The record ends before all rows of this return.
     RowsMissing,
-    /// The session calls, and has an open call.
+    /// The session calls, but has an open call.
     OpenCall(SessionNo),
-    /// A call of the session returns, and it has none open.
+    /// A call of the session returns, but it has none open.
     NoOpenCall(SessionNo),
-    /// The session's client is gone.
+    /// The session's client is gone already.
     Lost(SessionNo),
 }
 
@@ -46,9 +46,9 @@ impl LineFault {
         }
     }
 
-    /// Appends `LINE`, the line's number and the cause, and a line feed.
+    /// Appends `LINE`, the number of the line, its cause, and a line feed.
     ///
-    /// May answer `NoMemory`. Doesn't wait.
+    /// May return `NoMemory`. Doesn't wait.
     /// Own rule: docs/HISTORIES.md#records.
     pub fn push(self, text: &mut Vec<u8>, number: u64) -> Result<(), NoMemory>
         ensures { OnOk result (text.new.items ≡ text.old.items ++ fault_text number self) }

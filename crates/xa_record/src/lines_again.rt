@@ -1,6 +1,7 @@
-//! What the lines of a record that was judged say, read once more.
+//! Reads a record once more, after it was judged.
 //!
-//! The lines of a long record take more memory than all else that is read of it. While it is judged they aren't kept.
+//! The lines of a long record take more memory than anything else that is read of it. So they aren't kept
+//! while it is judged.
 ghost use Rattle.std.specs.Prelude.{◌≡◌, ◌≤◌, length, map, take, IfOk};
 ghost use Rattle.xa_record.specs.Events.{AreCalls};
 ghost use Rattle.xa_record.specs.Kept.{numbered_kept};
@@ -21,7 +22,7 @@ fn numbered_in(alloc: Global, text: &[u8]) -> Result<Vec<NumberedEvent<'_>>, NoM
     Ok(read_notes(alloc, text)?.numbered)
 }
 
-/// The number of the line on which this happens.
+/// The number of the line on which the event at this place happens, or 0 past the end.
 fn number_of(numbered: &[NumberedEvent], place: usize) -> u64
     ensures { result ≡ line_number_at (map numbered_kept numbered.now) place }
 {
@@ -32,7 +33,9 @@ fn number_of(numbered: &[NumberedEvent], place: usize) -> u64
     }
 }
 
-/// The number of the line of a record on which this happens.
+/// Returns the number of the line on which the event at this place happens.
+///
+/// May return `NoMemory`.
 pub fn number_in(alloc: Global, text: &[u8], place: usize) -> Result<u64, NoMemory>
     ensures { IfOk result (λ number. number ≡ line_number_at (notes_of text.now).told place) }
 {
@@ -40,7 +43,9 @@ pub fn number_in(alloc: Global, text: &[u8], place: usize) -> Result<u64, NoMemo
     Ok(number_of(numbered.as_slice(), place))
 }
 
-/// The lines of an order of a record.
+/// Returns the lines of an order of a record.
+///
+/// May return `NoMemory`.
 pub fn order_in(
     alloc: Global,
     text: &[u8],
@@ -69,7 +74,9 @@ fn order_up_to(
     order_lines(alloc, &numbered[..place], &events[..place], moves)
 }
 
-/// The lines of an order of what happens in a record before this place.
+/// Returns the lines of an order of what happens in a record before this place.
+///
+/// May return `NoMemory`.
 pub fn order_before(
     alloc: Global,
     text: &[u8],

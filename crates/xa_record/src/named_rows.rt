@@ -7,7 +7,7 @@ use std::collections::BTreeSet;
 use xa_judge::{Event, Request};
 use xa_xid::{Key, NoMemory, Statement};
 
-/// Puts in the row.
+/// Adds the row.
 fn put_in(keys: &mut BTreeSet<Key>, key: &Key) -> Result<(), NoMemory>
     ensures { OnOk result (keys.new.keys ≡ with_row_of (Statement.Get key.now) keys.old.keys) }
 {
@@ -15,7 +15,7 @@ fn put_in(keys: &mut BTreeSet<Key>, key: &Key) -> Result<(), NoMemory>
     Ok(())
 }
 
-/// Puts in the row that the statement names.
+/// Adds the row that the statement names, if it names one.
 fn put_in_row_of(keys: &mut BTreeSet<Key>, statement: &Statement) -> Result<(), NoMemory>
     ensures { OnOk result (keys.new.keys ≡ with_row_of statement.now keys.old.keys) }
 {
@@ -34,7 +34,7 @@ fn put_in_row_of(keys: &mut BTreeSet<Key>, statement: &Statement) -> Result<(), 
     }
 }
 
-/// Puts in the row that is named where this is seen.
+/// Adds the row that the event calls for, if it calls for one.
 fn put_in_row_called(keys: &mut BTreeSet<Key>, event: &Event) -> Result<(), NoMemory>
     ensures { OnOk result (keys.new.keys ≡ with_row_called event.now keys.old.keys) }
 {
@@ -60,7 +60,9 @@ fn list_of(alloc: Global, keys: &BTreeSet<Key>) -> Result<Vec<Key>, NoMemory>
     Ok(list)
 }
 
-/// The rows that calls name, each once, ascending by their bytes.
+/// Returns the rows that calls name, each once, ascending by their bytes.
+///
+/// May return `NoMemory`.
 pub fn rows_named(alloc: Global, events: &[Event]) -> Result<Vec<Key>, NoMemory>
     ensures { IfOk result (λ keys. keys.items ≡ keys_named events.now) }
 {

@@ -1,4 +1,4 @@
-//! What was read of a record.
+//! What was read of a record so far.
 ghost use Rattle.std.specs.Prelude.{◌≡◌, ◌≤◌, OnOk, length, map, slice_get, option_copied};
 ghost use Rattle.std.specs.Option.{option_map};
 ghost use Rattle.xa_record.specs.Reading.{no_notes, blamed, blamed_too, note_of, up_to_return as up_to_return_of, note_closed, returned, awaiting, with_row, noted_row, noted_said, noted_line, ended_by};
@@ -22,13 +22,13 @@ pub struct Notes<'a> {
     pub numbered: Vec<NumberedEvent<'a>>,
     /// What is written for faulty lines.
     pub faults: Vec<u8>,
-    /// At each session's number what the lines say of it.
+    /// At each session's number, what the lines say of it.
     pub presence: [Presence; 17],
     /// Rows that are still to come.
     pub pending: Option<Pending<'a>>,
 }
 
-/// How much happens up to the session's last return and with it, nothing where it has none.
+/// How many events there are up to and including the session's last return; 0 if it has none.
 fn up_to_return(numbered: &[NumberedEvent], session: SessionNo) -> usize
     ensures place { result ≡ up_to_return_of session (map numbered_kept numbered.now) }
     ensures within { result ≤ length numbered.now }
@@ -45,7 +45,7 @@ fn up_to_return(numbered: &[NumberedEvent], session: SessionNo) -> usize
 }
 
 impl<'a> Notes<'a> {
-    /// Nothing was read.
+    /// Begins before the first line.
     pub fn new(alloc: Global) -> Notes<'a>
         ensures { notes_kept result ≡ no_notes }
     {
@@ -57,7 +57,9 @@ impl<'a> Notes<'a> {
         }
     }
 
-    /// The line of this number is faulty.
+    /// Notes that the line of this number is faulty.
+    ///
+    /// May return `NoMemory`.
     #[tactic(auto, unfolding(crate::specs::Reading::blamed))]
     pub fn blame(&mut self, number: u64, fault: LineFault) -> Result<(), NoMemory>
         ensures { OnOk result (notes_kept self.new ≡ blamed (notes_kept self.old) number fault) }
@@ -65,7 +67,7 @@ impl<'a> Notes<'a> {
         fault.push(&mut self.faults, number)
     }
 
-    /// The lines for which this is written are faulty too.
+    /// Notes these faulty lines, for which the text is given.
     fn blame_too(&mut self, faults: &[u8]) -> Result<(), NoMemory>
         ensures { OnOk result (notes_kept self.new ≡ blamed_too (notes_kept self.old) faults.now) }
     {
@@ -79,7 +81,7 @@ impl<'a> Notes<'a> {
         self.presence.get(session.get() as usize)
     }
 
-    /// This happens on the line of this number, or the line is faulty.
+    /// Notes that this happens on the line of this number, or that the line is faulty.
     #[tactic(auto, unfolding(crate::specs::Reading::noted_if))]
     fn note(&mut self, number: u64, line_event: LineEvent<'a>) -> Result<(), NoMemory>
         ensures { OnOk result (notes_kept self.new ≡ note_of (notes_kept self.old) number (told_kept line_event.entry)) }
@@ -95,7 +97,8 @@ impl<'a> Notes<'a> {
         }
     }
 
-    /// The session's connection was closed at some time since its last return, or the line of this number is faulty.
+    /// Notes that the session's connection was closed at some time since its last return, or that the line of
+    /// this number is faulty.
     #[tactic(auto, unfolding(crate::specs::Reading::closed_if))]
     fn note_closed(&mut self, number: u64, session: SessionNo) -> Result<(), NoMemory>
         ensures { OnOk result (notes_kept self.new ≡ note_closed (notes_kept self.old) number session) }
@@ -113,7 +116,8 @@ impl<'a> Notes<'a> {
         }
     }
 
-    /// All rows have come: the call returns them. Its own line comes before the faulty ones among them.
+    /// Notes that the call returns its rows, which have all come. Its own line comes before the faulty ones
+    /// among the rows.
     fn finish(&mut self, pending: Pending<'a>) -> Result<(), NoMemory>
         ensures { OnOk result (notes_kept self.new ≡ returned (notes_kept self.old) (awaited_kept pending.entry)) }
     {
@@ -128,7 +132,7 @@ impl<'a> Notes<'a> {
         self.blame_too(faults.as_slice())
     }
 
-    /// Where all rows have come, the call returns them; else the others are still to come.
+    /// Notes that the call returns, if all its rows have come; else that some are still to come.
     fn wait_for(&mut self, pending: Pending<'a>) -> Result<(), NoMemory>
         ensures { OnOk result (notes_kept self.new ≡ awaiting (notes_kept self.old) (awaited_kept pending.entry)) }
     {
@@ -140,7 +144,7 @@ impl<'a> Notes<'a> {
         }
     }
 
-    /// A line has come where a row was to come.
+    /// Takes a line that comes in the place of a row.
     #[tactic(auto, using(crate::proofs::RowTexts::rows_behind), unfolding(crate::specs::Reading::with_row))]
     fn take_row(
         &mut self,
@@ -158,7 +162,7 @@ impl<'a> Notes<'a> {
         self.wait_for(pending)
     }
 
-    /// Takes a line that isn't one of rows.
+    /// Takes a line that isn't in the place of a row.
     #[tactic(auto, unfolding(crate::specs::Reading::noted_said))]
     fn take_said(
         &mut self,
@@ -188,8 +192,12 @@ impl<'a> Notes<'a> {
     }
 
     /// Takes the line of this number.
+    ///
+    /// May return `NoMemory`.
     #[tactic(auto, unfolding(crate::specs::Reading::noted_line, crate::specs::Reading::noted_row))]
     pub fn take(&mut self, alloc: Global, number: u64, line: &'a [u8]) -> Result<(), NoMemory>
+        // Proved (records, line-noted): What was read after one more line of a record is what its definition
+        //   says.
         ensures { OnOk result (notes_kept self.new ≡ noted_line (notes_kept self.old) number line.now) }
     {
         match self.pending.take() {
@@ -205,7 +213,9 @@ impl<'a> Notes<'a> {
         }
     }
 
-    /// The record ends.
+    /// Notes that the record ends.
+    ///
+    /// May return `NoMemory`.
     #[tactic(auto, unfolding(crate::specs::Reading::blamed))]
     pub fn end(&mut self) -> Result<(), NoMemory>
         ensures { OnOk result (notes_kept self.new ≡ ended_by (option_map awaited_kept self.old.pending) (notes_kept self.old)) }

@@ -13,7 +13,7 @@ use xa_lines::push_number;
 use xa_statement::write_statement;
 use xa_xid::{NoMemory, SessionNo, Statement};
 
-/// Appends the canonical form of a statement, or its text where it has none.
+/// Appends the canonical form of a statement, or its text if it has none.
 fn push_canonical(
     alloc: Global,
     out: &mut Vec<u8>,
@@ -40,7 +40,7 @@ fn push_canonical(
     }
 }
 
-/// Appends what is written for a text that a session called for, which was read as this.
+/// Appends what is written for a text that a session called for, and that was read as this request.
 fn push_call(
     alloc: Global,
     out: &mut Vec<u8>,
@@ -56,7 +56,7 @@ fn push_call(
     }
 }
 
-/// Appends what is called for, where this is a call.
+/// Appends what is called for, if this is a call.
 fn push_called(
     alloc: Global,
     out: &mut Vec<u8>,
@@ -79,7 +79,7 @@ fn push_called(
     }
 }
 
-/// Appends what is called for at this place, where there is one.
+/// Appends what is called for at this place, if there is one.
 fn push_called_at(
     alloc: Global,
     out: &mut Vec<u8>,
@@ -102,7 +102,7 @@ fn push_called_at(
     }
 }
 
-/// Appends what of a session takes effect.
+/// Appends what the session's act carries out.
 #[tactic(auto, using(crate::proofs::Effects::text_of_last))]
 fn push_act(
     alloc: Global,
@@ -141,7 +141,7 @@ fn push_effect(
     out.extend_from_slice(b"\n")
 }
 
-/// Appends the line of a move, where it has one, and gives the place of what happens next.
+/// Appends the line of a move, if it has one, and returns the place of the next event.
 fn push_move(
     alloc: Global,
     out: &mut Vec<u8>,
@@ -172,7 +172,8 @@ fn push_move(
     }
 }
 
-/// Appends the effects of an order, each on a line as in a script: its statement as it was read for the event of the call.
+/// Appends the effects of an order, each on a line as in a script, with its statement as it was read from the
+/// call.
 fn push_order(
     alloc: Global,
     out: &mut Vec<u8>,
@@ -191,7 +192,10 @@ fn push_order(
     Ok(())
 }
 
-/// The lines of an order.
+/// Returns the lines of an order: each effect as a line of a script.
+///
+/// May return `NoMemory`.
+/// Own rule: docs/HISTORIES.md#verdicts.
 pub fn order_lines(
     alloc: Global,
     numbered: &[NumberedEvent],
@@ -199,6 +203,8 @@ pub fn order_lines(
     moves: &[Move],
 ) -> Result<Vec<u8>, NoMemory>
     requires { AreCalls (map numbered_kept numbered.now) events.now }
+    // Proved (records, order-text): An order is written from the lines and their events as its definition
+    //   says: statements in canonical form, and the text of the call only if there is no canonical form.
     ensures { IfOk result (λ text. text.items ≡ order_text no_calls (map numbered_kept numbered.now) moves.now) }
 {
     let mut text = Vec::new(alloc);

@@ -1,15 +1,15 @@
-//! What judging a record comes to.
+//! The ends of judging a record.
 
-/// What judging a record comes to.
+/// How judging a record ends.
 #[derive(Clone, Copy, Debug, PartialEq, Eq)]
 pub enum Outcome {
     /// Some order explains it.
     Legal,
-    /// No order does.
+    /// No order explains it.
     Illegal,
-    /// More configurations would have had to be kept than were allowed.
+    /// More different configurations than allowed can precede one of its events.
     Undecided,
-    /// Lines of it are faulty, and no verdict was given.
+    /// Lines of it are faulty, so there is no verdict.
     Faulty,
     /// Nothing happens in it, so there is nothing to judge.
     Empty,

@@ -5,7 +5,7 @@ use xa_xid::SessionNo;
 /// Rows that are still to come.
 #[derive(Drop)]
 pub struct Pending<'a> {
-    /// The session that they are returned to.
+    /// The session to which they are returned.
     pub session: SessionNo,
     /// The number of the return's line.
     pub number: u64,
@@ -13,6 +13,7 @@ pub struct Pending<'a> {
     pub missing: u64,
     /// The texts of those that have come, each of an identifier.
     pub rows: Box<Vec<&'a [u8]>>,
-    /// What is written for the lines among them that aren't rows: behind what is written for the return's own line.
+    /// What is written for those lines in the place of rows that aren't rows. It comes after what is written
+    /// for the return's own line.
     pub faults: Vec<u8>,
 }

@@ -12,7 +12,7 @@ use std::collections::BTreeSet;
 use xa_lines::push_number;
 use xa_xid::NoMemory;
 
-/// Appends each of the texts.
+/// Appends each of the possible answers, on a line of its own.
 fn push_texts(out: &mut Vec<u8>, texts: &BTreeSet<Vec<u8>>) -> Result<(), NoMemory>
     ensures { OnOk result (out.new.items ≡ out.old.items ++ answers_text (map (λ text. text.items) texts.now.keys)) }
 {
@@ -34,7 +34,7 @@ fn push_line(out: &mut Vec<u8>, word: &[u8], number: u64) -> Result<(), NoMemory
     out.extend_from_slice(b"\n")
 }
 
-/// Appends the order before a line and the store after it, where they are told.
+/// Appends the order before a line and the store after it, if these are given.
 fn push_reason(out: &mut Vec<u8>, reason: &Option<Reason>) -> Result<(), NoMemory>
     ensures { OnOk result (out.new.items ≡ out.old.items ++ reason_text (option_map reason_kept reason.now)) }
 {
@@ -69,7 +69,10 @@ fn push_report(out: &mut Vec<u8>, report: &Report) -> Result<(), NoMemory>
     }
 }
 
-/// The text of a report as lines.
+/// Returns a report as lines.
+///
+/// May return `NoMemory`.
+/// Own rule: docs/HISTORIES.md#verdicts.
 pub fn plain_text(alloc: Global, report: &Report) -> Result<Vec<u8>, NoMemory>
     ensures { IfOk result (λ text. text.items ≡ text_of_report (report_kept report.now)) }
 {

@@ -8,12 +8,13 @@ use std::alloc::Global;
 use xa_lines::split_line;
 use xa_xid::NoMemory;
 
-/// What is read of a record.
+/// Reads a record, which is cut into lines as a script is.
 ///
-/// It is cut into lines as a script is. May answer `NoMemory`. Doesn't wait.
+/// May return `NoMemory`. Doesn't wait.
 /// Own rule: docs/HISTORIES.md#records.
 #[tactic(auto, unfolding(crate::specs::Reading::notes_of))]
 pub fn read_notes(alloc: Global, text: &[u8]) -> Result<Notes<'_>, NoMemory>
+    // Proved (records, line-noted)
     ensures { IfOk result (λ notes. notes_kept notes ≡ notes_of text.now) }
 {
     let mut notes = Notes::new(alloc);

@@ -1,10 +1,10 @@
-//! Why no order explains a line.
+//! What explains an ILLEGAL verdict.
 
-/// What can be seen of why no order explains a line.
+/// What explains an ILLEGAL verdict.
 #[derive(Drop)]
 pub struct Reason {
-    /// An order that explains what is before the line: its lines.
+    /// An order that explains what is before its line: the order's lines.
     pub order: Vec<u8>,
-    /// The store after it: the lines of its listing.
+    /// The store after that order: the lines of its listing.
     pub state: Vec<u8>,
 }

@@ -1,4 +1,4 @@
-//! What is told of a record, in whichever form it is written.
+//! What is reported of a record, in any form.
 ghost use Rattle.std.specs.Prelude.{◌≡◌};
 ghost use Rattle.xa_record.specs.Reports.{outcome_of};
 ghost use Rattle.xa_record.specs.Kept.{report_kept};
@@ -7,23 +7,24 @@ use crate::outcome::Outcome;
 use crate::reason::Reason;
 use std::collections::BTreeSet;
 
-/// What is told of a record.
+/// What is reported of a record, in any form.
 #[derive(Drop)]
 pub enum Report {
-    /// These lines of it are faulty: what is written for them.
+    /// What is written for its faulty lines.
     Faulty(Vec<u8>),
     /// Nothing happens in it.
     Empty,
-    /// These effects explain it: the lines of their order.
+    /// The lines of an order that explains it.
     Legal(Vec<u8>),
-    /// No order explains it up to the line of this number, where a call could have been answered so; and why, where that is asked.
+    /// The number of the first line that no order explains, the answers that its call could have had, and
+    /// what explains that, if it was asked for.
     Illegal(u64, BTreeSet<Vec<u8>>, Option<Reason>),
-    /// At the line of this number more configurations would have had to be kept than were allowed.
+    /// The number of the line that more different configurations than allowed can precede.
     Undecided(u64),
 }
 
 impl Report {
-    /// Which end it is.
+    /// Returns the end that it reports.
     pub fn outcome(&self) -> Outcome
         ensures { result ≡ outcome_of (report_kept self.now) }
     {

@@ -1,4 +1,4 @@
-//! What is told of verdicts.
+//! Makes reports of verdicts.
 ghost use Rattle.std.specs.Prelude.{◌≡◌, IfOk, map};
 ghost use Rattle.xa_judge.specs.Verdicts.{IsVerdict};
 ghost use Rattle.xa_server.specs.State.{no_state};
@@ -18,7 +18,7 @@ use xa_judge::{Answer, Event, Progress, SharedAnswer, Verdict};
 use xa_lines::push_reply;
 use xa_xid::NoMemory;
 
-/// The text of an answer: a reply as `run` prints it, rows as `CONVERT XID` does.
+/// The text of an answer: a reply as `run` prints it, with rows as `CONVERT XID` prints them.
 fn answer_text(alloc: Global, answer: &Answer) -> Result<Vec<u8>, NoMemory>
     ensures { IfOk result (λ text. text.items ≡ text_of_answer answer.now) }
 {
@@ -31,7 +31,7 @@ fn answer_text(alloc: Global, answer: &Answer) -> Result<Vec<u8>, NoMemory>
     Ok(text)
 }
 
-/// The text of an answer with several owners.
+/// The text of an answer that several own.
 fn shared_text(alloc: Global, answer: &SharedAnswer) -> Result<Vec<u8>, NoMemory>
     ensures { IfOk result (λ text. text.items ≡ text_of_answer answer.now) }
 {
@@ -51,7 +51,9 @@ fn answer_texts(alloc: Global, answers: &[SharedAnswer]) -> Result<BTreeSet<Vec<
     Ok(texts)
 }
 
-/// What is told of a verdict on the record of this text, which these events happen in.
+/// Returns what is reported of a verdict on the record of this text, whose events these are.
+///
+/// May return `NoMemory`.
 pub fn report_of<P: Progress>(
     alloc: Global,
     asked: Asked,

@@ -1,4 +1,4 @@
-//! Rows of a return, as `XA RECOVER CONVERT XID` prints them.
+//! Reads rows of a return, in the form in which `XA RECOVER CONVERT XID` prints them.
 ghost use Rattle.std.specs.Prelude.{◌≡◌, ◌≤◌, ◌+◌, length, take, drop, IfSome, option_copied, Some, Ok};
 ghost use Rattle.hex.specs.Hex.{decode_sized};
 ghost use Rattle.xa_xid.specs.Limits.{text_bytes};
@@ -9,14 +9,14 @@ use arrayvec::ArrayVec;
 use xa_lines::{number_in, split_word};
 use xa_xid::{ByteClass, Bytes, Xid, skip_blanks};
 
-/// The text behind a word and the blanks after it.
+/// Returns the text after its first word and the blanks that follow.
 pub fn behind_word(text: &[u8]) -> &[u8]
     ensures { result.now ≡ behind_word_of text.now }
 {
     skip_blanks(split_word(text).1)
 }
 
-/// The number that the text's first digits are.
+/// Returns the number of the text's first digits, if it begins with digits and the number is below 2^64.
 #[tactic(auto, unfolding(crate::specs::Rows::leading_number))]
 pub fn leading_number(text: &[u8]) -> Option<u64>
     ensures { result ≡ leading_number_of text.now }
@@ -24,7 +24,7 @@ pub fn leading_number(text: &[u8]) -> Option<u64>
     number_in(ByteClass::Decimal.split(text).0)
 }
 
-/// The digits of a word behind its `0x`.
+/// The digits of a word after its `0x`.
 fn digits_in(word: &[u8]) -> Option<&[u8]>
     ensures { option_copied result ≡ digits_named word.now }
 {
@@ -44,7 +44,7 @@ fn text_of(bytes: &[u8]) -> Bytes
     text
 }
 
-/// The identifier of these bytes, the first of which are its gtrid.
+/// The identifier with these bytes: first those of its gtrid, then those of its bqual.
 fn xid_from(format_id: u64, gtrid: usize, bqual: usize, bytes: &[u8]) -> Xid
     requires gtrid { gtrid ≤ text_bytes }
     requires bqual { bqual ≤ text_bytes }
@@ -59,7 +59,7 @@ fn xid_from(format_id: u64, gtrid: usize, bqual: usize, bytes: &[u8]) -> Xid
     }
 }
 
-/// The identifier of a formatID, of the lengths of gtrid and bqual, and of the digits of both.
+/// The identifier with this formatID, these lengths of gtrid and bqual, and these digits for both.
 #[tactic(auto, unfolding(crate::specs::Rows::xid_written))]
 fn written(format_id: u64, gtrid: u64, bqual: u64, digits: &[u8]) -> Option<Xid>
     ensures { result ≡ xid_written format_id gtrid bqual digits.now }
@@ -75,7 +75,7 @@ fn written(format_id: u64, gtrid: u64, bqual: u64, digits: &[u8]) -> Option<Xid>
     }
 }
 
-/// The identifier of four words, behind which nothing stands.
+/// The identifier of four words, if no text follows them.
 #[tactic(auto, unfolding(crate::specs::Rows::row_of))]
 fn row_in(first: &[u8], second: &[u8], third: &[u8], fourth: &[u8]) -> Option<Xid>
     ensures { result ≡ row_of first.now second.now third.now fourth.now }
@@ -98,9 +98,14 @@ fn row_in(first: &[u8], second: &[u8], third: &[u8], fourth: &[u8]) -> Option<Xi
     }
 }
 
-/// The identifier that the text is written as. It begins with no blank.
+/// Returns the identifier of a row, if the text is one. The text doesn't begin with a blank.
+///
+/// Takes no memory. Doesn't wait.
+/// Own rule: docs/HISTORIES.md#records.
 #[tactic(auto, unfolding(crate::specs::Rows::row_said))]
 pub fn read_row(text: &[u8]) -> Option<Xid>
+    // Proved (records, row-read): The identifier that a row of a record is read as is what its definition
+    //   says.
     ensures { result ≡ row_said text.now }
 {
     let second = behind_word(text);

@@ -1,4 +1,4 @@
-//! Judges a record that is read, and writes the verdict.
+//! Judges a record from a reader, and writes the verdict.
 ghost use Rattle.std.specs.Prelude.{◌≡◌, ◌≤◌, length, IfOk, IfErr, OnOk, OnErr, MatchResult, IfSome, Err};
 ghost use Rattle.std.specs.Io.KnownBytes.{Appends, IsAtEnd};
 ghost use Rattle.xa_lines.specs.Calls.{HasWritten, StopsWriting, Completes, Stops};
@@ -13,13 +13,14 @@ use std::alloc::Global;
 use xa_judge::Progress;
 use xa_lines::{PieceReader, PieceWriter, ScriptFault, read_within, write_whole};
 
-/// The greatest length of a record, in bytes.
+/// The greatest length of a record, in bytes: 16 MiB. What is kept of a record takes many times its length.
 const RECORD_BYTES: usize = 16_777_216;
 
-/// The greatest number of reads that a record takes.
+/// The greatest number of reads for a record: two for each byte, so that a reader that gives little at a time
+/// still ends.
 const RECORD_READS: u64 = 33_554_432;
 
-/// Writes what is written for a record, and gives how judging it ended.
+/// Writes the text, and returns how judging ended.
 fn write_judged<W: PieceWriter>(writer: &mut W, judged: &Judged) -> Result<Outcome, ScriptFault>
     ensures outcome { IfOk result (λ outcome. outcome ≡ judged.now.outcome) }
     ensures all { OnOk result (Appends (W.contents writer.old) (W.contents writer.new) judged.now.text.items) }
@@ -33,15 +34,17 @@ fn write_judged<W: PieceWriter>(writer: &mut W, judged: &Judged) -> Result<Outco
     Ok(judged.outcome)
 }
 
-/// Judges a record: reads all of it, and writes the verdict, or its faulty lines, or that nothing happens in it.
+/// Judges a record: reads all of it, and writes the verdict, or its faulty lines, or that nothing happens in
+/// it.
 ///
-/// A record is at most 16,777,216 bytes, and takes at most 33,554,432 reads. The server holds nothing at first. `allowances`,
-/// `asked` and `progress` are as `judge_text` takes them. What is written isn't flushed.
-/// Errors: `Read` where a read failed, or too many reads were needed; `TooLong` where the record is longer; `NoMemory`; `Write`
-/// where a write failed or took nothing. After `Write` a prefix of the text was written, after any other nothing. A reader or a
-/// writer that failed isn't called again.
-/// May answer `NoMemory`. Doesn't wait, unless the reader or the writer does.
-/// Own rule: docs/HISTORIES.md.
+/// A record has at most 16,777,216 bytes, and takes at most 33,554,432 reads. The server holds nothing at
+/// first. `allowances`, `asked` and `progress` are as `judge_text` takes them. The writer isn't flushed.
+/// Errors: `Read` if a read failed, or the record needs more reads; `TooLong` if the record is longer;
+/// `NoMemory` if an allocation failed; `Write` if a write failed or took no byte.
+/// After `Write` a prefix of the text was written, after any other error nothing. A reader or a writer that
+/// failed isn't called again.
+/// May return `NoMemory`. Waits only if the reader or the writer does.
+/// Own rule: docs/HISTORIES.md#records.
 pub fn judge_record<R: PieceReader, W: PieceWriter, P: Progress>(
     alloc: Global,
     reader: &mut R,
@@ -50,17 +53,29 @@ pub fn judge_record<R: PieceReader, W: PieceWriter, P: Progress>(
     asked: Asked,
     progress: &mut P,
 ) -> Result<Outcome, ScriptFault>
-    // All was read, and what was written is a right verdict on it, or its faulty lines, or that nothing happens in it.
+    // Proved (records, record-reads-all): After Ok of judging, the record was read to its end.
     ensures read { OnOk result (IsAtEnd (R.remaining reader.new)) }
+    // Proved (records, record-written): After Ok of judging, what `judge_text` promises is written for the
+    //   record that was read: its verdict, its faulty lines, or `EMPTY`. The end that is returned belongs to
+    //   this text.
     ensures written { IfOk result
         (λ outcome. IfSome (R.remaining reader.old) (λ text. AppendsJudged allowances.now asked outcome text (W.contents writer.old) (W.contents writer.new))) }
+    // Proved (records, record-length): A record that was judged has at most 16,777,216 bytes.
     ensures short { OnOk result (IfSome (R.remaining reader.old) (λ text. length text ≤ record_bytes)) }
 
+    // Proved (records, record-fault): After `Write` a prefix of such a text was written, after any other
+    //   fault of judging nothing. The fault is `Read`, `TooLong`, `Write` or `NoMemory`.
     ensures fault { IfErr result (λ fault. AfterJudgeFault allowances.now asked fault (R.remaining reader.old) (W.contents writer.old) (W.contents writer.new)) }
+    // Proved (records, record-too-long): Judging returns `TooLong` only if more than 16,777,216 bytes were
+    //   read.
     ensures too_long { result ≡ Err ScriptFault.TooLong → ConsumesMoreThan record_bytes (R.remaining reader.old) (R.remaining reader.new) }
 
-    // Of any reader and writer: all calls on them succeeded; or the last call on one of them failed, and that is the fault.
+    // Proved (records, record-stream-faults): `Read`, `TooLong` and `Write` have only their causes when a
+    //   record is judged: the last call on that stream failed, or too much was read. A stream that failed
+    //   isn't called again. After Ok all calls on both streams succeeded. This holds for every reader and
+    //   writer.
     ensures calls { OnOk result (Completes R.gives W.takes record_reads (IsJudgedText allowances.now asked) reader.old reader.new writer.old writer.new) }
+    // Proved (records, record-stream-faults)
     ensures cause { IfErr result
         (λ fault. Stops R.gives R.fails W.takes W.refuses record_reads record_bytes (IsJudgedText allowances.now asked) IsFaultOfJudging fault reader.old reader.new writer.old
         writer.new) }

@@ -1,8 +1,9 @@
-//! What a return shows.
+//! What returns show.
 
 use xa_xid::Bytes;
 
-/// What a return shows, as its lines are written. A value and a list lie at places of their own, so that other lines have no room for them.
+/// What a return shows, as its lines are written. A value and a list are in boxes of their own, so that they
+/// take no room in other lines.
 #[derive(Drop)]
 pub enum Shown<'a> {
     /// The statement was carried out.
@@ -11,8 +12,8 @@ pub enum Shown<'a> {
     None,
     /// The value of a row.
     Value(Box<Bytes>),
-    /// The texts of identifiers of prepared branches, in the order of their lines.
+    /// The texts of the identifiers of prepared branches, in the order of their lines.
     Rows(Box<Vec<&'a [u8]>>),
-    /// A refusal of this number.
+    /// A refusal with this number.
     Error(u16),
 }

@@ -5,7 +5,9 @@ ghost use Rattle.xa_record.specs.Allowances.{words_of, kind_of_statement, kind_o
 use xa_judge::Request;
 use xa_xid::Statement;
 
-/// A kind of statement, by the words that its canonical form has beside identifiers, keys and values.
+/// A kind of statement: the words of its canonical form without identifiers, keys and values.
+///
+/// Own rule: docs/HISTORIES.md#allowances.
 #[derive(Clone, Copy, Debug, PartialEq, Eq)]
 pub enum StatementKind {
     Start,
@@ -23,7 +25,7 @@ pub enum StatementKind {
 }
 
 impl StatementKind {
-    /// Its words, divided by blanks.
+    /// Returns its words, with a blank between them.
     pub fn words(self) -> &'static [u8]
         ensures { result.now ≡ words_of self }
     {
@@ -42,7 +44,7 @@ impl StatementKind {
         }
     }
 
-    /// The kind of a statement; one that isn't supported has none.
+    /// The kind of a statement; an unsupported one has none.
     fn of_statement(statement: &Statement) -> Option<StatementKind>
         ensures { result ≡ kind_of_statement statement.now }
     {
@@ -68,7 +70,7 @@ impl StatementKind {
         }
     }
 
-    /// The kind of what a session asks for; a text that isn't a statement has none.
+    /// Returns the kind of a request, if it has one. A text that isn't a statement has none.
     pub fn of(request: &Request) -> Option<StatementKind>
         ensures { result ≡ kind_of_request request.now }
     {

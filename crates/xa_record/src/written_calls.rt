@@ -1,4 +1,5 @@
-//! What sessions call for is written in an order so that it is read back.
+//! Calls are written in an order so that they are read back. These functions do nothing; their contracts
+//! state it.
 ghost use Rattle.std.specs.Prelude.{◌≢◌};
 ghost use Rattle.std.specs.List.{All};
 ghost use Rattle.xa_record.specs.Replaying.{IsFit, IsWrittenBack, IsWrittenCall};
@@ -8,7 +9,7 @@ use xa_statement::laws::canonical_text_is_spelled;
 use xa_xid::Statement;
 use xa_xid::laws::is_writable;
 
-/// The parts of a statement are as those of every statement.
+/// The parts of the statement are as those of every statement.
 fn is_fit(statement: &Statement)
     ensures { IsFit statement.now }
 {
@@ -27,7 +28,7 @@ fn is_fit(statement: &Statement)
     }
 }
 
-/// The canonical form of a statement is read as that statement, and is no more than a line.
+/// The canonical form of the statement is read as that statement, and has no line feed.
 #[tactic(auto, using(crate::proofs::Feeds::statement_feed))]
 fn is_written_back(statement: &Statement)
     requires { statement.now ≢ Statement.Unsupported }
@@ -37,7 +38,7 @@ fn is_written_back(statement: &Statement)
     canonical_text_is_spelled(statement);
 }
 
-/// So it is where this is a call.
+/// That is so if the event is a call.
 fn is_written_call(event: &Event)
     ensures { IsWrittenCall event.now }
 {
@@ -53,7 +54,7 @@ fn is_written_call(event: &Event)
     }
 }
 
-/// So it is with each call.
+/// States that each call among the events is written so that it is read back.
 pub fn are_written_calls(events: &[Event])
     ensures { All IsWrittenCall events.now }
 {
