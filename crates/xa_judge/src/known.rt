@@ -221,7 +221,8 @@ fn is_returning(returning: &Option<SessionNo>, number: u64) -> bool
     }
 }
 
-/// Adds what the acts of the session of this number lead to from the configuration at this place, unless it is `returning`.
+/// Adds what the acts of the session of this number lead to from the configuration at this place, unless it
+/// is `returning`.
 fn add_others(
     known: &mut Vec<Configuration>,
     index: &mut FingerprintIndex,

@@ -2,8 +2,10 @@
 --     config_of            the configuration to which a way has come
 --     IsReached            a way's order leads there
 --     HasBy                a list has a way with this configuration, and an order that is at most this one
---     IsLevel              the ways that have carried out so many lines: each configuration once, with the least order
---     IsTurn, IsNextOf     a way is another one with one more turn;  ways are all that one more turn leads to, each configuration once
+--     IsLevel              the ways that have carried out equally many lines: each configuration once, with the
+--                          least order
+--     IsTurn, IsNextOf     a way is another one with one more turn;  ways are all that one more turn leads
+--                          to, each configuration once
 --     IsTurnAdded          the way to which a session's turn leads is added
 --     IsWideNext, IsWide   one more turn leads to more ways than allowed;  orders of one length do
 use Rattle.std.specs.Prelude.{◌≡◌, ◌⊎◌, ℕ, ◌<◌, Some, None, List, [], ◌∷◌, ◌++◌, length}

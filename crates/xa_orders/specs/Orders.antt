@@ -1,12 +1,14 @@
 -- Orders of lines that sessions give side by side, and the outcome of each order.
 -- Every rule here is the project's own: docs/COMMANDS.md#explore.
 --     Told, Parts          a line;  the lines of a script: those before, those side by side, those after
---     Config, opening      a server, and what each line side by side was answered;  the same before any of them is carried out
+--     Config, opening      a server, and what each line side by side was answered;  the same before any of
+--                          them is carried out
 --     turn                 the session's next line is carried out
 --     LeadsTo              turns in this order lead from one configuration to another
 --     Gives                an order of the lines side by side gives this outcome
 --     Precedes, AtMost     one order comes before another;  or is the same
---     Pairwise, Any        a relation holds of each two of a list, the earlier one first;  a property holds of one of a list
+--     Pairwise, Any        a relation holds of each two of a list, the earlier one first;  a property holds
+--                          of one of a list
 --     IsAscending          orders ascend
 --     IsExplored           these are all outcomes, each once, with its least order, in the order of these
 use Rattle.std.specs.Prelude.{◌≡◌, ◌≢◌, ◌⊎◌, ℕ, ◌<◌, ◌≤◌, Bool, ◌==◌, ◌&&◌, Option, Some, List, [], ◌∷◌, ◌++◌, length, replicate, position, slice_get, slice_set}
@@ -94,7 +96,7 @@ pub record Gives (parts : Parts) (order text : List ℕ) : Type 0 where
   pub leads : LeadsTo parts.beside (base_of parts) order config
   pub text_is : text ≡ outcome_text parts config
 
--- where two orders first differ, the first has the smaller session
+-- at the first place at which two orders differ, the first one has the smaller session
 abbrev pub Precedes : List ℕ → List ℕ → Type 0
 Precedes (one ∷ order) (other ∷ others) = (one < other) ⊎ ((one ≡ other) × Precedes order others)
 Precedes order others = ⊥

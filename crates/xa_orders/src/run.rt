@@ -17,7 +17,9 @@ use xa_xid::NoMemory;
 /// How exploring a script ended, and what is written for it.
 #[derive(Drop)]
 pub struct Explored {
+    /// How exploring it ended.
     pub ended: Ended,
+    /// What is written for it.
     pub text: Vec<u8>,
 }
 

@@ -1,6 +1,7 @@
 -- What a race of a script writes.
 -- Every rule here is the project's own: docs/COMMANDS.md#race and docs/COMMANDS.md#race-in-rounds.
--- `room` is `Some` number of entries for a race in one log, and `None` for a race in rounds, whose history has any length.
+-- `room` is `Some` number of entries for a race in one log, and `None` for a race in rounds, whose history
+-- has any length.
 --     history_text, answers_text   how a history and the answers are printed
 --     outcome_text                 how an outcome is printed
 --     Explains, IsHeld             one history explains all answers;  what a race of runs gives

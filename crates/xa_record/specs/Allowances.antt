@@ -4,7 +4,8 @@
 --     kind_of           the kind of a request
 --     others_for        the rules' numbers for which a number that was seen may stand, in addition to its own
 --     allowance_of      what a line allows
---     allowances_of     what the lines of a text allow, or the number of the first line that isn't an allowance
+--     allowances_of     what the lines of a text allow, or the number of the first line that isn't an
+--                       allowance
 --     IsAllowFaultOf    why a text couldn't be read
 use Rattle.std.specs.Prelude.{◌≡◌, ℕ, ◌+◌, ◌==◌, nat_lt, Bool, ◌&&◌, bytes_eq, if◌then◌else◌, Option, Some, None, Result, Ok, Err, List, [], ◌∷◌, codes, replicate, slice_get, slice_set}
 use Rattle.xa_xid.specs.Bytes.{unblank}

@@ -1,7 +1,8 @@
 -- What judging a record comes to. Every rule here is the project's own: docs/HISTORIES.md.
 --     record_bytes, record_reads     the greatest length of a record;  the greatest number of reads
 --     IsJudgement            a report is that of some right verdict on what the lines say
---     IsReportedOf           a report is right for lines without a fault; if they say nothing there is no verdict
+--     IsReportedOf           a report is right for lines without a fault; if they say nothing there is no
+--                            verdict
 --     IsReported             a report is right for what was read
 --     IsJudged               a record of this text ends so, and this is written for it
 --     AppendsJudged          the writer got that text

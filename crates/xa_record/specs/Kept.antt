@@ -1,6 +1,7 @@
 -- How the program keeps what it reads, as the definitions see it.
 --     rows_kept                 the identifiers of these texts
---     shown_kept, told_kept, line_kept      what a return shows;  what happens to a session;  what a line says
+--     shown_kept, told_kept, line_kept      what a return shows;  what happens to a session;  what a line
+--                                           says
 --     numbered_kept                what happens, with its line's number
 --     awaited_kept              rows that are still to come
 --     notes_kept                what was read so far

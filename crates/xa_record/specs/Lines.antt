@@ -1,6 +1,7 @@
 -- What a line of a record says. Every rule here is the project's own: docs/HISTORIES.md#records.
 --     Shown            what a return shows
---     Told             what happens to a session: it calls for a text, its call returns, or its client is gone
+--     Told             what happens to a session: it calls for a text, its call returns, or its client is
+--                      gone
 --     LineSaid         what a line says
 --     is_silent        a line is blank, or a comment
 --     trimmed          a text without the blanks at its end

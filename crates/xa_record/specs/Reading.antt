@@ -1,6 +1,6 @@
 -- How a record is read, line by line. Every rule here is the project's own: docs/HISTORIES.md#records.
--- Faulty lines are written in ascending order, each once. What is written for those among the rows of a return is held until that return is
--- read whole, and comes after it.
+-- Faulty lines are written in ascending order, each once. What is written for those among the rows of a
+-- return is held until all rows of that return have come, and comes after what is written for it.
 --     cause_of            why what happens to a session is faulty, by what the lines before say of it
 --     fault_text          what is written for a faulty line
 --     Awaited             rows that are still to come, and the faulty lines among those that came

@@ -1,4 +1,5 @@
--- What the lines of a record tell, and which of them is the first faulty one: a rule for each kind of line and of fault.
+-- What the lines of a record tell, and which of them is the first faulty one: a rule for each kind of line
+-- and of fault.
 -- The rules know no order of reading; Reading.antt says how lines are read one by one.
 --     RowsOf              so many rows are on these lines
 --     on_next_line        this happens on the line after these

@@ -5,10 +5,13 @@
 --     GivesRequest                 a line gives a session's request
 --     AnswersSo                    what `run` writes for a request
 --     requested                    what an act of a session carries out
---     AreEffects                   the lines give what takes effect, in order, along moves that lead through the events
---     AreWellCalled                what sessions call for begins with no blank, and is written so that it is read back
+--     AreEffects                   the lines give what takes effect, in order, along moves that lead through
+--                                  the events
+--     AreWellCalled                what sessions call for begins with no blank, and is written so that it is
+--                                  read back
 --     IsAnswered                   what `run` writes for what takes effect
---     AnswersAlong                 the same for each effect, in order, along moves that lead through the events
+--     AnswersAlong                 the same for each effect, in order, along moves that lead through the
+--                                  events
 --     IsReplayed                   the same for the order of a legal verdict
 use Rattle.std.specs.Prelude.{◌≡◌, ◌≢◌, ℕ, ◌==◌, true, not, Option, Some, None, Ok, List, [], ◌∷◌, ◌++◌, codes, decimal, slice_get}
 use Rattle.std.specs.List.{AllByRecursion, list_all}
@@ -168,7 +171,8 @@ pub record IsAnswered (config : Config) (session : ℕ) (act : Act) (written : L
   pub is : requested config session act ≡ Some request
   pub answers : AnswersSo config.state session request written
 
--- one answer for each effect, in order, along moves that lead through the events; a return shows the answer that its session has there
+-- one answer for each effect, in order, along moves that lead through the events; a return shows the answer
+-- that its session has there
 abbrev pub AnswersAlong : Config → List Event → List Move → List ℕ → Type 0
 AnswersAlong old events (Effect session act ∷ moves) written =
     (mid : Config) × (answer rest : List ℕ) × (effect_of old session act ≡ Some mid) × IsAnswered old session act answer × (written ≡ answer ++ rest)

@@ -1,10 +1,12 @@
--- What is reported of a record, in any form. Every rule here is the project's own: docs/HISTORIES.md#verdicts.
+-- What is reported of a record, in any form.
+-- Every rule here is the project's own: docs/HISTORIES.md#verdicts.
 --     Reason              an order that explains what is before a line, and the store after it
 --     Report              what is reported
 --     outcome_of          which of the five ends it is
 --     keys_named          the rows that calls name, each once, ascending
 --     IsReason            the order explains what is before a place, and the store is the one after it
---     IsReasonSought      if it is asked for, there is such a reason, unless too many configurations precede the place
+--     IsReasonSought      if it is asked for, there is such a reason, unless too many configurations precede
+--                         the place
 --     IsReportOf          what is reported of a verdict
 use Rattle.std.specs.Prelude.{◌≡◌, ℕ, Bool, true, false, Option, Some, None, List, [], ◌∷◌, take}
 use Rattle.std.specs.BTreeSet.{insert_key}

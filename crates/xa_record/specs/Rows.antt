@@ -1,4 +1,5 @@
--- The rows of a return, as XA RECOVER CONVERT XID prints them: formatID, the lengths of gtrid and bqual, and the bytes of both together.
+-- The rows of a return, as XA RECOVER CONVERT XID prints them: formatID, the lengths of gtrid and bqual, and
+-- the bytes of both together.
 --     leading_number     the number of a text's first digits
 --     row_said           the identifier that a line is
 use Rattle.std.specs.Prelude.{ℕ, ◌+◌, ◌==◌, ◌&&◌, nat_le, if◌then◌else◌, Option, Some, None, Result, Ok, Err, List, ◌∷◌, take, drop}

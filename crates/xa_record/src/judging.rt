@@ -27,7 +27,9 @@ use xa_xid::NoMemory;
 /// How judging a record ended, and what is written for it.
 #[derive(Drop)]
 pub struct Judged {
+    /// How judging it ended.
     pub outcome: Outcome,
+    /// What is written for it.
     pub text: Vec<u8>,
 }
 
@@ -98,7 +100,7 @@ fn text_in(alloc: Global, form: Form, report: &Report) -> Result<Vec<u8>, NoMemo
 /// The server holds nothing at first. `allowances` are known differences between its answers and the rules.
 /// If more than `asked.limit` different configurations can precede an event, the end is `Undecided`. With
 /// `asked.explains` the part before an ILLEGAL line is judged once more; if that passes the limit, it isn't
-/// explained. If lines are faulty, or nothing happens, there is no verdict. `progress` is told how far
+/// explained. If lines are faulty, or nothing happens, there is no verdict. `progress` takes note of how far
 /// judging is.
 /// Errors: `NoMemory` if an allocation failed.
 /// May return `NoMemory`. Doesn't wait.

@@ -18,7 +18,7 @@ use xa_xid::{ByteClass, Bytes, SessionNo, literal_of, skip_blanks};
 pub enum RecordLine<'a> {
     /// Nothing: it is blank, or a comment.
     Nothing,
-    /// Nothing that a line of a record can say.
+    /// It doesn't have the form of any line of a record.
     Bad,
     /// This happens.
     Happens(LineEvent<'a>),

@@ -4,7 +4,8 @@
 --     times              how often a text came
 --     came_text          what is written for an outcome that came so often
 --     came_texts         what is written for the outcomes of a list that came
---     IsSeenOfAll, IsSeenOfSome     a text is what is written for races, if all outcomes are known;  if they aren't
+--     IsSeenOfAll, IsSeenOfSome     a text is what is written for races, if all outcomes are known;  if they
+--                                   aren't
 --     IsRunsText         what is written for races of a script
 --     AppendsRuns, AfterRunsFault     what the writer got
 use Rattle.std.specs.Prelude.{◌≡◌, ℕ, zero, suc, ◌+◌, ◌≤◌, nat_lt, nat_eq, Bool, false, count_by, Option, List, [], ◌∷◌, ◌++◌, length, map, codes, decimal, IfSome, ◌⊎◌}
