@@ -1,10 +1,8 @@
 //! Explores scripts: lines of several sessions are carried out in every order of the sessions.
 //!
-//! Each outcome is listed once, with the least order that gives it. `explore` takes lines, `explore_text` the
-//! text of a script, and `explore_script` a reader and a writer. The search goes level by level; a *way* is
-//! an order of turns and what it has come to, and two ways that have come to the same are kept as one. Read
-//! docs/COMMANDS.md#explore, then `specs/Orders.antt`, `src/exploring.rt`, `src/searching.rt` and
-//! `src/ways.rt`.
+//! Each outcome is listed once, with the least order that gives it. The search goes level by level. A *way*
+//! is an order of turns and what it has come to; ways that have come to the same are kept as one. Read
+//! docs/COMMANDS.md#explore, then `specs/Orders.antt`, `src/exploring.rt` and `src/ways.rt`.
 #![tactic(auto)]
 
 mod answers;

@@ -1,11 +1,9 @@
 //! Records of what clients of a server saw, as texts: read, judged by `xa_judge`, and the verdict written.
 //!
-//! `judge_text` reads a record and gives the end and the text of its verdict, as lines or as JSON;
-//! `judge_record` does the same from a reader to a writer. `read_allowances` reads known differences between
-//! a server and the rules, which both take. Read docs/HISTORIES.md#records, then `specs/Judged.antt`,
-//! `specs/Reports.antt`, `specs/Reading.antt` and `specs/Lines.antt`, then `src/judging.rt` and
-//! `src/notes.rt`. `specs/Records.antt` says the same as `specs/Reading.antt` without an order of reading, a
-//! rule for each kind of line and of fault.
+//! `judge_text` judges the text of a record, `judge_record` one from a reader to a writer. `read_allowances`
+//! reads known differences between a server and the rules. Read docs/HISTORIES.md#records, then
+//! `specs/Judged.antt`, `specs/Reading.antt` and `src/judging.rt`. `specs/Records.antt` has the rules of
+//! reading without its order.
 #![tactic(auto)]
 
 mod allow_fault;

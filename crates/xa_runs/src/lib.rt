@@ -1,10 +1,9 @@
 //! Races a script many times, and counts which of its outcomes came.
 //!
-//! `runs_script` reads a script of `xa_orders`. Each race has a store of its own: the lines before are
-//! carried out one after another, then the lines side by side race, each session on its own thread, then the
-//! later lines follow one after another. The law in `src/laws.rt` says that whatever comes is one of the
-//! explored outcomes. Read docs/COMMANDS.md#race-statistics, then `specs/Raced.antt`, `specs/Came.antt`,
-//! `src/parts.rt` and `src/runs.rt`; for the law `proofs/Schedules.antt` and `proofs/Law.antt`.
+//! Each race has a store of its own. The lines before and the later lines are carried out one after another;
+//! those side by side race, each session on its own thread. The law in `src/laws.rt` says that whatever comes
+//! is one of the outcomes that `xa_orders` explores. Read docs/COMMANDS.md#race-statistics, then
+//! `specs/Raced.antt`, `specs/Came.antt` and `src/runs.rt`.
 #![tactic(auto)]
 
 mod came_tally;
