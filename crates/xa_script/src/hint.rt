@@ -18,7 +18,7 @@ const STOPPED_CALLS: &str = "BEGIN, WORK, PREPARE, DECIDE, FINISH, ABANDON or AT
 
 /// Writes what is wanted at a byte of a line.
 fn tell_wanted<R: Eprint>(rt: &R, number: u64, at: u64, wanted: &str) {
-    let _ = eprintln!(rt; "xa_script: line {number}, byte {at}: {wanted} is wanted");
+    let _ = eprintln!(rt; "xa_script: line {number}, byte {at}: syntax fault; write {wanted} here");
 }
 
 /// Says what is wanted in the line of this number, and from which byte on: of the statement's text, where that alone is at fault.
@@ -43,7 +43,7 @@ pub fn tell_line<R: Eprint + Alloc<A = Global>>(
         LineFault::NoRecord => tell_wanted(rt, number, 0, RECORD_LINES),
         LineFault::TooLong => {
             let _ = eprintln!(rt;
-                "xa_script: line {number}: at most {LINE_BYTES} bytes are wanted"
+                "xa_script: line {number}: too long; write at most {LINE_BYTES} bytes"
             );
         }
     }

@@ -110,7 +110,9 @@ fn ended<R: Eprint>(rt: &R, manner: &Manner<'_>, done: Result<u8, ScriptFault>) 
         Err(fault) => {
             tell(rt, &fault);
             if manner.verbose && fault == ScriptFault::Full {
-                let _ = eprintln!(rt; "xa_script: --renew goes on where the log is full");
+                let _ = eprintln!(rt;
+                    "xa_script: the history has no more room; add --renew, or raise --capacity, at most to 1024"
+                );
             }
             status_of(fault)
         }

@@ -10,8 +10,8 @@ use std::alloc::Global;
 
 /// What `--shuffle` does.
 const SHUFFLED: &str =
-    "Does so, and lets sessions step aside before their lines by turns of this seed; the turns \
-are repeatable, and not what the race comes to";
+    "As --together, and sessions step aside before their lines for numbers of turns drawn from \
+this seed; the numbers are repeatable, but the race's outcome isn't";
 
 /// An option whose value this parser reads, and which has a default.
 fn number_option<'a>(
@@ -48,7 +48,7 @@ pub fn capacity_option<'a>(alloc: Global) -> Arg<'a>
     ensures rule { rule_of result ≡ capacity_rule }
     ensures global { result.global ≡ false }
 {
-    let help = "How many entries the history has room for";
+    let help = "How many entries a history has room for, from 1 to 1024";
     let parser = value_parser!(u64).range(1..=1024);
     number_option(alloc, "capacity", help, parser, "1024")
 }
@@ -58,7 +58,7 @@ pub fn together_option<'a>(alloc: Global) -> Arg<'a>
     ensures rule { rule_of result ≡ together_rule }
     ensures global { result.global ≡ false }
 {
-    let help = "Lets no session past its first line until all stand there";
+    let help = "Holds each session at its first line until all sessions have come to theirs";
     flag_option(alloc, "together", help)
 }
 
@@ -79,7 +79,7 @@ pub fn renew_option<'a>(alloc: Global) -> Arg<'a>
     ensures rule { rule_of result ≡ renew_rule }
     ensures global { result.global ≡ false }
 {
-    let help = "Goes on where the history is full, in rounds of N entries each";
+    let help = "Goes on when the history is full, in rounds of N entries each";
     flag_option(alloc, "renew", help)
 }
 
@@ -91,7 +91,7 @@ pub fn runs_option<'a>(alloc: Global) -> Arg<'a>
     Arg::new(alloc, "runs")
         .long("runs")
         .value_name("N")
-        .help("Races the script N times, and counts how often each outcome of explore came")
+        .help("Races the script N times, and counts how often each outcome of explore comes")
         .value_parser(value_parser!(u64).range(1..=1_000_000))
 }
 
@@ -109,7 +109,7 @@ pub fn fixed_option<'a>(alloc: Global) -> Arg<'a>
     ensures rule { rule_of result ≡ fixed_rule }
     ensures global { result.global ≡ false }
 {
-    let help = "Keeps each store's history, and answers log full where it has N entries";
+    let help = "Limits each store's history to the N entries of --capacity, then answers log full";
     flag_option(alloc, "fixed", help)
 }
 

@@ -29,7 +29,7 @@ impl<'r, W: Write + Drop, R: Eprint> Spoken<'r, W, R> {
         ensures { self.new.inner ≡ self.old.inner }
     {
         if self.speaks {
-            let _ = eprintln!(self.rt; "xa_script: writing: {fault}");
+            let _ = eprintln!(self.rt; "xa_script: can't write the output: {fault}");
             self.speaks = false;
         }
     }

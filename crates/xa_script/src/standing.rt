@@ -25,11 +25,11 @@ impl Standing {
     /// What is said of such a transaction.
     pub fn words(self) -> &'static str {
         match self {
-            Standing::Working => "takes work",
-            Standing::Ready => "has voted READY",
-            Standing::OnePhase => "has voted ONE PHASE",
-            Standing::No => "has voted NO",
-            Standing::Nothing => "has voted NOTHING",
+            Standing::Working => "still takes work, and PREPARE makes it vote",
+            Standing::Ready => "has voted READY, and FINISH ends it",
+            Standing::OnePhase => "has voted ONE PHASE, and FINISH commits it",
+            Standing::No => "has voted NO, and FINISH rolls it back",
+            Standing::Nothing => "has voted NOTHING, and is at its end",
             Standing::Finished => "is finished",
             Standing::Unfinished => "is unfinished, and RECOVER finishes it",
             Standing::Abandoned => "is abandoned",

@@ -39,13 +39,13 @@ fn ended(answer: &[u8], standing: Standing) -> Option<Standing> {
 /// What a call out of turn wants, and of which transaction.
 fn wanted_by(call: &Call) -> Option<(u64, &'static str)> {
     match call {
-        Call::Work { number, .. } => Some((*number, "WORK wants one that takes work")),
-        Call::Prepare(number) => Some((*number, "PREPARE wants one that takes work")),
-        Call::Abandon(number) => Some((*number, "ABANDON wants one that takes work")),
-        Call::Decide(number) => Some((*number, "DECIDE wants one that has voted READY")),
+        Call::Work { number, .. } => Some((*number, "WORK needs one that still takes work")),
+        Call::Prepare(number) => Some((*number, "PREPARE needs one that still takes work")),
+        Call::Abandon(number) => Some((*number, "ABANDON needs one that still takes work")),
+        Call::Decide(number) => Some((*number, "DECIDE needs one that has voted READY")),
         Call::Finish(number) => Some((
             *number,
-            "FINISH wants one that has voted READY, ONE PHASE or NO",
+            "FINISH needs one that has voted READY, ONE PHASE or NO",
         )),
         _ => None,
     }

@@ -3,7 +3,7 @@ ghost use Rattle.std.specs.Prelude.{◌≡◌, IfOk, codes};
 ghost use Rattle.clap.specs.Words.{app_of, new_app, with_subcommand};
 ghost use Rattle.xa_script.specs.CommandLine.{bare_app, plain_app, race_app, coordinate_app, stops_app, judge_app, explore_app, IsLocal, common_app, script_app};
 
-use crate::help::{CALLS, EXPLORED, LINES, RACED, RECORDS, SHOWN, STOPPED, VERSION};
+use crate::help::{CALLS, EXPLORED, LINES, RACED, RECORDS, SERVED, SHOWN, START, STOPPED, VERSION};
 use crate::options::{
     capacity_option, file_option, fixed_option, flag_option, limit_option, renew_option,
     runs_option, shuffle_option, stores_option, together_option,
@@ -17,10 +17,11 @@ fn with_common<'a>(alloc: Global, command: Command<'a>) -> Result<Command<'a>, A
     ensures app { IfOk result (λ more. app_of more ≡ common_app (app_of command.entry)) }
     ensures local { IfOk result IsLocal }
 {
-    let verbose = "Says on the standard error what to do about faults";
-    let text = "Prints keys, values and identifiers of printable ASCII as 'text', others as 0x..";
-    let strict = "Ends with status 8 where a line was a syntax fault and the status would be 0";
-    let file = "Reads the file in place of the standard input";
+    let verbose = "For each fault, says on the standard error where it is and what to do";
+    let text =
+        "Prints keys, values and identifiers as 'text' if all their bytes are printable ASCII";
+    let strict = "Ends with status 8 instead of 0 if a line has a syntax fault";
+    let file = "Reads FILE instead of the standard input";
     command
         .arg(file_option(alloc, "file", file))?
         .arg(flag_option(alloc, "verbose", verbose))?
@@ -41,7 +42,7 @@ fn race_command<'a>(alloc: Global) -> Result<Command<'a>, AllocError>
     ensures app { IfOk result (λ command. app_of command ≡ race_app) }
     ensures local { IfOk result IsLocal }
 {
-    let about = "Races the script, each session on a thread of its own";
+    let about = "Races a script: each session runs on a thread of its own";
     plain_command(alloc, "race", about, RACED)
         .arg(capacity_option(alloc))?
         .arg(together_option(alloc))?
@@ -55,7 +56,7 @@ fn coordinate_command<'a>(alloc: Global) -> Result<Command<'a>, AllocError>
     ensures app { IfOk result (λ command. app_of command ≡ coordinate_app) }
     ensures local { IfOk result IsLocal }
 {
-    let about = "Carries the calls out, by a coordinator over stores of its own";
+    let about = "Runs a coordinator of two-phase commit over several stores, call by call";
     plain_command(alloc, "coordinate", about, CALLS)
         .arg(stores_option(alloc))?
         .arg(capacity_option(alloc))?
@@ -67,8 +68,7 @@ fn stops_command<'a>(alloc: Global) -> Result<Command<'a>, AllocError>
     ensures app { IfOk result (λ command. app_of command ≡ stops_app) }
     ensures local { IfOk result IsLocal }
 {
-    let about =
-        "Stops the coordinator of the calls at each place, and shows what recovery makes of it";
+    let about = "Stops a coordinator at each place, and shows what a recovery makes of it";
     plain_command(alloc, "stops", about, STOPPED)
         .arg(stores_option(alloc))?
         .arg(capacity_option(alloc))
@@ -79,13 +79,13 @@ fn judge_command<'a>(alloc: Global) -> Result<Command<'a>, AllocError>
     ensures app { IfOk result (λ command. app_of command ≡ judge_app) }
     ensures local { IfOk result IsLocal }
 {
-    let about = "Judges the record: whether some order explains what clients saw";
-    let limit = "How many configurations may be kept before a return";
+    let about = "Judges a record: whether some order of its statements explains what clients saw";
+    let limit = "How many configurations may be kept at a line before the verdict is UNDECIDED";
     let explain =
-        "Shows below ILLEGAL an order that explains the lines before, and the store behind it";
-    let json = "Writes the verdict as one object of JSON, in one line";
-    let quiet = "Doesn't say on the standard error how far the judging is";
-    let allow = "Takes the differences of the file's lines for no differences";
+        "After ILLEGAL, prints an order that explains the lines before, and the store after it";
+    let json = "Prints the verdict as one JSON object, in one line";
+    let quiet = "Doesn't report on the standard error how far the judging is";
+    let allow = "Accepts the error numbers that FILE allows in place of others";
     plain_command(alloc, "judge", about, RECORDS)
         .arg(limit_option(alloc, limit))?
         .arg(flag_option(alloc, "explain", explain))?
@@ -99,9 +99,8 @@ fn explore_command<'a>(alloc: Global) -> Result<Command<'a>, AllocError>
     ensures app { IfOk result (λ command. app_of command ≡ explore_app) }
     ensures local { IfOk result IsLocal }
 {
-    let about =
-        "Carries the script out in every order of its sessions, and lists each outcome once";
-    let help = "How many ways may be kept at once";
+    let about = "Runs a script in every order of its sessions, and lists each outcome once";
+    let help = "How many ways may be kept at once before the outcome is UNDECIDED";
     plain_command(alloc, "explore", about, EXPLORED).arg(limit_option(alloc, help))
 }
 
@@ -112,7 +111,8 @@ fn bare_command<'a>(alloc: Global) -> Command<'a>
 {
     Command::new(alloc, "xa_script")
         .version(VERSION)
-        .about("Runs scripts of XA statements")
+        .about("Runs, races and judges scripts of XA statements")
+        .after_help(START)
         .subcommand_required(true)
 }
 
@@ -133,7 +133,7 @@ fn with_plain<'a>(
 fn with_run<'a>(alloc: Global, command: Command<'a>) -> Result<Command<'a>, AllocError>
     ensures { IfOk result (λ more. app_of more ≡ with_subcommand (app_of command.entry) (plain_app (codes "run")).top) }
 {
-    let about = "Runs the script";
+    let about = "Runs a script, and answers each of its lines";
     with_plain(command, alloc, "run", about, LINES)
 }
 
@@ -163,14 +163,14 @@ fn with_serve<'a>(alloc: Global, command: Command<'a>) -> Result<Command<'a>, Al
     ensures { IfOk result (λ more. app_of more ≡ with_subcommand (app_of command.entry) (plain_app (codes "serve")).top) }
 {
     let about = "Answers each line before it reads more";
-    with_plain(command, alloc, "serve", about, LINES)
+    with_plain(command, alloc, "serve", about, SERVED)
 }
 
 /// Adds the subcommand that shows the store too.
 fn with_show<'a>(alloc: Global, command: Command<'a>) -> Result<Command<'a>, AllocError>
     ensures { IfOk result (λ more. app_of more ≡ with_subcommand (app_of command.entry) (plain_app (codes "show")).top) }
 {
-    let about = "Answers each line as serve does, and shows the store behind each answer";
+    let about = "Answers each line as serve does, and prints the store after each answer";
     with_plain(command, alloc, "show", about, SHOWN)
 }
 

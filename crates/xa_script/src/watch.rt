@@ -186,7 +186,7 @@ impl<'r, I: Read + Drop, R: Eprint + Alloc<A = Global>> Read for Watch<'r, I, R>
             }
             Err(fault) => {
                 if self.speaks {
-                    let _ = eprintln!(self.rt; "xa_script: reading: {fault}");
+                    let _ = eprintln!(self.rt; "xa_script: can't read the input: {fault}");
                 }
                 Err(fault)
             }
