@@ -1,9 +1,9 @@
-//! What a line is answered.
+//! The answer to a line.
 ghost use Rattle.std.specs.Prelude.{◌≡◌};
 
 use arrayvec::ArrayVec;
 
-/// What a line is answered, with its line feed; nothing for a line that has no answer.
+/// The answer to a line, with its line feed. It is empty for a line that has no answer.
 #[derive(Drop)]
 pub enum Answer {
     /// A text of any length.
@@ -15,7 +15,7 @@ pub enum Answer {
 impl Answer {
     ghost use Rattle.xa_lines.specs.Answer.{bytes_of};
 
-    /// The bytes of the answer.
+    /// Returns the bytes of the answer.
     ///
     /// Takes no memory. Doesn't wait.
     pub fn as_slice(&self) -> &[u8]

@@ -1,16 +1,17 @@
-//! A line that has come in part.
+//! A line that has been received in part.
 ghost use Rattle.std.specs.Prelude.{◌≡◌, ◌≤◌, vec_capacity, vec_len, [], IfOk};
 
 use crate::{Answer, LINE_BYTES, LineServer};
 use std::alloc::Global;
 use xa_xid::NoMemory;
 
-/// A line that has come in part. Its memory is taken at once, so that it can't be refused later.
+/// A line that has been received in part. All memory for it is taken at once, so that none can be refused
+/// later.
 #[derive(Drop)]
 pub struct BegunLine {
-    /// The bytes that have come, at most 65,536.
+    /// The bytes that have been received, at most 65,536.
     bytes: Vec<u8>,
-    /// Whether more came.
+    /// Whether more were received.
     is_long: bool,
     ghost room: { 65536 ≤ vec_capacity bytes },
 }
@@ -19,7 +20,7 @@ impl BegunLine {
     ghost use Rattle.xa_lines.specs.Answer.{bytes_of};
     ghost use Rattle.xa_lines.specs.Received.{held_by, longer, is_nothing, Whole};
 
-    /// A line of which nothing has come.
+    /// Returns a line of which nothing has been received.
     pub fn new(alloc: Global) -> Result<BegunLine, NoMemory>
         ensures { IfOk result (λ line. held_by line ≡ Whole []) }
     {
@@ -51,7 +52,7 @@ impl BegunLine {
         self.is_long = false;
     }
 
-    /// Whether nothing has come.
+    /// Returns whether nothing has been received.
     pub fn is_empty(&self) -> bool
         ensures { result ≡ is_nothing (held_by self.now) }
     {

@@ -1,4 +1,7 @@
 //! Answers a client, line by line.
+//!
+//! This loop isn't `run_script`'s: a run ends if memory runs out, so that its output doesn't depend on memory,
+//! while a conversation answers `ERROR 1037` and goes on, and limits the length of a line.
 ghost use Rattle.std.specs.Prelude.{◌≡◌, ◌≤◌, ◌∷◌, [], ℕ, List, IfErr, IfSome, OnOk, OnErr};
 ghost use Rattle.xa_lines.specs.Answer.{bytes_of};
 ghost use Rattle.xa_lines.specs.Received.{held_by, Whole};
@@ -11,7 +14,7 @@ use crate::begun_line::BegunLine;
 use crate::{Client, LineServer, ScriptFault};
 use std::alloc::Global;
 
-/// Says all that was given to the client.
+/// Flushes all that was given to the client.
 fn flush<S: LineServer, P: Client<S>>(client: &mut P) -> Result<(), ScriptFault>
     requires { IfSome (P.exchange client.old) CanBeTold }
     ensures flushed { Flushes (P.exchange client.old) (P.exchange client.new) result }
@@ -23,7 +26,7 @@ fn flush<S: LineServer, P: Client<S>>(client: &mut P) -> Result<(), ScriptFault>
     }
 }
 
-/// Answers the line that has come, and begins the next.
+/// Answers the line that has been received, and begins the next.
 fn answer_begun<S: LineServer, P: Client<S>>(
     alloc: Global,
     server: &mut S,
@@ -46,7 +49,7 @@ fn answer_begun<S: LineServer, P: Client<S>>(
     }
 }
 
-/// Takes a byte of what was received: a line feed ends the line that has come, and has it answered.
+/// Takes a byte that was received. A line feed ends the line, which is then answered.
 fn take_byte<S: LineServer, P: Client<S>>(
     alloc: Global,
     server: &mut S,
@@ -100,7 +103,7 @@ fn take_piece<S: LineServer, P: Client<S>>(
     Ok(())
 }
 
-/// Answers the last line, where it has no line feed, when nothing more is to be received.
+/// Answers the last line if it has no line feed, when nothing more is to be received.
 fn answer_last<S: LineServer, P: Client<S>>(
     alloc: Global,
     server: &mut S,
@@ -125,14 +128,17 @@ fn answer_last<S: LineServer, P: Client<S>>(
     answer_begun(alloc, server, client, line)
 }
 
-/// Serves a client to its end: receives a piece, answers each line that ends in it, flushes the answers, and only then receives more.
+/// Serves a client to its end.
 ///
-/// The server answers lines as they come, of any number; a line has at most 65,536 bytes without its line feed, and of a longer
-/// one no more is kept. Any fault of a read or a write, whatever its kind, ends it at once.
-/// Errors: `NoMemory` where the memory for a line was refused, before anything was received; `Read` where a read failed, or after
-/// 2 ^ 64 - 1 reads; `Write` where a write or a flush failed. After `Read` all whole lines are answered; after `Write` a prefix
-/// of the answers was given, and nothing more is said to the client.
-/// Takes memory for a line, once, and what the server's answers take. Doesn't wait, unless the client does.
+/// It receives a piece, answers each line that ends in it, flushes the answers, and only then receives more.
+/// There is no limit to the number of lines. A line has at most 65,536 bytes without its line feed, and no
+/// more is kept of a longer one.
+/// Errors: `NoMemory` if the memory for a line was refused, before anything was received; `Read` if a read
+/// failed, or after 2 ^ 64 - 1 reads; `Write` if a write or a flush failed. Any error of the client ends the
+/// conversation at once.
+/// After `Read` all whole lines are answered. After `Write` a prefix of the answers was given, and nothing
+/// more is given.
+/// Takes memory for one line, once, and what the server's answers take. Doesn't wait, unless the client does.
 /// Own rule: docs/COMMANDS.md#serve.
 pub fn serve<S: LineServer, P: Client<S>>(
     alloc: Global,
@@ -141,7 +147,10 @@ pub fn serve<S: LineServer, P: Client<S>>(
 ) -> Result<(), ScriptFault>
     requires begins { S.begins server.old }
     requires fresh { IfSome (P.exchange client.old) IsFresh }
+    // Proved (scripts, served-to-the-end): When `serve` returns `Ok` the client has ended, and all its lines
+    //   are answered in order, by one server, and flushed.
     ensures ok { OnOk result (IfSome (P.exchange client.new) (IsServed S.begins S.answers)) }
+    // Proved (scripts, serving-faults)
     ensures fault { IfErr result (λ fault. IfSome (P.exchange client.new) (AfterServing S.begins S.answers fault)) }
 {
     let mut line = BegunLine::new(alloc)?;

@@ -6,22 +6,23 @@ ghost use Rattle.std.specs.Io.KnownBytes.{ReadConsumes};
 use std::io;
 use std::io::{ErrorKind, Read};
 
-/// Gives bytes in pieces of one size, and faults after a stated number of reads: at each read from then on, or once.
+/// A reader that gives bytes in pieces of one size, and fails after a number of reads: at each read from then
+/// on, or once.
 ///
-/// The fault is an interrupted read, which std's own loops would try again.
+/// The error is an interrupted read, which the standard library's own loops would try again.
 #[derive(Drop)]
 pub struct CutReader<'a> {
     /// The bytes that are left.
     rest: &'a [u8],
     /// The greatest number of bytes that one read gives.
     piece: usize,
-    /// How many reads are left before the fault.
+    /// How many reads are left before it fails.
     reads: u64,
-    /// Whether it goes on after one fault.
+    /// Whether it goes on after it failed once.
     once: bool,
-    /// Whether it has faulted.
+    /// Whether it has failed.
     faulted: bool,
-    /// How often it was read after its first fault, or 2^64-1 where that is more.
+    /// How often it was read after it first failed, at most 2^64-1.
     after: u64,
     ghost some: { 0 < piece },
 }
@@ -29,7 +30,10 @@ pub struct CutReader<'a> {
 impl<'a> CutReader<'a> {
     ghost use Rattle.xa_lines.specs.Cut.{left_in, piece_of, reads_left_in, goes_on_behind, has_faulted, reads_after};
 
-    /// Gives these bytes, at most `piece` at a time, and faults at each read after the first `reads`.
+    /// Returns a reader of these bytes that gives at most `piece` at a time, and fails at each read after the
+    /// first `reads`.
+    ///
+    /// `piece` is at least 1.
     ///
     /// Takes no memory. Doesn't wait.
     pub fn new(bytes: &'a [u8], piece: usize, reads: u64) -> CutReader<'a>
@@ -50,7 +54,9 @@ impl<'a> CutReader<'a> {
         }
     }
 
-    /// The same, but it faults at one read alone, and gives the bytes that are left to those after it.
+    /// Returns such a reader that fails at one read only. The reads after that give the bytes that are left.
+    ///
+    /// `piece` is at least 1.
     ///
     /// Takes no memory. Doesn't wait.
     pub fn once(bytes: &'a [u8], piece: usize, reads: u64) -> CutReader<'a>
@@ -66,7 +72,7 @@ impl<'a> CutReader<'a> {
         reader
     }
 
-    /// How many more reads it takes before it faults.
+    /// Returns how many more reads succeed before it fails.
     ///
     /// Takes no memory. Doesn't wait.
     pub fn reads_left(&self) -> u64
@@ -75,7 +81,7 @@ impl<'a> CutReader<'a> {
         self.reads
     }
 
-    /// How often it was read after its first fault.
+    /// Returns how often it was read after it first failed.
     ///
     /// Takes no memory. Doesn't wait.
     pub fn reads_after_a_fault(&self) -> u64

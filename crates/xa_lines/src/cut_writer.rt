@@ -7,22 +7,23 @@ use std::alloc::Global;
 use std::io;
 use std::io::{ErrorKind, Write};
 
-/// Takes bytes in pieces of one size, and faults after a stated number of bytes: at each write from then on, or once.
+/// A writer that takes bytes in pieces of one size, and fails after a number of bytes: at each write from
+/// then on, or once.
 ///
-/// The fault is an interrupted write, which std's own loops would try again.
+/// The error is an interrupted write, which the standard library's own loops would try again.
 #[derive(Drop)]
 pub struct CutWriter {
     /// The bytes that were taken.
     taken: Vec<u8>,
     /// The greatest number of bytes that one write takes.
     piece: usize,
-    /// How many bytes are taken before the fault.
+    /// How many bytes are taken before it fails.
     room: usize,
-    /// Whether it goes on after one fault, and takes any number of bytes then.
+    /// Whether it goes on after it failed once, and then takes any number of bytes.
     once: bool,
-    /// Whether it has faulted for want of room.
+    /// Whether it has failed for want of room.
     faulted: bool,
-    /// How often it was written to after that, or 2^64-1 where that is more.
+    /// How often it was written to after that, at most 2^64-1.
     after: u64,
     ghost some: { 0 < piece },
 }
@@ -30,7 +31,10 @@ pub struct CutWriter {
 impl CutWriter {
     ghost use Rattle.xa_lines.specs.Cut.{taken_by, piece_into, room_in, goes_on_writing, has_refused, writes_after};
 
-    /// Takes at most `piece` bytes at a time, and `room` bytes in all before it faults, at each write from then on.
+    /// Returns a writer that takes at most `piece` bytes at a time, and `room` bytes in all. After these it
+    /// fails at each write.
+    ///
+    /// `piece` is at least 1.
     ///
     /// Takes no memory. Doesn't wait.
     pub fn new(alloc: Global, piece: usize, room: usize) -> CutWriter
@@ -51,7 +55,9 @@ impl CutWriter {
         }
     }
 
-    /// The same, but it faults at one write alone, and takes the bytes of those after it.
+    /// Returns such a writer that fails at one write only. The writes after that are taken.
+    ///
+    /// `piece` is at least 1.
     ///
     /// Takes no memory. Doesn't wait.
     pub fn once(alloc: Global, piece: usize, room: usize) -> CutWriter
@@ -67,7 +73,7 @@ impl CutWriter {
         writer
     }
 
-    /// The bytes that it took.
+    /// Returns the bytes that it took.
     ///
     /// Takes no memory. Doesn't wait.
     pub fn as_slice(&self) -> &[u8]
@@ -76,7 +82,7 @@ impl CutWriter {
         self.taken.as_slice()
     }
 
-    /// How often it was written to after its first fault for want of room.
+    /// Returns how often it was written to after it first failed for want of room.
     ///
     /// Takes no memory. Doesn't wait.
     pub fn writes_after_a_fault(&self) -> u64

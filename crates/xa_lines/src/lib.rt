@@ -1,5 +1,9 @@
-//! Lines of statements: what a script's run writes, and conversations whose lines are answered one after another, with the store shown behind each
-//! answer where that is asked.
+//! Lines of statements. `run_script` reads a script to its end, and writes the answer to each of its lines.
+//! `serve` answers a client line by line, and flushes each answer before it receives more; `serve_statements`
+//! does so with the sequential server, and `show_statements` also prints the store after each answer.
+//!
+//! Read first `specs/Transcript.antt`, which defines what a run writes, and `src/run.rt`. For conversations
+//! read `src/client.rt` and `specs/Served.antt`, for the listing of a store `specs/Listing.antt`.
 #![tactic(auto)]
 
 mod answer;
@@ -47,5 +51,6 @@ pub use statements::serve_statements;
 pub use streams::{read_all, read_within, script_limits, write_whole};
 pub use transport::Transport;
 
-/// The greatest length of a line, in bytes, without its line feed.
+/// The greatest length of a line of a conversation, in bytes, without its line feed. Own rule:
+/// docs/COMMANDS.md#serve.
 pub const LINE_BYTES: usize = 65_536;

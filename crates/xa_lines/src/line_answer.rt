@@ -16,7 +16,8 @@ use xa_server::{Reply, Server};
 use xa_statement::read_statement;
 use xa_xid::{NoMemory, SessionNo, Statement};
 
-/// Whether recovered identifiers are to be printed in digits.
+/// Returns whether the identifiers of this statement's reply are printed in digits: only for `XA RECOVER
+/// CONVERT XID`.
 ///
 /// Takes no memory. Doesn't wait.
 /// Own rule: docs/COMMANDS.md#scripts.
@@ -29,10 +30,10 @@ pub fn converts(statement: &Statement) -> bool
     }
 }
 
-// The functions `put_..` write an answer over what a text held before, so that one text can take one answer after another, and keeps
-// its memory.
+// The functions `put_..` write an answer over the text's former content. So one text can take one answer
+// after another, and keeps its memory.
 
-/// The session to whom an answer is, at the front of it.
+/// Puts the number of the session that is answered at the front of the answer.
 fn put_session(answer: &mut Vec<u8>, session: SessionNo) -> Result<(), NoMemory>
     ensures { OnOk result (answer.new.items ≡ decimal session ++ codes " ") }
 {
@@ -41,7 +42,7 @@ fn put_session(answer: &mut Vec<u8>, session: SessionNo) -> Result<(), NoMemory>
     answer.extend_from_slice(b" ")
 }
 
-/// Carries out a statement of which the reply is known, where it enters the history; else it changes nothing.
+/// Carries out a statement whose reply is known if it is logged; any other statement changes nothing.
 #[tactic(auto, unfolding(xa_server::specs::Step::enters))]
 pub(crate) fn carry_out(
     server: &mut Server,
@@ -61,8 +62,8 @@ pub(crate) fn carry_out(
     server.accept(session, statement)
 }
 
-/// Answers a statement of which the reply is known, and carries it out. So many bytes more can be appended to the answer without
-/// memory.
+/// Answers a statement whose reply is known, and carries it out. `spare` more bytes can be appended to the
+/// answer without memory.
 pub(crate) fn put_reply(
     alloc: Global,
     answer: &mut Vec<u8>,
@@ -112,7 +113,7 @@ fn put_unread(answer: &mut Vec<u8>, session: SessionNo, place: u64) -> Result<()
     answer.extend_from_slice(b"\n")
 }
 
-/// Gives the statement of the text to the server, and answers it.
+/// Gives the text's statement to the server, and answers it.
 fn put_statement(
     alloc: Global,
     answer: &mut Vec<u8>,
@@ -138,7 +139,7 @@ fn put_bad(answer: &mut Vec<u8>) -> Result<(), NoMemory>
     answer.extend_from_slice(bad_line().as_slice())
 }
 
-/// Gives the line's statement to the server, where it has one, and answers the line.
+/// Gives the line's statement to the server, if it has one, and answers the line.
 #[tactic(auto, unfolding(crate::specs::Transcript::answer_of, crate::specs::Transcript::state_after_line))]
 pub(crate) fn put_line(
     alloc: Global,
@@ -160,10 +161,11 @@ pub(crate) fn put_line(
     }
 }
 
-/// Gives the statement of the text to the server, and answers it.
+/// Gives a text's statement to the server as a session's, and returns the printed answer, with its line feed.
 ///
-/// The text is a statement's, without its session. The answer is printed before the statement is carried out.
-/// Errors: `NoMemory` where an allocation failed; then the server is as before.
+/// The text is a statement without the session's number. If it isn't a statement, the answer names the byte
+/// of the fault.
+/// Errors: `NoMemory` if an allocation failed. The server is then as before.
 /// Takes memory for the answer. Doesn't wait.
 /// Own rule: docs/COMMANDS.md#scripts.
 pub fn answer_statement(
@@ -172,8 +174,13 @@ pub fn answer_statement(
     session: SessionNo,
     text: &[u8],
 ) -> Result<Vec<u8>, NoMemory>
+    // Proved (scripts, line-answers): The answer to a line or a statement, and the server after it, are those
+    //   that the definition of a script's run gives.
     ensures answer { IfOk result (λ answer. answer.items ≡ answer_to server.old session (read_of text.now)) }
+    // Proved (scripts, line-answers)
     ensures after { OnOk result (server.new ≡ state_then server.old session (read_of text.now)) }
+    // Proved (scripts, lines-without-memory): If memory runs out for the answer to a line or a statement, the
+    //   server is as before.
     ensures unchanged { OnErr result (server.new ≡ server.old) }
 {
     let mut answer = Vec::new(alloc);
@@ -181,15 +188,18 @@ pub fn answer_statement(
     Ok(answer)
 }
 
-/// Gives the line's statement to the server, where it has one, and answers the line.
+/// Gives a script's line to the server, and returns the printed answer.
 ///
-/// The line is one of a script, without its line feed. The answer ends in a line feed; it is empty for a line of blanks.
-/// Errors: `NoMemory` where an allocation failed; then the server is as before.
+/// The line is without its line feed. The answer ends in a line feed; it is empty for a line of blanks.
+/// Errors: `NoMemory` if an allocation failed. The server is then as before.
 /// Takes memory for the answer. Doesn't wait.
 /// Own rule: docs/COMMANDS.md#scripts.
 pub fn answer_line(alloc: Global, server: &mut Server, line: &[u8]) -> Result<Vec<u8>, NoMemory>
+    // Proved (scripts, line-answers)
     ensures answer { IfOk result (λ answer. answer.items ≡ answer_of server.old (line_of line.now)) }
+    // Proved (scripts, line-answers)
     ensures after { OnOk result (server.new ≡ state_after_line server.old (line_of line.now)) }
+    // Proved (scripts, lines-without-memory)
     ensures unchanged { OnErr result (server.new ≡ server.old) }
 {
     let mut answer = Vec::new(alloc);

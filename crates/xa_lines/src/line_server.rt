@@ -1,25 +1,27 @@
-//! What answers lines.
+//! A server of lines.
 ghost use Rattle.std.specs.Prelude.{ℕ, List};
 
 use crate::Answer;
 use std::alloc::Global;
 
-/// A server of lines: it answers one after another, and each answer may depend on the lines before.
+/// A server of lines. It answers one after another, and each answer may depend on the lines before.
 ///
-/// A contract sees how it may begin, and how it may answer a line. Own rule: docs/COMMANDS.md#serve.
+/// A contract sees how it may begin, and how it may answer a line.
+/// Own rule: docs/COMMANDS.md#serve.
 pub trait LineServer {
     ghost use Rattle.xa_lines.specs.Received.{Received, Whole, TooLong};
     ghost use Rattle.xa_lines.specs.Answer.{bytes_of};
 
-    // The server may begin so.
+    // The server may begin like this.
     ghost begins: { Self → Type 0 };
 
-    // From the first state on, the line may be answered with the text, and the last state is then the server's.
+    // In the first state the line may be answered with the text, and the server is then in the last state.
     ghost answers: { Self → Received → List ℕ → Self → Type 0 };
 
     /// Answers a line, without its line feed.
     ///
-    /// The line has at most 65,536 bytes. An answer needs no memory: a server that is refused some answers so.
+    /// The line has at most 65,536 bytes. A server that is refused memory says so in its answer, which then
+    /// takes none.
     fn answer(&mut self, alloc: Global, line: &[u8]) -> Answer
         ensures { answers self.old (Whole line.now) (bytes_of result) self.new };
 

@@ -1,4 +1,4 @@
-//! The lines of a script, and what each says.
+//! The lines of a script, and what each means.
 ghost use Rattle.std.specs.Prelude.{◌≡◌, ◌≤◌, ◌<◌, ◌∷◌, ◌==◌, not, length, IsTrue, MatchOption, None, Some};
 ghost use Rattle.std.specs.List.{prefix_len};
 ghost use Rattle.xa_lines.specs.Script.{is_no_blank, first_word, after_word, session_named, line_of, lines_of, line_seen};
@@ -6,7 +6,7 @@ ghost use Rattle.xa_lines.specs.Script.{is_comment_line, number_of_word};
 
 use xa_xid::{ByteClass, SessionNo, number_of, skip_blanks};
 
-/// How many bytes stand before the first line feed.
+/// Returns how many bytes come before the first line feed.
 pub fn line_length(text: &[u8]) -> usize
     ensures length { result ≡ prefix_len (λ byte. not (byte == 10)) text.now }
     ensures within { result ≤ length text.now }
@@ -16,7 +16,7 @@ pub fn line_length(text: &[u8]) -> usize
         .unwrap_or(text.len())
 }
 
-/// How many bytes stand before the first blank.
+/// Returns how many bytes come before the first blank.
 fn word_length(text: &[u8]) -> usize
     ensures length { result ≡ prefix_len is_no_blank text.now }
     ensures within { result ≤ length text.now }
@@ -37,20 +37,21 @@ fn session_of(word: &[u8]) -> Option<SessionNo>
     }
 }
 
-/// What a line of a script says.
+/// What a line of a script means.
 ///
 /// Own rule: docs/COMMANDS.md#scripts.
 pub enum ScriptLine<'a> {
-    /// Nothing: it has no answer.
+    /// It has only blanks, and no answer.
     Blank,
-    /// It isn't written as a line is.
+    /// It doesn't begin with the number of a session.
     Bad,
     /// The session gives the statement of this text.
     Given(SessionNo, &'a [u8]),
 }
 
-/// The first line, without its line feed, and what stands after that.
+/// Returns the first line, without its line feed, and the text after that.
 ///
+/// The text has at least one byte.
 /// Takes no memory. Doesn't wait.
 /// Own rule: docs/COMMANDS.md#scripts.
 pub fn split_line(text: &[u8]) -> (&[u8], &[u8])
@@ -65,7 +66,7 @@ pub fn split_line(text: &[u8]) -> (&[u8], &[u8])
     }
 }
 
-/// The text up to its first blank, and from there on.
+/// Returns the text up to its first blank, and the text from there on.
 ///
 /// Takes no memory. Doesn't wait.
 /// Own rule: docs/COMMANDS.md#scripts.
@@ -76,7 +77,7 @@ pub fn split_word(text: &[u8]) -> (&[u8], &[u8])
     text.split_at(word_length(text))
 }
 
-/// Whether the line is a comment: its first byte that isn't a blank is `#`.
+/// Returns whether the line is a comment: its first byte that isn't a blank is `#`.
 ///
 /// The line is without its line feed. Takes no memory. Doesn't wait.
 /// Own rule: docs/COMMANDS.md#scripts.
@@ -89,9 +90,10 @@ pub fn is_comment(line: &[u8]) -> bool
     }
 }
 
-/// The number that the word is: decimal digits, in `[0, 2^64 - 1]`, without a sign and without leading zeros.
+/// Returns the number that the word is: decimal digits, in `[0, 2^64 - 1]`, without a sign and without
+/// leading zeros.
 ///
-/// None for any other word. Takes no memory. Doesn't wait.
+/// Returns `None` for any other word. Takes no memory. Doesn't wait.
 /// Own rule: docs/COMMANDS.md#scripts.
 #[tactic(auto, unfolding(crate::specs::Script::number_of_word))]
 pub fn number_in(word: &[u8]) -> Option<u64>
@@ -108,11 +110,13 @@ pub fn number_in(word: &[u8]) -> Option<u64>
     }
 }
 
-/// What the line says.
+/// Reads a line of a script, without its line feed.
 ///
-/// The line is one of a script, without its line feed. Takes no memory. Doesn't wait.
+/// Takes no memory. Doesn't wait.
 /// Own rule: docs/COMMANDS.md#scripts.
 pub fn read_line(line: &[u8]) -> ScriptLine<'_>
+    // Proved (scripts, lines-are-read): A line is read as the definition says: as blank, as bad, or as a
+    //   session and the text of its statement.
     ensures { line_seen result ≡ line_of line.now }
 {
     let text = skip_blanks(line);

@@ -148,11 +148,12 @@ fn with_rows(text: Vec<u8>, server: &Server, keys: &[Key]) -> Result<Vec<u8>, No
     Ok(longer)
 }
 
-/// A text with the server's listing at its end: every branch, ascending, each with the rows that it holds; then these rows, with
-/// their committed values.
+/// Appends the server's listing to a text: every branch, ascending, each with the rows that it holds; then
+/// the rows of these keys, with their committed values.
 ///
-/// Each line begins with two blanks. Looks at every row of the server for each branch. May answer `NoMemory`, and the text is then
-/// dropped. Doesn't wait.
+/// Each line of it begins with two blanks. It visits every row of the server once for each branch.
+/// Errors: `NoMemory` if an allocation failed. The text is then dropped.
+/// May return `NoMemory`. Doesn't wait.
 /// Own rule: docs/COMMANDS.md#show.
 #[tactic(auto, unfolding(crate::specs::Listing::listing))]
 pub fn with_listing(
@@ -161,6 +162,9 @@ pub fn with_listing(
     server: &Server,
     keys: &[Key],
 ) -> Result<Vec<u8>, NoMemory>
+    // Proved (scripts, listing): The listing that is printed is the one that the definition gives: every
+    //   branch with its phase, its owner and the rows that it holds, then each row that was asked for, with
+    //   its committed value.
     ensures { IfOk result (λ longer. longer.items ≡ text.items ++ listing server.now keys.now) }
 {
     let branches = server.branches(alloc)?;

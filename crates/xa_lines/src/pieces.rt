@@ -1,4 +1,4 @@
-//! Readers and writers of which a contract sees each call.
+//! Readers and writers whose calls a contract can name one by one.
 ghost use Rattle.std.specs.Prelude.{ℕ, List, take, MatchResult};
 ghost use Rattle.std.specs.Io.{ReadsAtMost, WritesAtMost};
 ghost use Rattle.std.specs.Io.KnownBytes.{Appends, Consumes, Keeps, ReadConsumes, WriteAppends};
@@ -6,19 +6,19 @@ ghost use Rattle.std.specs.Io.KnownBytes.{Appends, Consumes, Keeps, ReadConsumes
 use std::io;
 use std::io::{Read, Write};
 
-/// A reader of which a contract sees each read. Every reader is one.
+/// A reader whose reads a contract can name one by one. Every reader is one.
 ///
 /// Own rule: docs/COMMANDS.md#scripts.
 pub trait PieceReader: Read {
-    // From the first state on a read may give these bytes, none at the end, and the last state is then the reader's.
+    // In the first state a read may give these bytes (none at the end), and leave the reader in the last.
     ghost gives: { Self → List ℕ → Self → Type 0 };
 
-    // From the first state on a read may fail, and the last state is then the reader's.
+    // In the first state a read may fail, and the reader is then in the last state.
     ghost fails: { Self → Self → Type 0 };
 
     /// Reads once.
     ///
-    /// Errors: those of the reader. Takes no memory. Doesn't wait, unless the reader does.
+    /// Errors: the reader's own. Takes no memory. Doesn't wait, unless the reader does.
     fn read_piece(&mut self, piece: &mut [u8]) -> io::Result<usize>
         ensures bound { ReadsAtMost result piece.new }
         ensures bytes { ReadConsumes (Self.remaining self.old) (Self.remaining self.new) result piece.new }
@@ -35,19 +35,19 @@ impl<R: Read> PieceReader for R {
     }
 }
 
-/// A writer of which a contract sees each write. Every writer is one.
+/// A writer whose writes a contract can name one by one. Every writer is one.
 ///
 /// Own rule: docs/COMMANDS.md#scripts.
 pub trait PieceWriter: Write {
-    // From the first state on a write may take these bytes, and the last state is then the writer's.
+    // In the first state a write may take these bytes, and the writer is then in the last state.
     ghost takes: { Self → List ℕ → Self → Type 0 };
 
-    // From the first state on a write may fail, and the last state is then the writer's.
+    // In the first state a write may fail, and the writer is then in the last state.
     ghost refuses: { Self → Self → Type 0 };
 
     /// Writes once.
     ///
-    /// Errors: those of the writer. Takes no memory. Doesn't wait, unless the writer does.
+    /// Errors: the writer's own. Takes no memory. Doesn't wait, unless the writer does.
     fn write_piece(&mut self, bytes: &[u8]) -> io::Result<usize>
         ensures bound { WritesAtMost result bytes.now }
         ensures bytes { WriteAppends (Self.contents self.old) (Self.contents self.new) result bytes.now }

@@ -12,9 +12,9 @@ use std::mem;
 use xa_server::{Reply, XaError};
 use xa_xid::{NoMemory, Xid, with_part};
 
-/// Appends the number in decimal.
+/// Appends a number in decimal digits.
 ///
-/// May answer `NoMemory`. Doesn't wait.
+/// May return `NoMemory`. Doesn't wait.
 /// Own rule: docs/COMMANDS.md#scripts.
 pub fn push_number(text: &mut Vec<u8>, number: u64) -> Result<(), NoMemory>
     ensures { OnOk result (text.new.items ≡ text.old.items ++ decimal number) }
@@ -42,7 +42,7 @@ fn push_part(alloc: Global, text: &mut Vec<u8>, bytes: &[u8]) -> Result<(), NoMe
     Ok(())
 }
 
-/// Appends gtrid and bqual of an identifier, in digits where `convert`.
+/// Appends gtrid and bqual of an identifier, in digits if `convert` asks for that.
 fn push_row_data(
     alloc: Global,
     text: &mut Vec<u8>,
@@ -92,9 +92,12 @@ fn push_error(text: &mut Vec<u8>, error: &XaError) -> Result<(), NoMemory>
     write!(text, "ERROR {number} ({sqlstate}): {error}").map_err(|_| AllocError)
 }
 
-/// Appends the text of a reply, recovered identifiers in digits where `convert`. It doesn't end in a line feed.
+/// Appends the printed form of a reply, without a line feed at its end.
 ///
-/// May answer `NoMemory`; then some of the reply may be appended, or the whole text be lost. Doesn't wait.
+/// `convert` asks for the identifiers of a list in digits, as `0x..`.
+/// Errors: `NoMemory` if an allocation failed. A part of the reply may then be appended, or the whole text be
+/// lost.
+/// May return `NoMemory`. Doesn't wait.
 /// Own rule: docs/COMMANDS.md#scripts.
 pub fn push_reply(
     alloc: Global,
@@ -121,9 +124,11 @@ pub fn push_reply(
     }
 }
 
-/// Appends what answers a text that isn't a statement, with the place where it goes wrong.
+/// Appends the answer to a text that isn't a statement.
 ///
-/// May answer `NoMemory`; then some of the text may be appended. Doesn't wait.
+/// `at` is the byte at which the text goes wrong, from 0.
+/// Errors: `NoMemory` if an allocation failed. A part of the answer may then be appended.
+/// May return `NoMemory`. Doesn't wait.
 /// Own rule: docs/COMMANDS.md#scripts.
 pub fn push_syntax_fault(text: &mut Vec<u8>, at: u64) -> Result<(), NoMemory>
     ensures { OnOk result (text.new.items ≡ text.old.items ++ syntax_text at) }

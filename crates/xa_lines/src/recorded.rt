@@ -9,19 +9,19 @@ use std::alloc::Global;
 use std::io;
 use std::io::{ErrorKind, Read, Write};
 
-/// Says what a reader gives in pieces, and keeps what it is told. It faults after a stated number of reads, and after it took a
-/// stated number of bytes.
+/// A client that sends bytes in pieces, and keeps what it is given. It fails after a number of reads, and
+/// after it took a number of bytes.
 #[derive(Drop)]
 pub struct Recorded<'a> {
-    /// Gives what it says.
+    /// Gives what it sends.
     reader: CutReader<'a>,
     /// Takes what it is given.
     writer: CutWriter,
-    /// What it said.
+    /// What it has sent.
     received: Vec<u8>,
-    /// How many bytes it was told: those that the writer had taken at the last flush.
+    /// How many bytes were flushed to it: those that the writer had taken at the last flush.
     told: usize,
-    /// Whether it says more.
+    /// Whether it may send more.
     stage: Stage,
     ghost within: { told ≤ length (taken_by writer) },
     ghost each_time: { (goes_on_behind reader ≡ false) × (goes_on_writing writer ≡ false) },
@@ -31,7 +31,10 @@ impl<'a> Recorded<'a> {
     ghost use Rattle.xa_lines.specs.Recorded.{exchange_of};
     ghost use Rattle.xa_lines.specs.Exchange.{IsFresh};
 
-    /// Says these bytes, at most `piece` at a time; faults at each read after the first `reads`, and takes `room` bytes in all.
+    /// Returns a client that sends these bytes, at most `piece` at a time. It fails at each read after the
+    /// first `reads`, and takes `room` bytes in all.
+    ///
+    /// `piece` is at least 1.
     ///
     /// Takes no memory. Doesn't wait.
     pub fn new(
@@ -57,7 +60,7 @@ impl<'a> Recorded<'a> {
         }
     }
 
-    /// What it was told.
+    /// Returns what was flushed to it.
     ///
     /// Takes no memory. Doesn't wait.
     pub fn told(&self) -> &[u8]
@@ -66,7 +69,7 @@ impl<'a> Recorded<'a> {
         &self.given()[..self.told]
     }
 
-    /// What it was given.
+    /// Returns what it was given, flushed or not.
     ///
     /// Takes no memory. Doesn't wait.
     pub fn given(&self) -> &[u8]

@@ -12,7 +12,8 @@ use crate::{PieceReader, PieceWriter, ScriptFault};
 use std::alloc::Global;
 use xa_server::Server;
 
-/// Gives the script's lines to a server that holds nothing at first, and writes each answer as it is found.
+/// Gives the script's lines to a server that is empty at first, and writes each answer as soon as it is
+/// there.
 fn run_lines<W: PieceWriter>(
     alloc: Global,
     script: &[u8],
@@ -38,32 +39,45 @@ fn run_lines<W: PieceWriter>(
 
 /// Runs a script: reads all of it, and writes the answer to each of its lines.
 ///
-/// A script is at most 1,048,576 bytes, and takes at most 2,097,152 reads. Each line gives a statement of a session to one
-/// server, which holds nothing at first. Each answer is written as it is found. Any fault of a read or a write, whatever its
-/// kind, ends the run at once. What is written isn't flushed.
-/// Errors: `Read` where a read failed, or too many reads were needed; `TooLong` where the script is longer; `NoMemory`
-/// where an allocation failed; `Write` where a write failed or took nothing. After `Read` and `TooLong` nothing was
-/// written, after `Write` and `NoMemory` a prefix of the transcript. A reader or a writer that failed isn't called again.
-/// May answer `NoMemory`. Doesn't wait, unless the reader or the writer does.
+/// A script has at most 1,048,576 bytes, and takes at most 2,097,152 reads. Each line gives a statement of a
+/// session to one server, which is empty at first. Each answer is written as soon as it is there; nothing is
+/// flushed.
+/// Errors: `Read` if a read failed, or too many reads were needed; `TooLong` if the script is longer;
+/// `NoMemory` if an allocation failed; `Write` if a write failed or took nothing. Any error of the reader or
+/// the writer ends the run at once, and that stream isn't called again.
+/// After `Read` and `TooLong` nothing was written, after `Write` and `NoMemory` a prefix of the transcript.
+/// May return `NoMemory`. Doesn't wait, unless the reader or the writer does.
 /// Own rule: docs/COMMANDS.md#scripts.
 pub fn run_script<R: PieceReader, W: PieceWriter>(
     alloc: Global,
     reader: &mut R,
     writer: &mut W,
 ) -> Result<(), ScriptFault>
-    // All was read, and what was written is the transcript of it.
+    // Proved (scripts, run-writes-the-transcript): After `Ok` the whole script was read, and its transcript
+    //   was written: the answers, line by line, of a server that was empty at first.
     ensures read { OnOk result (IsAtEnd (R.remaining reader.new)) }
+    // Proved (scripts, run-writes-the-transcript)
     ensures written { OnOk result (IfSome (R.remaining reader.old) (λ script. Appends (W.contents writer.old) (W.contents writer.new) (transcript script))) }
+    // Proved (scripts, run-length): `TooLong` is returned only if more than 1,048,576 bytes were read, and a
+    //   script that was run has no more.
     ensures short { OnOk result (IfSome (R.remaining reader.old) (λ script. length script ≤ script_bytes)) }
 
+    // Proved (scripts, run-after-faults): After `Write` and `NoMemory` a prefix of the transcript was
+    //   written, after `Read` and `TooLong` nothing.
     ensures fault { IfErr result (λ fault. AfterFault fault (R.remaining reader.old) (W.contents writer.old) (W.contents writer.new)) }
+    // Proved (scripts, run-length)
     ensures too_long { result ≡ Err ScriptFault.TooLong → ConsumesMoreThan script_bytes (R.remaining reader.old) (R.remaining reader.new) }
 
-    // Of any reader and writer: all calls on them succeeded; or the last call on one of them failed, and that is the fault.
+    // For any reader and writer, whether their bytes are known or not.
+    // Proved (scripts, run-fault-causes): A run that returns `Ok` made only calls that succeeded. `Read` and
+    //   `Write` are returned only if the last call on that stream failed, a write took nothing, or too many
+    //   reads were needed; `TooLong` only if too much was read. A stream that failed isn't called again, not
+    //   even to flush.
     ensures calls { OnOk result
         ((script : List ℕ)
         × HasReadAll R.gives script_reads reader.old script reader.new
         × HasWritten W.takes writer.old (transcript script) writer.new) }
+    // Proved (scripts, run-fault-causes)
     ensures cause { IfErr result (λ fault. StopsRun R.gives R.fails W.takes W.refuses fault reader.old reader.new writer.old writer.new) }
 {
     let script = read_all(alloc, reader)?;

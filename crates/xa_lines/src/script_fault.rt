@@ -1,11 +1,11 @@
-//! Why a script's run ends early.
+//! Why a job on a script ends early.
 ghost use Rattle.std.specs.Prelude.{◌≡◌};
 ghost use Rattle.xa_lines.specs.Faults.{number_of_script_fault};
 
 use std::alloc::{AllocError, AllocFailed};
 use thiserror::Error;
 
-/// Why a script's run ends early.
+/// Why a job on a script, a run or a race, ends early.
 ///
 /// Own rule: docs/COMMANDS.md#scripts.
 #[derive(Clone, Copy, Debug, Drop, PartialEq, Eq, Error)]
@@ -16,29 +16,30 @@ pub enum ScriptFault {
     /// 2: the script is longer than 1,048,576 bytes. Nothing was written.
     #[error("script too long")]
     TooLong,
-    /// 3: a write failed. A prefix of what was to be written was written.
+    /// 3: a write failed. A prefix of the output was written.
     #[error("write fault")]
     Write,
-    /// 4: an allocation failed. A run wrote a prefix of the transcript, a race nothing.
+    /// 4: an allocation failed. A run has written a prefix of its output, a race nothing.
     #[error("out of memory")]
     NoMemory,
-    /// 5: a race's history has no more room. Nothing was written.
+    /// 5: the history of a race is full. Nothing was written.
     #[error("log full")]
     Full,
-    /// 6: a gate shut a race's run. Nothing was written.
+    /// 6: a gate stopped a session of a race. Nothing was written.
     #[error("gate shut")]
     GateShut,
-    /// 7: a race's thread couldn't be started. Nothing was written.
+    /// 7: a thread of a race couldn't be started. Nothing was written.
     #[error("thread refused")]
     ThreadRefused,
 }
 
 impl ScriptFault {
-    /// The fault's number, in `[1, 7]`.
+    /// Returns the fault's number, in `[1, 7]`.
     ///
     /// Takes no memory. Doesn't wait.
     /// Own rule: docs/COMMANDS.md#scripts.
     pub fn number(&self) -> u64
+        // Proved (scripts, fault-numbers): Each fault of a run or a race has its own number, from 1 to 7.
         ensures { result ≡ number_of_script_fault self.now }
     {
         match self {

@@ -1,4 +1,5 @@
-//! Answers statements as serving does: that memory was refused is answered too, and only the answer to a list takes any.
+//! Answers statements as serving does. If memory is refused the answer says so, and only the answer to a list
+//! takes any.
 ghost use Rattle.std.specs.Prelude.{◌≡◌, ◌≤◌, ◌+◌, false, Ok, Err, IfOk, OnOk, OnErr, vec_len, vec_capacity};
 ghost use Rattle.xa_server.specs.Replies.{reply_to};
 ghost use Rattle.xa_server.specs.Step.{enters as enters_at, is_list};
@@ -19,7 +20,7 @@ use xa_xid::{NoMemory, SessionNo, Statement};
 /// How many bytes more an answer has room for.
 const SPARE_BYTES: usize = 16;
 
-/// Carries out a statement of which the reply is known and isn't a list, and answers it without memory.
+/// Carries out a statement whose reply is known and isn't a list, and answers it without memory.
 fn serve_short(
     server: &mut Server,
     session: SessionNo,
@@ -39,8 +40,8 @@ fn serve_short(
     }
 }
 
-/// Answers a statement of which the reply is known, by a text of its own, and carries it out. 16 bytes more can be appended to the
-/// answer without memory.
+/// Answers a statement whose reply is known in a new text, and carries it out. 16 more bytes can be appended
+/// to the answer without memory.
 fn answer_reply(
     alloc: Global,
     server: &mut Server,
@@ -70,7 +71,7 @@ fn answer_reply(
     Ok(answer)
 }
 
-/// Answers a statement of which the reply is known.
+/// Answers a statement whose reply is known.
 fn serve_reply(
     alloc: Global,
     server: &mut Server,
@@ -93,7 +94,7 @@ fn serve_reply(
     }
 }
 
-/// Answers a statement that was read. 16 bytes more can be appended to the answer without memory.
+/// Answers a statement that was read. 16 more bytes can be appended to the answer without memory.
 pub(crate) fn serve_read(
     alloc: Global,
     server: &mut Server,
@@ -109,7 +110,7 @@ pub(crate) fn serve_read(
     }
 }
 
-/// Answers a text that isn't a statement. 16 bytes more can be appended to the answer without memory.
+/// Answers a text that isn't a statement. 16 more bytes can be appended to the answer without memory.
 pub(crate) fn serve_unread(server: &Server, session: SessionNo, place: u64) -> Answer
     ensures answered { IsStatementAnswer server.now session (Err place) (bytes_of result) server.now }
     ensures room { HasRoom 16 result }

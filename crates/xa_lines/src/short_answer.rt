@@ -10,7 +10,7 @@ use arrayvec::ArrayVec;
 use itoa::Buffer;
 use xa_xid::{NoMemory, SessionNo};
 
-/// An answer of at most 160 bytes: to whom, and what.
+/// Returns an answer of at most 160 bytes: whose it is, and what it says.
 fn short_answer(who: &[u8], what: &[u8]) -> Answer
     requires { length who.now + length what.now ≤ 160 }
     ensures bytes { bytes_of result ≡ who.now ++ what.now }
@@ -40,7 +40,7 @@ pub(crate) fn refusal(session: SessionNo) -> Answer
     short_answer(who.as_bytes(), b" ERROR 1037 (HY001): out of memory\n")
 }
 
-/// The answer to a session's statement, or else that memory was refused for it.
+/// Returns the answer to a session's statement, or the one that says that memory was refused for it.
 pub(crate) fn answer_or_refusal(session: SessionNo, answer: Result<Vec<u8>, NoMemory>) -> Answer
     ensures bytes { MatchResult answer (λ text. bytes_of result ≡ text.items) (λ _. bytes_of result ≡ refused_text session) }
     ensures room { IfOk answer (λ text. vec_len text + 16 ≤ vec_capacity text) → HasRoom 16 result }
@@ -51,7 +51,7 @@ pub(crate) fn answer_or_refusal(session: SessionNo, answer: Result<Vec<u8>, NoMe
     }
 }
 
-/// The answer, and behind it that memory was refused for what is to stand there.
+/// Returns the answer, followed by the line that says that memory was refused for what comes next.
 pub(crate) fn with_unshown(answer: Answer) -> Answer
     requires { HasRoom 16 answer }
     ensures { bytes_of result ≡ bytes_of answer ++ unshown_text }
@@ -68,7 +68,7 @@ pub(crate) fn with_unshown(answer: Answer) -> Answer
     }
 }
 
-/// That memory was refused for what is to stand there.
+/// Returns the line that says that memory was refused for what belongs in its place.
 pub(crate) fn unshown() -> Answer
     ensures { bytes_of result ≡ unshown_text }
 {

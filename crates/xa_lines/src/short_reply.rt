@@ -1,4 +1,4 @@
-//! Answers to replies but lists, and to texts that aren't statements. They take no memory.
+//! Answers for all replies except lists, and for texts that aren't statements. They take no memory.
 ghost use Rattle.std.specs.Prelude.{◌≡◌, ◌≤◌, ◌+◌, ◌++◌, Bool, false, length, codes, decimal};
 ghost use Rattle.arrayvec.specs.ArrayVec.{array_vec_len};
 ghost use Rattle.hex.specs.Hex.{encode_lower};
@@ -14,7 +14,7 @@ use itoa::Buffer;
 use xa_server::{BranchState, Reply, XaError};
 use xa_xid::SessionNo;
 
-/// The session to whom an answer is, at the front of it.
+/// Returns the number of the session that is answered, as the front of the answer.
 fn session_text(session: SessionNo) -> ArrayVec<u8, 160>
     ensures text { result.items ≡ decimal session }
     ensures short { array_vec_len result ≤ 2 }
@@ -25,7 +25,7 @@ fn session_text(session: SessionNo) -> ArrayVec<u8, 160>
     text
 }
 
-/// The answer to a session: what it is told, in two parts.
+/// Returns the answer to a session, given in two parts.
 fn told(session: SessionNo, first: &[u8], second: &[u8]) -> Answer
     requires { length first.now + length second.now ≤ 140 }
     ensures bytes { bytes_of result ≡ answer_text (decimal session) (first.now ++ second.now) }
@@ -39,7 +39,7 @@ fn told(session: SessionNo, first: &[u8], second: &[u8]) -> Answer
     Answer::Short(text)
 }
 
-/// Two small hexadecimal digits for each byte.
+/// Returns two lower-case hexadecimal digits for each byte.
 fn small_digits(bytes: &[u8]) -> ArrayVec<u8, 128>
     requires { length bytes.now ≤ text_bytes }
     ensures { result.items ≡ encode_lower bytes.now }
@@ -62,7 +62,7 @@ fn value_told(session: SessionNo, value: &[u8]) -> Answer
     told(session, b"VALUE 0x", small_digits(value).as_slice())
 }
 
-/// What a refusal for what a session has open is answered.
+/// Returns the words of the refusal 1399 in each state.
 fn state_words(state: BranchState) -> &'static [u8]
     ensures words { result.now ≡ error_text (XaError.Rmfail state) }
     ensures few { length result.now ≤ 64 }
@@ -75,7 +75,7 @@ fn state_words(state: BranchState) -> &'static [u8]
     }
 }
 
-/// What a refusal is answered.
+/// Returns the words of a refusal.
 fn error_words(error: &XaError) -> &'static [u8]
     ensures words { result.now ≡ error_text error.now }
     ensures few { length result.now ≤ 64 }

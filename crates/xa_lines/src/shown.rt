@@ -1,4 +1,7 @@
-//! A server whose store is shown.
+//! A server that shows its store after each answer.
+//!
+//! When the listing is made the statement is carried out already. If memory is refused for the listing, the
+//! answer is therefore given without it.
 ghost use Rattle.std.specs.Prelude.{◌≡◌, ◌++◌, ℕ, List, ◌⊎◌, Ok, Err, IfOk, IfErr, IfSome, OnOk};
 ghost use Rattle.xa_statement.specs.Reading.{read_of};
 ghost use Rattle.xa_lines.specs.Script.{Bad, Given, line_of};
@@ -19,14 +22,14 @@ use xa_server::Server;
 use xa_statement::read_statement;
 use xa_xid::{Key, NoMemory, SessionNo, Statement};
 
-/// A sequential server that shows what it holds behind each answer.
+/// A sequential server that shows what it holds after each answer.
 #[derive(Drop)]
 pub struct Shown {
     server: Server,
     alloc: Global,
 }
 
-/// A comment, repeated behind two blanks.
+/// Returns a comment, repeated after two blanks.
 fn comment(alloc: Global, line: &[u8]) -> Result<Vec<u8>, NoMemory>
     ensures { IfOk result (λ text. text.items ≡ comment_text line.now) }
 {
@@ -36,7 +39,7 @@ fn comment(alloc: Global, line: &[u8]) -> Result<Vec<u8>, NoMemory>
     Ok(text)
 }
 
-/// What answers a comment: the comment, or that memory was refused for it.
+/// Returns the answer to a comment: the comment, or the line that says that memory was refused for it.
 fn comment_answer(alloc: Global, line: &[u8]) -> Answer
     ensures { (bytes_of result ≡ comment_text line.now) ⊎ (bytes_of result ≡ unshown_text) }
 {
@@ -46,7 +49,7 @@ fn comment_answer(alloc: Global, line: &[u8]) -> Answer
     }
 }
 
-/// The answer with the listing of these rows behind it.
+/// Returns the answer, followed by the listing of these rows.
 fn listed(
     alloc: Global,
     answer: &Answer,
@@ -59,7 +62,8 @@ fn listed(
     with_listing(alloc, text, server, keys)
 }
 
-/// The answer with the listing of these rows behind it, or with that memory was refused for it.
+/// Returns the answer, followed by the listing of these rows, or by the line that says that memory was
+/// refused for it.
 fn with_shown(alloc: Global, answer: Answer, server: &Server, keys: &[Key]) -> Answer
     requires { HasRoom 16 answer }
     ensures { (bytes_of result ≡ bytes_of answer ++ listing server.now keys.now) ⊎ (bytes_of result ≡ bytes_of answer ++ unshown_text) }
@@ -70,7 +74,7 @@ fn with_shown(alloc: Global, answer: Answer, server: &Server, keys: &[Key]) -> A
     }
 }
 
-/// Answers a statement that was read, and shows the store behind the answer.
+/// Answers a statement that was read, and shows the store after the answer.
 fn show_read(
     alloc: Global,
     server: &mut Server,
@@ -89,7 +93,7 @@ fn show_read(
     }
 }
 
-/// Answers a text that isn't a statement, and shows the store behind the answer.
+/// Answers a text that isn't a statement, and shows the store after the answer.
 fn show_unread(alloc: Global, server: &Server, session: SessionNo, place: u64) -> Answer
     ensures { (text : List ℕ)
         → read_of text ≡ Err place
@@ -99,7 +103,7 @@ fn show_unread(alloc: Global, server: &Server, session: SessionNo, place: u64) -
     with_shown(alloc, answer, server, &[])
 }
 
-/// Answers a session's line, and shows the store behind the answer.
+/// Answers a session's line, and shows the store after the answer.
 fn show_given(alloc: Global, server: &mut Server, session: SessionNo, text: &[u8]) -> Answer
     ensures { IsAnswerShown server.old (Given session text.now) (bytes_of result) server.new }
 {
@@ -109,14 +113,14 @@ fn show_given(alloc: Global, server: &mut Server, session: SessionNo, text: &[u8
     }
 }
 
-/// Answers a bad line, and shows the store behind the answer.
+/// Answers a bad line, and shows the store after the answer.
 fn show_bad(alloc: Global, server: &Server) -> Answer
     ensures { IsAnswerShown server.now Bad (bytes_of result) server.now }
 {
     with_shown(alloc, bad_line(), server, &[])
 }
 
-/// Answers a line that isn't a comment, and shows the store behind the answer.
+/// Answers a line that isn't a comment, and shows the store after the answer.
 fn answer_shown(alloc: Global, server: &mut Server, line: &[u8]) -> Answer
     ensures { IsAnswerShown server.old (line_of line.now) (bytes_of result) server.new }
 {
@@ -130,7 +134,7 @@ fn answer_shown(alloc: Global, server: &mut Server, line: &[u8]) -> Answer
 impl Shown {
     ghost use Rattle.xa_server.specs.State.{no_state};
 
-    /// A server with no branches and no rows.
+    /// Returns a server with no branches and no rows.
     ///
     /// Takes no memory. Doesn't wait.
     pub fn new(alloc: Global) -> Shown
@@ -146,6 +150,9 @@ impl Shown {
 impl LineServer for Shown {
     ghost begins = { BeginsEmpty };
 
+    // Proved (scripts, shown-answers): After each answer comes the listing of the store that it leaves, or `
+    //   OUT OF MEMORY` if an allocation for that fails. A comment is repeated, or that line stands in its
+    //   place; it changes nothing.
     ghost answers = { Shows };
 
     fn answer(&mut self, alloc: Global, line: &[u8]) -> Answer {
@@ -160,19 +167,23 @@ impl LineServer for Shown {
     }
 }
 
-/// Serves a client as `serve_statements` does, and behind each answer shows what the server then holds, until the client ends.
+/// Serves a client as `serve_statements` does, and after each answer shows what the server then holds.
 ///
-/// Every branch is shown, ascending, with its phase, its owner and the rows that it holds; then the committed values of the rows
-/// that the line is about. A line whose first byte that isn't a blank is `#` is a comment: it is repeated behind two blanks. All that is said beside the
-/// answers stands on lines that begin with two blanks. Where memory is refused for a listing or a comment, a line says so in its place.
-/// Errors: `NoMemory` where the memory for a line was refused, before anything was received; `Read` where a read failed, or after
-/// 2 ^ 64 - 1 reads; `Write` where a write or a flush failed. After `Read` all whole lines are answered; after `Write` a prefix
-/// of the answers was given.
-/// Doesn't wait, unless the client does.
+/// Every branch is shown, ascending, with its phase, its owner and the rows that it holds; then the committed
+/// values of the rows that the line is about. All that is shown is on lines that begin with two blanks. A
+/// line whose first byte that isn't a blank is `#` is a comment, and is repeated after two blanks. If memory
+/// is refused for a listing or a comment, the line ` OUT OF MEMORY` comes in its place.
+/// Errors: `NoMemory` if the memory for a line was refused, before anything was received; `Read` if a read
+/// failed, or after 2 ^ 64 - 1 reads; `Write` if a write or a flush failed.
+/// After `Read` all whole lines are answered. After `Write` a prefix of the answers was given.
+/// Takes memory. Doesn't wait, unless the client does.
 /// Own rule: docs/COMMANDS.md#show.
 pub fn show_statements<P: Client<Shown>>(alloc: Global, client: &mut P) -> Result<(), ScriptFault>
     requires { IfSome (P.exchange client.old) IsFresh }
+    // Proved (scripts, shown-lines): When a client that is shown the store has ended, all its lines are
+    //   answered in order, each as serving may answer it, and with the listing after it.
     ensures told { OnOk result (IfSome (P.exchange client.new) (IsServed BeginsEmpty Shows)) }
+    // Proved (scripts, serving-faults)
     ensures fault { IfErr result (λ fault. IfSome (P.exchange client.new) (AfterServing BeginsEmpty Shows fault)) }
 {
     let mut server = Shown::new(alloc);

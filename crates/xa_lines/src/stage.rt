@@ -1,6 +1,6 @@
-//! Whether a client may still say something.
+//! Whether a client may still send something.
 
-/// Whether a client may still say something.
+/// Whether a client may still send something.
 #[derive(Clone, Copy, Debug, Drop, PartialEq, Eq)]
 pub enum Stage {
     /// It may.

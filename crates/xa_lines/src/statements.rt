@@ -1,4 +1,4 @@
-//! The sequential server as one that answers lines.
+//! The sequential server as a server of lines.
 ghost use Rattle.std.specs.Prelude.{◌≡◌, IfErr, IfSome, OnOk};
 ghost use Rattle.xa_lines.specs.Answer.{bytes_of};
 ghost use Rattle.xa_lines.specs.Exchange.{IsFresh};
@@ -16,6 +16,8 @@ impl LineServer for Server {
 
     ghost begins = { HoldsNothing };
 
+    // Proved (scripts, who-is-refused-memory): Only an `XA RECOVER`, or an `XA START`, `GET`, `PUT` or `DEL`
+    //   that is logged, is ever answered out of memory. It has then changed nothing.
     ghost answers = { IsLineAnswer };
 
     fn answer(&mut self, alloc: Global, line: &[u8]) -> Answer {
@@ -31,20 +33,26 @@ impl LineServer for Server {
     }
 }
 
-/// Serves a client by a sequential server, which holds nothing at first, until the client ends.
+/// Serves a client by a sequential server, which is empty at first, until the client ends.
 ///
-/// Each line is answered as a script's is, and the answers to all whole lines are flushed before more is received. A line of more
-/// than 65,536 bytes without its line feed is answered as a bad one. A statement for which memory is refused is answered
-/// `ERROR 1037 (HY001): out of memory`; the server is then as before, and goes on. Only an `XA RECOVER`, or an `XA START`, `PUT`, `DEL` or
-/// `GET` that enters, is answered so.
-/// Errors: `NoMemory` where the memory for a line was refused, before anything was received; `Read` where a read failed, or after
-/// 2 ^ 64 - 1 reads; `Write` where a write or a flush failed. After `Read` all whole lines are answered; after `Write` a prefix
-/// of the answers was given.
-/// Doesn't wait, unless the client does.
+/// Each line is answered as in a script, and the answers to all whole lines are flushed before more is
+/// received. A line of more than 65,536 bytes without its line feed is answered as a bad one. If memory is
+/// refused for a statement, its answer is `ERROR 1037 (HY001): out of memory`, and the server goes on as
+/// before. Only an `XA RECOVER`, or an `XA START`, `GET`, `PUT` or `DEL` that is logged, gets that answer.
+/// Errors: `NoMemory` if the memory for a line was refused, before anything was received; `Read` if a read
+/// failed, or after 2 ^ 64 - 1 reads; `Write` if a write or a flush failed.
+/// After `Read` all whole lines are answered. After `Write` a prefix of the answers was given.
+/// Takes memory. Doesn't wait, unless the client does.
 /// Own rule: docs/COMMANDS.md#serve.
 pub fn serve_statements<P: Client<Server>>(alloc: Global, client: &mut P) -> Result<(), ScriptFault>
     requires { IfSome (P.exchange client.old) IsFresh }
+    // Proved (scripts, served-lines): When a served client has ended, each of its lines has the answer of a
+    //   script's run, and a line that is too long that of a bad line. Or the line's statement was answered
+    //   out of memory, and changed nothing.
     ensures told { OnOk result (IfSome (P.exchange client.new) IsToldAll) }
+    // Proved (scripts, serving-faults): After a read fault all whole lines are answered. After a write fault
+    //   the first answers were given, the last of them perhaps in part. If there was no memory for one line,
+    //   nothing was read or written.
     ensures fault { IfErr result (λ fault. IfSome (P.exchange client.new) (AfterFaultOfStatements fault)) }
 {
     let mut server = Server::new(alloc);

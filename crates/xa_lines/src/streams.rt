@@ -1,4 +1,7 @@
-//! Reads a script whole, and writes a text whole.
+//! Reads a text to its end, and writes a whole text.
+//!
+//! The library's `write_all` promises nothing about the bytes that were written before an error. The loop
+//! here promises that they are a prefix of the text.
 ghost use Rattle.std.specs.Prelude.{◌≡◌, ◌≤◌, ◌<◌, ◌⊎◌, [], take, vec_len, IfOk, IfErr, OnOk, OnErr, MatchResult, Err};
 ghost use Rattle.std.specs.Io.{ReadsAtMost, WritesAtMost};
 ghost use Rattle.std.specs.Io.KnownBytes.{Appends, Consumes, IsAtEnd, ReadConsumes, WriteAppends};
@@ -15,12 +18,15 @@ const SCRIPT_BYTES: usize = 1_048_576;
 /// The greatest number of reads that a script takes.
 const SCRIPT_READS: u64 = 2_097_152;
 
-/// How long a script is at most, in bytes, and how many reads it takes at most.
+/// Returns the greatest length of a script, in bytes, and the greatest number of reads that it may take.
 ///
 /// Takes no memory. Doesn't wait.
 /// Own rule: docs/COMMANDS.md#scripts.
 pub fn script_limits() -> (usize, u64)
+    // Proved (scripts, script-limits): A script has at most 1,048,576 bytes, and takes at most 2,097,152
+    //   reads.
     ensures bytes { result.0 ≡ script_bytes }
+    // Proved (scripts, script-limits)
     ensures reads { result.1 ≡ script_reads }
 {
     (SCRIPT_BYTES, SCRIPT_READS)
@@ -56,11 +62,11 @@ fn write_once<W: PieceWriter>(writer: &mut W, bytes: &[u8]) -> Result<usize, Scr
     }
 }
 
-/// Reads all that the reader gives: at most so many bytes, in at most so many reads.
+/// Reads all that the reader gives: at most `most` bytes, in at most `reads` reads.
 ///
-/// Errors: `Read` where a read failed, or too many were needed; `TooLong` where the reader gives more; `NoMemory`. A reader that
-/// failed isn't read again.
-/// May answer `NoMemory`. Doesn't wait, unless the reader does.
+/// Errors: `Read` if a read failed, or too many were needed; `TooLong` if the reader gives more; `NoMemory`
+/// if an allocation failed. A reader that failed isn't read again.
+/// May return `NoMemory`. Doesn't wait, unless the reader does.
 /// Own rule: docs/COMMANDS.md#scripts.
 pub fn read_within<R: PieceReader>(
     alloc: Global,
@@ -73,7 +79,9 @@ pub fn read_within<R: PieceReader>(
     ensures short { IfOk result (λ text. vec_len text ≤ most) }
     ensures fault { IfErr result IsOfReading }
     ensures too_long { result ≡ Err ScriptFault.TooLong → ConsumesMoreThan most (R.remaining reader.old) (R.remaining reader.new) }
+    // Proved (scripts, run-fault-causes)
     ensures calls { IfOk result (λ text. HasReadAll R.gives reads reader.old text.items reader.new) }
+    // Proved (scripts, run-fault-causes)
     ensures cause { IfErr result (λ fault. StopsReading R.gives R.fails reads most fault reader.old reader.new) }
 {
     let mut text = Vec::new(alloc);
@@ -93,9 +101,9 @@ pub fn read_within<R: PieceReader>(
 
 /// Reads all that the reader gives: at most 1,048,576 bytes, in at most 2,097,152 reads.
 ///
-/// Errors: `Read` where a read failed, or too many were needed; `TooLong` where the reader gives more; `NoMemory`. A reader that
-/// failed isn't read again.
-/// May answer `NoMemory`. Doesn't wait, unless the reader does.
+/// Errors: `Read` if a read failed, or too many were needed; `TooLong` if the reader gives more; `NoMemory`
+/// if an allocation failed. A reader that failed isn't read again.
+/// May return `NoMemory`. Doesn't wait, unless the reader does.
 /// Own rule: docs/COMMANDS.md#scripts.
 pub fn read_all<R: PieceReader>(alloc: Global, reader: &mut R) -> Result<Vec<u8>, ScriptFault>
     ensures all { IfOk result (λ script. Consumes (R.remaining reader.old) (R.remaining reader.new) script.items) }
@@ -111,13 +119,15 @@ pub fn read_all<R: PieceReader>(alloc: Global, reader: &mut R) -> Result<Vec<u8>
 
 /// Writes all of the bytes, or as many as the writer takes until a write fails.
 ///
-/// Error: `Write` where a write failed or took nothing. The writer is then called no more: neither written to nor flushed.
+/// Errors: `Write` if a write failed or took nothing. A prefix of the bytes was then written, and the writer
+/// isn't called again: neither written to nor flushed.
 /// Takes no memory. Doesn't wait, unless the writer does.
 /// Own rule: docs/COMMANDS.md#scripts.
 pub fn write_whole<W: PieceWriter>(writer: &mut W, bytes: &[u8]) -> Result<(), ScriptFault>
     ensures all { OnOk result (Appends (W.contents writer.old) (W.contents writer.new) bytes.now) }
     ensures fault { IfErr result (λ fault. fault ≡ ScriptFault.Write) }
     ensures prefix { OnErr result (AppendsPrefix (W.contents writer.old) (W.contents writer.new) bytes.now) }
+    // Proved (scripts, run-fault-causes)
     ensures calls { MatchResult result
         (λ _. HasWritten W.takes writer.old bytes.now writer.new)
         (λ _. StopsWriting W.takes W.refuses writer.old bytes.now writer.new) }

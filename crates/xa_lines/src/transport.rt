@@ -11,7 +11,7 @@ use std::io::{BufWriter, ErrorKind, Read, Write};
 
 /// Writes once. An interrupted write takes nothing.
 ///
-/// Errors: those of a write, and that it took nothing.
+/// Errors: any other error of the write, and a write that took nothing.
 fn give_once<W: Write>(writer: &mut W, text: &[u8]) -> io::Result<usize>
     ensures bound { WritesAtMost result text.now }
     ensures taken { WriteAppends (W.contents writer.old) (W.contents writer.new) result text.now }
@@ -28,9 +28,10 @@ fn give_once<W: Write>(writer: &mut W, text: &[u8]) -> io::Result<usize>
     }
 }
 
-/// Gives all of the text to a writer, and tries again where a write is interrupted.
+/// Gives all of the text to a writer, and tries again if a write is interrupted.
 ///
-/// Errors: those of a write, and that one took nothing. A prefix of the text was taken then, and nothing more.
+/// Errors: any other error of a write, and a write that took nothing. A prefix of the text was then taken,
+/// and nothing more.
 fn give<W: Write>(writer: &mut W, text: &[u8]) -> io::Result<()>
     ensures all { OnOk result (Appends (W.contents writer.old) (W.contents writer.new) text.now) }
     ensures prefix { OnErr result (AppendsPrefix (W.contents writer.old) (W.contents writer.new) text.now) }
@@ -46,10 +47,11 @@ fn give<W: Write>(writer: &mut W, text: &[u8]) -> io::Result<()>
     Err(ErrorKind::Interrupted.into())
 }
 
-/// A client that says what a reader gives, and is told what a writer takes.
+/// A client over two streams: it sends what a reader gives, and its answers go to a writer.
 ///
-/// A read that is interrupted is a fault; a write that is interrupted is tried again, as std's buffer does. After a fault of a write
-/// or a flush nothing was given but a prefix of the text.
+/// A read that is interrupted is an error. A write that is interrupted is tried again, as the standard
+/// library's buffer does.
+/// After an error of a write or a flush, only a prefix of the text was given.
 #[derive(Drop)]
 pub struct Transport<R: Read + Drop, W: Write + Drop> {
     reader: R,
@@ -57,7 +59,8 @@ pub struct Transport<R: Read + Drop, W: Write + Drop> {
 }
 
 impl<R: Read + Drop, W: Write + Drop> Transport<R, W> {
-    /// A client over these streams. What it is told is gathered by the buffer of the writer, and written at each flush.
+    /// Returns a client over these streams. Answers are gathered in the writer's buffer, and written at each
+    /// flush.
     ///
     /// Takes no memory. Doesn't wait.
     pub fn new(reader: R, writer: BufWriter<W>) -> Transport<R, W>
@@ -72,7 +75,8 @@ impl<S: LineServer, R: PieceReader + Drop, W: Write + Drop> Client<S> for Transp
     fn receive(&mut self, piece: &mut [u8]) -> io::Result<usize>
         ensures bound { ReadsAtMost result piece.new }
         ensures bytes { ReadConsumes (R.remaining self.old.reader) (R.remaining self.new.reader) result piece.new }
-        // It reads once: so the end is met once, too.
+        // Proved (scripts, one-read-each): A client over streams reads once at each call, so it reads the end
+        //   only once.
         ensures once { MatchResult result (λ count. R.gives self.old.reader (take count piece.new) self.new.reader)
             (λ _. R.fails self.old.reader self.new.reader) }
         ensures writer { self.new.writer ≡ self.old.writer }
