@@ -40,7 +40,7 @@ pub extern "C" fn nigbaru_raw_attempt(
 ) -> u32
     // Proved (c, attempt): At status 0 to 4 the text spells a statement, and the answer is the server's reply
     //   to it at `place`, in one history that begins with all that the session had seen.
-    // Proved (c, attempt-fails): At any other status nothing of the text's statement was added, for that
+    // Proved (c, attempt-fails): At any status but 0 to 4 nothing of the text's statement was added, for that
     //   status' cause. The statuses for syntax and range change nothing.
     // Proved (c, attempt-answer): The answer's fields and the identifiers that C gets are those of the reply.
     ensures { (outcome : OutcomeOf) × (result ≡ status_of outcome) × Tells outcome told.new × Lists outcome xids.new × Comes text.now outcome (seat_of session.old.held) (seat_of session.new.held) }

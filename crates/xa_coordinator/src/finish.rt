@@ -124,16 +124,18 @@ impl<S: Speak> Coordinator<S> {
         //   participant's branch is IDLE.
         ensures cut { KeepsUnfinished prepared.transaction.number result self.old.branches self.new.branches }
         // Proved (coordinator, endings): After Committed or RolledBack each participant's commit or rollback
-        //   was added, as the decisions and the vote say. After Hazard exactly the named participants
-        //   answered XAER_NOTA, and the others are finished. `XA END` comes before the statement exactly if a
-        //   branch that is open and ACTIVE is rolled back.
-        // Proved (coordinator, unfinished): After Unfinished the named store didn't carry its statement out.
-        //   The cause is the session's fault, or the server's refusal at a place not before what had been
-        //   seen. It is never XAER_NOTA of the statement that finishes the branch.
+        //   was added, as the decisions and the vote say.
+        // Proved (coordinator, hazard): After Hazard exactly the named participants answered XAER_NOTA, and
+        //   the others are finished.
+        // Proved (coordinator, end-first): `XA END` comes before the statement that finishes a branch exactly
+        //   if a branch that is open and ACTIVE is rolled back.
+        // Proved (coordinator, unfinished): After Unfinished the named store didn't carry its statement out,
+        //   for the session's fault or for the server's refusal at a place not before what had been seen. The
+        //   cause is never XAER_NOTA of the statement that finishes the branch.
         ensures ends { EndsAs S.view self.old.branches prepared.transaction
             (finish_of_vote (is_decided decisions.now prepared.transaction.number) prepared.vote_kind) result self.old.stores.items self.new.stores.items }
         // Proved (coordinator, agrees): Each call adds only entries that agree with the decisions, also if it
-        //   ends in a fault. A commit or rollback is of a branch of this coordinator's naming, a commit
+        //   ends in a fault: a commit or rollback is of a branch of this coordinator's naming, a commit
         //   without ONE PHASE of a decided number, a rollback of one that isn't decided. Of `abandon` this
         //   holds if its number isn't decided.
         ensures agrees { EachStore S.view (Agrees decisions.now self.old.name.items) self.old.stores.items self.new.stores.items }
@@ -164,6 +166,8 @@ impl<S: Speak> Coordinator<S> {
         // Proved (coordinator, finish-open)
         ensures cut { KeepsUnfinished transaction.number result self.old.branches self.new.branches }
         // Proved (coordinator, endings)
+        // Proved (coordinator, hazard)
+        // Proved (coordinator, end-first)
         // Proved (coordinator, unfinished)
         ensures ends { EndsAs S.view self.old.branches transaction Closing.RollBack result self.old.stores.items self.new.stores.items }
         // Proved (coordinator, agrees)

@@ -113,9 +113,9 @@ impl<S: Speak> Coordinator<S> {
         ensures elsewhere { KeepsOpen transaction.participants (asked_by_vote result) self.old.branches self.new.branches }
         // Proved (coordinator, finish-open)
         ensures cut { KeepsMark transaction result self.old.branches self.new.branches }
-        // Proved (coordinator, votes): After a vote of Ready two participants at least were ended and
-        //   prepared, and each participant was. After OnePhase one store takes part, and its `XA END` was
-        //   added. After Nothing no store takes part.
+        // Proved (coordinator, votes): After a vote of Ready at least two stores take part, and each
+        //   participant's `XA END` and `XA PREPARE` were added. After OnePhase one store takes part, and its
+        //   `XA END` was added; after Nothing none does.
         // Proved (coordinator, vote-no): After a vote of No the named store didn't carry its statement out.
         //   The cause is the session's fault, or the server's refusal at a place not before what had been
         //   seen.

@@ -205,17 +205,20 @@ impl<S: Speak> Coordinator<S> {
             (λ fault. (store : ℕ) → asked_by_fault fault ≤ store → slice_get self.new.branches store ≡ slice_get self.old.branches store) }
         // Proved (coordinator, recovery-open)
         ensures below { IfErr result (λ fault. (store : ℕ) → store + 1 < asked_by_fault fault → slice_get self.new.branches store ≡ Some None) }
-        // Proved (coordinator, recovered): After a recovery each store's session has disconnected. Each
-        //   branch of this coordinator's naming that was prepared at one place, not before what had been
-        //   seen, was committed if its number is decided, else rolled back, or was answered XAER_NOTA, and is
-        //   counted so. Nothing else was added.
-        // Proved (coordinator, recovered-clear): Then each session has looked, and at the place that is
-        //   reported, the end of all that it has seen, no branch of this coordinator's naming is prepared.
+        // Proved (coordinator, recovered): A recovery commits each branch of this coordinator's naming that
+        //   was prepared at one place, not before what had been seen, if its number is decided, else rolls it
+        //   back; or the branch was answered XAER_NOTA. Each is counted so.
+        // Proved (coordinator, recovered-nothing-else): A recovery adds nothing but each session's
+        //   `DISCONNECT` and the endings of the branches that it counts.
+        // Proved (coordinator, recovered-clear): After a recovery each session has looked, and at the place
+        //   in the report, the end of all that it has seen, no branch of this coordinator's naming is
+        //   prepared.
         ensures recovers { IfOk result (λ report. Recovers S.view decisions.new self.old.name.items report self.old.stores.items self.new.stores.items) }
-        // Proved (coordinator, recovery-fault): A fault of recovery names a store; those below it are
-        //   recovered. There the session couldn't answer, or the store refused for another cause than
-        //   XAER_NOTA, or a branch of this naming is prepared. It got exactly the statements that come before
-        //   that. After `NoMemory` no session got a statement.
+        // Proved (coordinator, recovery-fault): A fault of recovery names a store, and the stores below it
+        //   are recovered. There the session couldn't answer, or the store refused for another cause than
+        //   XAER_NOTA, or a branch of this naming is prepared.
+        // Proved (coordinator, recovery-fault-extent): The store that a fault of recovery names got exactly
+        //   the statements that come before the one that failed. After `NoMemory` no session got a statement.
         // Proved (coordinator, recovery-open)
         ensures breaks { IfErr result
             (λ fault. BreaksOff S.view decisions.new self.old.name.items fault self.old.branches self.new.branches self.old.stores.items self.new.stores.items) }

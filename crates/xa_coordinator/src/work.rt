@@ -19,7 +19,7 @@ use xa_session::Fault;
 use xa_xid::Statement;
 
 impl<S: Speak> Coordinator<S> {
-    /// Gives a row statement to a store in which the coordinator has the transaction's branch open and ACTIVE.
+    /// Gives a row statement to a store in which the transaction's branch is open and ACTIVE.
     fn execute_row<R: Wait>(
         &mut self,
         rt: &R,
@@ -165,9 +165,11 @@ impl<S: Speak> Coordinator<S> {
         // Proved (coordinator, work): A row statement is answered only if the session's branch is the
         //   transaction's and ACTIVE, with the server's reply at a place not before what had been seen. The
         //   store takes part then, and the coordinator has the branch open and ACTIVE.
-        // Proved (coordinator, work-fault): After a fault of work its cause holds of the store's session.
-        //   Either the branch was open or was started, and the store takes part; or `XA START` wasn't carried
-        //   out, which it is sent only if the coordinator hadn't the branch open and ACTIVE.
+        // Proved (coordinator, work-fault): After a fault of work either the branch was open or was started,
+        //   and the store takes part; or `XA START` wasn't carried out, and was sent since the coordinator
+        //   hadn't the branch open and ACTIVE.
+        // Proved (coordinator, work-fault-cause): A fault of work carries a fault whose cause holds of the
+        //   store's session, or the server's refusal at a place not before what had been seen.
         ensures works { WorksAs S.view self.old.branches self.new.branches transaction.old transaction.new store statement.now result self.old.stores.items
             self.new.stores.items }
         // Proved (coordinator, work-lost): If the store takes part and the coordinator has no open branch of

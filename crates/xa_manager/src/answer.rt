@@ -276,9 +276,10 @@ impl<S: Speak, T: Speak> Manager<Fused<S>, T> {
         //   order of the errors. Then numbers, stages and sessions stay. Else numbers and stages are as the
         //   call says.
         // Proved (manager, answers): The answer to work, a vote, an ending or a recovery is what the
-        //   coordinator's own call did in its sessions; an ending is as the decisions say. The answer to `AT`
-        //   is the other client's session's, that to `SHOW` what each of these answered to `XA RECOVER`,
-        //   after which it has added nothing.
+        //   coordinator's own call did in its sessions; an ending is as the decisions say.
+        // Proved (manager, answers-of-clients): The answer to `AT` is what the other client's session
+        //   answered. The answer to `SHOW` is what each of these sessions answered to `XA RECOVER`, after
+        //   which it has added nothing.
         // Proved (manager, begins-transaction): `BEGIN` begins the transaction of the next number, of the
         //   coordinator `c`, in which no store takes part. `WORK` leaves its number and name, and which other
         //   stores take part.

@@ -49,12 +49,13 @@ impl<'r, C: Speak, T: Speak, R: Wait> CallServer<'r, C, T, R> {
 }
 
 // Proved (manager, lines): Each line that is served is answered as its call is carried out or refused, or
-//   with `ERROR 1037` if an allocation fails. A line without an answer is never answered so.
+//   with `ERROR 1037` if an allocation fails. A blank line and a comment never get `ERROR 1037`.
 // Proved (manager, lines-no-memory): After `ERROR 1037` no session got a statement and nothing changed; or
 //   the call was carried out and its result has more than fixed words: a value, a list, a refusal, a cause,
-//   several stores, a report. So no transaction was begun, no number decided or found closed, no session
-//   limited, no coordinator stopped, the vote wasn't Ready, One Phase or Nothing, and the ending was neither
-//   Committed nor Rolled back.
+//   several stores, a report.
+// Proved (manager, lines-no-memory-short): After `ERROR 1037` no transaction was begun, no number decided or
+//   found closed, no session limited and no coordinator stopped. The vote wasn't Ready, One Phase or Nothing,
+//   and the ending neither Committed nor Rolled back.
 impl<'r, S: Speak, T: Speak, R: Wait> LineServer for CallServer<'r, Fused<S>, T, R> {
     ghost use Rattle.xa_manager.specs.Managed.{whole_of};
     ghost use Rattle.xa_manager.specs.Served.{IsCallAnswer};

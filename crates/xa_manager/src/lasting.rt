@@ -49,8 +49,7 @@ pub fn lasting_manager(
     requires some { 1 ≤ count }
     requires most { count ≤ 16 }
     // Proved (manager, unbounded-begins): A manager over unbounded stores has as many of them as asked, with
-    //   nothing begun, nothing open and no session that fails. A conversation over them is answered as by one
-    //   manager that begins so.
+    //   nothing begun, nothing open and no session that fails.
     ensures stores { IfOk result (λ manager. vec_len manager.coordinator.stores ≡ count) }
     // Proved (manager, unbounded-begins)
     ensures begins { IfOk result
@@ -73,11 +72,12 @@ pub fn converse_lasting<
     requires some { 1 ≤ count }
     requires most { count ≤ 16 }
     requires fresh { IfSome (P.exchange client.old) IsFresh }
-    // Proved (manager, unbounded-begins)
+    // Proved (manager, unbounded-conversation): A conversation over unbounded stores is answered, line by
+    //   line, by one manager that begins with nothing begun.
     ensures told { OnOk result (IfSome (P.exchange client.new)
         (IsServed ⟦<BesideServer<'a, Fused<LastingStore>, LastingStore, R> as LineServer>⟧.begins
         ⟦<BesideServer<'a, Fused<LastingStore>, LastingStore, R> as LineServer>⟧.answers)) }
-    // Proved (manager, unbounded-begins)
+    // Proved (manager, unbounded-conversation)
     ensures fault { IfErr result (λ fault. IfSome (P.exchange client.new)
         (AfterServing ⟦<BesideServer<'a, Fused<LastingStore>, LastingStore, R> as LineServer>⟧.begins
         ⟦<BesideServer<'a, Fused<LastingStore>, LastingStore, R> as LineServer>⟧.answers fault)) }

@@ -10,7 +10,8 @@ use std::sync::Arc;
 use xa_session::Replica;
 use xa_store::Pass;
 
-/// A session between its calls: its segment, which it owns together with the store's other sessions, its pass and its replica.
+/// A session between two calls: its segment, which it owns together with the store's other sessions, its pass
+/// and its replica.
 #[derive(Drop)]
 pub struct Seat {
     pub(crate) segment: Arc<Segment>,

@@ -23,9 +23,10 @@ ghost use Rattle.xa_stops.specs.Stops.{IsStopText, IsShown};
 pub fn recovery_keeps_to_decisions()
     // Proved (coordinator, recovery-keeps-to-decisions): In any run of a manager's calls over unbounded
     //   stores, in which only the last is `RECOVER` and is answered with a report, all that the coordinator
-    //   added goes with the final decisions. `XA COMMIT` is of decided transactions, with ONE PHASE of
-    //   undecided ones with a branch in only one store; `XA ROLLBACK` is of undecided ones. None of its
-    //   branches is prepared. This holds whatever other clients do.
+    //   added goes with the final decisions, whatever other clients do. None of its branches is prepared.
+    // Proved (coordinator, goes-with-decisions): `XA COMMIT` goes with the decisions if it is of a decided
+    //   transaction, or with ONE PHASE of an undecided one that has a branch in no other store. `XA ROLLBACK`
+    //   does if it is of an undecided one.
     ensures { (stores : ℕ) (told : List Call) (responses : List Response) (report : Report) (last : Managing) → All IsPlain told
         → IsRun stores (told ++ Recover ∷ []) (responses ++ Recovered (Ok report) ∷ []) last
         → KeepsToDecisions last }
@@ -38,10 +39,10 @@ pub fn recovery_keeps_to_decisions()
 /// naming.
 /// Own rule: docs/COORDINATOR.md#stops.
 pub fn transactions_stand_whole_or_not_at_all()
-    // Proved (coordinator, whole-or-not-at-all): In such a run each transaction is whole or absent: a decided
-    //   one was committed in each store in which the coordinator began a branch of it; of an undecided one an
-    //   `XA COMMIT` is in a history only with ONE PHASE, and then it has a branch in no other store. Premise:
-    //   no `AT` commits or rolls back a branch of the coordinator's naming.
+    // Proved (coordinator, whole-or-not-at-all): After a run of a manager's calls that ends in its only, and
+    //   completed, `RECOVER`, a decided transaction was committed in each store in which the coordinator
+    //   began a branch of it. An undecided one was committed only with ONE PHASE, and then has a branch in no
+    //   other store. Premise: no `AT` commits or rolls back a branch of the coordinator's naming.
     ensures { (stores : ℕ) (told : List Call) (responses : List Response) (report : Report) (last : Managing) → All IsPlain told
         → All LeavesBranches told
         → IsRun stores (told ++ Recover ∷ []) (responses ++ Recovered (Ok report) ∷ []) last
@@ -53,16 +54,18 @@ pub fn transactions_stand_whole_or_not_at_all()
 ///
 /// Own rule: docs/COORDINATOR.md#stops.
 pub fn each_stop_leaves_all_or_none()
-    // Proved (scripts, stops-whole): After each of these stops whose recovery was answered `RECOVERED`, a
-    //   decided transaction was committed in each store in which the coordinator began a branch of it, with
-    //   all writes of that branch at once. Of an undecided one an `XA COMMIT` is in a store's history only
-    //   with ONE PHASE, and then the coordinator began a branch of it in no other store. None of its branches
-    //   is prepared. Premise: no `AT` commits or rolls back a branch of the coordinator's naming. Which row
-    //   statements the writes come from, and that `RECOVERED` is answered, is only tested.
+    // Proved (scripts, stops-whole): After each stop of a coordinator's script whose recovery was answered
+    //   `RECOVERED`, a decided transaction was committed in each store in which the coordinator began a
+    //   branch of it, with all writes of that branch at once. Premise: no `AT` commits or rolls back a branch
+    //   of the coordinator's naming.
+    // Proved (scripts, stops-undecided): After such a stop, on the same premise, an `XA COMMIT` of an
+    //   undecided transaction is in a store's history only with ONE PHASE, and then the coordinator began a
+    //   branch of it in no other store. None of its branches is prepared.
     ensures stop { (stores : ℕ) (script : List ℕ) (made : List (List ℕ)) (stop : Stop) (text : List ℕ) → All LeavesBranches (calls_of script)
         → (shown : IsStopText stores (calls_of script) made stop text)
         → LeavesWhole shown.left }
     // Proved (scripts, stops-whole)
+    // Proved (scripts, stops-undecided)
     ensures end { (stores : ℕ) (script text : List ℕ) → All LeavesBranches (calls_of script) → (shown : IsShown stores (calls_of script) text) → LeavesWhole shown.left }
 {}
 

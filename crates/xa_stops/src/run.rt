@@ -142,8 +142,8 @@ pub fn stops_text<R: Wait>(
     //   of the coordinator one before each call of a session that its line makes, or one if it makes none.
     //   For each is written what a manager that carried out just these lines, the last up to that call,
     //   answered to `RECOVER`, and the committed values then.
-    // Proved (scripts, stops-faulty): If a manager that carried out all calls of the script refused one,
-    //   exactly the refused lines are written instead, each with its cause.
+    // Proved (scripts, stops-faulty): If a manager that carried out all calls of a coordinator's script
+    //   refused one, exactly the refused lines are written instead of stops, each with its cause.
     ensures { IfOk result (λ told. IsStopsText stores text.now told.ended told.text.items) }
 {
     let calls = read_calls(alloc, text)?;
@@ -205,15 +205,15 @@ pub fn stops_script<H: Wait, R: PieceReader, W: PieceWriter>(
     // Proved (scripts, stops-read)
     ensures short { OnOk result (IfSome (R.remaining reader.old) (λ script. length script ≤ script_bytes)) }
 
-    // Proved (scripts, stops-fault): After `Write` a prefix of such a text was written, after any other fault
-    //   nothing. `TooLong` is returned only if more than 1,048,576 bytes were read.
+    // Proved (scripts, stops-fault): If showing stops fails with `Write`, a prefix of the text was written,
+    //   after any other fault nothing. `TooLong` is returned only if more than 1,048,576 bytes were read.
     ensures fault { IfErr result (λ fault. AfterStopsFault stores fault (R.remaining reader.old) (W.contents writer.old) (W.contents writer.new)) }
     // Proved (scripts, stops-fault)
     ensures too_long { result ≡ Err ScriptFault.TooLong → ConsumesMoreThan script_bytes (R.remaining reader.old) (R.remaining reader.new) }
 
-    // Proved (scripts, stops-streams): After Ok no call on the reader or the writer failed. After `Read` the
-    //   last read failed, or no more reads are allowed; after `TooLong` too much was read; after `Write` the
-    //   last write failed or took nothing. A stream that failed isn't called again.
+    // Proved (scripts, stops-streams): If stops were shown, no call on the reader or the writer failed.
+    //   `Read` is returned only if the last read failed or no more reads are allowed, `Write` only if the
+    //   last write failed or took nothing; a stream that failed isn't called again.
     ensures calls { OnOk result (Completes R.gives W.takes script_reads (IsSomeText stores) reader.old reader.new writer.old writer.new) }
     // Proved (scripts, stops-streams)
     ensures cause { IfErr result

@@ -85,13 +85,13 @@ impl Store {
         requires belongs { log_of full.old ≡ identity_of self.now.log }
         requires full { length (known_of full.old).seen ≡ (identity_of self.now.log).capacity }
         ensures belongs { log_of full.new ≡ log_of full.old }
-        // Proved (c, store-follows): The store that follows a full history begins with what that history
-        //   leaves, whether it is replayed or the replica that has replayed it is copied. Its log is empty,
-        //   of the same sizes, and has passes of all sessions. The pass that was given knows what it knew.
+        // Proved (c, store-follows-same): Making the store that follows leaves what the pass knows.
         ensures same { known_of full.new ≡ known_of full.old }
-        // Proved (c, store-follows)
+        // Proved (c, store-follows): The store that follows a full history begins with what that history
+        //   leaves, whether it is replayed or the replica that has replayed it is copied.
         ensures base { IfOk result (λ opened. opened.0.base ≡ state_after self.now.base (known_of full.old).seen) }
-        // Proved (c, store-follows)
+        // Proved (c, store-follows-passes): The store that follows a full history has an empty log of the
+        //   same sizes, with passes of all sessions.
         ensures ok { IfOk result
             (λ opened. Opens log_of known_of (identity_of self.now.log).capacity (identity_of self.now.log).sessions (identity_of opened.0.log)
             opened.1.items) }
@@ -115,11 +115,11 @@ impl Store {
         requires full { length (known_of full.old).seen ≡ (identity_of self.now.log).capacity }
         requires stands { Stands self.now.base (known_of full.old).seen replica.now }
         ensures belongs { log_of full.new ≡ log_of full.old }
-        // Proved (c, store-follows)
+        // Proved (c, store-follows-same)
         ensures same { known_of full.new ≡ known_of full.old }
         // Proved (c, store-follows)
         ensures base { IfOk result (λ opened. opened.0.base ≡ state_after self.now.base (known_of full.old).seen) }
-        // Proved (c, store-follows)
+        // Proved (c, store-follows-passes)
         ensures ok { IfOk result
             (λ opened. Opens log_of known_of (identity_of self.now.log).capacity (identity_of self.now.log).sessions (identity_of opened.0.log)
             opened.1.items) }

@@ -37,8 +37,8 @@ impl Store {
         ensures looked { 0 < length sessions.old.items
             → (last_known (map (λ session. known_of session.pass) sessions.old.items)).looks
             < (last_known (map (λ session. known_of session.pass) sessions.new.items)).looks }
-        // Proved (stores, history-has-all): That history begins with what each of the sessions has seen, and
-        //   its entries of each session's number are that session's own.
+        // Proved (stores, history-has-all): The history of a store's sessions begins with what each of them
+        //   has seen, and its entries of each session's number are that session's own.
         ensures whole { IfOk result (λ list. All (λ session. IsTakenIn list.items (known_of session.pass)) sessions.new.items) }
     {
         if sessions.is_empty() {

@@ -90,8 +90,9 @@ pub fn race<G: Gate + Sync, R: Threads + Wait + Sync>(
 ) -> Result<Outcome, RaceFault>
     requires { All (λ run. log_of run.pass ≡ identity_of store.now.log) runs.items }
     // Proved (stores, race-one-history): One history explains the answers of a race. Each is the reply after
-    //   a prefix that has all that its run's pass had seen; places never fall; each statement that is logged
-    //   is in the history once, in order, after what the pass had added before.
+    //   a prefix that has all that its run's pass had seen, and the places of a run never fall.
+    // Proved (stores, race-logged-once): Each statement of a race that is logged is in the history once, in
+    //   order, after what its pass had added before.
     // Proved (stores, race-history-has-all): The history of a race is what the last pass has seen in the end.
     //   It begins with what each pass has seen, and its entries of each pass's number are that pass's own.
     ensures legal { IfOk result (λ outcome. IsOutcome store.now.base runs.items outcome) }
@@ -99,9 +100,9 @@ pub fn race<G: Gate + Sync, R: Threads + Wait + Sync>(
     //   gate can let in each of their statements.
     ensures opened { OnOk result (All (λ run. LetsIn (G.may_answer gate.now) (known_of run.pass).number (length run.lines.items)) runs.items) }
     // Proved (stores, race-fault-cause): A fault `GateShut` or `Full` of a race names one statement of a run.
-    //   Those before it were answered, and a history explains their answers. At `GateShut` the gate can stop
-    //   this session at this line. At `Full` the statement is to be logged after that history, which is as
-    //   long as the log can be.
+    //   Those before it were answered, and a history explains their answers.
+    // Proved (stores, race-fault-there): At `GateShut` the gate can stop the named session at the named line.
+    //   At `Full` the statement is to be logged after a history that is as long as the log can be.
     ensures fault { IfErr result (λ fault. Blames (G.may_answer gate.now) store.now.base runs.items fault) }
     // Proved (stores, race-lowest-fault): `GateShut` and `Full` are returned of the lowest session that has a
     //   fault: all runs of lower sessions were answered to their ends. `ThreadRefused` is returned only if

@@ -172,14 +172,15 @@ pub fn race_in_rounds<G: Gate + Sync, R: Threads + Wait + Sync>(
     ensures own { IfOk result (λ ended. AllOf (identity_of store.log).sessions ended.1.history.items) }
     // Proved (stores, rounds-own-entries)
     ensures none { length runs.items ≡ 0 → IfOk result (λ ended. ended.1.history.items ≡ []) }
-    // Proved (stores, rounds-store): The store that a race in rounds returns leads, after all that the last
-    //   pass has seen, to the state to which the history leads. If there is a run, the passes are as a
-    //   renewal takes them, one for each run. The log has as much room as the first, for as many sessions.
+    // Proved (stores, rounds-passes): If there is a run, the passes that a race in rounds returns are as a
+    //   renewal takes them, one for each run.
     ensures gathered { IfOk result (λ ended. 0 < length runs.items → AreGathered (identity_of ended.0.log) ended.1.passes.items) }
-    // Proved (stores, rounds-store)
+    // Proved (stores, rounds-store): The store that a race in rounds returns leads, after all that the last
+    //   pass has seen, to the state to which the history leads. Its log has as much room as the first, for as
+    //   many sessions.
     ensures state { IfOk result
         (λ ended. state_after ended.0.base (last_known (map known_of ended.1.passes.items)).seen ≡ state_after store.base ended.1.history.items) }
-    // Proved (stores, rounds-store)
+    // Proved (stores, rounds-passes)
     ensures passes { IfOk result
         (λ ended. AllZip (λ run pass. (known_of pass).number ≡ (known_of run.pass).number) runs.items ended.1.passes.items) }
     // Proved (stores, rounds-store)

@@ -30,7 +30,7 @@ impl Store {
     ///
     /// `capacity`: how many entries the history can have, in `[1, 1024]`. `sessions`: how many sessions there
     /// are, in `[1, 16]`; their passes are returned in order, from session 1 on, each with nothing seen.
-    /// Errors, in the order of test: `CapacityOutOfRange`, `SessionsOutOfRange` if the number isn't in its range;
+    /// Errors, in the order of test: `CapacityOutOfRange`, `SessionsOutOfRange` if it isn't in its range;
     /// `NoMemory` if an allocation fails.
     /// May return `NoMemory`. Doesn't wait.
     /// Own rule: docs/RATTLE.md#stores.
