@@ -1,4 +1,4 @@
-//! A server of calls beside which it is said what a call out of turn wants.
+//! A server of calls that also explains each call that is out of turn.
 ghost use Rattle.std.specs.Prelude.{◌≡◌};
 
 use crate::standings::Standings;
@@ -7,12 +7,12 @@ use xa_lines::{Answer, LineServer};
 use xa_manager::read_call;
 use xa_xid::NoMemory;
 
-/// A server of calls, beside which the standard error says what a call out of turn wants.
+/// A server of calls. For each call that is out of turn it says on the standard error what that call needs.
 #[derive(Drop)]
 pub struct Advised<'r, S: LineServer + Drop, R> {
-    /// What answers.
+    /// The server that answers.
     inner: S,
-    /// Where it is said what is wanted.
+    /// The runtime whose standard error is written to.
     rt: &'r R,
     /// The number of the last line, from 1.
     number: u64,
@@ -23,7 +23,7 @@ pub struct Advised<'r, S: LineServer + Drop, R> {
 }
 
 impl<'r, S: LineServer + Drop, R: Eprint + Alloc<A = Global>> Advised<'r, S, R> {
-    /// Answers as this server does.
+    /// Returns a server that answers as this one does.
     ///
     /// Takes no memory. Doesn't wait.
     pub fn new(rt: &'r R, inner: S) -> Advised<'r, S, R>
@@ -38,7 +38,9 @@ impl<'r, S: LineServer + Drop, R: Eprint + Alloc<A = Global>> Advised<'r, S, R> 
         }
     }
 
-    /// Error: `NoMemory`, where memory was refused for looking at the calls.
+    /// Returns whether all calls could be looked at.
+    ///
+    /// Errors: `NoMemory` if memory was refused for that. Doesn't wait.
     pub fn looked(&self) -> Result<(), NoMemory> {
         if self.refused {
             Err(AllocError)
@@ -75,6 +77,8 @@ impl<'r, S: LineServer + Drop, R: Eprint + Alloc<A = Global>> Advised<'r, S, R> 
 impl<'r, S: LineServer + Drop, R: Eprint + Alloc<A = Global>> LineServer for Advised<'r, S, R> {
     ghost begins = { λ server. S.begins server.inner };
 
+    // Proved (scripts, verbose-answers): With `--verbose` the calls of a transaction manager are answered as
+    //   without it.
     ghost answers = { λ old line text new. S.answers old.inner line text new.inner };
 
     fn answer(&mut self, alloc: Global, line: &[u8]) -> Answer {

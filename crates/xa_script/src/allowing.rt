@@ -1,4 +1,4 @@
-//! Reads the differences that are allowed.
+//! Reads the file of `--allow`.
 ghost use Rattle.std.specs.Prelude.{IfOk, IfSome};
 ghost use Rattle.std.specs.Option.{option_map};
 ghost use Rattle.xa_script.specs.Status.{IsAllowedBy};
@@ -12,9 +12,10 @@ use xa_lines::{ScriptFault, read_all};
 use xa_record::{AllowFault, Allowance, read_allowances};
 use xa_xid::NoMemory;
 
-/// What a text allows; nothing where a line of it isn't an allowance, which the standard error then names.
+/// Returns what a text allows. If a line of it isn't an allowance, the standard error names it, and `None` is
+/// returned.
 ///
-/// Error: `NoMemory`. Doesn't wait, unless the standard error does.
+/// Errors: `NoMemory`. Doesn't wait, unless the standard error does.
 fn allowances_of<R: Eprint + Alloc<A = Global>>(
     rt: &R,
     text: &[u8],
@@ -31,13 +32,15 @@ fn allowances_of<R: Eprint + Alloc<A = Global>>(
     }
 }
 
-/// What all that the reader gives allows.
+/// Returns what the text of a reader allows, as `allowances_of` does.
 ///
-/// Errors: those of `read_all`. Doesn't wait, unless the reader or the standard error does.
+/// Errors: as `read_all`. Doesn't wait, unless the reader or the standard error does.
 fn allowances_in<I: Read, R: Eprint + Alloc<A = Global>>(
     rt: &R,
     input: &mut I,
 ) -> Result<Option<Vec<Allowance>>, ScriptFault>
+    // Proved (scripts, allowances): The allowances that a record is judged with are those of the file's text,
+    //   or some line of that isn't an allowance.
     ensures { IfOk result (λ allowed. IfSome (I.remaining input.old) (IsAllowedBy (option_map (λ list. list.items) allowed))) }
 {
     let text = read_all(rt.alloc(), input)?;
@@ -45,9 +48,11 @@ fn allowances_in<I: Read, R: Eprint + Alloc<A = Global>>(
     Ok(allowed)
 }
 
-/// The differences that the manner's file allows; none where it names no file, and nothing where a line of it isn't an allowance.
+/// Returns what the file of `--allow` allows: an empty list if no file is named, `None` if a line of it isn't
+/// an allowance.
 ///
-/// Errors: `Read`, `TooLong` and `NoMemory`, for the file. Doesn't wait, unless the file or the standard error does.
+/// Errors: `Read`, `TooLong` and `NoMemory`, of reading the file. Doesn't wait, unless the file or the
+/// standard error does.
 pub fn allowed<R: Files + Eprint + Alloc<A = Global>>(
     rt: &R,
     manner: &Manner<'_>,

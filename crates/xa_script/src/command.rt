@@ -20,38 +20,38 @@ pub enum Job {
     Run,
     /// Races the script of the standard input.
     Race {
-        /// How many entries the log has room for, in `[1, 1024]`.
+        /// How many entries the history has room for, in `[1, 1024]`.
         capacity: u64,
         /// How the sessions come to their lines.
         schedule: Schedule,
-        /// Whether the race goes on in rounds of that capacity.
+        /// Whether the race goes on in rounds of that capacity when the history is full.
         renews: bool,
-        /// How often it is run to see which outcomes come, in `[1, 1_000_000]`.
+        /// How often the script is raced to count its outcomes, in `[1, 1_000_000]`, if it is.
         runs: Option<u64>,
     },
-    /// Carries the calls of the standard input out over stores of its own.
+    /// Carries out the calls of the standard input, over stores of its own.
     Coordinate {
         /// How many stores, in `[1, 16]`.
         stores: u64,
-        /// How many entries each has room for, in `[1, 1024]`.
+        /// How many entries each store has room for, in `[1, 1024]`, if that is fixed.
         capacity: u64,
-        /// Whether a store's history ends there.
+        /// Whether stores are limited to that capacity.
         fixed: bool,
     },
     /// Answers each line of the standard input before it reads more.
     Serve,
-    /// Does so too, and shows the store behind each answer.
+    /// Answers likewise, and shows the store after each answer.
     Show,
     /// Judges the record of the standard input.
     Judge {
         /// How many configurations may be kept before a return, in `[1, 1_000_000]`.
         limit: u64,
-        /// Whether an order and a state explain the verdict.
+        /// Whether an order and a state explain an ILLEGAL verdict.
         explain: bool,
-        /// Whether the verdict is an object of JSON.
+        /// Whether the verdict is a JSON object.
         json: bool,
     },
-    /// Explores the orders of the script of the standard input.
+    /// Runs the script of the standard input in every order of its sessions.
     Explore {
         /// How many ways may be kept at once, in `[1, 1_000_000]`.
         limit: u64,
@@ -60,7 +60,7 @@ pub enum Job {
     Stops {
         /// How many stores, in `[1, 16]`.
         stores: u64,
-        /// How many entries each has room for, in `[1, 1024]`.
+        /// How many entries each store has room for, in `[1, 1024]`. It has no effect.
         capacity: u64,
     },
 }
@@ -84,7 +84,7 @@ fn seed_in(found: &ArgMatches<'_>) -> Option<u64>
     found.get_one::<u64>("shuffle")
 }
 
-/// Whether the sessions are to begin together.
+/// Returns whether the sessions begin together.
 fn begins_together(found: &ArgMatches<'_>) -> bool
     ensures given { result ≡ true → one_text (found_of found.now) (codes "together") ≡ Some (codes "true") }
     ensures other { result ≡ false → one_text (found_of found.now) (codes "together") ≢ Some (codes "true") }
@@ -92,7 +92,7 @@ fn begins_together(found: &ArgMatches<'_>) -> bool
     found.get_one::<bool>("together").unwrap_or(false)
 }
 
-/// How the sessions are to come to their lines.
+/// Returns how the sessions come to their lines.
 fn schedule_in(found: &ArgMatches<'_>) -> Schedule
     ensures { IsScheduleOf (one_text (found_of found.now) (codes "together")) (one_text (found_of found.now) (codes "shuffle")) result }
 {
@@ -108,7 +108,7 @@ fn schedule_in(found: &ArgMatches<'_>) -> Schedule
     }
 }
 
-/// The number of an option that has one from 1 to 1,000,000, where it was found.
+/// Returns the number of an option that takes one from 1 to 1,000,000, if it was found.
 fn limit_in(found: &ArgMatches<'_>, name: &str) -> Option<u64>
     ensures some { IfSome result (λ limit. IsSomeAnd (one_text (found_of found.now) name.now) (IsLimitText limit)) }
     ensures none { result ≡ None → (limit : ℕ) → IsSomeAnd (one_text (found_of found.now) name.now) (IsLimitText limit) → ⊥ }
@@ -262,16 +262,23 @@ fn job_by<'a, S: AsStr>(command: &mut Command<'a>, words: &'a [S]) -> Result<Job
     }
 }
 
-/// The job that the words of a command line name. The first word is the program's own name.
+/// Returns the job that the words of a command line name. The first word is the program's own name.
 ///
-/// A capacity is in `[1, 1024]`, and 1024 where the words don't give it; a number of stores in `[1, 16]`, and 3; a limit in
-/// `[1, 1_000_000]`, and 100,000; a number of runs in `[1, 1_000_000]`. Where a race has a seed, its schedule is `Shuffled`.
-/// Errors: what `clap` says of words that name no job, or that ask for help or the version; out of memory is one of its kinds.
+/// A capacity is in `[1, 1024]`, by default 1024; a number of stores in `[1, 16]`, by default 3; a limit in
+/// `[1, 1_000_000]`, by default 100,000; a number of runs in `[1, 1_000_000]`. The schedule of a race with a
+/// seed is `Shuffled`.
+/// Errors: `clap`'s own, if the words name no job, or ask for help or the version; one of its kinds is out of
+/// memory.
 /// Takes memory. Doesn't wait.
 /// Own rule: docs/COMMANDS.md#options-of-every-job.
 pub fn read_command<'a, S: AsStr>(alloc: Global, words: &'a [S]) -> Result<Job, Error>
+    // Proved (scripts, command-line): The job is the one that `clap`'s matches of the words name. If they
+    //   name none, an error is returned.
     ensures job { IfOk result (Names (map S.text words.entry.now)) }
+    // Proved (scripts, command-ranges): A capacity is from 1 to 1024, a number of stores from 1 to 16, and a
+    //   limit or a number of runs from 1 to 1,000,000.
     ensures capacity { IfOk result CanBeDone }
+    // Proved (scripts, command-line)
     ensures fault { ReadsCommand (map S.text words.entry.now) result }
 {
     let mut command = script_command(alloc)?;

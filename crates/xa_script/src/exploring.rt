@@ -1,4 +1,4 @@
-//! Explores a script, and gives the exit status for how that ended.
+//! Explores a script, and returns the exit status for how that ended.
 ghost use Rattle.std.specs.Prelude.{◌≡◌, IfOk, IfErr};
 ghost use Rattle.xa_orders.specs.Scripts.{AfterExploreFault};
 ghost use Rattle.xa_script.specs.CommandLine.{IsLimit};
@@ -9,13 +9,13 @@ use std::io::{Read, Write};
 use xa_lines::ScriptFault;
 use xa_orders::{Ended, explore_script};
 
-/// The status where all outcomes were listed, or faulty lines were.
+/// The status if all outcomes were listed, or all faulty lines.
 const LISTED: u8 = 0;
 
-/// The status where the limit was passed.
+/// The status if the limit was passed.
 const UNDECIDED: u8 = 5;
 
-/// The status for how exploring a script ended.
+/// Returns the exit status for how exploring a script ended.
 pub fn status_of_end(ended: Ended) -> u8
     ensures { result ≡ status_of ended }
 {
@@ -26,11 +26,12 @@ pub fn status_of_end(ended: Ended) -> u8
     }
 }
 
-/// Explores a script, writes its outcomes or its faulty lines, and gives the exit status for it.
+/// Explores a script, writes its outcomes or its faulty lines, and returns the exit status for it.
 ///
-/// A limit is in `[1, 1_000_000]`.
-/// Errors: those of `explore_script`. After `Write` a prefix of the text was written, after any other nothing.
-/// May answer `NoMemory`. Doesn't wait, unless the reader or the writer does.
+/// `limit` is in `[1, 1_000_000]`.
+/// Errors: as `explore_script`. After `Write` a prefix of the text was written, after any other error
+/// nothing.
+/// May return `NoMemory`. Doesn't wait, unless the reader or the writer does.
 /// Own rule: docs/COMMANDS.md#explore.
 pub fn explore_within<R: Read, W: Write>(
     alloc: Global,
@@ -39,6 +40,7 @@ pub fn explore_within<R: Read, W: Write>(
     limit: u64,
 ) -> Result<u8, ScriptFault>
     requires { IsLimit limit }
+    // Proved (scripts, status-of-an-end)
     ensures explored { IfOk result (λ status. AppendsOutcomes limit status (R.remaining reader.old) (W.contents writer.old) (W.contents writer.new)) }
     ensures fault { IfErr result (λ fault. AfterExploreFault limit fault (R.remaining reader.old) (W.contents writer.old) (W.contents writer.new)) }
 {

@@ -4,7 +4,7 @@ use std::io;
 use std::rt::Files;
 use xa_lines::ScriptFault;
 
-/// Says that a file can't be opened.
+/// Reports that a file can't be opened, and returns that as a read fault.
 fn unopened<R: Eprint>(rt: &R, name: &str, error: &io::Error, speaks: bool) -> ScriptFault {
     if speaks {
         let _ = eprintln!(rt; "xa_script: can't open {name}: {error}");
@@ -14,9 +14,10 @@ fn unopened<R: Eprint>(rt: &R, name: &str, error: &io::Error, speaks: bool) -> S
     ScriptFault::Read
 }
 
-/// Opens a file to read it; where it speaks, the standard error says why it can't be opened.
+/// Opens a file to read it.
 ///
-/// Error: `Read`, where it can't be opened. The standard error then names it. Doesn't wait, unless the file does.
+/// Errors: `Read` if it can't be opened. The standard error then names the file, and also the cause if
+/// `speaks`. Doesn't wait, unless the file does.
 pub fn opened<R: Files + Eprint>(rt: &R, name: &str, speaks: bool) -> Result<R::File, ScriptFault> {
     match File::open(rt, name) {
         Ok(file) => Ok(file),

@@ -1,4 +1,4 @@
-//! Says on the standard error what to do.
+//! Says on the standard error what to do about a line that isn't read.
 
 use crate::line_fault::LineFault;
 use crate::wanted::wanted_at;
@@ -6,24 +6,25 @@ use std::alloc::Global;
 use xa_lines::LINE_BYTES;
 use xa_xid::NoMemory;
 
-/// What a line of a record may be.
+/// The forms of a line of a record.
 const RECORD_LINES: &str = "S > STATEMENT, S < REPLY, S ? ERROR, S ! LOST or S ! GONE";
 
-/// What a call begins with.
+/// The first words of calls.
 const CALLS: &str =
     "BEGIN, WORK, PREPARE, DECIDE, FINISH, ABANDON, FAIL, STOP, RECOVER, AT or SHOW with its numbers";
 
-/// What a call of a coordinator that is to be stopped begins with.
+/// The first words of the calls that `stops` takes.
 const STOPPED_CALLS: &str = "BEGIN, WORK, PREPARE, DECIDE, FINISH, ABANDON or AT with its numbers";
 
-/// Writes what is wanted at a byte of a line.
+/// Writes what has to come at a byte of a line.
 fn tell_wanted<R: Eprint>(rt: &R, number: u64, at: u64, wanted: &str) {
     let _ = eprintln!(rt; "xa_script: line {number}, byte {at}: syntax fault; write {wanted} here");
 }
 
-/// Says what is wanted in the line of this number, and from which byte on: of the statement's text, where that alone is at fault.
+/// Says what has to come in the line of this number, and at which byte. If only the statement is at fault,
+/// its own bytes are counted.
 ///
-/// Error: `NoMemory`. Doesn't wait, unless the standard error does.
+/// Errors: `NoMemory`. Doesn't wait, unless the standard error does.
 pub fn tell_line<R: Eprint + Alloc<A = Global>>(
     rt: &R,
     number: u64,

@@ -1,4 +1,4 @@
-//! The jobs, from a reader to a writer. Each gives the exit status of what was done, or why it wasn't.
+//! The jobs, from a reader to a writer. Each returns the exit status, or the fault that ended it.
 ghost use Rattle.decision_log.specs.Opens.{IsCapacity};
 ghost use Rattle.xa_script.specs.CommandLine.{IsLimit, IsStoreCount};
 
@@ -27,10 +27,10 @@ use xa_manager::{
 };
 use xa_record::{Allowance, Asked};
 
-/// The standard output, which gathers what is written.
+/// The standard output, with a buffer.
 pub type Output<'r, R> = BufWriter<Spoken<'r, Printer<'r, R>, R>>;
 
-/// A writer that gathers what is written.
+/// Returns a writer with a buffer.
 fn gathered<R: Alloc<A = Global>, W: Write + Drop>(
     rt: &R,
     writer: W,
@@ -41,7 +41,7 @@ fn gathered<R: Alloc<A = Global>, W: Write + Drop>(
     }
 }
 
-/// The standard output, which speaks of a fault where it is to.
+/// Returns the standard output. If `speaks`, the cause of a failed write is reported.
 pub fn output<R: Print + Eprint + Alloc<A = Global>>(
     rt: &R,
     speaks: bool,
@@ -49,7 +49,7 @@ pub fn output<R: Print + Eprint + Alloc<A = Global>>(
     gathered(rt, Spoken::new(rt, io::writer(rt), speaks))
 }
 
-/// The standard output, on which literals of printable bytes stand as texts.
+/// Returns the standard output, on which literals of printable bytes are written as `'text'`.
 pub fn text_output<R: Print + Eprint + Alloc<A = Global>>(
     rt: &R,
     speaks: bool,
@@ -59,7 +59,8 @@ pub fn text_output<R: Print + Eprint + Alloc<A = Global>>(
     gathered(rt, texts)
 }
 
-/// Writes what was gathered, and says how the job ended: with a write fault where that fails, whatever it came to.
+/// Flushes the output, and returns how the job ended. If the flush fails that is a write fault, however the
+/// job itself ended.
 fn flushed<W: Write + Drop>(
     output: &mut BufWriter<W>,
     done: Result<u8, ScriptFault>,
@@ -95,7 +96,7 @@ pub fn race<I: Read + Drop, W: Write + Drop, R: Alloc<A = Global> + Threads + Wa
     flushed(&mut output, done.and(Ok(DONE)))
 }
 
-/// Races the script so often.
+/// Races the script `runs` times.
 pub fn races<I: Read + Drop, W: Write + Drop, R: Alloc<A = Global> + Threads + Wait + Sync>(
     rt: &R,
     mut input: I,
@@ -169,7 +170,8 @@ pub fn explore<I: Read + Drop, W: Write + Drop, R: Alloc<A = Global>>(
     flushed(&mut output, done)
 }
 
-/// Carries the calls out over stores that are never full; where it speaks, the standard error says what a call out of turn wants.
+/// Carries out the calls over stores that are never full. If `speaks`, each call that is out of turn is
+/// explained.
 pub fn coordinate<I: Read + Drop, W: Write + Drop, R: Eprint + Alloc<A = Global> + Wait>(
     rt: &R,
     input: &mut Watch<'_, I, R>,
@@ -190,7 +192,7 @@ pub fn coordinate<I: Read + Drop, W: Write + Drop, R: Eprint + Alloc<A = Global>
     Ok(DONE)
 }
 
-/// Does so over stores whose histories have room for so many entries, and no more.
+/// Carries out the calls over stores whose histories have room for `capacity` entries.
 pub fn coordinate_fixed<I: Read + Drop, W: Write + Drop, R: Eprint + Alloc<A = Global> + Wait>(
     rt: &R,
     input: &mut Watch<'_, I, R>,
@@ -225,7 +227,7 @@ pub fn serve<I: Read + Drop, W: Write + Drop, R: Alloc<A = Global>>(
     serve_statements(rt.alloc(), &mut transport).and(Ok(DONE))
 }
 
-/// Does so too, and shows the store behind each answer.
+/// Answers likewise, and shows the store after each answer.
 pub fn show<I: Read + Drop, W: Write + Drop, R: Alloc<A = Global>>(
     rt: &R,
     input: I,

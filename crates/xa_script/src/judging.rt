@@ -1,4 +1,4 @@
-//! Judges a record, and gives the exit status for how that ended.
+//! Judges a record, and returns the exit status for how that ended.
 ghost use Rattle.std.specs.Prelude.{◌≡◌, IfOk, IfErr};
 ghost use Rattle.xa_record.specs.Judged.{AfterJudgeFault};
 ghost use Rattle.xa_script.specs.CommandLine.{IsLimit};
@@ -16,7 +16,7 @@ const LEGAL: u8 = 0;
 /// The status of a record that no order explains.
 const ILLEGAL: u8 = 4;
 
-/// The status of a record for which the limit was passed.
+/// The status of a record if the limit was passed.
 const UNDECIDED: u8 = 5;
 
 /// The status of a record with faulty lines.
@@ -25,7 +25,7 @@ const FAULTY: u8 = 6;
 /// The status of a record in which nothing happens.
 const EMPTY: u8 = 7;
 
-/// The status for how judging a record ended.
+/// Returns the exit status for how judging a record ended.
 fn status_of_outcome(outcome: Outcome) -> u8
     ensures { result ≡ status_for outcome }
 {
@@ -38,13 +38,17 @@ fn status_of_outcome(outcome: Outcome) -> u8
     }
 }
 
-/// What is asked of the judging.
+/// Returns what is asked of the judging.
 ///
-/// A limit is in `[1, 1_000_000]`.
+/// `limit` is in `[1, 1_000_000]`.
 pub fn asked(limit: u64, explains: bool, json: bool) -> Asked
     requires { IsLimit limit }
+    // Proved (scripts, judging-as-asked): A record is judged with the limit, the form and the explanation
+    //   that the command line asks for.
     ensures limit { result.limit ≡ limit }
+    // Proved (scripts, judging-as-asked)
     ensures form { result.form ≡ form_of json }
+    // Proved (scripts, judging-as-asked)
     ensures explains { result.explains ≡ explains }
 {
     let form = if json { Form::Json } else { Form::Plain };
@@ -55,11 +59,11 @@ pub fn asked(limit: u64, explains: bool, json: bool) -> Asked
     }
 }
 
-/// Judges a record, writes the verdict or its faulty lines, and gives the exit status for it.
+/// Judges a record, writes the verdict or its faulty lines, and returns the exit status for it.
 ///
-/// A limit is in `[1, 1_000_000]`.
-/// Errors: those of `judge_record`. After `Write` a prefix of the text was written, after any other nothing.
-/// May answer `NoMemory`. Doesn't wait, unless the reader, the writer or who is told of the progress does.
+/// The limit of `asked` is in `[1, 1_000_000]`.
+/// Errors: as `judge_record`. After `Write` a prefix of the text was written, after any other error nothing.
+/// May return `NoMemory`. Doesn't wait, unless the reader, the writer or the receiver of the progress does.
 /// Own rule: docs/COMMANDS.md#options-of-every-job.
 pub fn judge_within<R: Read, W: Write, P: Progress>(
     alloc: Global,
@@ -70,6 +74,8 @@ pub fn judge_within<R: Read, W: Write, P: Progress>(
     progress: &mut P,
 ) -> Result<u8, ScriptFault>
     requires { IsLimit asked.limit }
+    // Proved (scripts, status-of-an-end): The exit status of `judge`, `explore`, `race --runs` and `stops` is
+    //   the one that the table has for the end of the job, and the text that was written is right for that end.
     ensures judged { IfOk result
         (λ status. AppendsVerdict allowances.now asked status (R.remaining reader.old) (W.contents writer.old) (W.contents writer.new)) }
     ensures fault { IfErr result

@@ -9,9 +9,9 @@ pub enum LineFault<'a> {
     NoStatement(&'a [u8], u64),
     /// It isn't a call.
     NoCall,
-    /// It is no call of a coordinator that is to be stopped.
+    /// It isn't a call that `stops` takes.
     NoStopped,
-    /// It gives a statement that `WORK` doesn't give.
+    /// It gives a statement that `WORK` doesn't take.
     NoWork,
     /// It isn't a line of a record.
     NoRecord,

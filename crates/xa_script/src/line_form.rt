@@ -1,22 +1,22 @@
-//! What a job writes its lines as.
+//! The form of the lines that a job writes.
 use xa_lines::{ScriptLine, is_comment, number_in, read_line, split_word};
 use xa_statement::read_statement;
 use xa_xid::{Statement, skip_blanks};
 
-/// What a job writes its lines as.
+/// The form of the lines that a job writes.
 #[derive(Clone, Copy, Debug, PartialEq, Eq)]
 pub enum LineForm {
     /// Answers, and a history.
     Answers,
-    /// Answers, and the store behind each.
+    /// Answers, and the store after each.
     Shown,
     /// A verdict, and the store that explains it.
     Verdict,
-    /// A verdict as an object of JSON.
+    /// A verdict as a JSON object.
     Object,
 }
 
-/// What stands behind the first word, and the byte after it.
+/// Returns what comes after the first word and one more byte.
 fn behind_first(text: &[u8]) -> &[u8] {
     match split_word(text).1 {
         [] => &[],
@@ -24,17 +24,17 @@ fn behind_first(text: &[u8]) -> &[u8] {
     }
 }
 
-/// The number that the first word is.
+/// Returns the number that the first word is.
 fn first_number(text: &[u8]) -> Option<u64> {
     number_in(split_word(text).0)
 }
 
-/// What stands behind `COULD BE ` in a line of a verdict.
+/// Returns what comes after `COULD BE ` in a line of a verdict.
 fn could_be(line: &[u8]) -> Option<&[u8]> {
     line.strip_prefix(b"COULD BE ")
 }
 
-/// Whether the text is a statement in its canonical form, in which a verdict writes every statement that has one.
+/// Returns whether the text is a statement with a canonical form, in which a verdict then writes it.
 fn is_statement(text: &[u8]) -> bool {
     match read_statement(text) {
         Ok(Statement::Unsupported) => false,
@@ -56,7 +56,7 @@ fn is_of_store(line: &[u8]) -> bool {
     line.starts_with(b"  ")
 }
 
-/// How many rows a reply says are to come on the next lines.
+/// Returns how many rows a reply says that the next lines are.
 fn rows_of(reply: &[u8]) -> u64 {
     match reply.strip_prefix(b"ROWS ") {
         Some(count) => number_in(count).unwrap_or(0),
@@ -64,7 +64,7 @@ fn rows_of(reply: &[u8]) -> u64 {
     }
 }
 
-/// The reply of an answer: what stands behind its session, and its place.
+/// Returns the reply of an answer: what comes after its session and its place.
 fn reply_in(line: &[u8]) -> &[u8] {
     let mut reply = line;
     for _number in 0..2 {
@@ -76,9 +76,10 @@ fn reply_in(line: &[u8]) -> &[u8] {
 }
 
 impl LineForm {
-    /// Whether a line is written as it stands, since it is a client's own: a comment, or a text that isn't a statement.
+    /// Returns whether a line is written as it is, since it is a client's own: a comment, or a text that
+    /// isn't a statement.
     ///
-    /// It is without its line feed. Takes no memory. Doesn't wait.
+    /// The line is without its line feed. Takes no memory. Doesn't wait.
     pub fn keeps(self, line: &[u8]) -> bool {
         match self {
             LineForm::Answers => false,
@@ -90,9 +91,9 @@ impl LineForm {
         }
     }
 
-    /// How many rows a line says are to come on the next lines.
+    /// Returns how many rows a line says that the next lines are.
     ///
-    /// It is without its line feed. Takes no memory. Doesn't wait.
+    /// The line is without its line feed. Takes no memory. Doesn't wait.
     pub fn rows_behind(self, line: &[u8]) -> u64 {
         match self {
             LineForm::Answers | LineForm::Shown => rows_of(reply_in(line)),
@@ -105,7 +106,8 @@ impl LineForm {
     }
 }
 
-/// Whether a row is whole where a line feed comes next: where the texts of both lengths have come. In digits they have no line feed.
+/// Returns whether a row is whole when a line feed comes next: both texts of the row have all their bytes. In
+/// digits these hold no line feed.
 ///
 /// Takes no memory. Doesn't wait.
 pub fn is_whole_row(row: &[u8]) -> bool {

@@ -1,22 +1,22 @@
-//! What a job reads its lines as.
+//! The kind of lines that a job reads.
 use crate::line_fault::LineFault;
 use xa_lines::{ScriptLine, is_comment, number_in, read_line, split_word};
 use xa_manager::{Call, read_call};
 use xa_statement::read_statement;
 use xa_xid::skip_blanks;
 
-/// What a job reads its lines as.
+/// The kind of lines that a job reads.
 #[derive(Clone, Copy, Debug, PartialEq, Eq)]
 pub enum LineKind {
     /// Statements of sessions.
     Statement,
     /// Statements of sessions, and comments.
     Shown,
-    /// Statements of sessions, comments, and the words that part a script.
+    /// Statements of sessions, comments, and the words that divide a script.
     Explored,
     /// Calls of a transaction manager.
     Call,
-    /// Calls of a coordinator that is to be stopped, and of other clients.
+    /// The calls that `stops` takes.
     Stopped,
     /// What clients saw.
     Record,
@@ -39,14 +39,14 @@ fn script_fault(line: &[u8]) -> Option<LineFault<'_>> {
     }
 }
 
-/// Whether a line is one of the words that part a script to be explored.
+/// Returns whether a line is one of the words that divide a script for exploring.
 fn parts(line: &[u8]) -> bool {
     let (word, rest) = split_word(skip_blanks(line));
     let is_word = word == b"BESIDE".as_slice() || word == b"AFTER".as_slice();
     is_word && skip_blanks(rest).is_empty()
 }
 
-/// The text behind so many words.
+/// Returns the text after this many words.
 fn behind(line: &[u8], words: usize) -> &[u8] {
     let mut rest = skip_blanks(line);
     for _word in 0..words {
@@ -55,7 +55,7 @@ fn behind(line: &[u8], words: usize) -> &[u8] {
     rest
 }
 
-/// Whether the word behind so many words is a number.
+/// Returns whether the word after this many words is a number.
 fn has_number(line: &[u8], words: usize) -> bool {
     number_in(split_word(behind(line, words)).0).is_some()
 }
@@ -74,7 +74,7 @@ fn call_fault(line: &[u8]) -> LineFault<'_> {
     }
 }
 
-/// Why a line isn't one of a coordinator that is to be stopped.
+/// Returns why a line isn't one that `stops` takes.
 fn stopped_fault(line: &[u8]) -> Option<LineFault<'_>> {
     match read_call(line) {
         Call::Unread(_) => match call_fault(line) {
@@ -86,7 +86,7 @@ fn stopped_fault(line: &[u8]) -> Option<LineFault<'_>> {
     }
 }
 
-/// What stands behind the session of a line; nothing where it names none.
+/// Returns what comes after the session of a line, and nothing if it names none.
 fn given_in(line: &[u8]) -> &[u8] {
     match read_line(line) {
         ScriptLine::Blank => &[],
@@ -95,7 +95,7 @@ fn given_in(line: &[u8]) -> &[u8] {
     }
 }
 
-/// How many rows a line of a record says are to come on the next lines.
+/// Returns how many rows a line of a record says that the next lines are.
 pub fn rows_behind(line: &[u8]) -> u64 {
     let (sign, rest) = split_word(given_in(line));
     let (word, count) = split_word(skip_blanks(rest));
@@ -119,7 +119,7 @@ fn record_fault(line: &[u8]) -> Option<LineFault<'_>> {
 }
 
 impl LineKind {
-    /// Why a line isn't read, if it isn't.
+    /// Returns why a line isn't read, if it isn't.
     ///
     /// The line is without its line feed. Takes no memory. Doesn't wait.
     pub fn fault_in(self, line: &[u8]) -> Option<LineFault<'_>> {

@@ -1,10 +1,11 @@
-//! Runs scripts of XA statements: `xa_script run` reads a script from the standard input, and writes what answers it;
-//! `xa_script race` gives each session's statements to a thread of its own, and writes the history that explains the answers;
-//! `xa_script coordinate` carries the calls of a transaction manager out, over stores of its own; `xa_script stops` stops their
-//! coordinator at each place, and shows what recovery makes of it.
-//! `xa_script serve` answers each line of the standard input before it reads more; `xa_script show` does so too, and shows the store
-//! behind each answer. `xa_script judge` says whether some order explains what clients of a server saw.
-//! `xa_script explore` carries a script out in every order of its sessions, and lists each outcome once.
+//! The program: its command line, the standard streams, the exit status, and what it writes to the standard
+//! error. docs/COMMANDS.md describes each job. Libraries do the work: `xa_lines` runs, serves and shows,
+//! `xa_races` and `xa_runs` race, `xa_manager` coordinates, `xa_stops` stops, `xa_orders` explores, and
+//! `xa_record` judges.
+//!
+//! Functions that use the process or its streams promise nothing, since no contract can name these; tests of
+//! the built program show what they do. Read `src/jobs.rt` next, then `src/command.rt`, `src/subcommands.rt`
+//! and `src/help.rt`.
 #![tactic(auto)]
 
 ghost use Rattle.std.specs.Prelude.{◌≡◌};
@@ -68,23 +69,23 @@ use xa_record::Allowance;
 /// The status of a run that was done, and of help.
 const DONE: u8 = 0;
 
-/// The status where the script can't be read, or its answers can't be written.
+/// The status if the input can't be read, or the output can't be written.
 const STREAM_FAULT: u8 = 1;
 
-/// The status of a command line that isn't read.
+/// The status of a command line that isn't understood.
 const COMMAND_FAULT: u8 = 2;
 
-/// The status where memory, the log, the gate or a thread gave out.
+/// The status if memory ran out, the log is full, a gate stopped a session, or a thread couldn't be started.
 const GAVE_OUT: u8 = 3;
 
-/// The status where a job was done and a line was a syntax fault, where that is asked.
+/// The status of a job that was done if a line had a syntax fault, and `--strict` asks for that.
 const UNREAD: u8 = 8;
 
 fn main(rt: HostRuntime) -> ExitCode {
     ExitCode::from(status(&rt))
 }
 
-/// Does what the command line asks for, and says how it went.
+/// Does what the command line asks for, and returns the exit status.
 fn status<
     R: Env + Files + Clock + Input + Print + Eprint + Alloc<A = Global> + Threads + Wait + Sync,
 >(rt: &R) -> u8 {
@@ -103,7 +104,7 @@ fn status<
     }
 }
 
-/// Says how a job went, and gives the status.
+/// Reports the fault of a job, if it had one, and returns the exit status.
 fn ended<R: Eprint>(rt: &R, manner: &Manner<'_>, done: Result<u8, ScriptFault>) -> u8 {
     match done {
         Ok(status) => status,
@@ -119,12 +120,12 @@ fn ended<R: Eprint>(rt: &R, manner: &Manner<'_>, done: Result<u8, ScriptFault>) 
     }
 }
 
-/// The words of the process's command line.
+/// Returns the words of the process's command line.
 fn words<R: Env + Alloc<A = Global>>(rt: &R) -> io::Result<Vec<String>> {
     Ok(env::args(rt)?.collect(rt.alloc())?)
 }
 
-/// Writes why the words can't be had, and gives the status.
+/// Reports why the words can't be had, and returns the exit status.
 fn refuse_words<R: Eprint>(rt: &R, error: &io::Error) -> u8 {
     if error.kind() == io::ErrorKind::OutOfMemory {
         tell(rt, &ScriptFault::NoMemory);
@@ -134,7 +135,7 @@ fn refuse_words<R: Eprint>(rt: &R, error: &io::Error) -> u8 {
     COMMAND_FAULT
 }
 
-/// Does a job, and gives the status.
+/// Does a job, and returns the exit status.
 fn carry_out<R: Files + Clock + Input + Print + Eprint + Alloc<A = Global> + Threads + Wait + Sync>(
     rt: &R,
     job: Job,
@@ -155,7 +156,7 @@ fn carry_out<R: Files + Clock + Input + Print + Eprint + Alloc<A = Global> + Thr
     }
 }
 
-/// How a job reads its lines, and how long one may be.
+/// Returns how a job reads its lines, and how many bytes a line may have.
 fn lines_of(job: Job) -> (LineKind, usize) {
     match job {
         Job::Run | Job::Race { runs: None, .. } => (LineKind::Statement, usize::MAX),
@@ -168,7 +169,7 @@ fn lines_of(job: Job) -> (LineKind, usize) {
     }
 }
 
-/// What a job writes its lines as.
+/// Returns the form of the lines that a job writes.
 fn form_of(job: Job) -> LineForm {
     match job {
         Job::Run | Job::Race { .. } | Job::Coordinate { .. } | Job::Serve => LineForm::Answers,
@@ -179,7 +180,7 @@ fn form_of(job: Job) -> LineForm {
     }
 }
 
-/// Does a job on what a reader gives, and gives the status.
+/// Does a job on a reader, and returns the exit status.
 fn carry_out_on<
     I: Read + Drop,
     R: Clock + Print + Eprint + Alloc<A = Global> + Threads + Wait + Sync,
@@ -207,7 +208,7 @@ fn carry_out_on<
     Ok(status)
 }
 
-/// Does a job on what a reader gives, and writes to a writer.
+/// Does a job from a reader to a writer.
 fn carry_out_job<
     I: Read + Drop,
     W: Write + Drop,
@@ -261,7 +262,7 @@ fn carry_out_job<
     }
 }
 
-/// Writes why a command line isn't carried out, or what it asks for, and gives the status.
+/// Writes why a command line isn't carried out, or the help that it asks for, and returns the exit status.
 fn refuse<R: Print + Eprint>(rt: &R, error: &Error) -> u8 {
     if error.kind() == ErrorKind::OutOfMemory {
         tell(rt, &ScriptFault::NoMemory);
@@ -278,8 +279,10 @@ fn refuse<R: Print + Eprint>(rt: &R, error: &Error) -> u8 {
     }
 }
 
-/// The status of a run or a race that ended in this fault.
+/// Returns the exit status of a job that ended in this fault.
 fn status_of(fault: ScriptFault) -> u8
+    // Proved (scripts, status-after-a-fault): The exit status after a fault is 1 if reading or writing failed
+    //   or the input was too long, and 3 if memory, the log, a gate or a thread gave out.
     ensures { result ≡ status_after fault }
 {
     match fault {
@@ -289,7 +292,7 @@ fn status_of(fault: ScriptFault) -> u8
     }
 }
 
-/// Writes a fault to the standard error, where that takes it.
+/// Writes a fault to the standard error, if that takes it.
 fn tell<R: Eprint>(rt: &R, fault: &ScriptFault) {
     let _ = eprintln!(rt; "xa_script: {fault}");
 }

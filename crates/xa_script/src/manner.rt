@@ -1,4 +1,4 @@
-//! How a job is to be done.
+//! How a job is done.
 ghost use Rattle.std.specs.Prelude.{◌≡◌, IfOk, map, codes};
 ghost use Rattle.clap.specs.Words.{app_of, found_of, first_value, one_text};
 ghost use Rattle.xa_script.specs.CommandLine.{script_app, IsFlagOf};
@@ -10,24 +10,24 @@ use clap::{ArgMatches, Command, Error};
 use std::alloc::Global;
 use std::convert::AsStr;
 
-/// How a job is to be done: what the options say that every job has, and what `judge` does beside judging.
+/// How a job is done: the options of every job, and two of `judge`.
 #[derive(Clone, Copy, Debug, PartialEq, Eq)]
 pub struct Manner<'a> {
-    /// The file that is read in place of the standard input.
+    /// The file that is read instead of the standard input.
     pub file: Option<&'a str>,
-    /// The file of the differences that are allowed.
+    /// The file of `--allow`, with the error numbers that are allowed.
     pub allow: Option<&'a str>,
-    /// Whether the standard error says what to do about faults.
+    /// Whether the standard error says for each fault where it is and what to do.
     pub verbose: bool,
-    /// Whether the status tells of syntax faults.
+    /// Whether the exit status reports syntax faults.
     pub strict: bool,
-    /// Whether texts of printable bytes are written as texts.
+    /// Whether literals of printable bytes are written as `'text'`.
     pub text: bool,
-    /// Whether the standard error doesn't say how far the judging is.
+    /// Whether the progress of judging isn't reported.
     pub quiet: bool,
 }
 
-/// Whether an option without a value is given.
+/// Returns whether an option without a value is given.
 pub fn flag_in(found: &ArgMatches<'_>, name: &str) -> bool
     ensures { IsFlagOf (one_text (found_of found.now) name.now) result }
 {
@@ -62,11 +62,13 @@ fn manner_by<'a, S: AsStr>(command: &mut Command<'a>, words: &'a [S]) -> Result<
     }
 }
 
-/// How the words of a command line want its job done. The first word is the program's own name.
+/// Returns how the words of a command line want its job done. The first word is the program's own name.
 ///
-/// Errors: those of `read_command`. Takes memory. Doesn't wait.
+/// Errors: as `read_command`. Takes memory. Doesn't wait.
 /// Own rule: docs/COMMANDS.md#options-of-every-job.
 pub fn read_manner<'a, S: AsStr>(alloc: Global, words: &'a [S]) -> Result<Manner<'a>, Error>
+    // Proved (scripts, options-of-jobs): The files and flags of each job are those that `clap`'s matches of
+    //   the words name.
     ensures { IfOk result (HasManner (map S.text words.entry.now)) }
 {
     let mut command = script_command(alloc)?;

@@ -13,7 +13,7 @@ const SHUFFLED: &str =
     "As --together, and sessions step aside before their lines for numbers of turns drawn from \
 this seed; the numbers are repeatable, but the race's outcome isn't";
 
-/// An option whose value this parser reads, and which has a default.
+/// Returns an option whose value this parser reads, with a default.
 fn number_option<'a>(
     alloc: Global,
     name: &'a str,
@@ -32,7 +32,7 @@ fn number_option<'a>(
         .default_value(default)
 }
 
-/// An option without a value.
+/// Returns an option without a value.
 pub fn flag_option<'a>(alloc: Global, name: &'a str, help: &'a str) -> Arg<'a>
     ensures rule { rule_of result ≡ flag_rule name.entry.now }
     ensures global { result.global ≡ false }
@@ -43,7 +43,7 @@ pub fn flag_option<'a>(alloc: Global, name: &'a str, help: &'a str) -> Arg<'a>
         .action(ArgAction::SetTrue)
 }
 
-/// The option that says for how many entries a log has room.
+/// Returns the option `--capacity`: how many entries a history has room for.
 pub fn capacity_option<'a>(alloc: Global) -> Arg<'a>
     ensures rule { rule_of result ≡ capacity_rule }
     ensures global { result.global ≡ false }
@@ -53,7 +53,7 @@ pub fn capacity_option<'a>(alloc: Global) -> Arg<'a>
     number_option(alloc, "capacity", help, parser, "1024")
 }
 
-/// The option by which the sessions of a race meet before their first lines.
+/// Returns the option `--together`: the sessions of a race wait for each other before their first lines.
 pub fn together_option<'a>(alloc: Global) -> Arg<'a>
     ensures rule { rule_of result ≡ together_rule }
     ensures global { result.global ≡ false }
@@ -62,7 +62,7 @@ pub fn together_option<'a>(alloc: Global) -> Arg<'a>
     flag_option(alloc, "together", help)
 }
 
-/// The option by which they moreover step aside.
+/// Returns the option `--shuffle`: the sessions of a race also step aside before each line.
 pub fn shuffle_option<'a>(alloc: Global) -> Arg<'a>
     ensures rule { rule_of result ≡ shuffle_rule }
     ensures global { result.global ≡ false }
@@ -74,7 +74,7 @@ pub fn shuffle_option<'a>(alloc: Global) -> Arg<'a>
         .value_parser(value_parser!(u64))
 }
 
-/// The option by which a race goes on in rounds.
+/// Returns the option `--renew`: a race goes on in rounds.
 pub fn renew_option<'a>(alloc: Global) -> Arg<'a>
     ensures rule { rule_of result ≡ renew_rule }
     ensures global { result.global ≡ false }
@@ -83,7 +83,7 @@ pub fn renew_option<'a>(alloc: Global) -> Arg<'a>
     flag_option(alloc, "renew", help)
 }
 
-/// The option that says how often a script is raced.
+/// Returns the option `--runs`: how often a script is raced.
 pub fn runs_option<'a>(alloc: Global) -> Arg<'a>
     ensures rule { rule_of result ≡ runs_rule }
     ensures global { result.global ≡ false }
@@ -95,7 +95,7 @@ pub fn runs_option<'a>(alloc: Global) -> Arg<'a>
         .value_parser(value_parser!(u64).range(1..=1_000_000))
 }
 
-/// The option that says how many stores there are.
+/// Returns the option `--stores`: how many stores there are.
 pub fn stores_option<'a>(alloc: Global) -> Arg<'a>
     ensures rule { rule_of result ≡ stores_rule }
     ensures global { result.global ≡ false }
@@ -104,7 +104,7 @@ pub fn stores_option<'a>(alloc: Global) -> Arg<'a>
     number_option(alloc, "stores", "How many stores there are", parser, "3")
 }
 
-/// The option by which the stores' histories end.
+/// Returns the option `--fixed`: the stores' histories have a limit.
 pub fn fixed_option<'a>(alloc: Global) -> Arg<'a>
     ensures rule { rule_of result ≡ fixed_rule }
     ensures global { result.global ≡ false }
@@ -113,7 +113,7 @@ pub fn fixed_option<'a>(alloc: Global) -> Arg<'a>
     flag_option(alloc, "fixed", help)
 }
 
-/// The option that says how many configurations, or ways, may be kept.
+/// Returns the option `--limit`: how many configurations, or ways, may be kept.
 pub fn limit_option<'a>(alloc: Global, help: &'a str) -> Arg<'a>
     ensures rule { rule_of result ≡ limit_rule }
     ensures global { result.global ≡ false }
@@ -122,7 +122,7 @@ pub fn limit_option<'a>(alloc: Global, help: &'a str) -> Arg<'a>
     number_option(alloc, "limit", help, parser, "100000")
 }
 
-/// An option whose value names a file.
+/// Returns an option whose value names a file.
 pub fn file_option<'a>(alloc: Global, name: &'a str, help: &'a str) -> Arg<'a>
     ensures rule { rule_of result ≡ named_file_rule name.entry.now }
     ensures global { result.global ≡ false }

@@ -12,7 +12,7 @@ use xa_lines::ScriptFault;
 use xa_races::{race_script, race_script_in_rounds};
 use xa_store::{Gate, OpenGate, ShuffledGate, TogetherGate};
 
-/// Races a script behind a gate, in rounds where it renews.
+/// Races a script at a gate, in rounds if `renews`.
 fn race_behind<I: Read, O: Write, G: Gate + Sync, R: Alloc<A = Global> + Threads + Wait + Sync>(
     rt: &R,
     input: &mut I,
@@ -31,7 +31,10 @@ fn race_behind<I: Read, O: Write, G: Gate + Sync, R: Alloc<A = Global> + Threads
     }
 }
 
-/// Races a script, by the gate of a schedule, in rounds where it renews.
+/// Races a script at the gate of a schedule, in rounds if `renews`.
+///
+/// `capacity` is in `[1, 1024]`.
+/// Errors: as `race_script` and `race_script_in_rounds`. Waits.
 pub fn race_by<I: Read, O: Write, R: Alloc<A = Global> + Threads + Wait + Sync>(
     rt: &R,
     input: &mut I,

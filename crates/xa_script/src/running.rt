@@ -1,4 +1,4 @@
-//! Races a script again and again, and gives the exit status for how that ended.
+//! Races a script again and again, and returns the exit status for how that ended.
 ghost use Rattle.std.specs.Prelude.{IfOk, IfErr};
 ghost use Rattle.decision_log.specs.Opens.{IsCapacity};
 ghost use Rattle.xa_runs.specs.Came.{AfterRunsFault};
@@ -15,7 +15,7 @@ use xa_lines::ScriptFault;
 use xa_runs::{ReshuffledGate, runs_script};
 use xa_store::{Gate, OpenGate, TogetherGate};
 
-/// Races a script so often behind a gate, in rounds where it renews.
+/// Races a script `runs` times at a gate, in rounds if `renews`.
 fn run_behind<I: Read, O: Write, G: Gate + Sync, R: Alloc<A = Global> + Threads + Wait + Sync>(
     rt: &R,
     input: &mut I,
@@ -34,13 +34,14 @@ fn run_behind<I: Read, O: Write, G: Gate + Sync, R: Alloc<A = Global> + Threads 
     Ok(status_of_end(ended))
 }
 
-/// Races a script so often by the gate of a schedule, in rounds where it renews, writes which outcomes came, or its faulty lines, and gives
-/// the exit status for it. Where the schedule is shuffled, each run has the seed behind the last one's.
+/// Races a script `runs` times at the gate of a schedule, writes which outcomes came, or its faulty lines,
+/// and returns the exit status for it.
 ///
-/// A capacity is in `[1, 1024]`, and runs are in `[1, 1_000_000]`.
-/// Errors: those of `runs_script`. After `Write` a prefix of the text was written, after any other nothing.
-/// May answer `NoMemory`. Waits.
-/// Own rule: docs/COMMANDS.md#explore.
+/// `capacity` is in `[1, 1024]`, `runs` in `[1, 1_000_000]`. If `renews`, each race goes on in rounds. If the
+/// schedule is shuffled, each race takes the seed after the last one's.
+/// Errors: as `runs_script`. After `Write` a prefix of the text was written, after any other error nothing.
+/// May return `NoMemory`. Waits.
+/// Own rule: docs/COMMANDS.md#race-statistics.
 pub fn run_by<I: Read, O: Write, R: Alloc<A = Global> + Threads + Wait + Sync>(
     rt: &R,
     input: &mut I,
@@ -52,6 +53,7 @@ pub fn run_by<I: Read, O: Write, R: Alloc<A = Global> + Threads + Wait + Sync>(
 ) -> Result<u8, ScriptFault>
     requires capacity { IsCapacity capacity }
     requires runs { IsLimit runs }
+    // Proved (scripts, status-of-an-end)
     ensures came { IfOk result (λ status. AppendsCame runs status (I.remaining input.old) (O.contents output.old) (O.contents output.new)) }
     ensures fault { IfErr result (λ fault. AfterRunsFault renews runs fault (I.remaining input.old) (O.contents output.old) (O.contents output.new)) }
 {

@@ -5,8 +5,8 @@
 pub enum Schedule {
     /// Each as soon as its thread begins.
     Freely,
-    /// Each once all of them stand at their first lines.
+    /// Each when all have come to their first lines.
     Together,
-    /// Together, and each steps aside before its lines, for as many turns as a generator of this seed says.
+    /// Together, and each steps aside before each line, for numbers of turns that are drawn from this seed.
     Shuffled(u64),
 }

@@ -1,4 +1,4 @@
-//! A writer that says why a write failed.
+//! A writer that reports why a write failed.
 ghost use Rattle.std.specs.Prelude.{◌≡◌};
 ghost use Rattle.std.specs.Io.{WritesAtMost};
 ghost use Rattle.std.specs.Io.KnownBytes.{WriteAppends, Keeps};
@@ -6,7 +6,7 @@ ghost use Rattle.std.specs.Io.KnownBytes.{WriteAppends, Keeps};
 use std::io;
 use std::io::Write;
 
-/// A writer that says why a write failed, once, where it is to speak.
+/// A writer that reports on the standard error why a write failed, once, if `speaks`.
 #[derive(Drop)]
 pub struct Spoken<'r, W: Write + Drop, R> {
     inner: W,
@@ -15,7 +15,7 @@ pub struct Spoken<'r, W: Write + Drop, R> {
 }
 
 impl<'r, W: Write + Drop, R: Eprint> Spoken<'r, W, R> {
-    /// Writes to this writer.
+    /// Returns a writer to this one.
     ///
     /// Takes no memory. Doesn't wait.
     pub fn new(rt: &'r R, inner: W, speaks: bool) -> Spoken<'r, W, R>
@@ -24,7 +24,7 @@ impl<'r, W: Write + Drop, R: Eprint> Spoken<'r, W, R> {
         Spoken { inner, rt, speaks }
     }
 
-    /// Says why it failed, unless it said so before.
+    /// Reports why a write failed, unless it did so before.
     fn tell(&mut self, fault: &io::Error)
         ensures { self.new.inner ≡ self.old.inner }
     {

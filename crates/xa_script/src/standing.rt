@@ -1,28 +1,28 @@
-//! How far a transaction has come, as the answers to its calls tell.
+//! How far a transaction has come, as the answers to its calls show.
 
 /// How far a transaction has come.
 #[derive(Clone, Copy, Debug, PartialEq, Eq)]
 pub enum Standing {
-    /// It takes work.
+    /// It still takes work.
     Working,
-    /// It has voted so.
+    /// It has voted READY.
     Ready,
-    /// It has voted so.
+    /// It has voted ONE PHASE.
     OnePhase,
-    /// It has voted so.
+    /// It has voted NO.
     No,
-    /// It has voted so.
+    /// It has voted NOTHING.
     Nothing,
     /// It was finished.
     Finished,
-    /// A store was left to a recovery.
+    /// A store of it was left to a recovery.
     Unfinished,
     /// It was abandoned.
     Abandoned,
 }
 
 impl Standing {
-    /// What is said of such a transaction.
+    /// Returns the words that describe such a transaction.
     pub fn words(self) -> &'static str {
         match self {
             Standing::Working => "still takes work, and PREPARE makes it vote",

@@ -1,4 +1,4 @@
-//! The transactions of a conversation, as calls and their answers tell of them.
+//! The transactions of a conversation, as calls and their answers show them.
 use crate::standing::Standing;
 use std::alloc::Global;
 use xa_manager::Call;
@@ -10,7 +10,7 @@ pub struct Standings {
     standings: Vec<Standing>,
 }
 
-/// How an answer says that a transaction voted.
+/// Returns the vote that an answer reports.
 fn voted(answer: &[u8]) -> Option<Standing> {
     if answer == b"READY\n".as_slice() {
         Some(Standing::Ready)
@@ -25,7 +25,7 @@ fn voted(answer: &[u8]) -> Option<Standing> {
     }
 }
 
-/// How a transaction then stands, where an answer says that it ended.
+/// Returns how far a transaction has come after an answer to its ending.
 fn ended(answer: &[u8], standing: Standing) -> Option<Standing> {
     if answer.starts_with(b"UNFINISHED ") {
         return Some(Standing::Unfinished);
@@ -36,7 +36,7 @@ fn ended(answer: &[u8], standing: Standing) -> Option<Standing> {
     if has_ended { Some(standing) } else { None }
 }
 
-/// What a call out of turn wants, and of which transaction.
+/// Returns what a call needs, and the transaction that it is about.
 fn wanted_by(call: &Call) -> Option<(u64, &'static str)> {
     match call {
         Call::Work { number, .. } => Some((*number, "WORK needs one that still takes work")),
@@ -52,14 +52,16 @@ fn wanted_by(call: &Call) -> Option<(u64, &'static str)> {
 }
 
 impl Standings {
-    /// No transaction. Takes no memory.
+    /// Returns a conversation without transactions.
+    ///
+    /// Takes no memory. Doesn't wait.
     pub fn new(alloc: Global) -> Standings {
         Standings {
             standings: Vec::new(alloc),
         }
     }
 
-    /// How far the transaction of this number has come, where it was begun.
+    /// Returns how far the transaction of this number has come, if it was begun.
     fn of(&self, number: u64) -> Option<Standing> {
         if number == 0 || number > self.standings.len() as u64 {
             return None;
@@ -67,7 +69,7 @@ impl Standings {
         Some(self.standings[(number - 1) as usize])
     }
 
-    /// Notes how far a transaction has come, where it was begun.
+    /// Notes how far a transaction has come, if it was begun.
     fn put(&mut self, number: u64, standing: Option<Standing>) {
         if let Some(standing) = standing
             && number != 0
@@ -79,7 +81,7 @@ impl Standings {
 
     /// Takes note of a call and its answer.
     ///
-    /// Error: `NoMemory`, where a transaction began. Doesn't wait.
+    /// Errors: `NoMemory`, only when a transaction begins. Doesn't wait.
     pub fn note(&mut self, call: &Call, answer: &[u8]) -> Result<(), NoMemory> {
         match call {
             Call::Begin => {
@@ -95,9 +97,10 @@ impl Standings {
         Ok(())
     }
 
-    /// The transaction that a call out of turn is about, how far it has come, and what the call wants.
+    /// Returns the transaction that a call out of turn is about, how far it has come, and what the call
+    /// needs.
     ///
-    /// None where the answer isn't that the call is out of turn. Takes no memory. Doesn't wait.
+    /// Returns `None` if the answer isn't that the call is out of turn. Takes no memory. Doesn't wait.
     pub fn out_of_turn(&self, call: &Call, answer: &[u8]) -> Option<(u64, Standing, &'static str)> {
         if !answer.starts_with(b"WRONG STAGE ") {
             return None;

@@ -1,4 +1,4 @@
-//! Stops the coordinator of a script of calls, and gives the exit status for how that ended.
+//! Stops the coordinator of a script of calls, and returns the exit status for how that ended.
 ghost use Rattle.std.specs.Prelude.{◌≡◌, IfOk, IfErr};
 ghost use Rattle.xa_stops.specs.Scripts.{AfterStopsFault};
 ghost use Rattle.xa_script.specs.CommandLine.{IsStoreCount};
@@ -10,13 +10,13 @@ use std::sync::Wait;
 use xa_lines::ScriptFault;
 use xa_stops::{Ended, stops_script};
 
-/// The status where all stops were listed.
+/// The status if all stops were listed.
 const LISTED: u8 = 0;
 
-/// The status where faulty lines were.
+/// The status if faulty lines were listed.
 const FAULTY: u8 = 6;
 
-/// The status for how stopping a coordinator ended.
+/// Returns the exit status for how stopping a coordinator ended.
 fn status_of_stops(ended: Ended) -> u8
     ensures { result ≡ status_of ended }
 {
@@ -26,12 +26,13 @@ fn status_of_stops(ended: Ended) -> u8
     }
 }
 
-/// Stops the coordinator of a script at each place, writes each stop or the faulty lines, and gives the exit status for it.
+/// Stops the coordinator of a script at each place, writes each stop or the faulty lines, and returns the
+/// exit status for it.
 ///
-/// There are 1 to 16 stores.
-/// Errors: those of `stops_script`. After `Write` a prefix of the text was written, after any other nothing.
-/// May answer `NoMemory`. Waits.
-/// Own rule: docs/COORDINATOR.md.
+/// `stores` is in `[1, 16]`.
+/// Errors: as `stops_script`. After `Write` a prefix of the text was written, after any other error nothing.
+/// May return `NoMemory`. Waits.
+/// Own rule: docs/COORDINATOR.md#stops.
 pub fn stop_each<H: Wait, R: Read, W: Write>(
     rt: &H,
     alloc: Global,
@@ -40,6 +41,7 @@ pub fn stop_each<H: Wait, R: Read, W: Write>(
     stores: u64,
 ) -> Result<u8, ScriptFault>
     requires { IsStoreCount stores }
+    // Proved (scripts, status-of-an-end)
     ensures stopped { IfOk result (λ status. AppendsStopped stores status (R.remaining reader.old) (W.contents writer.old) (W.contents writer.new)) }
     ensures fault { IfErr result (λ fault. AfterStopsFault stores fault (R.remaining reader.old) (W.contents writer.old) (W.contents writer.new)) }
 {

@@ -29,7 +29,7 @@ fn with_common<'a>(alloc: Global, command: Command<'a>) -> Result<Command<'a>, A
         .arg(flag_option(alloc, "text", text))
 }
 
-/// A subcommand without options, with what its help shows behind them.
+/// Returns a subcommand without options, with the text that its help shows after these.
 fn plain_command<'a>(alloc: Global, name: &'a str, about: &'a str, help: &'a str) -> Command<'a>
     ensures app { app_of result ≡ new_app name.entry.now }
     ensures local { IsLocal result }
@@ -37,7 +37,7 @@ fn plain_command<'a>(alloc: Global, name: &'a str, about: &'a str, help: &'a str
     Command::new(alloc, name).about(about).after_help(help)
 }
 
-/// The subcommand that races a script.
+/// Returns the subcommand that races a script.
 fn race_command<'a>(alloc: Global) -> Result<Command<'a>, AllocError>
     ensures app { IfOk result (λ command. app_of command ≡ race_app) }
     ensures local { IfOk result IsLocal }
@@ -51,7 +51,7 @@ fn race_command<'a>(alloc: Global) -> Result<Command<'a>, AllocError>
         .arg(runs_option(alloc))
 }
 
-/// The subcommand that carries calls out.
+/// Returns the subcommand that carries out calls.
 fn coordinate_command<'a>(alloc: Global) -> Result<Command<'a>, AllocError>
     ensures app { IfOk result (λ command. app_of command ≡ coordinate_app) }
     ensures local { IfOk result IsLocal }
@@ -63,7 +63,7 @@ fn coordinate_command<'a>(alloc: Global) -> Result<Command<'a>, AllocError>
         .arg(fixed_option(alloc))
 }
 
-/// The subcommand that stops a coordinator.
+/// Returns the subcommand that stops a coordinator.
 fn stops_command<'a>(alloc: Global) -> Result<Command<'a>, AllocError>
     ensures app { IfOk result (λ command. app_of command ≡ stops_app) }
     ensures local { IfOk result IsLocal }
@@ -74,7 +74,7 @@ fn stops_command<'a>(alloc: Global) -> Result<Command<'a>, AllocError>
         .arg(capacity_option(alloc))
 }
 
-/// The subcommand that judges a record.
+/// Returns the subcommand that judges a record.
 fn judge_command<'a>(alloc: Global) -> Result<Command<'a>, AllocError>
     ensures app { IfOk result (λ command. app_of command ≡ judge_app) }
     ensures local { IfOk result IsLocal }
@@ -94,7 +94,7 @@ fn judge_command<'a>(alloc: Global) -> Result<Command<'a>, AllocError>
         .arg(file_option(alloc, "allow", allow))
 }
 
-/// The subcommand that explores a script.
+/// Returns the subcommand that explores a script.
 fn explore_command<'a>(alloc: Global) -> Result<Command<'a>, AllocError>
     ensures app { IfOk result (λ command. app_of command ≡ explore_app) }
     ensures local { IfOk result IsLocal }
@@ -104,7 +104,7 @@ fn explore_command<'a>(alloc: Global) -> Result<Command<'a>, AllocError>
     plain_command(alloc, "explore", about, EXPLORED).arg(limit_option(alloc, help))
 }
 
-/// The command without its subcommands, one of which is required, unless the version is asked for.
+/// Returns the command without its subcommands. One of these is required, unless the version is asked for.
 fn bare_command<'a>(alloc: Global) -> Command<'a>
     ensures app { app_of result ≡ bare_app }
     ensures local { IsLocal result }
@@ -144,7 +144,7 @@ fn with_race<'a>(alloc: Global, command: Command<'a>) -> Result<Command<'a>, All
     command.subcommand(with_common(alloc, race_command(alloc)?)?)
 }
 
-/// Adds the subcommand that carries calls out.
+/// Adds the subcommand that carries out calls.
 fn with_coordinate<'a>(alloc: Global, command: Command<'a>) -> Result<Command<'a>, AllocError>
     ensures { IfOk result (λ more. app_of more ≡ with_subcommand (app_of command.entry) (common_app coordinate_app).top) }
 {
@@ -158,7 +158,7 @@ fn with_stops<'a>(alloc: Global, command: Command<'a>) -> Result<Command<'a>, Al
     command.subcommand(with_common(alloc, stops_command(alloc)?)?)
 }
 
-/// Adds the subcommand that serves whoever speaks.
+/// Adds the subcommand that serves a client.
 fn with_serve<'a>(alloc: Global, command: Command<'a>) -> Result<Command<'a>, AllocError>
     ensures { IfOk result (λ more. app_of more ≡ with_subcommand (app_of command.entry) (plain_app (codes "serve")).top) }
 {
@@ -188,7 +188,7 @@ fn with_explore<'a>(alloc: Global, command: Command<'a>) -> Result<Command<'a>, 
     command.subcommand(with_common(alloc, explore_command(alloc)?)?)
 }
 
-/// The command and its subcommands.
+/// Returns the command with its subcommands.
 pub fn script_command<'a>(alloc: Global) -> Result<Command<'a>, AllocError>
     ensures { IfOk result (λ command. app_of command ≡ script_app) }
 {

@@ -1,20 +1,21 @@
-//! Says on the standard error how far judging a record is.
+//! Reports on the standard error how far judging a record is.
 use std::alloc::Global;
 use std::rt::Clock;
 use std::time::Instant;
 use xa_judge::Progress;
 use xa_xid::NoMemory;
 
-/// Says on the standard error how far judging a record is, at most once a second, and not in the first one.
+/// Reports on the standard error how far judging a record is, at most once a second, and not in the first
+/// second.
 #[derive(Drop)]
 pub struct Telling<'r, R> {
-    /// Where it is said.
+    /// The runtime whose standard error is written to.
     rt: &'r R,
-    /// When the judging began, or it was said last; none where nothing is said.
+    /// When the judging began, or the last report was made. `None` if nothing is reported.
     last: Option<Instant>,
 }
 
-/// The number in digits, with commas between its thousands.
+/// Returns the number in digits, with commas between its thousands.
 fn grouped(alloc: Global, number: u64) -> Result<String, NoMemory> {
     let digits = format!(in alloc; "{number}")?;
     let digits = digits.as_bytes();
@@ -29,7 +30,7 @@ fn grouped(alloc: Global, number: u64) -> Result<String, NoMemory> {
 }
 
 impl<'r, R: Clock + Eprint + Alloc<A = Global>> Telling<'r, R> {
-    /// Says it from now on, or nothing.
+    /// Returns a reporter that begins now. If `quiet`, it reports nothing.
     ///
     /// Takes no memory. Doesn't wait.
     pub fn new(rt: &'r R, quiet: bool) -> Telling<'r, R> {

@@ -1,4 +1,4 @@
-//! A line whose literals are written as texts.
+//! A line whose literals are written as texts in quotes.
 ghost use Rattle.std.specs.Prelude.{◌≡◌, ◌++◌, ◌∷◌, [], ℕ, List, IsTrue, IfSome};
 ghost use Rattle.xa_script.specs.Texts.{is_printable, are_printable, between_quotes, quoted, word_text, is_between, texts_from, with_texts};
 
@@ -8,21 +8,21 @@ use xa_xid::literal_of;
 /// Room for a line.
 pub type Room = ArrayVec<u8, 512>;
 
-/// The beginning of a line, as texts, and the bytes of the word that has come behind it.
+/// The beginning of a line, as it is written, and the bytes of the word that has begun after it.
 #[derive(Drop)]
 struct TextLine {
     text: Room,
     word: Room,
 }
 
-/// Whether a byte is printable ASCII.
+/// Returns whether a byte is printable ASCII.
 fn is_plain(byte: u8) -> bool
     ensures { result ≡ is_printable byte }
 {
     32 <= byte && byte <= 126
 }
 
-/// Whether all bytes are printable ASCII.
+/// Returns whether all bytes are printable ASCII.
 fn are_plain(bytes: &[u8]) -> bool
     ensures { result ≡ are_printable bytes.now }
 {
@@ -34,7 +34,7 @@ fn are_plain(bytes: &[u8]) -> bool
     true
 }
 
-/// Puts a byte at the end, where there is room.
+/// Appends a byte, if there is room.
 fn put(text: &mut Room, byte: u8) -> Option<()>
     ensures { IfSome result (λ _. text.new.items ≡ text.old.items ++ byte ∷ []) }
 {
@@ -45,7 +45,7 @@ fn put(text: &mut Room, byte: u8) -> Option<()>
     Some(())
 }
 
-/// Puts a word at the end as it stands, where there is room.
+/// Appends a word as it is, if there is room.
 fn put_word(text: &mut Room, word: &[u8]) -> Option<()>
     ensures { IfSome result (λ _. text.new.items ≡ text.old.items ++ word.now) }
 {
@@ -55,7 +55,7 @@ fn put_word(text: &mut Room, word: &[u8]) -> Option<()>
     }
 }
 
-/// Puts bytes at the end as they stand between quotes, where there is room.
+/// Appends bytes as they are written between quotes, if there is room.
 fn put_between(text: &mut Room, bytes: &[u8]) -> Option<()>
     ensures { IfSome result (λ _. text.new.items ≡ text.old.items ++ between_quotes bytes.now) }
 {
@@ -68,7 +68,7 @@ fn put_between(text: &mut Room, bytes: &[u8]) -> Option<()>
     Some(())
 }
 
-/// Puts bytes at the end as a text in quotes, where there is room.
+/// Appends bytes as a text in quotes, if there is room.
 fn put_text(text: &mut Room, bytes: &[u8]) -> Option<()>
     ensures { IfSome result (λ _. text.new.items ≡ text.old.items ++ quoted bytes.now) }
 {
@@ -77,7 +77,8 @@ fn put_text(text: &mut Room, bytes: &[u8]) -> Option<()>
     put(text, b'\'')
 }
 
-/// Puts a word at the end: a literal of printable bytes as a text in quotes, any other word as it stands. Nothing, where there is no room.
+/// Appends a word, if there is room: a literal of printable bytes as a text in quotes, any other word as it
+/// is.
 fn put_written(text: &mut Room, word: &[u8]) -> Option<()>
     ensures { IfSome result (λ _. text.new.items ≡ text.old.items ++ word_text word.now) }
 {
@@ -94,7 +95,7 @@ fn put_written(text: &mut Room, word: &[u8]) -> Option<()>
     }
 }
 
-/// Whether a byte stands between words: a space, a comma or the line feed.
+/// Returns whether a byte separates words: a space, a comma or the line feed.
 fn divides(byte: u8) -> bool
     ensures { result ≡ is_between byte }
 {
@@ -102,7 +103,7 @@ fn divides(byte: u8) -> bool
 }
 
 impl TextLine {
-    /// Takes a byte of the line, where there is room.
+    /// Takes a byte of the line, if there is room.
     fn take(&mut self, byte: u8) -> Option<()>
         ensures { IfSome result (λ _. (rest : List ℕ)
             → self.new.text.items ++ texts_from self.new.word.items rest ≡ self.old.text.items ++ texts_from self.old.word.items (byte ∷ rest)) }
@@ -117,11 +118,13 @@ impl TextLine {
     }
 }
 
-/// A line with its literals of printable bytes as texts in quotes.
+/// Returns a line with its literals of printable bytes as texts in quotes.
 ///
-/// None where there is no room for it. Takes no memory. Doesn't wait.
+/// Returns `None` if the result has more than 512 bytes. Takes no memory. Doesn't wait.
 /// Own rule: docs/COMMANDS.md#options-of-every-job.
 pub fn text_line(line: &[u8]) -> Option<Room>
+    // Proved (scripts, text-lines): With `--text` each literal of printable bytes in a line becomes a text in
+    //   quotes, and all else stays.
     ensures { IfSome result (λ text. text.items ≡ with_texts line.now) }
 {
     let mut so_far = TextLine {

@@ -1,4 +1,4 @@
-//! A writer of lines in which literals stand as texts.
+//! A writer that writes the literals of its lines as texts.
 ghost use Rattle.std.specs.Prelude.{◌≡◌, ◌≤◌, ◌<◌, true, false, ⊤, [], length, take, drop, IfOk, OnOk, OnErr};
 ghost use Rattle.std.specs.Io.{WritesAtMost};
 ghost use Rattle.std.specs.Io.KnownBytes.{Keeps, WriteAppends};
@@ -8,30 +8,31 @@ use crate::text_line::{Room, text_line};
 use std::io::{ErrorKind, Write};
 use std::{io, mem};
 
-/// A writer of lines in which literals of printable bytes stand as texts in quotes.
+/// A writer that writes the literals of printable bytes in its lines as texts in quotes.
 ///
-/// A line is written once it is whole. One that has no room here has no literals, and passes as it comes; so does what a flush cuts off.
+/// A line is written when it is whole. A line of more than 512 bytes has no literals of the job's own, and
+/// passes unchanged. So does a line that a flush cuts off.
 #[derive(Drop)]
 pub struct Texts<W> {
-    /// What is written to.
+    /// The writer that is written to.
     inner: W,
-    /// What the lines are written as.
+    /// The form of the lines.
     form: LineForm,
-    /// What has come of the line.
+    /// What has been taken of the line.
     held: Room,
-    /// What is to be written before more is taken.
+    /// What has to be written before more is taken.
     due: Room,
     /// How much of that is written.
     given: usize,
-    /// Whether the rest of the line passes as it comes.
+    /// Whether the rest of the line passes unchanged.
     passes: bool,
-    /// How many rows of a reply are still to come.
+    /// How many rows of a reply are still missing.
     rows: u64,
     ghost within: { given ≤ length due.items },
     ghost apart: { passes ≡ true → held.items ≡ [] },
 }
 
-/// How many bytes the first line has, with its line feed, or all of them.
+/// Returns how many bytes the first line has, with its line feed.
 fn line_length(bytes: &[u8]) -> usize
     ensures { result ≤ length bytes.now }
 {
@@ -41,7 +42,7 @@ fn line_length(bytes: &[u8]) -> usize
     }
 }
 
-/// A line without its line feed.
+/// Returns a line without its line feed.
 fn without_feed(line: &[u8]) -> &[u8] {
     match line {
         [front @ .., b'\n'] => front,
@@ -52,7 +53,7 @@ fn without_feed(line: &[u8]) -> &[u8] {
 impl<W: Write + Drop> Texts<W> {
     ghost use Rattle.xa_script.specs.Owing.{sent_of, known_of, IsWrittenAs, Takes};
 
-    /// Writes to this writer.
+    /// Returns a writer to this one.
     ///
     /// Takes no memory. Doesn't wait.
     pub fn new(inner: W, form: LineForm) -> Texts<W>
@@ -100,7 +101,7 @@ impl<W: Write + Drop> Texts<W> {
         Ok(())
     }
 
-    /// Has this written before more is taken.
+    /// Notes what has to be written before more is taken.
     fn owe(&mut self, text: Room)
         requires { drop self.old.given self.old.due.items ≡ [] }
         ensures due { self.new.due ≡ text }
@@ -113,7 +114,7 @@ impl<W: Write + Drop> Texts<W> {
         self.due = text;
     }
 
-    /// Lets what has come of the line, and the rest of it, pass as it stands.
+    /// Lets what has been taken of the line, and the rest of it, pass unchanged.
     fn let_pass(&mut self) -> io::Result<()>
         requires { drop self.old.given self.old.due.items ≡ [] }
         ensures kept { Keeps (known_of W.contents self.old) (known_of W.contents self.new) }
@@ -127,7 +128,7 @@ impl<W: Write + Drop> Texts<W> {
         self.give()
     }
 
-    /// Writes what is due, and what has come of the line.
+    /// Writes what is due, and what has been taken of the line.
     fn settle(&mut self) -> io::Result<()>
         ensures kept { Keeps (known_of W.contents self.old) (known_of W.contents self.new) }
         ensures due { OnOk result (drop self.new.given self.new.due.items ≡ []) }
@@ -140,7 +141,7 @@ impl<W: Write + Drop> Texts<W> {
         self.let_pass()
     }
 
-    /// Writes what is due, and what has come of a line that has no room.
+    /// Writes what is due, and what has been taken of a line for which there is no more room.
     fn make_room(&mut self) -> io::Result<()>
         ensures kept { Keeps (known_of W.contents self.old) (known_of W.contents self.new) }
         ensures due { OnOk result (drop self.new.given self.new.due.items ≡ []) }
@@ -154,12 +155,13 @@ impl<W: Write + Drop> Texts<W> {
         Ok(())
     }
 
-    /// Whether what has come, which ends in a line feed, is a whole line: a row may hold line feeds itself.
+    /// Returns whether what has been taken, which ends in a line feed, is a whole line. A row may hold line
+    /// feeds itself.
     fn is_whole(&self) -> bool {
         self.rows == 0 || is_whole_row(without_feed(self.held.as_slice()))
     }
 
-    /// What is written for a line, which ends in a line feed.
+    /// Returns what is written for a line, which ends in a line feed.
     fn written(form: LineForm, line: Room) -> Room
         ensures { IsWrittenAs line.items result.items }
     {
@@ -172,7 +174,7 @@ impl<W: Write + Drop> Texts<W> {
         }
     }
 
-    /// Takes the line that has come.
+    /// Takes the line that is whole.
     fn end_line(&mut self)
         requires { drop self.old.given self.old.due.items ≡ [] }
         ensures written { IsWrittenAs self.old.held.items self.new.due.items }
@@ -190,7 +192,7 @@ impl<W: Write + Drop> Texts<W> {
         }
     }
 
-    /// Takes of these bytes up to the end of a line, or as long as there is room, and says how many.
+    /// Takes these bytes up to the end of a line, or as long as there is room, and returns how many that are.
     fn take(&mut self, bytes: &[u8]) -> usize
         requires due { drop self.old.given self.old.due.items ≡ [] }
         requires passes { self.old.passes ≡ false }
@@ -210,7 +212,7 @@ impl<W: Write + Drop> Texts<W> {
         taken
     }
 
-    /// Writes the rest of the line, or of these bytes, as it stands, and says how many were written.
+    /// Writes the rest of the line, or of these bytes, unchanged, and returns how many were written.
     fn pass(&mut self, bytes: &[u8]) -> io::Result<usize>
         requires { self.old.passes ≡ true }
         ensures bound { WritesAtMost result bytes.now }
@@ -234,7 +236,12 @@ impl<W: Write + Drop> Write for Texts<W> {
     fn write(&mut self, buf: &[u8]) -> io::Result<usize>
         ensures bound { WritesAtMost result buf.now }
         ensures bytes { ⊤ }
+        // Proved (scripts, text-writer): With `--text`, bytes that the writer takes are kept in order after
+        //   those before, or end a line. That line is written as it is, or with its literals of printable
+        //   bytes as texts.
         ensures taken { IfOk result (λ count. Takes W.contents self.old (take count buf.now) self.new) }
+        // Proved (scripts, text-writer-faults): After a fault of the `--text` writer nothing more was taken,
+        //   and nothing is lost. A flush that succeeds has written all.
         ensures kept { OnErr result (Keeps (known_of W.contents self.old) (known_of W.contents self.new)) }
     {
         self.make_room()?;
@@ -247,7 +254,9 @@ impl<W: Write + Drop> Write for Texts<W> {
 
     fn flush(&mut self) -> io::Result<()>
         ensures bytes { ⊤ }
+        // Proved (scripts, text-writer-faults)
         ensures kept { OnErr result (Keeps (known_of W.contents self.old) (known_of W.contents self.new)) }
+        // Proved (scripts, text-writer-faults)
         ensures all { OnOk result (Keeps (known_of W.contents self.old) (W.contents self.new.inner)) }
     {
         self.settle()?;

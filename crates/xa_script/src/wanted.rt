@@ -1,4 +1,4 @@
-//! What is wanted where a text stops being a statement.
+//! What has to come at the place where a text stops being a statement.
 ghost use Rattle.std.specs.Prelude.{◌≡◌, ◌<◌, IfOk, vec_len};
 ghost use Rattle.xa_script.specs.Wanted.{takes_next};
 
@@ -6,7 +6,7 @@ use std::alloc::Global;
 use xa_statement::read_statement;
 use xa_xid::NoMemory;
 
-/// Tokens of the grammar: one of each kind, and its name.
+/// Tokens of the grammar: one of each kind, with its name.
 const TOKENS: [(&[u8], &str); 24] = [
     (b"XA", "XA"),
     (b"GET", "GET"),
@@ -34,8 +34,10 @@ const TOKENS: [(&[u8], &str); 24] = [
     (b"XID", "XID"),
 ];
 
-/// Whether some statement goes on with the token behind these.
+/// Returns whether some statement goes on with this token after the front.
 fn takes(alloc: Global, front: &[u8], token: &[u8]) -> Result<bool, NoMemory>
+    // Proved (scripts, wanted-tokens): A token is named as wanted at a syntax fault exactly if reading
+    //   doesn't go wrong at it there.
     ensures { IfOk result (λ taken. taken ≡ takes_next front.now token.now) }
 {
     let mut text = Vec::from_slice(alloc, front)?;
@@ -48,7 +50,8 @@ fn takes(alloc: Global, front: &[u8], token: &[u8]) -> Result<bool, NoMemory>
     }
 }
 
-/// The names of the tokens with which some statement goes on behind these, and of the end where they are a statement, or no statement goes on.
+/// Returns the names of the tokens with which some statement goes on after the front. The end of the line is
+/// among them if the front is a statement, or no statement goes on.
 fn names_behind(alloc: Global, front: &[u8]) -> Result<Vec<&'static str>, NoMemory>
     ensures { IfOk result (λ names. 0 < vec_len names) }
 {
@@ -64,7 +67,7 @@ fn names_behind(alloc: Global, front: &[u8]) -> Result<Vec<&'static str>, NoMemo
     Ok(names)
 }
 
-/// The names in one text.
+/// Returns the names in one text.
 fn joined(alloc: Global, names: &[&str]) -> Result<String, NoMemory> {
     let mut text = String::new(alloc);
     for index in 0..names.len() {
@@ -81,9 +84,11 @@ fn joined(alloc: Global, names: &[&str]) -> Result<String, NoMemory> {
     Ok(text)
 }
 
-/// What is wanted at a place of a text: the tokens with which some statement goes on there.
+/// Returns what has to come at a byte of a text: the names of the tokens with which some statement goes on
+/// there.
 ///
-/// Error: `NoMemory`. Doesn't wait.
+/// `at` counts from 0.
+/// Errors: `NoMemory`. Doesn't wait.
 /// Own rule: docs/COMMANDS.md#options-of-every-job.
 pub fn wanted_at(alloc: Global, text: &[u8], at: usize) -> Result<String, NoMemory> {
     let front = &text[..at.min(text.len())];

@@ -1,4 +1,4 @@
-//! Watches what a job reads.
+//! Looks at the lines that a job reads, for `--verbose` and `--strict`.
 ghost use Rattle.std.specs.Prelude.{◌≡◌, false};
 ghost use Rattle.std.specs.Io.{ReadsAtMost};
 ghost use Rattle.std.specs.Io.KnownBytes.{ReadConsumes};
@@ -17,30 +17,31 @@ use xa_xid::{NoMemory, skip_blanks};
 pub struct Watch<'r, I: Read + Drop, R> {
     /// What is read.
     inner: I,
-    /// Where it is said what is wanted.
+    /// The runtime whose standard error is written to.
     rt: &'r R,
-    /// What the job reads its lines as.
+    /// The kind of lines that the job reads.
     kind: LineKind,
     /// How long a line may be.
     most: usize,
     /// Whether lines are looked at.
     looks: bool,
-    /// Whether it is said what is wanted.
+    /// Whether it reports what has to come in a line.
     speaks: bool,
-    /// What has come of the line.
+    /// What has been read of the line.
     line: Vec<u8>,
     /// The line's number, from 1.
     number: u64,
-    /// How many rows of a return are still to come.
+    /// How many rows of a return are still missing.
     rows: u64,
-    /// Whether a line wasn't read.
+    /// Whether a line had a syntax fault.
     faulty: bool,
     /// Whether memory was refused.
     refused: bool,
 }
 
 impl<'r, I: Read + Drop, R: Eprint + Alloc<A = Global>> Watch<'r, I, R> {
-    /// Looks at the lines of a reader where it is to speak or to count.
+    /// Returns a reader that looks at the lines of this one if `speaks` or `counts`. Lines have at most
+    /// `most` bytes.
     ///
     /// Takes no memory. Doesn't wait.
     pub fn new(
@@ -69,8 +70,9 @@ impl<'r, I: Read + Drop, R: Eprint + Alloc<A = Global>> Watch<'r, I, R> {
         }
     }
 
-    /// Whether a line was a syntax fault; `NoMemory` where memory was refused for looking.
+    /// Returns whether a line had a syntax fault.
     ///
+    /// Errors: `NoMemory` if memory was refused for looking at the lines.
     /// Takes no memory. Doesn't wait.
     pub fn has_faults(&self) -> Result<bool, NoMemory> {
         if self.refused {
@@ -79,7 +81,7 @@ impl<'r, I: Read + Drop, R: Eprint + Alloc<A = Global>> Watch<'r, I, R> {
         Ok(self.faulty)
     }
 
-    /// Says what the line that has come is no part of.
+    /// Reports what the line that has been read lacks.
     fn blame(&self, fault: LineFault<'_>) -> Result<(), NoMemory> {
         if self.speaks {
             tell_line(self.rt, self.number, fault)?;
@@ -87,7 +89,7 @@ impl<'r, I: Read + Drop, R: Eprint + Alloc<A = Global>> Watch<'r, I, R> {
         Ok(())
     }
 
-    /// Why the line that has come isn't read.
+    /// Returns the fault of the line that has been read, if it has one.
     fn fault(&self) -> Option<LineFault<'_>> {
         if self.line.len() > self.most {
             return Some(LineFault::TooLong);
@@ -98,7 +100,7 @@ impl<'r, I: Read + Drop, R: Eprint + Alloc<A = Global>> Watch<'r, I, R> {
         self.kind.fault_in(self.line.as_slice())
     }
 
-    /// Counts the rows that the line says are to come, or the line among them.
+    /// Counts the rows that the line says that the next lines are, or the line as one of them.
     fn count_rows(&mut self)
         ensures { self.new.inner ≡ self.old.inner }
     {
@@ -113,7 +115,7 @@ impl<'r, I: Read + Drop, R: Eprint + Alloc<A = Global>> Watch<'r, I, R> {
         };
     }
 
-    /// Looks at the line that has come, and begins the next.
+    /// Looks at the line that has been read, and begins the next.
     fn end_line(&mut self) -> Result<(), NoMemory>
         ensures { self.new.inner ≡ self.old.inner }
     {
@@ -158,7 +160,7 @@ impl<'r, I: Read + Drop, R: Eprint + Alloc<A = Global>> Watch<'r, I, R> {
         }
     }
 
-    /// Looks at what was read; nothing is the end.
+    /// Looks at what was read. No bytes are the end.
     fn look(&mut self, bytes: &[u8])
         ensures { self.new.inner ≡ self.old.inner }
     {
