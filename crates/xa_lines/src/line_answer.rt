@@ -174,8 +174,8 @@ pub fn answer_statement(
     session: SessionNo,
     text: &[u8],
 ) -> Result<Vec<u8>, NoMemory>
-    // Proved (scripts, line-answers): The answer to a line or a statement, and the server after it, are those
-    //   that the definition of a script's run gives.
+    // Proved (scripts, line-answers): The answer to a line or a statement, and the server after it, are what
+    //   the definition of a script's run gives.
     ensures answer { IfOk result (λ answer. answer.items ≡ answer_to server.old session (read_of text.now)) }
     // Proved (scripts, line-answers)
     ensures after { OnOk result (server.new ≡ state_then server.old session (read_of text.now)) }

@@ -162,9 +162,9 @@ pub fn with_listing(
     server: &Server,
     keys: &[Key],
 ) -> Result<Vec<u8>, NoMemory>
-    // Proved (scripts, listing): The listing that is printed is the one that the definition gives: every
-    //   branch with its phase, its owner and the rows that it holds, then each row that was asked for, with
-    //   its committed value.
+    // Proved (scripts, listing): The listing that is printed is the one that the definition gives. It has
+    //   every branch with its phase, its owner and its rows, and then each row that was asked for, with its
+    //   committed value.
     ensures { IfOk result (λ longer. longer.items ≡ text.items ++ listing server.now keys.now) }
 {
     let branches = server.branches(alloc)?;

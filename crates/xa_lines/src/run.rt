@@ -69,10 +69,10 @@ pub fn run_script<R: PieceReader, W: PieceWriter>(
     ensures too_long { result ≡ Err ScriptFault.TooLong → ConsumesMoreThan script_bytes (R.remaining reader.old) (R.remaining reader.new) }
 
     // For any reader and writer, whether their bytes are known or not.
-    // Proved (scripts, run-fault-causes): A run that returns `Ok` made only calls that succeeded. `Read` and
-    //   `Write` are returned only if the last call on that stream failed, a write took nothing, or too many
-    //   reads were needed; `TooLong` only if too much was read. A stream that failed isn't called again, not
-    //   even to flush.
+    // Proved (scripts, run-fault-causes): A run that returns `Ok` made only calls that succeeded. `Read` is
+    //   returned only if the last read failed, or too many reads were needed. `Write` is returned only if the
+    //   last write failed or took nothing, and `TooLong` only if too much was read. A stream that failed
+    //   isn't called again, not even to flush.
     ensures calls { OnOk result
         ((script : List ℕ)
         × HasReadAll R.gives script_reads reader.old script reader.new

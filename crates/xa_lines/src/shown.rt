@@ -150,9 +150,9 @@ impl Shown {
 impl LineServer for Shown {
     ghost begins = { BeginsEmpty };
 
-    // Proved (scripts, shown-answers): After each answer comes the listing of the store that it leaves, or `
-    //   OUT OF MEMORY` if an allocation for that fails. A comment is repeated, or that line stands in its
-    //   place; it changes nothing.
+    // Proved (scripts, shown-answers): After each answer comes the listing of the store that it leaves. If an
+    //   allocation for that fails, the line `OUT OF MEMORY` comes in its place. A comment is repeated, or
+    //   replaced by that line, and changes nothing.
     ghost answers = { Shows };
 
     fn answer(&mut self, alloc: Global, line: &[u8]) -> Answer {
@@ -172,7 +172,7 @@ impl LineServer for Shown {
 /// Every branch is shown, ascending, with its phase, its owner and the rows that it holds; then the committed
 /// values of the rows that the line is about. All that is shown is on lines that begin with two blanks. A
 /// line whose first byte that isn't a blank is `#` is a comment, and is repeated after two blanks. If memory
-/// is refused for a listing or a comment, the line ` OUT OF MEMORY` comes in its place.
+/// is refused for a listing or a comment, a line `OUT OF MEMORY`, after two blanks, comes in its place.
 /// Errors: `NoMemory` if the memory for a line was refused, before anything was received; `Read` if a read
 /// failed, or after 2 ^ 64 - 1 reads; `Write` if a write or a flush failed.
 /// After `Read` all whole lines are answered. After `Write` a prefix of the answers was given.
@@ -181,7 +181,7 @@ impl LineServer for Shown {
 pub fn show_statements<P: Client<Shown>>(alloc: Global, client: &mut P) -> Result<(), ScriptFault>
     requires { IfSome (P.exchange client.old) IsFresh }
     // Proved (scripts, shown-lines): When a client that is shown the store has ended, all its lines are
-    //   answered in order, each as serving may answer it, and with the listing after it.
+    //   answered in order. Each answer is one that serving may give, with the listing after it.
     ensures told { OnOk result (IfSome (P.exchange client.new) (IsServed BeginsEmpty Shows)) }
     // Proved (scripts, serving-faults)
     ensures fault { IfErr result (λ fault. IfSome (P.exchange client.new) (AfterServing BeginsEmpty Shows fault)) }

@@ -47,8 +47,8 @@ impl LineServer for Server {
 pub fn serve_statements<P: Client<Server>>(alloc: Global, client: &mut P) -> Result<(), ScriptFault>
     requires { IfSome (P.exchange client.old) IsFresh }
     // Proved (scripts, served-lines): When a served client has ended, each of its lines has the answer of a
-    //   script's run, and a line that is too long that of a bad line. Or the line's statement was answered
-    //   out of memory, and changed nothing.
+    //   script's run. A line that is too long has the answer of a bad line. A statement may instead be
+    //   answered out of memory, and has then changed nothing.
     ensures told { OnOk result (IfSome (P.exchange client.new) IsToldAll) }
     // Proved (scripts, serving-faults): After a read fault all whole lines are answered. After a write fault
     //   the first answers were given, the last of them perhaps in part. If there was no memory for one line,

@@ -75,7 +75,7 @@ pub fn judge_within<R: Read, W: Write, P: Progress>(
 ) -> Result<u8, ScriptFault>
     requires { IsLimit asked.limit }
     // Proved (scripts, status-of-an-end): The exit status of `judge`, `explore`, `race --runs` and `stops` is
-    //   the one that the table has for the end of the job, and the text that was written is right for that end.
+    //   the one that the table has for the end of the job. The text that was written is right for that end.
     ensures judged { IfOk result
         (λ status. AppendsVerdict allowances.now asked status (R.remaining reader.old) (W.contents writer.old) (W.contents writer.new)) }
     ensures fault { IfErr result

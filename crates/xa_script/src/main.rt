@@ -281,8 +281,8 @@ fn refuse<R: Print + Eprint>(rt: &R, error: &Error) -> u8 {
 
 /// Returns the exit status of a job that ended in this fault.
 fn status_of(fault: ScriptFault) -> u8
-    // Proved (scripts, status-after-a-fault): The exit status after a fault is 1 if reading or writing failed
-    //   or the input was too long, and 3 if memory, the log, a gate or a thread gave out.
+    // Proved (scripts, status-after-a-fault): After `read fault`, `script too long` and `write fault` the
+    //   exit status is 1, after every other fault 3.
     ensures { result ≡ status_after fault }
 {
     match fault {

@@ -236,9 +236,8 @@ impl<W: Write + Drop> Write for Texts<W> {
     fn write(&mut self, buf: &[u8]) -> io::Result<usize>
         ensures bound { WritesAtMost result buf.now }
         ensures bytes { ⊤ }
-        // Proved (scripts, text-writer): With `--text`, bytes that the writer takes are kept in order after
-        //   those before, or end a line. That line is written as it is, or with its literals of printable
-        //   bytes as texts.
+        // Proved (scripts, text-writer): With `--text` the writer keeps the bytes that it takes in order. A
+        //   whole line is written as it is, or with its literals of printable bytes as texts.
         ensures taken { IfOk result (λ count. Takes W.contents self.old (take count buf.now) self.new) }
         // Proved (scripts, text-writer-faults): After a fault of the `--text` writer nothing more was taken,
         //   and nothing is lost. A flush that succeeds has written all.
