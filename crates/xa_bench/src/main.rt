@@ -1,6 +1,9 @@
-//! Measures what a commit, a rollback and a renewal cost in stores of different sizes, and how threads do side by side.
+//! Measures how fast servers, logs and renewals are. `xa_bench steady MODE THREADS SECONDS` prints one rate to the
+//! standard output, for a mode of `src/modes.rt`. `xa_bench figures` prints to the standard error what a commit, a
+//! rollback and a renewal cost in stores of different sizes. Without a word it runs a little of everything, to show
+//! that it works. `scripts/figures` compares its rates with plain Rust's; docs/CONTRIBUTING.md#figures has the results.
 //!
-//! The figures go to the standard error, so that what is printed is the same in every run; but `steady` prints its one figure.
+//! Read `src/steady.rt` next, then `src/commits.rt` and `src/renewals.rt`.
 #![tactic(auto)]
 
 mod adders;

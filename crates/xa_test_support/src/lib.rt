@@ -1,4 +1,7 @@
-//! Scripts of two sessions whose lines say what they are to be answered, for the crates of tests.
+//! Scripts whose lines hold their expected answers, for the crates of tests: `2 GET 'k' = 1 VALUE 0x76` is a line of
+//! session 2 that is answered at place 1. In an expected answer `|` stands for a line feed.
+//!
+//! Read `src/playing.rt` first, which plays such a script by two sessions.
 #![tactic(auto)]
 
 mod cases;
