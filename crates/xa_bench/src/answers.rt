@@ -1,8 +1,8 @@
-//! Whoever answers the statements of one session.
+//! A session that is timed, over a log or behind a lock.
 use std::sync::Wait;
 use xa_xid::Statement;
 
-/// Whoever answers the statements of one session.
+/// Answers the statements of one session.
 pub trait Answers {
     /// Whether the statement was carried out.
     fn is_done<R: Wait>(&mut self, rt: &R, statement: &Statement) -> bool;

@@ -1,4 +1,4 @@
-//! What a commit costs, and what a rollback costs beside branches that share the same rows.
+//! What a commit costs, and what a rollback costs with branches that share the same rows.
 use crate::texts::{key, put, xid};
 use anyhow::{Context, Result};
 use std::alloc::Global;
@@ -42,7 +42,8 @@ impl Ending {
         }
     }
 
-    /// The number of the branch that a round ends: anywhere between the others, each place as often as any other.
+    /// The number of the branch that a round ends: anywhere between the others, each place as often as any
+    /// other.
     fn number(self, round: u32) -> u32 {
         let Ending::Rollback(sharers) = self else {
             return round;

@@ -1,4 +1,5 @@
-//! A gate that opens once all threads stand there, so that what is timed is the work and not the start of threads.
+//! A gate that opens once all threads stand there, so that what is timed is the work and not the start of
+//! threads.
 use anyhow::{Context, Result};
 use std::alloc::Global;
 use std::sync::Wait;
@@ -9,7 +10,7 @@ use std::{hint, thread};
 
 /// What a thread does once the gate is open.
 pub trait Pace {
-    /// Does it, and answers how many statements, or adds, it did.
+    /// Does it, and returns how many statements, or adds, it did.
     fn go<R: Wait>(&mut self, rt: &R) -> u64;
 }
 
@@ -21,7 +22,8 @@ struct Gate {
 }
 
 impl Gate {
-    /// Returns once all threads stand here. It spins, since to wake a thread takes as long as much of what is timed.
+    /// Returns once all threads stand here. It spins, since to wake a thread takes as long as much of what is
+    /// timed.
     fn pass<R: Wait>(&self, rt: &R) {
         self.standing.fetch_add(1, Ordering::SeqCst);
         for _ in rt.forever() {
@@ -58,7 +60,7 @@ impl Lap {
     }
 }
 
-/// A thread's lap behind the gate.
+/// A thread's lap, from the opening of the gate.
 fn timed<P: Pace, R: Wait + Clock>(rt: &R, gate: &Gate, pace: &mut P) -> Result<Lap> {
     gate.pass(rt);
     let begun = Instant::now(rt)?;

@@ -1,4 +1,5 @@
-//! What a thread's session is given, in texts of four to five bytes, as programs of other makers are timed with.
+//! What a thread's session is given, in texts of four to five bytes, as programs of other makers are timed
+//! with.
 ghost use Rattle.std.specs.Prelude.{◌<◌};
 
 use xa_xid::{Bytes, Key, Statement, Xid};
@@ -90,7 +91,8 @@ impl Load {
         }
     }
 
-    /// The thread's statement at a place: the cycles one after another, or all that write and then all that read.
+    /// The thread's statement at a place: the cycles one after another, or all that write and then all that
+    /// read.
     pub fn statement(self, thread: u64, place: u64) -> Option<Statement> {
         match self {
             Load::Cycles => cycle(thread, place / 5, place % 5),

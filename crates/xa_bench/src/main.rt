@@ -1,7 +1,8 @@
-//! Measures how fast servers, logs and renewals are. `xa_bench steady MODE THREADS SECONDS` prints one rate to the
-//! standard output, for a mode of `src/modes.rt`. `xa_bench figures` prints to the standard error what a commit, a
-//! rollback and a renewal cost in stores of different sizes. Without a word it runs a little of everything, to show
-//! that it works. `scripts/figures` compares its rates with plain Rust's; docs/CONTRIBUTING.md#figures has the results.
+//! Measures how fast servers, logs and renewals are. `xa_bench steady MODE THREADS SECONDS` prints one rate
+//! to the standard output, for a mode of `src/modes.rt`. `xa_bench figures` prints to the standard error what
+//! a commit, a rollback and a renewal cost in stores of different sizes. Without a word it runs a little of
+//! everything, to show that it works. `scripts/figures` compares its rates with plain Rust's;
+//! docs/CONTRIBUTING.md#figures has the results.
 //!
 //! Read `src/steady.rt` next, then `src/commits.rt` and `src/renewals.rt`.
 #![tactic(auto)]
@@ -38,7 +39,8 @@ struct Extent {
     many_rows: u32,
     /// How many branches are committed in each, and rolled back.
     rounds: u32,
-    /// How many branches are prepared in a store that is renewed, or share the rows of one that is rolled back.
+    /// How many branches are prepared in a store that is renewed, or share the rows of one that is rolled
+    /// back.
     prepared: u32,
     /// How often a store is renewed.
     tries: u32,

@@ -179,7 +179,8 @@ fn timed<R: Clock + Wait + Alloc<A = Global>>(rt: &R, kept: Kept) -> Result<(Kep
     Ok((kept, u64::try_from(taken).unwrap_or(u64::MAX)))
 }
 
-/// The nanoseconds that a renewal takes in a store of so many rows and prepared branches: the least of some tries.
+/// The nanoseconds that a renewal takes in a store of so many rows and prepared branches: the least of some
+/// tries.
 pub fn nanoseconds<R: Clock + Wait + Alloc<A = Global>>(
     rt: &R,
     rows: u32,

@@ -21,7 +21,8 @@ fn call(alloc: Global, session: SessionNo, statement: Statement) -> Result<Event
     Ok(Event::Call(session, request))
 }
 
-/// Session 1 writes a row, and session 2 reads it at the same time and is seen to get no value; then session 1's call returns.
+/// Session 1 writes a row, and session 2 reads it at the same time and is seen to get no value; then session
+/// 1's call returns.
 fn overlapping(alloc: Global) -> Result<Vec<Event>, NoMemory> {
     let mut events = Vec::new(alloc);
     if let (Some(one), Some(two), Some(key)) = (
@@ -80,7 +81,7 @@ fn read_that_overlaps_a_write_may_come_before_it(rt: HostRuntime) -> Result<(), 
     Ok(())
 }
 
-/// Counts what it is told.
+/// Counts how often progress is reported to it.
 #[derive(Drop)]
 struct Counted {
     times: u64,

@@ -108,7 +108,7 @@ impl Gate for Meeting {
 /// A script whose second line is faulty.
 const FAULTY: &[u8] = b"1 XA RECOVER\n2 XA RECOVER now\n";
 
-/// What is told of it.
+/// What its race writes.
 const TOLD: &[u8] = b"LINE 2 ERROR 1064 (42000): syntax fault at byte 11\n";
 
 /// A script of one session.
@@ -187,7 +187,7 @@ fn shut_gate_writes_nothing(rt: HostRuntime) {
     }
 }
 
-/// What two sessions that start one branch side by side can get.
+/// What two sessions that start one branch at once can be answered.
 const FIRST_WINS: &[u8] =
     b"HISTORY 1\n0 1 XA START 0x61,X'',1\n1 0 OK\n2 1 ERROR 1440 (XAE08): XAER_DUPID xid already exists\n";
 

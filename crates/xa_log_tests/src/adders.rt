@@ -22,7 +22,7 @@ fn delete(session: SessionNo, letter: u8) -> Option<Entry>
     Entry::of(session, &Statement::Del(Key::of(name)?))
 }
 
-/// Adds an entry, trying again where others were faster or have the turn.
+/// Adds an entry, trying again if others were faster or have the turn.
 fn add<L: DecisionLog>(log: &L, pass: &mut L::Pass, entry: &Entry) -> bool
     requires belongs { L.belongs_to pass.old ≡ L.identity log.now }
     requires own { entry.now.session ≡ (L.known pass.old).number }
@@ -77,8 +77,8 @@ fn has_each<L: DecisionLog>(log: &L, pass: &mut L::Pass, session: SessionNo) -> 
     step == EACH
 }
 
-/// Two threads, each its own, add `EACH` entries each to a log with room for them; then the passes meet, and the second has seen each
-/// one's in its order.
+/// Two threads, each its own, add `EACH` entries each to a log with room for them; then the passes meet, and
+/// the second has seen each one's in its order.
 ///
 /// Takes what starting threads takes. Waits for its threads.
 pub fn two_threads_add<L: DecisionLog + Sync, R: Threads>(
@@ -101,7 +101,8 @@ where
     first_added && second_added && saw_each(log, &mut first, &mut second)
 }
 
-/// Whether after a meeting the second pass has seen what both added, each one's in its order, and nothing else.
+/// Whether after a meeting the second pass has seen what both added, each one's in its order, and nothing
+/// else.
 fn saw_each<L: DecisionLog>(log: &L, first: &mut L::Pass, second: &mut L::Pass) -> bool
     requires first { L.belongs_to first.old ≡ L.identity log.now }
     requires second { L.belongs_to second.old ≡ L.identity log.now }

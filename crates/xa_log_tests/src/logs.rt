@@ -9,7 +9,7 @@ use std::process::Abort;
 use std::sync::Wait;
 use std::thread::Threads;
 
-/// A log with a turn for two sessions, opened again where there was no memory.
+/// A log with a turn for two sessions, opened again if there was no memory.
 fn turn(alloc: Global, capacity: u64) -> Result<(TurnLog, Vec<TurnPass>), OpenFault>
     ensures { IfOk result (λ opened. All (λ pass. ⟦<TurnLog as DecisionLog>⟧.belongs_to pass ≡ ⟦<TurnLog as DecisionLog>⟧.identity opened.0) opened.1.items) }
 {
@@ -19,7 +19,7 @@ fn turn(alloc: Global, capacity: u64) -> Result<(TurnLog, Vec<TurnPass>), OpenFa
     }
 }
 
-/// A chain for two sessions, opened again where there was no memory.
+/// A chain for two sessions, opened again if there was no memory.
 fn chain(alloc: Global, capacity: u64) -> Result<(ChainLog, Vec<ChainPass>), OpenFault>
     ensures { IfOk result (λ opened. All (λ pass. ⟦<ChainLog as DecisionLog>⟧.belongs_to pass ≡ ⟦<ChainLog as DecisionLog>⟧.identity opened.0) opened.1.items) }
 {

@@ -47,7 +47,7 @@ fn prepare<'a, L: DecisionLog, R: Wait>(
     (session, prepared)
 }
 
-/// Whether a session lists the branches of both threads, behind their six entries.
+/// Whether a session lists the branches of both threads, after their six entries.
 fn lists_both<L: DecisionLog>(session: &mut Session<'_, L>) -> bool {
     let Ok(
         Answer {
@@ -64,8 +64,8 @@ fn lists_both<L: DecisionLog>(session: &mut Session<'_, L>) -> bool {
     }
 }
 
-/// Two sessions in threads of their own prepare a branch each, in a log with room for six entries. After they have met, the second
-/// has seen all six, and lists both branches.
+/// Two sessions in threads of their own prepare a branch each, in a log with room for six entries. After they
+/// have met, the second has seen all six, and lists both branches.
 ///
 /// May take memory, and what starting threads takes. Waits for its threads.
 pub fn two_threads_prepare<'a, L: DecisionLog + Sync, R: Threads + Wait + Sync>(

@@ -66,7 +66,7 @@ const OUTDATED: &[u8] = b"1 PUT 'k','v' = OK 1
 2 LOOK = 3
 ";
 
-/// A branch reads a row twice, of which only the first enters, and then writes the row that it shares.
+/// A branch reads a row twice, of which only the first is logged. Then it writes the row that it shares.
 const SHARED: Scene = Scene::Plays(
     b"1 XA START 'a' = 0 OK
 1 GET 'k' = 1 NONE

@@ -13,7 +13,7 @@ use xa_statement::read_statement;
 use xa_test_support::{first_difference, has_history};
 use xa_xid::{Bytes, Key, Statement};
 
-/// A session of a pass, connected again where there was no memory.
+/// A session of a pass, connected again if there was no memory.
 pub(crate) fn connected<'a, L: DecisionLog>(
     rt: &impl Abort,
     log: &'a L,
@@ -53,8 +53,8 @@ pub(crate) fn play<L: DecisionLog, R: Abort + Wait>(
     assert!(rt; has_history(first, history) && has_history(second, history));
 }
 
-/// Tries once, in a session whose replica has replayed all that is seen. The statement isn't `XA RECOVER`, so memory is wanted only
-/// for entries that others added meanwhile.
+/// Tries once, in a session whose replica has replayed all that is seen. The statement isn't `XA RECOVER`, so
+/// memory is wanted only for entries that others added meanwhile.
 fn ask_again<L: DecisionLog>(
     session: &mut Session<'_, L>,
     statement: &Statement,
@@ -91,8 +91,8 @@ fn answers_again<L: DecisionLog>(rt: &impl Abort, session: &mut Session<'_, L>, 
     }
 }
 
-/// A session has replayed each of its entries once it is answered. Another one reads the row, and has replayed all of them; asked again, it
-/// answers the same with nothing to replay.
+/// A session has replayed each of its entries once it is answered. Another one reads the row, and has
+/// replayed all of them; asked again, it answers the same with nothing to replay.
 pub(crate) fn keeps_its_replica<L: DecisionLog, R: Abort + Wait>(
     rt: &R,
     alloc: Global,
@@ -116,7 +116,8 @@ pub(crate) fn keeps_its_replica<L: DecisionLog, R: Abort + Wait>(
     assert!(rt; answers_again(rt, second, 4) && second.folded() == 4);
 }
 
-/// The pass of a session that owns a branch, which can't disconnect in a full log, since that would enter.
+/// The pass of a session that owns a branch, which can't disconnect in a full log, since that would be
+/// logged.
 fn kept_open<L: DecisionLog, R: Abort + Wait>(rt: &R, session: Session<'_, L>) -> L::Pass
 where
     L::Pass: Drop,
@@ -150,8 +151,8 @@ where
     assert!(rt; session.number().get() == number && session.seen() == 2);
 }
 
-/// In a full log a session that owns a branch can't disconnect, and keeps what it had; a free session can. Their passes are good for sessions
-/// of the same numbers, which have seen what they had seen.
+/// In a full log a session that owns a branch can't disconnect, and keeps what it had; a free session can.
+/// Their passes are good for sessions of the same numbers, which have seen what they had seen.
 pub(crate) fn stays_open<'a, L: DecisionLog, R: Abort + Wait>(
     rt: &R,
     alloc: Global,
@@ -197,7 +198,8 @@ fn starts_at<L: DecisionLog, R: Abort + Wait>(
     }
 }
 
-/// A session that owns a branch disconnects, its branch is rolled back, and another one starts a branch of the same identifier.
+/// A session that owns a branch disconnects, its branch is rolled back, and another one starts a branch of
+/// the same identifier.
 pub(crate) fn disconnects<'a, L: DecisionLog, R: Abort + Wait>(
     rt: &R,
     mut first: Session<'a, L>,

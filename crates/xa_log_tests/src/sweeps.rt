@@ -1,4 +1,5 @@
-//! Tests that pass whether or not one growth is refused somewhere in them: a server, and sessions over a log with a turn and over a chain.
+//! Tests that pass whether or not one growth is refused somewhere in them: a server, and sessions over a log
+//! with a turn and over a chain.
 
 use crate::logs::{over_a_chain, over_a_turn};
 use crate::scenes::Scene;
@@ -9,7 +10,7 @@ use xa_server::{Reply, Server};
 use xa_test_support::{given_in, is_reply, split_case};
 use xa_xid::{SessionNo, Statement};
 
-/// Nothing enters a full log, and what doesn't enter is answered.
+/// Nothing is logged in a full log, and what isn't logged is answered.
 const FILLS: Scene = Scene::Plays(
     b"1 XA START 'a' = 0 OK
 1 PUT 'k','v' = 1 OK
@@ -40,7 +41,7 @@ const SEES: Scene = Scene::Plays(
 ",
 );
 
-/// What a session is asked next is answered after its own adds, though its replica may lag behind the last of them.
+/// A session's next statement is answered after its own adds, though its replica may lack the last of them.
 const LAGS: Scene = Scene::Plays(
     b"1 PUT 'k','v' = 0 OK
 1 GET 'k' = 1 VALUE 0x76
@@ -106,7 +107,7 @@ fn may_want_memory(statement: &Statement) -> bool {
     )
 }
 
-/// What the server says that it would reply. Asked again where there was no memory, as only `XA RECOVER` may be.
+/// What the server says that it would reply. Asked again if there was no memory, as only `XA RECOVER` may be.
 fn told(rt: &impl Abort, server: &Server, session: SessionNo, statement: &Statement) -> Reply {
     if let Ok((reply, _)) = server.reply(session, statement) {
         return reply;
@@ -118,7 +119,8 @@ fn told(rt: &impl Abort, server: &Server, session: SessionNo, statement: &Statem
     reply
 }
 
-/// Has the server carry a statement out. Where there was no memory, it would still reply what is wanted, and is asked again.
+/// Has the server carry a statement out. If there was no memory, it would still reply what is wanted, and is
+/// asked again.
 fn applied(
     rt: &impl Abort,
     alloc: Global,
@@ -139,7 +141,7 @@ fn applied(
     reply
 }
 
-/// Whether a server tells of the statement of a line what stands behind `= `, and then replies it.
+/// Whether a server says beforehand that it would reply what comes after `= ` in a line, and then replies it.
 fn is_replied(rt: &impl Abort, alloc: Global, server: &mut Server, line: &[u8]) -> bool {
     let (given, wanted) = split_case(line);
     let Some((session, statement)) = given_in(given) else {
@@ -151,7 +153,7 @@ fn is_replied(rt: &impl Abort, alloc: Global, server: &mut Server, line: &[u8]) 
         && is_reply(alloc, None, &statement, &applied, wanted)
 }
 
-/// Gives the statements of a script in turn, each of which has its reply behind `= `.
+/// Gives the statements of a script in turn, each of which has its reply after `= `.
 fn replies(rt: &impl Abort, alloc: Global, server: &mut Server, script: &[u8]) {
     let mut rest = script;
     while !rest.is_empty() {
@@ -194,7 +196,7 @@ const LEFT: &[u8] = b"4 GET 'k' = VALUE 0x6e6577
 4 XA START 'a' = OK
 ";
 
-/// A copy of the server, made again where there was no memory.
+/// A copy of the server, made again if there was no memory.
 fn copied(rt: &impl Abort, server: &Server) -> Server {
     if let Ok(copy) = server.copy() {
         return copy;

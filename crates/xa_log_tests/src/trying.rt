@@ -18,7 +18,7 @@ fn said(rt: &impl Abort, text: &[u8]) -> Statement {
     statement
 }
 
-/// The session that a line names, and what stands behind its number.
+/// The session that a line names, and what comes after its number.
 fn said_by<'a>(rt: &impl Abort, line: &'a [u8]) -> (SessionNo, &'a [u8]) {
     match read_line(line) {
         ScriptLine::Given(session, text) => (session, text),
@@ -26,7 +26,7 @@ fn said_by<'a>(rt: &impl Abort, line: &'a [u8]) -> (SessionNo, &'a [u8]) {
     }
 }
 
-/// What a pass is told of an add.
+/// What an add returns to a pass.
 fn added<L: DecisionLog>(
     rt: &impl Abort,
     log: &L,
@@ -47,7 +47,7 @@ fn added<L: DecisionLog>(
     }
 }
 
-/// What the own pass is told where the text is a word, or else of an add.
+/// What the own pass returns if the text is a word, or else of an add.
 fn told<L: DecisionLog>(
     rt: &impl Abort,
     log: &L,
@@ -99,7 +99,7 @@ fn has_entry<L: DecisionLog>(log: &L, pass: &mut L::Pass, at: u64, line: &[u8]) 
     is_of(&log.entry(pass, at), line)
 }
 
-/// Whether a number behind a word is the answer that is wanted.
+/// Whether a number after a word is the answer that is wanted.
 fn is_told(alloc: Global, told: (&[u8], u64), wanted: &[u8]) -> bool {
     match text_of(alloc, told) {
         Ok(text) => is_answer(text.as_slice(), wanted),
@@ -107,7 +107,7 @@ fn is_told(alloc: Global, told: (&[u8], u64), wanted: &[u8]) -> bool {
     }
 }
 
-/// Whether the pass that a line names is told what stands behind `= `.
+/// Whether the pass that a line names is answered as the line says after `= `.
 fn is_answered<L: DecisionLog>(
     rt: &impl Abort,
     alloc: Global,
@@ -152,10 +152,11 @@ fn is_so<L: DecisionLog>(
     }
 }
 
-/// Plays a script of the first two passes of a log. A line has a pass's number, and behind `= ` what it is told: of a statement, which it
-/// tries to add, `OK` with how many entries it has seen then, `OVERTAKEN` with the new front, or `FULL`; of `LOOK` and `LENGTH`, how many
-/// it has seen; of `MEET`, how many the other one has seen then. `1@0 2 GET 'k'` asks for the entry that the first pass has seen at place 0; a
-/// place has one digit.
+/// Plays a script of the first two passes of a log. A line has a pass's number, and after `= ` what it is
+/// answered: of a statement, which it tries to add, `OK` with how many entries it has seen then, `OVERTAKEN`
+/// with the new front, or `FULL`; of `LOOK` and `LENGTH`, how many it has seen; of `MEET`, how many the other
+/// one has seen then. `1@0 2 GET 'k'` asks for the entry that the first pass has seen at place 0; a place has
+/// one digit.
 ///
 /// May take memory. Doesn't wait.
 pub fn tries<L: DecisionLog>(

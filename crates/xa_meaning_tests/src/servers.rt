@@ -6,7 +6,7 @@ use xa_server::{BranchState, Reply, Server, XaError};
 use xa_statement::read_statement;
 use xa_xid::{SessionNo, read_xid, with_part};
 
-/// Each refusal's number, SQLSTATE and XA code as docs/STATEMENTS.md has them in 'Replies', and its text as in 'Scripts'.
+/// Each refusal's number, SQLSTATE and XA code, as docs/STATEMENTS.md#errors has them, and its text.
 const REFUSALS: &str = "1397 XAE04 -4 XAER_NOTA unknown xid
 1398 XAE05 -5 XAER_INVAL clause not supported
 1399 XAE07 -7 XAER_RMFAIL state NON-EXISTING
@@ -17,7 +17,7 @@ const REFUSALS: &str = "1397 XAE04 -4 XAER_NOTA unknown xid
 3572 HY000 0 row locked by another branch
 ";
 
-/// A reply in short, or nothing where there is no memory.
+/// A reply in short, or nothing if there is no memory.
 fn short(alloc: Global, reply: &Reply) -> Option<Vec<u8>> {
     match reply {
         Reply::Ok => Vec::from_slice(alloc, b"OK").ok(),

@@ -65,7 +65,8 @@ X'07' => fault 1
  => fault 1
 ";
 
-/// An identifier, and the place after it with its canonical text, or the number of the fault and the place of its token.
+/// An identifier, and the place after it with its canonical text, or the number of the fault and the place of
+/// its token.
 const XIDS: &str = r#"'a' , 0x4 => 9 0x61,0x04,1
 'a'  => 3 0x61,X'',1
 'a',"",0x10 ; => 11 0x61,X'',16

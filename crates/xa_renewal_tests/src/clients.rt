@@ -1,4 +1,4 @@
-//! Another client of a store that is renewed beside a coordinator.
+//! Another client of a store that is renewed while a coordinator uses it.
 ghost use Rattle.std.specs.Prelude.{◌≡◌, ◌++◌, ◌∷◌, [], Some, slice_get, vec_len};
 ghost use Rattle.xa_renewal.specs.Sessions.{AreAllOf};
 

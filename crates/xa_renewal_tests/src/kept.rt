@@ -9,8 +9,8 @@ use std::sync::Wait;
 use xa_coordinator::{Decisions, Ending, WorkFault};
 use xa_session::Fault;
 
-/// A transaction that puts the row `k` in both stores, and `m` in store 1, and is decided or not. Both are renewed with its branches
-/// open, then with them prepared, and once it is decided.
+/// A transaction that puts the row `k` in both stores, and `m` in store 1, and is decided or not. Both are
+/// renewed with its branches open, then with them prepared, and once it is decided.
 fn goes_through<R: Abort + Wait>(
     rt: &R,
     alloc: Global,
@@ -49,7 +49,7 @@ fn stands<R: Abort + Wait>(rt: &R, alloc: Global, seated: Seated, wanted: &[u8])
     assert!(rt; reads(rt, alloc, &mut first, b"XA RECOVER", b"ROWS 0"));
 }
 
-/// It commits, and so does a second one: each adds six entries to store 1, which has room for two.
+/// It commits, and so does a second one. Each adds six entries to store 1, which has room for two.
 #[test]
 fn decided_transaction_in_renewed_stores_survives(rt: HostRuntime) {
     let alloc = rt.alloc();
@@ -73,7 +73,8 @@ fn undecided_transaction_in_renewed_stores_survives(rt: HostRuntime) {
     stands(&rt, alloc, seats, b"NONE");
 }
 
-/// `XA START` and a row are two entries, for which there is room. Once the store is renewed there is room for two more rows.
+/// `XA START` and a row are two entries, for which there is room. Once the store is renewed there is room for
+/// two more rows.
 #[test]
 fn full_store_has_as_much_room_again_once_it_is_renewed(rt: HostRuntime) {
     let alloc = rt.alloc();

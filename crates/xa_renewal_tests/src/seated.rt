@@ -1,4 +1,4 @@
-//! A coordinator over two stores that may be renewed. What wanted memory is done once more.
+//! A coordinator over two stores that may be renewed. A step that is refused memory is repeated once.
 ghost use Rattle.std.specs.Prelude.{◌≡◌, ◌<◌, ◌++◌, ◌∷◌, [], Some, slice_get, vec_len};
 ghost use Rattle.xa_coordinator.specs.Stores.{ChangesAt};
 ghost use Rattle.xa_coordinator.specs.declared.transaction.VoteKind.TheVariants.{Ready as VoteKindReady};

@@ -1,4 +1,4 @@
-//! What a session is told, and the sessions of a store. What wanted memory is done once more.
+//! What a session is answered, and the sessions of a store. A step that is refused memory is repeated once.
 ghost use Rattle.std.specs.Prelude.{◌≡◌, ◌++◌, ◌∷◌, []};
 ghost use Rattle.xa_renewal.specs.Renewal.{IsOfItsStore, Opens};
 ghost use Rattle.xa_renewal.specs.Sessions.{view_of, AreAllOf};
@@ -80,7 +80,7 @@ fn answers<R: Abort + Wait>(
     );
 }
 
-/// The other client's session answers a text so, behind so many entries.
+/// The other client's session answers a text so, after so many entries.
 pub(crate) fn says<R: Abort + Wait>(
     rt: &R,
     alloc: Global,

@@ -1,4 +1,5 @@
-//! Calls of a transaction manager, whose lines say what they are to be answered. What wanted memory is done once more.
+//! Calls of a transaction manager, whose lines say what they have to be answered. A step that is refused
+//! memory is repeated once.
 
 use std::alloc::Global;
 use std::process::Abort;
@@ -8,7 +9,7 @@ use xa_lines::{Answer, split_line};
 use xa_manager::{Call, Manager, Response, read_call, write_response};
 use xa_test_support::{is_answer, split_case};
 
-/// What a manager answers to a call. Where a transaction couldn't be kept, the call is made again.
+/// What a manager answers to a call. If there was no memory for a transaction, the call is made again.
 fn answered<S: Speak, T: Speak, R: Abort + Wait>(
     rt: &R,
     alloc: Global,
@@ -57,7 +58,7 @@ pub(crate) fn is_told<S: Speak, T: Speak, R: Abort + Wait>(
     }
 }
 
-/// Has a manager answer the calls of a script, each of which has its answer behind `= `.
+/// Has a manager answer the calls of a script, each of which has its answer after `= `.
 pub(crate) fn calls<S: Speak, T: Speak, R: Abort + Wait>(
     rt: &R,
     alloc: Global,

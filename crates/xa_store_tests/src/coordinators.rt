@@ -1,5 +1,5 @@
-//! Coordinators that no manager has: of two names over the same stores, and over stores that are renewed between the votes and the
-//! second phase.
+//! Coordinators that no manager has: of two names over the same stores, and over stores that are renewed
+//! between the votes and the second phase.
 ghost use Rattle.std.specs.Prelude.{◌≡◌, ◌<◌, vec_len};
 ghost use Rattle.std.specs.List.{All};
 ghost use Rattle.xa_store.specs.Passes.{identity_of, log_of};
@@ -197,7 +197,8 @@ fn coordinators_of_two_names_leave_each_others_branches(rt: HostRuntime) {
     assert!(rt; reads(&rt, alloc, &mut reader, b"GET 'm'", b"VALUE 0x76"));
 }
 
-/// Both stores vote, and the transaction is decided or isn't. In full stores neither its end nor a recovery has room.
+/// Both stores vote, and the transaction is decided or isn't. In full stores neither its end nor a recovery
+/// has room.
 fn votes<S: Speak, R: Abort + Wait>(
     rt: &R,
     alloc: Global,
@@ -267,7 +268,7 @@ fn ends<S: Speak, R: Abort + Wait>(
     recovers(rt, alloc, coordinator, decisions, 0, 0);
 }
 
-/// Whether a reader finds the row where it was decided, and else none.
+/// Whether a reader finds the row if it was decided, and else none.
 fn finds(rt: &impl Wait, alloc: Global, reader: &mut Session<'_, Log>, decides: bool) -> bool {
     let wanted = if decides {
         b"VALUE 0x76".as_slice()
@@ -299,8 +300,9 @@ fn ends_over<R: Abort + Wait>(
     assert!(rt; finds(rt, alloc, &mut reader_1, decides));
 }
 
-/// Both stores vote, the coordinator is gone with its sessions, and the stores are renewed. Another one of the name recovers there: it
-/// commits both, or rolls them back. A branch's four statements fill a store of four.
+/// Both stores vote, the coordinator is gone with its sessions, and the stores are renewed. Another one of
+/// the name recovers there: it commits both, or rolls them back. A branch's four statements fill a store of
+/// four.
 fn goes_on_renewed<R: Abort + Wait>(rt: &R, alloc: Global, capacity: u64, decides: bool) {
     let mut decisions = Decisions::new(alloc);
     let (one, own_0, reader_0) = two_passes(rt, alloc, capacity);

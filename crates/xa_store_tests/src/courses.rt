@@ -1,4 +1,4 @@
-//! A coordinator of two stores, in which one growth may be refused, and a second one that recovers behind it.
+//! A coordinator of two stores, in which one growth may be refused, and a second one that recovers after it.
 ghost use Rattle.std.specs.Prelude.{◌≡◌};
 ghost use Rattle.std.specs.List.{All};
 ghost use Rattle.xa_store.specs.Passes.{identity_of, log_of};
@@ -22,7 +22,7 @@ enum Course {
     Decides,
     /// It has the vote, and doesn't decide.
     Hesitates,
-    /// It works in one store alone, which needs no decision.
+    /// It works in one store only, which needs no decision.
     WorksInOne,
     /// It abandons it.
     Abandons,
@@ -75,7 +75,7 @@ fn works<S: Speak, T: Speak, R: Abort + Wait>(
     }
 }
 
-/// Whether its vote is told.
+/// Whether its vote is returned.
 fn is_ready<S: Speak, T: Speak, R: Abort + Wait>(
     rt: &R,
     alloc: Global,
@@ -90,7 +90,7 @@ fn is_ready<S: Speak, T: Speak, R: Abort + Wait>(
     is_carried_out(rt, alloc, manager, b"PREPARE 1", vote)
 }
 
-/// Whether its end is told.
+/// Whether its end is returned.
 fn has_ended<S: Speak, T: Speak, R: Abort + Wait>(
     rt: &R,
     alloc: Global,
@@ -157,7 +157,7 @@ fn is_recovered<S: Speak, T: Speak, R: Abort + Wait>(
     is_so
 }
 
-/// A second coordinator of the name ends what the first left. Where there was no memory, it recovers again.
+/// A second coordinator of the name ends what the first left. If there was no memory, it recovers again.
 fn recovers<S: Speak, T: Speak, R: Abort + Wait>(
     rt: &R,
     alloc: Global,

@@ -5,7 +5,7 @@ use std::thread::yield_now;
 use xa_store::Gate;
 use xa_xid::SessionNo;
 
-/// A gate that lets two sessions pass only where both stand before it.
+/// A gate that lets two sessions pass only when both have come to it.
 #[derive(Drop)]
 pub(crate) struct Rendezvous {
     pub(crate) first: AtomicU64,
@@ -44,8 +44,8 @@ impl Gate for ShutsFirst {
     }
 }
 
-/// A gate that counts how often it is asked, and is shut from one question on. Where `is_in_order`, it is shut too for a line that is
-/// asked for twice, or not in order.
+/// A gate that counts how often it is asked, and is shut from one question on. If `is_in_order`, it is shut
+/// too for a line that is asked for twice, or not in order.
 #[derive(Drop)]
 pub(crate) struct CountsQuestions {
     pub(crate) asked: AtomicU64,
@@ -60,8 +60,9 @@ impl Gate for CountsQuestions {
     }
 }
 
-/// A gate that keeps an account of what it is told and asked by sessions 1 and 2, and is shut from one line on. A question is odd where it
-/// isn't the session's next one, where it follows a no, or where it comes before all was announced.
+/// A gate that keeps an account of what it is told and asked by sessions 1 and 2, and stops both from one
+/// line on. A question is odd if it isn't the session's next one, if it follows a refusal, or if it comes
+/// before all was announced.
 #[derive(Drop)]
 pub(crate) struct KeepsAccount {
     pub(crate) announced: AtomicU64,
@@ -73,7 +74,7 @@ pub(crate) struct KeepsAccount {
 }
 
 impl KeepsAccount {
-    /// A gate of which nobody was told yet.
+    /// A gate that wasn't told of any run yet.
     pub(crate) fn new(shut_from: u64) -> KeepsAccount {
         KeepsAccount {
             announced: AtomicU64::new(0),
@@ -85,7 +86,7 @@ impl KeepsAccount {
         }
     }
 
-    /// Whether it was told once, of two runs.
+    /// Whether it was told once how many runs there are, and these are two.
     pub(crate) fn is_told_of_two(&self) -> bool {
         self.announced.load(Ordering::SeqCst) == 1 && self.runs.load(Ordering::SeqCst) == 2
     }
@@ -111,8 +112,8 @@ impl Gate for KeepsAccount {
     }
 }
 
-/// A gate in front of another one, of two sessions. Session 2 comes late; each one that is let past its first line before both have come is
-/// alone.
+/// A gate in front of another one, of two sessions. Session 2 comes late; each one that is let past its first
+/// line before both have come is alone.
 #[derive(Drop)]
 pub(crate) struct Watches<G> {
     pub(crate) behind: G,

@@ -1,4 +1,5 @@
-//! The history of a store, asked for; and what a session that is dropped leaves. What wanted memory is done once more.
+//! The history of a store, asked for; and what a session that is dropped leaves. A step that is refused
+//! memory is repeated once.
 ghost use Rattle.std.specs.Prelude.{◌≡◌};
 ghost use Rattle.std.specs.List.{All};
 ghost use Rattle.xa_store.specs.Passes.{identity_of, log_of};
@@ -21,7 +22,7 @@ fn asked(alloc: Global, store: &Store, sessions: &mut Vec<Session<'_, Log>>) -> 
     store.history(alloc, sessions).ok()
 }
 
-/// The history of a store, asked for again where there was no memory.
+/// The history of a store, asked for again if there was no memory.
 fn history_of(
     rt: &impl Abort,
     alloc: Global,

@@ -1,5 +1,6 @@
-//! A coordinator that is stopped, fails or is met by another client at each of its calls, recovers, and is held to an account that
-//! the test keeps: the transaction is committed in all its stores or in none, and in all where it was decided.
+//! A coordinator that is stopped, fails or is met by another client at each of its calls, recovers, and is
+//! held to an account that the test keeps: the transaction is committed in all its stores or in none, and in
+//! all if it was decided.
 ghost use Rattle.std.specs.Prelude.{◌≡◌};
 ghost use Rattle.std.specs.List.{All};
 ghost use Rattle.xa_store.specs.Passes.{identity_of, log_of};
@@ -156,7 +157,8 @@ AT 1 XA RECOVER = ROWS 0
 AT 2 XA RECOVER = ROWS 0
 ";
 
-/// Whether a recovery that ends with this text found a full log, as its plan has it, and no row where nothing was decided.
+/// Whether a recovery that ends with this text found a full log, as its plan has it, and no row if nothing
+/// was decided.
 fn is_left<S: Speak, T: Speak, R: Abort + Wait>(
     rt: &R,
     alloc: Global,
@@ -254,7 +256,7 @@ fn combination<S: Speak, T: Speak, R: Abort + Wait>(
     assert!(rt; manager.decisions().is_decided(1) == is_decided);
 }
 
-/// Runs the combination of a plan over three stores, or the script of calls where there is one.
+/// Runs the combination of a plan over three stores, or the script of calls if there is one.
 fn run_over<R: Abort + Wait>(
     rt: &R,
     alloc: Global,
@@ -275,7 +277,7 @@ fn run_over<R: Abort + Wait>(
     }
 }
 
-/// Opens three stores for a plan. Runs its combination, or the script of calls where there is one.
+/// Opens three stores for a plan. Runs its combination, or the script of calls if there is one.
 fn run<R: Abort + Wait>(rt: &R, alloc: Global, plan: Plan, script: &[u8]) {
     let accounts = [AtomicU64::new(0), AtomicU64::new(0), AtomicU64::new(0)];
     let (one, passes_0) = opened(rt, alloc, 40, 3);
@@ -313,7 +315,7 @@ fn transaction_ends_alike_in_all_stores_whatever_happens_at_whichever_call(rt: H
     }
 }
 
-/// What another client finishes behind the first list is counted as missing.
+/// What another client finishes after the first list is counted as missing.
 const FORESTALLED: &[u8] = b"BEGIN = TRANSACTION 1
 WORK 1 0 PUT 'k','v' = OK
 WORK 1 1 PUT 'k','v' = OK

@@ -27,7 +27,7 @@ pub(crate) enum Way {
     Start,
     /// Another client has prepared another branch of this coordinator's naming just before.
     Prepare,
-    /// Behind each list another client rolls the first listed branch back.
+    /// After each list another client rolls the first listed branch back.
     Forestall,
     /// Before every second list another client prepares a branch of this coordinator's naming.
     Outrun,

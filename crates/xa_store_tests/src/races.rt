@@ -31,7 +31,7 @@ pub(crate) fn are_done_in_order(answers: &[Answer]) -> bool {
     })
 }
 
-/// Whether one of two sessions has started the branch, and the other was told so.
+/// Whether one of two sessions has started the branch, and the other was answered so.
 fn is_started_once(outcome: &Outcome) -> bool {
     let ([first, second], [entry]) = (outcome.answers.as_slice(), outcome.history.as_slice()) else {
         return false;
@@ -147,7 +147,7 @@ fn shuts_first<R: Abort + Threads + Wait + Sync>(
     assert!(rt; is_first_shut(fault));
 }
 
-/// Whether a session is told, at place 4, of the branch 'b' alone.
+/// Whether a session is answered, at place 4, with only the branch 'b'.
 fn lists_the_branch(session: &mut Session<'_, Log>) -> bool {
     match session.attempt(&Statement::Recover { convert: false }) {
         Ok(
@@ -163,7 +163,8 @@ fn lists_the_branch(session: &mut Session<'_, Log>) -> bool {
     }
 }
 
-/// Session 1 is shut out before its second statement, and session 2 prepares a branch, which session 3 then lists.
+/// Session 1 is shut out before its second statement, and session 2 prepares a branch, which session 3 then
+/// lists.
 #[test]
 fn gate_stops_one_run_and_no_other(rt: HostRuntime) {
     let alloc = rt.alloc();
@@ -175,7 +176,7 @@ fn gate_stops_one_run_and_no_other(rt: HostRuntime) {
     assert!(rt; lists_the_branch(&mut third));
 }
 
-/// Two sessions, of which the first has two statements.
+/// Two sessions, the first with two statements.
 const SHUT: &[u8] = b"1 XA START 'a'\n1 XA END 'a'\n2 XA START 'b'\n";
 
 /// A race of these, the second first.
@@ -201,7 +202,8 @@ fn fault_of_the_lowest_session_is_told(rt: HostRuntime) {
 const SPEAKERS: &[u8] =
     b"1 XA START 'a'\n1 XA END 'a'\n1 XA RECOVER\n1 XA PREPARE 'a'\n2 XA RECOVER\n2 PUT 'k','v'\n2 GET 'k'\n";
 
-/// A race of these sessions, whose gate is told once of two runs, and asked so often by each, once before each line and in order.
+/// A race of these sessions, whose gate is told once that there are two runs. Each session asks it once
+/// before each of its lines, in order.
 fn is_asked_in_order<R: Abort + Threads + Wait + Sync>(
     rt: &R,
     alloc: Global,
@@ -235,7 +237,8 @@ fn gate_of_a_race_in_rounds_is_told_once(rt: HostRuntime) {
     }
 }
 
-/// Both sessions come to the gate before either is let past its first line, in one race and in another one after it.
+/// Both sessions come to the gate before either is let past its first line, in one race and in another one
+/// after it.
 fn meet_first<G: Gate + Sync + Drop, R: Abort + Threads + Wait + Sync>(
     rt: &R,
     alloc: Global,
@@ -312,7 +315,8 @@ fn is_raced<R: Abort + Threads + Wait + Sync>(
     }
 }
 
-/// Two sessions start one branch side by side, in a store of three. A third then finds it started exactly where the history has it.
+/// Two sessions start one branch at once, in a store of three. A third then finds it started exactly if the
+/// history has it.
 #[test]
 fn race_survives(rt: HostRuntime) {
     let alloc = rt.alloc();

@@ -1,5 +1,5 @@
-//! Stores that go on once their history is full, or once a session was dropped, and what becomes of open branches. What wanted memory
-//! is done once more.
+//! Stores that go on once their history is full, or once a session was dropped, and what becomes of open
+//! branches. A step that is refused memory is repeated once.
 ghost use Rattle.std.specs.Prelude.{◌≡◌, ◌<◌, length, IfOk, IfErr};
 ghost use Rattle.std.specs.List.{All};
 ghost use Rattle.xa_store.specs.Passes.{identity_of, log_of};
@@ -15,7 +15,7 @@ use xa_store::{Log, Pass, Store};
 use xa_test_support::first_difference;
 use xa_words::Entry;
 
-/// Asks the sessions to leave together; they are back where there was no memory.
+/// Asks the sessions to leave together; they are back if there was no memory.
 fn leaving<'s>(
     alloc: Global,
     store: &Store,
@@ -66,7 +66,7 @@ pub(crate) enum Way {
     CarryOver,
 }
 
-/// Asks for the store to be renewed; it is back with its passes where there was no memory.
+/// Asks for the store to be renewed; it is back with its passes if there was no memory.
 fn renewing(
     alloc: Global,
     store: Store,
@@ -82,7 +82,7 @@ fn renewing(
     }
 }
 
-/// Asks for the store to be carried over; it is back with its passes where there was no memory.
+/// Asks for the store to be carried over; it is back with its passes if there was no memory.
 fn carrying(
     alloc: Global,
     store: Store,
@@ -173,7 +173,8 @@ fn generation<R: Abort + Wait>(
     left(rt, alloc, store, sessions)
 }
 
-/// The store as it goes on, and its new passes. Where that was refused at first, the store plays the script that it plays when full.
+/// The store as it goes on, and its new passes. If that was refused at first, the store plays the script that
+/// it plays when full.
 pub(crate) fn gone_on<R: Abort + Wait>(
     rt: &R,
     alloc: Global,
@@ -197,7 +198,8 @@ pub(crate) fn gone_on<R: Abort + Wait>(
     }
 }
 
-/// A store plays a script, and goes on. Where it can't at first for lack of memory, it plays `still` in the history that it has.
+/// A store plays a script, and goes on. If it can't at first for lack of memory, it plays `still` in the
+/// history that it has.
 fn next_history<R: Abort + Wait>(
     rt: &R,
     alloc: Global,
@@ -214,8 +216,8 @@ fn next_history<R: Abort + Wait>(
     gone_on(rt, alloc, way, store, passes, still)
 }
 
-/// A store with so much room plays each script in a history of its own, and goes on between them. Where it can't at first for lack of
-/// memory, it plays `still` in the history that it has.
+/// A store with so much room plays each script in a history of its own, and goes on between them. If it
+/// can't at first for lack of memory, it plays `still` in the history that it has.
 fn goes_on<R: Abort + Wait>(
     rt: &R,
     alloc: Global,

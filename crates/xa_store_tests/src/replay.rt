@@ -38,12 +38,12 @@ fn is_entry(entry: Option<&Entry>, session: SessionNo, statement: &Statement) ->
 struct Explained {
     /// Which of the session's answers comes next.
     next: usize,
-    /// How many of the answers entered.
+    /// How many of the answers were logged.
     entered: u64,
 }
 
-/// Asks the server for the reply of each answer of a session at this place, from answer `at` on. What enters is to be the next entry
-/// of the history.
+/// Asks the server for the reply of each answer of a session at this place, from answer `at` on. What is
+/// logged has to be the next entry of the history.
 fn explains_at(
     rt: &impl Abort,
     server: &Server,
@@ -81,7 +81,8 @@ fn explains_at(
     explained
 }
 
-/// What a session was told, whether it was told that the log was full, and how many of its answers were explained.
+/// What a session was answered, whether it was answered that the log is full, and how many of its answers
+/// were explained.
 #[derive(Drop)]
 pub(crate) struct Account {
     pub(crate) session: SessionNo,
@@ -90,7 +91,7 @@ pub(crate) struct Account {
     pub(crate) explained: usize,
 }
 
-/// Asks the server for the answers that the sessions had at this place. How many of them entered.
+/// Asks the server for the answers that the sessions had at this place. How many of them were logged.
 fn explains_all_at(
     rt: &impl Abort,
     server: &Server,
@@ -115,7 +116,8 @@ fn explains_all_at(
     entered
 }
 
-/// Gives the history to a server, entry by entry, and asks it for each answer at its place. Each entry is to be that of one answer.
+/// Gives the history to a server, entry by entry, and asks it for each answer at its place. Each entry is to
+/// be that of one answer.
 pub(crate) fn explains(
     rt: &impl Abort,
     alloc: Global,

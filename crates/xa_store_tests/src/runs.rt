@@ -12,7 +12,7 @@ use xa_store::{Pass, Run, Store};
 use xa_test_support::given_in;
 use xa_xid::{SessionNo, Statement};
 
-/// Appends the statement of a line where the line is of a session.
+/// Appends the statement of a line if the line is of a session.
 fn take_line(rt: &impl Abort, lines: &mut Vec<Statement>, session: SessionNo, line: &[u8]) {
     let Some((number, statement)) = given_in(line) else {
         panic!(rt; "not a line: {line:?}")

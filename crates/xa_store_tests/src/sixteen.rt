@@ -18,8 +18,8 @@ use xa_xid::{Bytes, Key, Statement, Xid};
 /// How many branches each session has.
 const BRANCHES: u8 = 50;
 
-/// How many sessions are told at least that the log is full. One that isn't adds four entries or more for each of its branches, so at
-/// most five end before there are 1,024.
+/// How many sessions at least are answered that the log is full. A session that isn't adds four entries or
+/// more for each of its branches, so at most five end before there are 1,024.
 const AT_LEAST_FULL: usize = 11;
 
 /// The branch of this number of a session.
@@ -34,8 +34,8 @@ fn branch(session: u8, number: u8) -> Xid {
     }
 }
 
-/// The statements of a branch: it reads a row that all sessions write, writes it, and is committed. Its list of the prepared branches
-/// may be anything.
+/// The statements of a branch: it reads a row that all sessions write, writes it, and is committed. Its list
+/// of the prepared branches may be anything.
 fn statements(session: u8, number: u8) -> Option<[Statement; 8]> {
     let mut name = Bytes::new();
     name.push(number % 7);
@@ -61,9 +61,9 @@ fn statements(session: u8, number: u8) -> Option<[Statement; 8]> {
 #[derive(Drop)]
 struct Worked<'a, L: DecisionLog> {
     session: Session<'a, L>,
-    /// What it was told.
+    /// What it was answered.
     told: Vec<Told>,
-    /// Whether it was told that the log was full.
+    /// Whether it was answered that the log is full.
     is_full: bool,
     /// Whether no statement, answer or fault was missing or wrong: only a log with 1,024 entries may be full.
     is_sound: bool,
@@ -122,7 +122,7 @@ fn works<'a, L: DecisionLog, R: Wait>(
     worked
 }
 
-/// Gives each session a thread of its own, and waits for all of them. Nothing where there was no memory.
+/// Gives each session a thread of its own, and waits for all of them. `None` if there was no memory.
 fn side_by_side<'a, L: DecisionLog + Sync, R: Threads + Wait + Sync>(
     rt: &R,
     alloc: Global,
@@ -161,7 +161,7 @@ fn connected<'a>(
     sessions
 }
 
-/// Each session by itself, and what it was told by itself.
+/// Each session by itself, and what it was answered.
 fn apart<'a>(
     rt: &impl Abort,
     alloc: Global,

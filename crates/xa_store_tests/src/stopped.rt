@@ -1,5 +1,5 @@
-//! Sessions that can't answer between the start of a branch and its end: the coordinator keeps what it has open there, and rolls no
-//! branch back without its `XA END`.
+//! Sessions that can't answer between the start of a branch and its end: the coordinator keeps what it has
+//! open there, and rolls no branch back without its `XA END`.
 ghost use Rattle.std.specs.Prelude.{◌≡◌, ◌≤◌, vec_len};
 ghost use Rattle.xa_store.specs.Passes.{identity_of, log_of};
 
@@ -16,8 +16,8 @@ use xa_session::{Fault, Session};
 use xa_store::{Log, Pass, Store};
 use xa_xid::{Key, Statement};
 
-/// A vote that store 1 stops after so many calls, 0 or 1. What is left is said there, and no more: `XA END` where it wasn't carried
-/// out, and `XA ROLLBACK`.
+/// A vote that store 1 stops after so many calls, 0 or 1. Only what is left is then given there: `XA END` if
+/// it wasn't carried out, and `XA ROLLBACK`.
 fn vote_stops<S: Speak, R: Abort + Wait>(
     rt: &R,
     coordinator: &mut Coordinator<Fused<S>>,
@@ -45,7 +45,8 @@ fn vote_stops<S: Speak, R: Abort + Wait>(
     coordinator.allow(1, u64::MAX);
 }
 
-/// A transaction that is given up, which store 1 stops after so many calls, 0 or 1. A recovery lets its branch go.
+/// A transaction that is given up, which store 1 stops after so many calls, 0 or 1. A recovery lets its
+/// branch go.
 fn abandon_stops<S: Speak, R: Abort + Wait>(
     rt: &R,
     alloc: Global,
@@ -71,7 +72,7 @@ fn is_stopped(found: Option<RecoverFault>, fault: Fault) -> bool {
     found == Some(RecoverFault::Session { store: 1, fault })
 }
 
-/// Whether a transaction's end is a hazard in store 0 alone.
+/// Whether a transaction's end is a hazard in store 0 only.
 fn is_hazard(ending: &Ending) -> bool {
     match ending {
         Ending::Hazard { stores } => stores.as_slice() == [0].as_slice(),
@@ -100,8 +101,8 @@ fn loses<S: Speak, R: Abort + Wait>(
     assert!(rt; matches!(told, Err(WorkFault::Lost)));
 }
 
-/// A recovery that store 1 stops at once. Store 0 has let go, so that the transaction's work is lost there; in store 1 its branch is
-/// open as before, and is ended and rolled back by two calls.
+/// A recovery that store 1 stops at once. Store 0 has let go, so that the transaction's work is lost there;
+/// in store 1 its branch is open as before, and is ended and rolled back by two calls.
 fn recovery_stops<S: Speak, R: Abort + Wait>(
     rt: &R,
     alloc: Global,
@@ -163,7 +164,8 @@ fn branch_is_ended_before_it_is_rolled_back_after_a_fault(rt: HostRuntime) {
     stops(&rt, alloc, &mut coordinator);
 }
 
-/// Store 1 is full once the branch has its row: neither the vote, the end nor a recovery gets further there, and store 0 is finished.
+/// Store 1 is full once the branch has its row: neither the vote, the end nor a recovery gets further there,
+/// and store 0 is finished.
 fn fills<S: Speak, R: Abort + Wait>(rt: &R, alloc: Global, coordinator: &mut Coordinator<S>)
     requires { vec_len coordinator.old.stores ≡ 2 }
 {

@@ -1,4 +1,4 @@
-//! Stores and their sessions. What wanted memory is done once more.
+//! Stores and their sessions. A step that is refused memory is repeated once.
 ghost use Rattle.std.specs.Prelude.{◌≡◌, ◌++◌, ◌∷◌, [], IfSome};
 ghost use Rattle.std.specs.List.{All};
 ghost use Rattle.xa_store.specs.Passes.{identity_of, log_of};
@@ -9,7 +9,7 @@ use std::process::Abort;
 use xa_session::Session;
 use xa_store::{Log, Pass, Store};
 
-/// A store, and the passes of its sessions, the last one last; nothing where there was no memory.
+/// A store, and the passes of its sessions, the last one last; `None` if there was no memory.
 fn tried(rt: &impl Abort, alloc: Global, capacity: u64, sessions: u64) -> Option<(Store, Vec<Pass>)>
     ensures { IfSome result (λ opened. All (λ pass. log_of pass ≡ identity_of opened.0.log) opened.1.items) }
 {

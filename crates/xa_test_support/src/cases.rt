@@ -1,6 +1,7 @@
-//! Lines that say what they are to be answered.
+//! Lines that hold their expected answers.
 
-/// What a line gives, and what that is to be answered: the text behind `= `. A line without `=` is to be answered nothing.
+/// Returns what a line gives, and the expected answer, which is the text after `= `. It is empty if the line
+/// has no `=`.
 ///
 /// Takes no memory. Doesn't wait.
 pub fn split_case(line: &[u8]) -> (&[u8], &[u8]) {
@@ -15,7 +16,7 @@ pub fn split_case(line: &[u8]) -> (&[u8], &[u8]) {
     }
 }
 
-/// Whether a text is this answer, in which `|` stands for each line feed.
+/// Returns whether a text is this answer, in which `|` stands for each line feed.
 ///
 /// Takes no memory. Doesn't wait.
 pub fn is_answer(text: &[u8], wanted: &[u8]) -> bool {

@@ -4,7 +4,7 @@ use xa_lines::{ScriptLine, read_line};
 use xa_statement::read_statement;
 use xa_xid::{SessionNo, Statement};
 
-/// The session that a line names, and its statement; nothing where it isn't such a line.
+/// Returns the session that a line names, and its statement, or `None` if the line has no such form.
 ///
 /// Takes no memory. Doesn't wait.
 pub fn given_in(line: &[u8]) -> Option<(SessionNo, Statement)> {

@@ -12,8 +12,8 @@ use xa_session::{Answer, Fault, Session};
 use xa_words::Entry;
 use xa_xid::Statement;
 
-/// Has a session answer a statement: one of an odd number attempts it, the others execute it. Where there was no memory and nothing was
-/// added to the history, it is given once more.
+/// Has a session answer a statement: one of an odd number attempts it, the others execute it. If there was no
+/// memory and nothing was added to the history, it is given once more.
 fn given<L: DecisionLog, R: Wait>(
     rt: &R,
     session: &mut Session<'_, L>,
@@ -33,7 +33,7 @@ fn given<L: DecisionLog, R: Wait>(
     }
 }
 
-/// Whether a session answers a statement so, and its replica lags behind by one entry at most.
+/// Returns whether a session answers a statement as wanted, and its replica lacks at most one entry.
 fn answers<L: DecisionLog, R: Wait>(
     rt: &R,
     alloc: Global,
@@ -53,11 +53,13 @@ fn answers<L: DecisionLog, R: Wait>(
     }
 }
 
-/// Plays a script of two sessions: the first line that is answered otherwise. A line has a session's number, a statement, and behind `= ` its
-/// place with its reply, or `FULL`; a line that isn't so differs too, and so does an answer behind which a replica lags by more than one
-/// entry. What wanted memory is done once more.
+/// Plays a script of two sessions, and returns the first line that is answered otherwise than it says.
 ///
-/// May take memory. Waits where other sessions are faster.
+/// A line has a session's number, a statement, and after `= ` its place with its reply, or `FULL`. A line
+/// without that form differs, and so does an answer after which a replica lacks more than one entry. A step
+/// that is refused memory is repeated once.
+///
+/// May take memory. Waits if other sessions are faster.
 pub fn first_difference<'s, L: DecisionLog, R: Wait>(
     rt: &R,
     alloc: Global,
@@ -96,7 +98,8 @@ fn is_entry(entry: &Entry, line: &[u8]) -> bool {
     }
 }
 
-/// Looks, and tells whether the whole history is the lines of a script: the statements, each of its session.
+/// Looks, and returns whether the whole history is the lines of a script: the statements, each of its
+/// session.
 ///
 /// Takes no memory. Doesn't wait.
 pub fn has_history<L: DecisionLog>(session: &mut Session<'_, L>, script: &[u8]) -> bool

@@ -6,7 +6,7 @@ use xa_lines::{converts, push_number, push_reply};
 use xa_server::Reply;
 use xa_xid::{NoMemory, Statement};
 
-/// A place, where there is one, and a reply as a run prints it.
+/// A place, if there is one, and a reply as a run prints it.
 fn text_of(
     alloc: Global,
     place: Option<u64>,
@@ -22,8 +22,9 @@ fn text_of(
     Ok(text)
 }
 
-/// Whether a reply to a statement, behind its place where there is one, is written so. It is written once more where there was no memory;
-/// not so where there is none then either.
+/// Returns whether a reply to a statement, after its place if there is one, is written like this.
+///
+/// It is written again if there was no memory. If there is none then either, the reply counts as different.
 ///
 /// May take memory. Doesn't wait.
 pub fn is_reply(

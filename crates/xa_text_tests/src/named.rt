@@ -8,7 +8,7 @@ use xa_server::Server;
 use xa_session::Fault;
 use xa_xid::{Bytes, Key, SessionNo};
 
-/// docs/RATTLE.md#stores, 'Scripts' and 'Serving'; docs/COORDINATOR.md#branch-names and 'Decisions'.
+/// docs/LIMITS.md#limits; docs/COORDINATOR.md#branch-names.
 #[test]
 fn limits(rt: HostRuntime) {
     assert_eq!(rt; SessionNo::MAX, 16);
@@ -20,7 +20,7 @@ fn limits(rt: HostRuntime) {
     assert_eq!(rt; Decisions::MOST, 1_000_000);
 }
 
-/// In the order of docs/COORDINATOR.md#votes and 'The second phase'.
+/// In the order of docs/COORDINATOR.md#votes and docs/COORDINATOR.md#finishing.
 #[test]
 fn votes_and_endings(rt: HostRuntime) {
     assert_eq!(rt; Vote::Nothing.number(), 4);
@@ -40,7 +40,7 @@ fn votes_and_endings(rt: HostRuntime) {
     }
 }
 
-/// docs/COMMANDS.md#scripts and 'Showing'.
+/// docs/COMMANDS.md#scripts and docs/COMMANDS.md#show.
 #[test]
 fn a_line_a_statement_and_a_listing(rt: HostRuntime) -> Result<(), Fail> {
     let alloc = rt.alloc();
