@@ -16,7 +16,7 @@ test: rt ## run the whole gate, proofs and tests: needs rt, a C compiler, Python
 server: $(PROGRAM) ## serve MySQL's protocol on 127.0.0.1:3306: builds the program if it is missing
 	drivers/mysql/serve $(PROGRAM)
 
-page: $(PROGRAM) ## open the classroom on http://127.0.0.1:8400/: builds the program if it is missing
+page: $(PROGRAM) ## serve the classroom on http://127.0.0.1:8400/: builds the program if it is missing
 	drivers/page/serve
 
 $(PROGRAM):
