@@ -47,6 +47,7 @@ extern "C" {
     fn nigbaru_raw_attempt(session: *mut Handle, text: *const u8, length: usize, answer: *mut RawAnswer, xids: *mut RawXid, room: usize) -> u32;
     fn nigbaru_raw_leave(session: *mut Handle) -> u32;
     fn nigbaru_raw_renew(session: *mut Handle, store: *mut Handle) -> u32;
+    fn nigbaru_raw_history(session: *mut Handle, place: u64, number: *mut u64, text: *mut u8, room: usize, length: *mut u64) -> u32;
     fn nigbaru_raw_close(store: *mut Handle) -> u32;
 }
 
@@ -60,6 +61,8 @@ const FULL: u32 = 6;
 const NO_MEMORY: u32 = 7;
 const SYNTAX: u32 = 8;
 const OUT_OF_RANGE: u32 = 10;
+
+const RECOVER: &[u8] = b"XA RECOVER";
 
 /// What a statement was answered.
 #[derive(Clone, Debug, PartialEq, Eq)]
@@ -135,10 +138,39 @@ struct Seat {
     renewals: u64,
 }
 
-/// What the mutex guards: the store as it was renewed last, and the seats that are free, the lowest number last.
+/// Who is given each entry of a store's history once, in the history's order: the session's number, and the statement's text in canonical form.
+pub type Keeper = Box<dyn FnMut(u64, &[u8]) + Send>;
+
+/// A keeper, and how many entries of the history that is current it was given.
+struct Kept {
+    keeper: Keeper,
+    given: u64,
+}
+
+impl Kept {
+    /// Gives the keeper what a session has seen and it wasn't given yet.
+    fn take_from(&mut self, seat: &mut Seat) -> Result<(), Error> {
+        let mut text = vec![0; 512];
+        loop {
+            let (mut number, mut length) = (0, 0);
+            match unsafe { nigbaru_raw_history(&mut seat.handle, self.given, &mut number, text.as_mut_ptr(), text.len(), &mut length) } {
+                OK if length as usize > text.len() => text.resize(length as usize, 0),
+                OK => {
+                    (self.keeper)(number, &text[..length as usize]);
+                    self.given += 1;
+                }
+                OUT_OF_RANGE => return Ok(()),
+                status => return Err(fault(status)),
+            }
+        }
+    }
+}
+
+/// What the mutex guards: the store as it was renewed last, the seats that are free, the lowest number last, and who keeps the history.
 struct Current {
     store: Handle,
     free: Vec<Seat>,
+    kept: Option<Kept>,
 }
 
 struct Shared {
@@ -175,10 +207,16 @@ impl Shared {
         let mut current = self.lock();
         if is_full && !self.is_behind(seat) {
             let mut next = Handle::EMPTY;
+            if let Some(kept) = &mut current.kept {
+                kept.take_from(seat)?;
+            }
             match unsafe { nigbaru_raw_renew(&mut seat.handle, &mut next) } {
                 OK => {
                     unsafe { nigbaru_raw_close(&mut current.store) };
                     current.store = next;
+                    if let Some(kept) = &mut current.kept {
+                        kept.given = 0;
+                    }
                     self.renewals.fetch_add(1, Ordering::Release);
                 }
                 status => return Err(fault(status)),
@@ -207,14 +245,28 @@ pub struct Store {
 impl Store {
     /// Opens a store without rows: its history is renewed every `capacity` entries, 1 to 1024, and it has 1 to 16 sessions.
     pub fn open(capacity: u64, sessions: u64) -> Result<Store, Error> {
+        Store::open_with(capacity, sessions, None)
+    }
+
+    /// The same, and a keeper is given the whole history: what is full before it is renewed, and the rest by [`Session::hand_over`].
+    pub fn open_kept(capacity: u64, sessions: u64, keeper: Keeper) -> Result<Store, Error> {
+        Store::open_with(capacity, sessions, Some(Kept { keeper, given: 0 }))
+    }
+
+    fn open_with(capacity: u64, sessions: u64, kept: Option<Kept>) -> Result<Store, Error> {
         let mut store = Handle::EMPTY;
         match unsafe { nigbaru_raw_open(capacity, sessions, &mut store) } {
             OK => {
                 let free = (1..=sessions).rev().map(|number| Seat { number, handle: Handle::EMPTY, renewals: 0 }).collect();
-                Ok(Store { shared: Arc::new(Shared { current: Mutex::new(Current { store, free }), renewals: AtomicU64::new(0) }) })
+                Ok(Store { shared: Arc::new(Shared { current: Mutex::new(Current { store, free, kept }), renewals: AtomicU64::new(0) }) })
             }
             status => Err(fault(status)),
         }
+    }
+
+    /// How many times its history was full.
+    pub fn renewals(&self) -> u64 {
+        self.shared.renewals.load(Ordering::Relaxed)
     }
 
     /// Takes a session that is free.
@@ -236,6 +288,23 @@ impl Session {
     /// Its number, from 1 on.
     pub fn number(&self) -> u64 {
         self.seat.as_ref().map_or(0, |seat| seat.number)
+    }
+
+    /// Gives the store's keeper, if it has one, what was logged until now and it wasn't given yet.
+    pub fn hand_over(&mut self) -> Result<(), Error> {
+        let seat = self.seat.as_mut().ok_or(Error::NoSession)?;
+        let mut current = self.shared.lock();
+        if self.shared.is_behind(seat) {
+            self.shared.seat_in(&mut current, seat)?;
+        }
+        // Whatever a session is answered it has seen the history up to there; nobody renews while the lock is held.
+        let mut answer = RawAnswer { place: 0, length: 0, count: 0, error: 0, value: [0; 64] };
+        let mut none: [RawXid; 0] = [];
+        while unsafe { nigbaru_raw_attempt(&mut seat.handle, RECOVER.as_ptr(), RECOVER.len(), &mut answer, none.as_mut_ptr(), 0) } == OVERTAKEN {}
+        match &mut current.kept {
+            Some(kept) => kept.take_from(seat),
+            None => Ok(()),
+        }
     }
 
     /// Has a statement answered, over as many tries and renewals as it takes. After an error nothing of it is in the store.

@@ -1,5 +1,6 @@
 //! The store from Rust: replies, errors, and threads over renewals.
 use nigbaru::{Error, Reply, Session, Store, Xid};
+use std::sync::{Arc, Mutex};
 use std::thread;
 
 fn ok(session: &mut Session, text: &str) {
@@ -102,4 +103,25 @@ fn four_threads_over_renewals() {
         assert!(counted > 0);
         assert_eq!(value(&mut store.session().unwrap(), "GET 'count'"), counted);
     }
+}
+
+#[test]
+fn a_keeper_is_given_the_history_over_renewals() {
+    let entries = Arc::new(Mutex::new(Vec::new()));
+    let keeping = Arc::clone(&entries);
+    let keeper = move |number: u64, text: &[u8]| keeping.lock().unwrap().push((number, String::from_utf8(text.to_vec()).unwrap()));
+    let store = Store::open_kept(3, 2, Box::new(keeper)).unwrap();
+    let (mut one, mut two) = (store.session().unwrap(), store.session().unwrap());
+    let mut expected = Vec::new();
+    for turn in 0..10 {
+        ok(&mut one, &format!("PUT 'k','{}'", turn));
+        ok(&mut two, "DEL 'l'");
+        assert_eq!(two.execute("GET 'none'"), Ok(Reply::NoRow));
+        expected.extend([(1, format!("PUT 0x6b,0x3{}", turn)), (2, "DEL 0x6c".to_string())]);
+    }
+    assert_eq!(entries.lock().unwrap().len(), 18);
+    one.hand_over().unwrap();
+    one.hand_over().unwrap();
+    assert_eq!(*entries.lock().unwrap(), expected);
+    assert_eq!(store.renewals(), 6);
 }
