@@ -1,0 +1,238 @@
+//! A client's connection: whole packets in, packets out. What comes in is bounded, and half a packet is waited for only so long.
+use crate::packets::{length_in, Malformed, Out, HEADER};
+use std::io::{self, ErrorKind, Read, Write};
+use std::net::{Shutdown, TcpStream};
+use std::os::unix::net::UnixStream;
+use std::sync::Arc;
+use std::time::{Duration, Instant};
+
+/// How much is read at once: a thread's stack holds it.
+const PIECE: usize = 4096;
+
+/// Why a connection is over.
+#[derive(Debug)]
+pub enum End {
+    /// The client said goodbye.
+    Quit,
+    /// It is gone without a goodbye; the text says where.
+    Left(&'static str),
+    /// It is cut on purpose.
+    Cut,
+    /// It isn't let in, and has been told so; the text is for the log.
+    Refused(String),
+    /// A packet of more bytes than may be; so many of them aren't read yet.
+    TooLong(usize),
+    /// It said what is no packet, or nothing where something was due.
+    Wrong(String),
+    /// The server ends.
+    Over,
+}
+
+impl From<Malformed> for End {
+    fn from(it: Malformed) -> End {
+        End::Wrong(it.0)
+    }
+}
+
+pub enum Stream {
+    Tcp(TcpStream),
+    Unix(UnixStream),
+}
+
+impl Stream {
+    /// Without delay, and with a limit to how long is waited for a client that takes no answers.
+    pub fn prepare(&self, patience: Duration) -> io::Result<()> {
+        match self {
+            Stream::Tcp(it) => it.set_nodelay(true).and(it.set_write_timeout(Some(patience))),
+            Stream::Unix(it) => it.set_write_timeout(Some(patience)),
+        }
+    }
+
+    pub fn shutdown(&self, how: Shutdown) {
+        // (where the other side was faster there is nothing left to shut)
+        let _ = match self {
+            Stream::Tcp(it) => it.shutdown(how),
+            Stream::Unix(it) => it.shutdown(how),
+        };
+    }
+
+    fn set_read_timeout(&self, limit: Option<Duration>) -> io::Result<()> {
+        match self {
+            Stream::Tcp(it) => it.set_read_timeout(limit),
+            Stream::Unix(it) => it.set_read_timeout(limit),
+        }
+    }
+
+    fn read(&self, to: &mut [u8]) -> io::Result<usize> {
+        match self {
+            Stream::Tcp(it) => (&*it).read(to),
+            Stream::Unix(it) => (&*it).read(to),
+        }
+    }
+
+    fn write_all(&self, bytes: &[u8]) -> io::Result<()> {
+        match self {
+            Stream::Tcp(it) => (&*it).write_all(bytes),
+            Stream::Unix(it) => (&*it).write_all(bytes),
+        }
+    }
+}
+
+/// How long is waited, and how long a packet may be.
+#[derive(Clone, Copy, Debug)]
+pub struct Limits {
+    /// For a login, for the rest of a packet, and for a client to take its answers.
+    pub patience: Duration,
+    /// For the next command; zero is for ever.
+    pub idle: Duration,
+    pub longest: usize,
+}
+
+pub struct Channel {
+    stream: Arc<Stream>,
+    limits: Limits,
+    /// What was read, and how much of it was taken.
+    held: Vec<u8>,
+    taken: usize,
+    /// What the socket waits at most, so that it is told only of changes.
+    waits: Option<Duration>,
+    /// Until when the login has to be there.
+    login: Option<Instant>,
+    pub out: Out,
+}
+
+enum Came {
+    Bytes,
+    Nothing,
+}
+
+impl Channel {
+    pub fn new(stream: Arc<Stream>, limits: Limits) -> Channel {
+        let login = Some(Instant::now() + limits.patience);
+        Channel { stream, limits, held: Vec::new(), taken: 0, waits: None, login, out: Out::new() }
+    }
+
+    /// From now on the client has all the time it wants for its next command.
+    pub fn has_logged_in(&mut self) {
+        self.login = None;
+    }
+
+    fn left(&self) -> End {
+        End::Left(if self.held.len() > self.taken { "in the middle of a packet" } else { "between packets" })
+    }
+
+    /// Waits for the next packet, and puts its payload in place of what stood there.
+    pub fn receive(&mut self, packet: &mut Vec<u8>) -> Result<(), End> {
+        let mut deadline = self.login;
+        let mut is_half = false;
+        while !self.take_whole(packet)? {
+            let has_begun = self.held.len() > self.taken;
+            if self.login.is_none() && (deadline.is_none() || has_begun && !is_half) {
+                is_half = has_begun;
+                let wait = if has_begun { self.limits.patience } else { self.limits.idle };
+                deadline = Some(Instant::now() + wait).filter(|_| !wait.is_zero());
+            }
+            if let Came::Nothing = self.fill(deadline)? {
+                return Err(End::Wrong(self.silence(is_half)));
+            }
+        }
+        Ok(())
+    }
+
+    fn silence(&self, is_half: bool) -> String {
+        let patience = self.limits.patience.as_secs_f64();
+        match (self.login, is_half) {
+            (Some(_), _) => format!("silent for {} seconds", patience),
+            (None, true) => format!("half a packet, and nothing more for {} seconds", patience),
+            (None, false) => format!("no command for {} seconds", self.limits.idle.as_secs_f64()),
+        }
+    }
+
+    /// Takes a packet from what is held, if it is whole.
+    fn take_whole(&mut self, packet: &mut Vec<u8>) -> Result<bool, End> {
+        let held = &self.held[self.taken..];
+        if held.len() < HEADER {
+            return Ok(false);
+        }
+        let end = HEADER + length_in(held);
+        if end > HEADER + self.limits.longest {
+            return Err(End::TooLong(end - held.len().min(end)));
+        }
+        if held.len() < end {
+            return Ok(false);
+        }
+        self.out.number = held[3].wrapping_add(1);
+        packet.clear();
+        packet.extend(&held[HEADER..end]);
+        self.taken += end;
+        if self.taken == self.held.len() {
+            self.taken = 0;
+            self.held.clear();
+            self.held.shrink_to(PIECE);
+        }
+        Ok(true)
+    }
+
+    /// Reads what has come, or waits for it until the deadline.
+    fn fill(&mut self, deadline: Option<Instant>) -> Result<Came, End> {
+        loop {
+            let wait = match deadline.map(|it| it.saturating_duration_since(Instant::now())) {
+                Some(wait) if wait.is_zero() => return Ok(Came::Nothing),
+                wait => wait,
+            };
+            if self.waits != wait {
+                self.stream.set_read_timeout(wait).map_err(|_| self.left())?;
+                self.waits = wait;
+            }
+            let mut piece = [0; PIECE];
+            match self.stream.read(&mut piece) {
+                Ok(0) => return Err(self.left()),
+                Ok(length) => {
+                    self.held.drain(..self.taken);
+                    self.taken = 0;
+                    self.held.extend(&piece[..length]);
+                    return Ok(Came::Bytes);
+                }
+                Err(fault) if matches!(fault.kind(), ErrorKind::WouldBlock | ErrorKind::TimedOut | ErrorKind::Interrupted) => (),
+                Err(_) => return Err(self.left()),
+            }
+        }
+    }
+
+    /// Sends the packets that were written, numbered after the last one that came.
+    pub fn send(&mut self) -> Result<(), End> {
+        let sent = self.stream.write_all(self.out.bytes());
+        self.out.clear();
+        match sent {
+            Ok(()) => Ok(()),
+            Err(fault) if matches!(fault.kind(), ErrorKind::WouldBlock | ErrorKind::TimedOut) => {
+                Err(End::Wrong(format!("answers that it didn't take for {} seconds", self.limits.patience.as_secs_f64())))
+            }
+            Err(_) => Err(End::Left("before it had its answer")),
+        }
+    }
+
+    /// Waits. A client that leaves meanwhile has left; what it says meanwhile is kept.
+    pub fn pause(&mut self, seconds: f64) -> Result<(), End> {
+        let deadline = Instant::now() + Duration::from_secs_f64(seconds);
+        while Instant::now() < deadline {
+            if self.held.len() > 2 * self.limits.longest {
+                std::thread::sleep(Duration::from_millis(50).min(deadline.saturating_duration_since(Instant::now())));
+            } else if self.fill(Some(deadline)).is_err() {
+                return Err(End::Left("while its statement was held"));
+            }
+        }
+        Ok(())
+    }
+
+    /// Passes over the rest of a packet, so that the client reads its refusal instead of a broken connection.
+    pub fn pass_over(&mut self, mut rest: usize) {
+        let deadline = Instant::now() + self.limits.patience;
+        self.held.clear();
+        self.taken = 0;
+        while rest > 0 && matches!(self.fill(Some(deadline)), Ok(Came::Bytes)) {
+            rest = rest.saturating_sub(self.held.len());
+            self.held.clear();
+        }
+    }
+}

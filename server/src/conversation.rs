@@ -1,0 +1,404 @@
+//! A conversation with a client: its login, and then one command after another until it leaves.
+use crate::answers::{self, branch_columns, refusal, refusal_with, syntax, value_columns, Answer, Refusal, OK};
+use crate::channel::{Channel, End};
+use crate::chatter::{self, Facts, Other};
+use crate::faults::{Fault, Point, What};
+use crate::guest::Guest;
+use crate::login::{self, Account};
+use crate::options::Options;
+use crate::packets::{self, command, Column, Kind as Type, Malformed};
+use crate::statements::{self, Kind, Statement};
+use crate::store::{Connection, Store};
+use crate::tokens;
+use std::collections::HashMap;
+use std::sync::atomic::Ordering;
+use std::sync::Arc;
+
+/// How many statements a connection may keep prepared, and how many bytes each may have.
+const PREPARED: usize = 1024;
+const LONGEST_PREPARED: usize = 4096;
+
+/// A prepared text, and what was sent for its `?` ahead of its execution.
+struct Prepared {
+    text: Vec<u8>,
+    parameters: usize,
+    /// Whether it is a statement of the store, and not one of the other texts.
+    is_statement: bool,
+    kinds: Vec<Type>,
+    long: Vec<Option<Vec<u8>>>,
+}
+
+pub struct Conversation {
+    channel: Channel,
+    guest: Guest,
+    store: Arc<Store>,
+    connection: Arc<Connection>,
+    account: Option<Account>,
+    longest: usize,
+    scramble: [u8; 20],
+    /// What the client said at its login that it can do.
+    can: u32,
+    prepared: HashMap<u32, Prepared>,
+    last: u32,
+}
+
+/// Sends a refusal of the server's own before there is a session.
+pub fn refuse(channel: &mut Channel, refused: Refusal) -> Result<(), End> {
+    Answer::Refused(refused).write(&mut channel.out, packets::status::NONE, false);
+    channel.send()
+}
+
+fn point_of(kind: Kind) -> Point {
+    match kind {
+        Kind::Start => Point::Start,
+        Kind::End => Point::End,
+        Kind::Prepare => Point::Prepare,
+        Kind::Commit => Point::Commit,
+        Kind::OnePhase => Point::OnePhase,
+        Kind::Rollback => Point::Rollback,
+        Kind::Recover => Point::Recover,
+        Kind::Get => Point::Get,
+        Kind::Put => Point::Put,
+        Kind::Del => Point::Del,
+    }
+}
+
+fn columns_of(kind: Kind) -> Vec<Column> {
+    match kind {
+        Kind::Get => value_columns(),
+        Kind::Recover => branch_columns(),
+        _ => Vec::new(),
+    }
+}
+
+impl Conversation {
+    pub fn new(store: Arc<Store>, connection: Arc<Connection>, channel: Channel, options: &Options) -> Result<Conversation, End> {
+        let scramble = login::scramble().map_err(|fault| End::Wrong(format!("no scramble: {}", fault)))?;
+        Ok(Conversation {
+            channel,
+            guest: Guest::new(Arc::clone(&store), Arc::clone(&connection)),
+            store,
+            connection,
+            account: options.account.clone(),
+            longest: options.limits.longest,
+            scramble,
+            can: 0,
+            prepared: HashMap::new(),
+            last: 0,
+        })
+    }
+
+    pub fn channel(&mut self) -> &mut Channel {
+        &mut self.channel
+    }
+
+    // login
+
+    /// Greets the client, and hears who it is. It has no answer to that yet.
+    pub fn log_in(&mut self, auth: &str) -> Result<(), End> {
+        let before = self.store.fault_at(Point::Connect);
+        self.before(before, "the greeting")?;
+        let (number, scramble) = (self.connection.number as u32, self.scramble);
+        self.channel.out.packet(|it| packets::greeting(it, number, &scramble, auth));
+        self.channel.send()?;
+        self.after(before, "the greeting")?;
+        let mut packet = Vec::new();
+        self.channel.receive(&mut packet)?;
+        let login = packets::read_login(&packet)?;
+        self.can = login.can;
+        self.prove(&login)
+    }
+
+    fn prove(&mut self, login: &packets::Login) -> Result<(), End> {
+        let fault = self.store.fault_at(Point::Login);
+        self.before(fault, "the login")?;
+        if !login::is_right(&mut self.channel, login, self.account.as_ref(), &self.scramble)? {
+            self.connection.counts.count_refusal(1045);
+            refuse(&mut self.channel, refusal(1045))?;
+            return Err(End::Refused("a wrong user or password".to_string()));
+        }
+        self.after(fault, "the login")
+    }
+
+    /// Answers commands until the client leaves.
+    pub fn hold(&mut self) -> End {
+        match self.commands() {
+            Ok(()) => End::Over,
+            Err(end) => end,
+        }
+    }
+
+    fn commands(&mut self) -> Result<(), End> {
+        self.channel.has_logged_in();
+        self.answer(&OK, false)?;
+        let mut packet = Vec::new();
+        while !self.store.stop.is_over() {
+            self.channel.receive(&mut packet)?;
+            self.command(&packet)?;
+        }
+        Ok(())
+    }
+
+    fn answer(&mut self, answer: &Answer, is_binary: bool) -> Result<(), End> {
+        if let Answer::Refused(it) = answer {
+            self.connection.counts.count_refusal(it.number);
+        }
+        answer.write(&mut self.channel.out, self.guest.status(), is_binary);
+        self.channel.send()
+    }
+
+    // commands
+
+    fn command(&mut self, packet: &[u8]) -> Result<(), End> {
+        let (first, rest) = packet.split_first().ok_or_else(|| End::Wrong("a command without a byte".to_string()))?;
+        match *first {
+            command::QUERY => {
+                let answer = self.query(rest)?;
+                self.answer(&answer, false)
+            }
+            command::STMT_EXECUTE => {
+                let answer = self.execute(packet)?;
+                self.answer(&answer, true)
+            }
+            command::STMT_PREPARE => self.prepare(rest),
+            command::STMT_SEND_LONG_DATA => self.keep_long_data(packet),
+            command::STMT_CLOSE => {
+                self.prepared.remove(&packets::statement_number(packet)?);
+                Ok(())
+            }
+            command::STMT_RESET => {
+                let answer = self.reset_prepared(packet)?;
+                self.answer(&answer, false)
+            }
+            command::QUIT => Err(End::Quit),
+            command::PING | command::INIT_DB => self.answer(&OK, false),
+            command::CHANGE_USER => self.change_user(packet),
+            command::RESET_CONNECTION => {
+                let answer = self.reset()?;
+                self.answer(&answer, false)
+            }
+            // No table has a column.
+            command::SET_OPTION | command::FIELD_LIST | command::DEBUG => {
+                let status = self.guest.status();
+                self.channel.out.end_of_rows(status);
+                self.channel.send()
+            }
+            command::STATISTICS => self.statistics(),
+            _ => self.answer(&refusal(1047).into(), false),
+        }
+    }
+
+    fn statistics(&mut self) -> Result<(), End> {
+        let connections = self.store.logged_in.load(Ordering::Relaxed);
+        let text = format!("Store: {}  Connection: {}  Connections: {}", self.store.name, self.connection.number, connections);
+        self.channel.out.packet(|it| it.extend(text.as_bytes()));
+        self.channel.send()
+    }
+
+    /// Rolls back what isn't prepared.
+    pub fn leave(&mut self) {
+        let _ = self.guest.reset();
+    }
+
+    fn reset(&mut self) -> Result<Answer, End> {
+        self.prepared.clear();
+        self.guest.reset()
+    }
+
+    /// The client says that it is somebody else, and begins anew.
+    fn change_user(&mut self, packet: &[u8]) -> Result<(), End> {
+        let login = packets::read_change(packet, self.can)?;
+        self.reset()?;
+        self.prove(&login)?;
+        self.answer(&OK, false)
+    }
+
+    // texts
+
+    fn facts(&self) -> Facts {
+        Facts { connection: self.connection.number, autocommit: self.guest.autocommit, longest: self.longest }
+    }
+
+    /// A text: a statement of the store, or one of the others that are known.
+    fn query(&mut self, text: &[u8]) -> Result<Answer, End> {
+        match statements::read(text) {
+            Ok(statement) => self.statement(&statement),
+            Err(fault) => match chatter::read(text, &self.facts()) {
+                Some(other) => self.other(other),
+                None => Ok(syntax(text, fault).into()),
+            },
+        }
+    }
+
+    /// A statement, with the fault that is meant for it.
+    fn statement(&mut self, it: &Statement) -> Result<Answer, End> {
+        self.connection.counts.count(Some(it.kind));
+        let fault = match self.store.fault_at(point_of(it.kind)) {
+            None => return self.guest.statement(it),
+            Some(fault) => fault,
+        };
+        let at = String::from_utf8_lossy(&it.text).into_owned();
+        if let What::Error(number) = fault.what {
+            let wrong = self.wrong(fault, &at, number);
+            self.guest.record_wrong(it, &wrong)?;
+            return Ok(wrong.into());
+        }
+        self.before(Some(fault), &at)?;
+        let answer = self.guest.statement(it)?;
+        self.after(Some(fault), &at)?;
+        Ok(answer)
+    }
+
+    fn other(&mut self, it: Other) -> Result<Answer, End> {
+        self.connection.counts.count(None);
+        let (point, at) = match &it {
+            Other::Begin { .. } => (Point::Begin, "BEGIN"),
+            Other::Commit => (Point::LocalCommit, "COMMIT"),
+            Other::RollBack => (Point::LocalRollback, "ROLLBACK"),
+            _ => return self.guest.other(it),
+        };
+        let fault = self.store.fault_at(point);
+        if let Some(Fault { what: What::Error(number), .. }) = fault {
+            return Ok(fault.map_or(OK, |fault| self.wrong(fault, at, number).into()));
+        }
+        self.before(fault, at)?;
+        let answer = self.guest.other(it)?;
+        self.after(fault, at)?;
+        Ok(answer)
+    }
+
+    // faults on purpose
+
+    fn note(&self, fault: Fault, at: &str, what: &str) {
+        self.store.note(self.connection.number, &format!("the fault {}, at {}: {}", fault, at, what));
+    }
+
+    fn wrong(&self, fault: Fault, at: &str, number: u16) -> Refusal {
+        self.note(fault, at, "a wrong answer, and the store doesn't hear of it");
+        refusal(number)
+    }
+
+    /// What a fault does before the store hears of a statement.
+    fn before(&mut self, fault: Option<Fault>, at: &str) -> Result<(), End> {
+        let fault = match fault {
+            Some(fault) => fault,
+            None => return Ok(()),
+        };
+        match fault.what {
+            What::CloseBefore => {
+                self.note(fault, at, "cut before it, and the store doesn't hear of it");
+                Err(End::Cut)
+            }
+            What::Stall(seconds) => {
+                self.note(fault, at, "held before it");
+                self.channel.pause(seconds)
+            }
+            What::Outage(seconds) => {
+                self.note(fault, at, "the store goes out before it, and doesn't hear of it");
+                self.store.begin_outage(seconds, &format!("the fault {}", fault));
+                Err(End::Cut)
+            }
+            What::Error(number) => {
+                let wrong = self.wrong(fault, at, number);
+                refuse(&mut self.channel, wrong)?;
+                Err(End::Refused("on purpose".to_string()))
+            }
+            What::CloseAfter | What::StallAfter(_) => Ok(()),
+        }
+    }
+
+    /// What a fault does in place of an answer, or before it.
+    fn after(&mut self, fault: Option<Fault>, at: &str) -> Result<(), End> {
+        match fault {
+            Some(fault @ Fault { what: What::CloseAfter, .. }) => {
+                self.note(fault, at, "cut after it, and the client has no answer");
+                Err(End::Cut)
+            }
+            Some(fault @ Fault { what: What::StallAfter(seconds), .. }) => {
+                self.note(fault, at, "held after it");
+                self.channel.pause(seconds)
+            }
+            _ => Ok(()),
+        }
+    }
+
+    // prepared statements
+
+    fn prepare(&mut self, text: &[u8]) -> Result<(), End> {
+        let (parameters, columns, is_statement) = match self.preparation(text) {
+            Ok(found) => found,
+            Err(refused) => return self.answer(&refused.into(), false),
+        };
+        if self.prepared.len() >= PREPARED || text.len() > LONGEST_PREPARED {
+            let why = format!("more than {} prepared statements, or one of more than {} bytes", PREPARED, LONGEST_PREPARED);
+            return self.answer(&refusal_with(1295, why).into(), false);
+        }
+        self.last = self.last.wrapping_add(1);
+        let it = Prepared { text: text.to_vec(), parameters, is_statement, kinds: Vec::new(), long: vec![None; parameters] };
+        self.prepared.insert(self.last, it);
+        self.channel.out.prepared(self.last, &columns, parameters as u16, self.guest.status());
+        self.channel.send()
+    }
+
+    /// Of a text the number of its `?`, what it gives, and whether it is a statement of the store.
+    fn preparation(&self, text: &[u8]) -> Result<(usize, Vec<Column>, bool), Refusal> {
+        match statements::count_parameters(text) {
+            Ok((statement, parameters)) => Ok((parameters, columns_of(statement.kind), true)),
+            Err(fault) => match chatter::read(text, &self.facts()) {
+                Some(Other::Table(table)) => Ok((0, table.columns, false)),
+                Some(Other::Status) => Err(refusal(1295)),
+                Some(_) => Ok((0, Vec::new(), false)),
+                None => Err(syntax(text, fault)),
+            },
+        }
+    }
+
+    fn execute(&mut self, packet: &[u8]) -> Result<Answer, End> {
+        let number = packets::statement_number(packet)?;
+        let it = match self.prepared.get_mut(&number) {
+            Some(it) => it,
+            None => return Ok(refusal(1243).into()),
+        };
+        if !it.is_statement {
+            let text = it.text.clone();
+            return self.query(&text);
+        }
+        let read = packets::read_execution(packet, it.parameters, &mut it.kinds, &mut it.long);
+        it.long.iter_mut().for_each(|sent| *sent = None);
+        let bound = match read {
+            Ok(values) => statements::bind(&it.text, &values),
+            Err(Malformed(_)) => return Ok(refusal(1210).into()),
+        };
+        match bound {
+            Ok(statement) => self.statement(&statement),
+            Err(fault) => Ok(syntax(&it.text, fault).into()),
+        }
+    }
+
+    /// Keeps a piece of a parameter; nothing is answered. No more is kept than a literal may have, and a byte, so that it is refused.
+    fn keep_long_data(&mut self, packet: &[u8]) -> Result<(), End> {
+        let number = packets::statement_number(packet)?;
+        let (parameter, piece) = packets::read_long_data(packet)?;
+        if let Some(kept) = self.prepared.get_mut(&number).and_then(|it| it.long.get_mut(parameter)) {
+            let kept = kept.get_or_insert_with(Vec::new);
+            let room = (tokens::LONGEST + 1).saturating_sub(kept.len());
+            kept.extend(&piece[..piece.len().min(room)]);
+        }
+        Ok(())
+    }
+
+    fn reset_prepared(&mut self, packet: &[u8]) -> Result<Answer, End> {
+        match self.prepared.get_mut(&packets::statement_number(packet)?) {
+            Some(it) => {
+                it.long.iter_mut().for_each(|sent| *sent = None);
+                Ok(OK)
+            }
+            None => Ok(refusal(1243).into()),
+        }
+    }
+}
+
+/// The refusal of a packet that is too long.
+pub fn too_long(longest: usize) -> Refusal {
+    answers::refusal_with(1153, format!("a packet of more than {} bytes", longest))
+}

@@ -1,0 +1,169 @@
+//! The tokens that all texts are made of: blanks and comments, quoted texts, runs of word bytes, and single signs.
+
+/// How many bytes a literal may have.
+pub const LONGEST: usize = 64;
+
+pub fn is_word_byte(byte: u8) -> bool {
+    byte.is_ascii_alphanumeric() || byte == b'_' || byte == b'$' || byte >= 128
+}
+
+fn is_blank(byte: u8) -> bool {
+    matches!(byte, b' ' | b'\t' | b'\n' | b'\r')
+}
+
+/// Where the first line feed stands from a place on, or the text's end.
+fn line_end(text: &[u8], place: usize) -> usize {
+    text[place..].iter().position(|byte| *byte == b'\n').map_or(text.len(), |length| place + length)
+}
+
+/// Where a comment ends that begins at a place. `/*!` and `/*+` begin none, since MySQL carries these out.
+fn comment_end(text: &[u8], place: usize) -> Option<usize> {
+    let rest = &text[place..];
+    if rest.starts_with(b"#") {
+        return Some(line_end(text, place));
+    }
+    if rest.starts_with(b"--") && rest.get(2).map_or(true, |byte| is_blank(*byte)) {
+        return Some(line_end(text, place + 2));
+    }
+    if rest.starts_with(b"/*") && !matches!(rest.get(2), Some(b'!' | b'+')) {
+        let length = rest[2..].windows(2).position(|pair| pair == b"*/")?;
+        return Some(place + 2 + length + 2);
+    }
+    None
+}
+
+/// Where the blanks and comments end that stand at a place.
+pub fn after_blanks(text: &[u8], mut place: usize) -> usize {
+    while place < text.len() {
+        if is_blank(text[place]) {
+            place += 1;
+        } else if let Some(end) = comment_end(text, place) {
+            place = end;
+        } else {
+            break;
+        }
+    }
+    place
+}
+
+/// The run of word bytes at a place, maybe empty.
+pub fn run_at(text: &[u8], place: usize) -> &[u8] {
+    let length = text[place..].iter().position(|byte| !is_word_byte(*byte)).unwrap_or(text.len() - place);
+    &text[place..place + length]
+}
+
+/// What a quoted text stands for that begins at a place, and where it ends; none where it isn't closed.
+pub fn quoted_at(text: &[u8], place: usize) -> Option<(Vec<u8>, usize)> {
+    let quote = text[place];
+    let mut data = Vec::new();
+    let mut at = place + 1;
+    loop {
+        let byte = *text.get(at)?;
+        if byte == b'\\' {
+            push_escaped(&mut data, *text.get(at + 1)?);
+            at += 2;
+        } else if byte != quote {
+            data.push(byte);
+            at += 1;
+        } else if text.get(at + 1) == Some(&quote) {
+            data.push(quote);
+            at += 2;
+        } else {
+            return Some((data, at + 1));
+        }
+    }
+}
+
+fn push_escaped(data: &mut Vec<u8>, byte: u8) {
+    match byte {
+        b'0' => data.push(0),
+        b'b' => data.push(8),
+        b't' => data.push(9),
+        b'n' => data.push(10),
+        b'r' => data.push(13),
+        b'Z' => data.push(26),
+        b'%' | b'_' => data.extend([b'\\', byte]),
+        other => data.push(other),
+    }
+}
+
+/// A token of a text that is no statement of the store.
+#[derive(Clone, Debug, PartialEq, Eq)]
+pub enum Word {
+    /// A run of word bytes in small letters.
+    Run(String),
+    Quoted(Vec<u8>),
+    Sign(u8),
+}
+
+/// A word, and where it stands in the text.
+#[derive(Clone, Debug, PartialEq, Eq)]
+pub struct Placed {
+    pub word: Word,
+    pub begin: usize,
+    pub end: usize,
+}
+
+/// The words of a text, without comments and without a `;` at its end. A backquoted name is a run.
+pub fn words(text: &[u8]) -> Vec<Placed> {
+    let mut found = Vec::new();
+    let mut begin = after_blanks(text, 0);
+    while begin < text.len() {
+        let (word, end) = word_at(text, begin);
+        found.push(Placed { word, begin, end });
+        begin = after_blanks(text, end);
+    }
+    while matches!(found.last(), Some(Placed { word: Word::Sign(b';'), .. })) {
+        found.pop();
+    }
+    found
+}
+
+fn word_at(text: &[u8], begin: usize) -> (Word, usize) {
+    match text[begin] {
+        b'\'' | b'"' | b'`' => match quoted_at(text, begin) {
+            Some((data, end)) if text[begin] == b'`' => (Word::Run(String::from_utf8_lossy(&data).to_lowercase()), end),
+            Some((data, end)) => (Word::Quoted(data), end),
+            None => (Word::Sign(text[begin]), begin + 1),
+        },
+        byte if is_word_byte(byte) => {
+            let run = run_at(text, begin);
+            (Word::Run(String::from_utf8_lossy(run).to_lowercase()), begin + run.len())
+        }
+        sign => (Word::Sign(sign), begin + 1),
+    }
+}
+
+#[cfg(test)]
+mod tests {
+    use super::*;
+
+    #[test]
+    fn blanks_and_comments() {
+        for text in ["", " \t\r\n", "-- one", "--", "--\n", "# two", "/**/", "/* * / */ # x\n--\t"] {
+            assert_eq!(after_blanks(text.as_bytes(), 0), text.len(), "{}", text);
+        }
+        for (text, place) in [("--x", 0), ("/*!x*/", 0), ("/*+x*/", 0), (" /*open", 1), ("/*/", 0), ("# a\nb", 4)] {
+            assert_eq!(after_blanks(text.as_bytes(), 0), place, "{}", text);
+        }
+    }
+
+    #[test]
+    fn quoted_texts() {
+        for (text, data) in [(r"'it''s'", "it's"), (r#""say ""so""""#, "say \"so\""), (r"'\0\b\t\n\r\Z\%\_\N\''", "\0\x08\t\n\r\x1a\\%\\_N'"), ("''", "")] {
+            assert_eq!(quoted_at(text.as_bytes(), 0), Some((data.as_bytes().to_vec(), text.len())), "{}", text);
+        }
+        for text in ["'", "'a", "'a\\'", "'''", "'a''", "'\\", "\"'"] {
+            assert_eq!(quoted_at(text.as_bytes(), 0), None, "{}", text);
+        }
+    }
+
+    #[test]
+    fn other_texts() {
+        let spelled = |text: &str| words(text.as_bytes()).into_iter().map(|it| it.word).collect::<Vec<_>>();
+        let run = |text: &str| Word::Run(text.to_string());
+        assert_eq!(spelled("SELECT @@A -- x\n;;"), [run("select"), Word::Sign(b'@'), Word::Sign(b'@'), run("a")]);
+        assert_eq!(spelled("set `N`='Two  Words'"), [run("set"), run("n"), Word::Sign(b'='), Word::Quoted(b"Two  Words".to_vec())]);
+        assert_eq!(spelled("'"), [Word::Sign(b'\'')]);
+    }
+}
