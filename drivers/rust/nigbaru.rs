@@ -7,7 +7,7 @@ use std::ffi::c_void;
 use std::fmt;
 use std::os::raw::c_char;
 use std::ptr;
-use std::sync::atomic::{AtomicU64, Ordering};
+use std::sync::atomic::{AtomicBool, AtomicU64, Ordering};
 use std::sync::{Arc, Mutex};
 
 /// A store's or a session's.
@@ -176,6 +176,8 @@ struct Current {
 struct Shared {
     current: Mutex<Current>,
     renewals: AtomicU64,
+    /// Whether the mutex is held for a renewal.
+    is_renewing: AtomicBool,
 }
 
 impl Shared {
@@ -201,26 +203,35 @@ impl Shared {
         }
     }
 
+    /// Renews the store, from a session that has seen its full history.
+    fn renew(&self, current: &mut Current, seat: &mut Seat) -> Result<(), Error> {
+        if let Some(kept) = &mut current.kept {
+            kept.take_from(seat)?;
+        }
+        let mut next = Handle::EMPTY;
+        match unsafe { nigbaru_raw_renew(&mut seat.handle, &mut next) } {
+            OK => {
+                unsafe { nigbaru_raw_close(&mut current.store) };
+                current.store = next;
+                if let Some(kept) = &mut current.kept {
+                    kept.given = 0;
+                }
+                self.renewals.fetch_add(1, Ordering::Release);
+                Ok(())
+            }
+            status => Err(fault(status)),
+        }
+    }
+
     /// A seat goes over to the current store, which is renewed first where it is the seat's own and full. Nobody adds to a new store before `renewals`
     /// says that there is one.
     fn move_on(&self, seat: &mut Seat, is_full: bool) -> Result<(), Error> {
         let mut current = self.lock();
         if is_full && !self.is_behind(seat) {
-            let mut next = Handle::EMPTY;
-            if let Some(kept) = &mut current.kept {
-                kept.take_from(seat)?;
-            }
-            match unsafe { nigbaru_raw_renew(&mut seat.handle, &mut next) } {
-                OK => {
-                    unsafe { nigbaru_raw_close(&mut current.store) };
-                    current.store = next;
-                    if let Some(kept) = &mut current.kept {
-                        kept.given = 0;
-                    }
-                    self.renewals.fetch_add(1, Ordering::Release);
-                }
-                status => return Err(fault(status)),
-            }
+            self.is_renewing.store(true, Ordering::Relaxed);
+            let renewed = self.renew(&mut current, seat);
+            self.is_renewing.store(false, Ordering::Relaxed);
+            renewed?;
         }
         self.seat_in(&mut current, seat)
     }
@@ -258,7 +269,7 @@ impl Store {
         match unsafe { nigbaru_raw_open(capacity, sessions, &mut store) } {
             OK => {
                 let free = (1..=sessions).rev().map(|number| Seat { number, handle: Handle::EMPTY, renewals: 0 }).collect();
-                Ok(Store { shared: Arc::new(Shared { current: Mutex::new(Current { store, free, kept }), renewals: AtomicU64::new(0) }) })
+                Ok(Store { shared: Arc::new(Shared { current: Mutex::new(Current { store, free, kept }), renewals: AtomicU64::new(0), is_renewing: AtomicBool::new(false) }) })
             }
             status => Err(fault(status)),
         }
@@ -288,6 +299,19 @@ impl Session {
     /// Its number, from 1 on.
     pub fn number(&self) -> u64 {
         self.seat.as_ref().map_or(0, |seat| seat.number)
+    }
+
+    /// Goes over to the store that is current, and waits for a renewal that is under way. A statement does so by itself; who notes when statements begin calls
+    /// this before, so that the wait doesn't count.
+    pub fn catch_up(&mut self) -> Result<(), Error> {
+        if self.shared.is_renewing.load(Ordering::Relaxed) {
+            drop(self.shared.lock());
+        }
+        let seat = self.seat.as_mut().ok_or(Error::NoSession)?;
+        if self.shared.is_behind(seat) {
+            self.shared.move_on(seat, false)?;
+        }
+        Ok(())
     }
 
     /// Gives the store's keeper, if it has one, what was logged until now and it wasn't given yet.
