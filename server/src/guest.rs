@@ -7,6 +7,7 @@ use crate::chatter::Other;
 use crate::login;
 use crate::packets::status;
 use crate::pool::Lent;
+use crate::record::Record;
 use crate::statements::{write_literal, Kind, Statement};
 use crate::status::table_of;
 use crate::store::{lock, Connection, Prepared, Rows, Store};
@@ -36,6 +37,16 @@ impl State {
 #[derive(Clone, Copy)]
 struct Begun {
     is_read_only: bool,
+}
+
+/// Asks the store, and writes call and return into the record.
+fn recorded(record: &Record, lent: &mut Lent, text: &[u8], state: &str) -> Result<Reply, Error> {
+    // While a history is renewed nobody is answered. Sixteen calls that are open all that time take `judge` long, and say nothing.
+    lent.catch_up()?;
+    record.call(lent.number(), text);
+    let reply = lent.execute(text);
+    record.returned(lent.number(), &reply, state);
+    reply
 }
 
 pub struct Guest {
@@ -102,12 +113,7 @@ impl Guest {
         let state = if kind == Some(Kind::OnePhase) && self.state == State::Free { "PREPARED" } else { self.state.name() };
         let reply = match &self.store.record {
             None => lent.execute(text),
-            Some(record) => {
-                record.call(lent.number(), text);
-                let reply = lent.execute(text);
-                record.returned(lent.number(), &reply, state);
-                reply
-            }
+            Some(record) => recorded(record, &mut lent, text, state),
         };
         self.lent = Some(lent);
         if self.store.stop.is_over() && self.store.stop.why().is_some() {
