@@ -29,7 +29,7 @@ pub struct Facts {
 }
 
 /// Variables that may be asked for, and whether each is a number.
-const VARIABLES: [(&str, &str, bool); 42] = [
+const VARIABLES: [(&str, &str, bool); 46] = [
     ("auto_increment_increment", "1", true),
     ("character_set_client", "utf8mb4", false),
     ("character_set_connection", "utf8mb4", false),
@@ -57,6 +57,10 @@ const VARIABLES: [(&str, &str, bool); 42] = [
     ("profiling", "0", true),
     ("query_cache_size", "0", true),
     ("query_cache_type", "OFF", false),
+    ("session_track_gtids", "OFF", false),
+    ("session_track_schema", "0", true),
+    ("session_track_state_change", "0", true),
+    ("session_track_system_variables", "", false),
     ("sql_auto_is_null", "0", true),
     ("sql_mode", "STRICT_TRANS_TABLES", false),
     ("sql_safe_updates", "0", true),

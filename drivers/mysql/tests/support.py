@@ -1,4 +1,4 @@
-"""What the tests share: the program, and a gateway over it in a process of its own."""
+"""What the tests share: the program, and a gateway over it in a process of its own, or the server of `server/` in its place, where NIGBARU_SERVER names it."""
 import contextlib
 import os
 import re
@@ -14,8 +14,10 @@ from wire import Client
 HERE = Path(__file__).resolve().parent
 SERVE = HERE.parent / "serve"
 PROGRAM = os.environ["XA_SCRIPT"]
+SERVER = os.environ.get("NIGBARU_SERVER")
 PYTHON = "/usr/bin/python3"
 LISTENS = re.compile(r"store (\d+) listens on [^ ]*:(\d+)")
+of_gateway = unittest.skipIf(SERVER, "it tests the gateway's own parts")
 
 
 class Gateway:
@@ -32,7 +34,8 @@ class Gateway:
         if faults:
             (self.folder / "faults").write_text("".join(f"{line}\n" for line in faults))
             words += ["--fault", self.folder / "faults"]
-        self.process = subprocess.Popen([PYTHON, SERVE, *words, program], stderr=subprocess.PIPE, text=True)
+        command = [SERVER, *words] if SERVER else [PYTHON, SERVE, *words, program]
+        self.process = subprocess.Popen(command, stderr=subprocess.PIPE, text=True)
         self.log = []
         self.ports = []
         while len(self.ports) < stores:

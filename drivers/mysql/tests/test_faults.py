@@ -2,7 +2,7 @@
 import sys
 import time
 
-from support import HERE, Case, wait_for
+from support import HERE, Case, of_gateway, wait_for
 from wire import Closed
 
 sys.path.insert(0, str(HERE.parent))
@@ -12,6 +12,7 @@ from gateway import faults  # noqa: E402
 XID = "'g','b',1"
 
 
+@of_gateway
 class Files(Case):
     def test_what_is_read(self):
         first, second = faults.read("# a comment\n\nXA PREPARE 3 close-before\nSTORE 2 XA COMMIT 2 stall 0.5\nGET 1 error 3572\n", 2)

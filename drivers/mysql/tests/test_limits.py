@@ -8,7 +8,7 @@ import tempfile
 import time
 from pathlib import Path
 
-from support import PROGRAM, PYTHON, SERVE, Case, Gateway, children_of, wait_for
+from support import PROGRAM, PYTHON, SERVE, SERVER, Case, Gateway, children_of, of_gateway, wait_for
 from wire import ERROR, Client, Closed
 
 
@@ -18,6 +18,7 @@ class Limits(Case):
         with gateway.client() as client:
             self.ok(client, "PUT 'alive','yes'")
 
+    @of_gateway
     def test_seventeen_connections(self):
         gateway = self.gateway()
         clients = [self.client(gateway) for _ in range(16)]
@@ -66,6 +67,7 @@ class Limits(Case):
             with Client(everywhere.port, b"judy", b"right") as client:
                 self.ok(client, "PUT 'k','v'")
 
+    @of_gateway
     def test_command_line(self):
         with tempfile.TemporaryDirectory() as folder:
             empty = Path(folder) / "empty"
@@ -81,6 +83,7 @@ class Limits(Case):
             self.assertEqual(ran.returncode, 1)
             self.assertIn("doesn't start", ran.stderr)
 
+    @of_gateway
     def test_a_port_that_is_taken(self):
         gateway = self.gateway()
         ran = subprocess.run([PYTHON, SERVE, "--port", str(gateway.port), PROGRAM], stderr=subprocess.PIPE, text=True, timeout=30)
@@ -155,7 +158,7 @@ class Limits(Case):
 
     def test_strangers(self):
         """256 connections may be open that haven't logged in; clients that have are answered."""
-        gateway = self.gateway()
+        gateway = self.gateway(*(["--max-logins", "256"] if SERVER else []))
         client = self.client(gateway)
         strangers = [Client(gateway.port, log_in=False) for _ in range(256)]
         for stranger in strangers:
@@ -172,6 +175,7 @@ class Limits(Case):
         with Client(gateway.port, log_in=False) as client:
             return client.packet()[0] == 10
 
+    @of_gateway
     def test_the_store_is_gone(self):
         gateway = self.gateway(stores=2)
         client = self.client(gateway, 1)
@@ -181,6 +185,7 @@ class Limits(Case):
         self.assertTrue(gateway.logged("store 1 is gone, and its branches and rows with it: its process ended with status -9"), gateway.log)
         self.assertRaises((Closed, ConnectionError), client.ask, "GET 'k'")
 
+    @of_gateway
     def test_a_store_that_talks_nonsense(self):
         for says, reason in (("echo 2 OK; exec sleep 60", "answers nothing"), ("read it; echo 1 WHAT; exec sleep 60", "the store answered"), ("exec sleep 60 >&-", "closed its output")):
             with tempfile.TemporaryDirectory() as folder:
@@ -203,7 +208,7 @@ class Limits(Case):
         self.assertRaises((Closed, ConnectionError), client.ask, "GET 'k'")
         self.assertEqual(gateway.process.wait(20), 1)
         gateway.end()
-        self.assertTrue(gateway.logged("its record can't be written: No space left"), gateway.log)
+        self.assertTrue(gateway.logged("record can't be written: No space left"), gateway.log)
 
     def test_the_end(self):
         """A signal ends the gateway and its stores, with status 0; clients are cut off."""

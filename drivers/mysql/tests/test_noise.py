@@ -1,10 +1,10 @@
 """Bytes that no client sends: the gateway answers others after each."""
 import random
 
-from support import Case
+from support import SERVER, Case
 from wire import Client, Closed
 
-MUTATED = 10_000
+MUTATED = 100_000 if SERVER else 10_000
 
 
 class Noise(Case):

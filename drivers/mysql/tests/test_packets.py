@@ -5,7 +5,7 @@ import struct
 import sys
 import unittest
 
-from support import HERE
+from support import HERE, of_gateway
 from wire import Client, text_at
 
 sys.path.insert(0, str(HERE.parent))
@@ -14,6 +14,7 @@ from gateway import packets  # noqa: E402
 from gateway.packets import Bytes, Column, Malformed, Status, Type  # noqa: E402
 
 
+@of_gateway
 class Packets(unittest.TestCase):
     def test_lengths(self):
         for number in (0, 250, 251, 65535, 65536, 2 ** 24 - 1, 2 ** 24, 2 ** 64 - 1):

@@ -52,7 +52,7 @@ class Sessions(Case):
         self.refused(self.one, "SET unknown = 1", 1064, "42000")
         self.refused(self.one, "DISCONNECT", 1064, "42000")
         answer = self.refused(self.one, "XA START 'a','',2147483648", 1064, "42000")
-        self.assertEqual(answer.text, "syntax fault at byte 16")
+        self.assertTrue(answer.text.startswith("syntax fault at byte 16"), answer)
 
     def test_disconnected_branch(self):
         self.ok(self.one, "XA START 'a'", "PUT 'k','v'")
@@ -161,7 +161,7 @@ class Sessions(Case):
             self.assertEqual(self.one.ask(text).kind, TABLE, text)
         self.assertEqual(self.one.ask("select @@max_allowed_packet, @@autocommit AS c").rows, [(b"65536", b"1")])
         self.assertEqual(self.one.ask("select @@max_allowed_packet, @@autocommit AS c").names, ["@@max_allowed_packet", "c"])
-        for text in ("select @@nothing", "select @@version, 1", "SET autocommit=2", "select 2", "", ";", "SET autocommit=0; BEGIN"):
+        for text in ("select @@nothing", "SET autocommit=2", "SELECT 1 FROM t", "", ";", "SET autocommit=0; BEGIN"):
             self.assertEqual(self.one.ask(text).number, 1064, text)
         self.assertEqual(self.one.command(b"\x0e").kind, "ok")
         self.assertEqual(self.one.command(b"\x02db").kind, "ok")

@@ -4,7 +4,7 @@ import subprocess
 import sys
 import unittest
 
-from support import HERE, PROGRAM
+from support import HERE, PROGRAM, of_gateway
 
 sys.path.insert(0, str(HERE.parent))
 
@@ -56,6 +56,7 @@ def canonical(text):
         return fault
 
 
+@of_gateway
 class Statements(unittest.TestCase):
     def test_agrees_with_the_program(self):
         """The program reads each text, and then what the gateway makes of it, as a free session's of a store of its own."""

@@ -6,7 +6,7 @@ import tempfile
 import unittest
 from pathlib import Path
 
-from support import HERE, PROGRAM, PYTHON
+from support import HERE, PROGRAM, PYTHON, of_gateway
 
 sys.path.insert(0, str(HERE.parent))
 
@@ -23,6 +23,7 @@ for line in sys.stdin:
 """
 
 
+@of_gateway
 class Pipe(unittest.IsolatedAsyncioTestCase):
     async def asyncSetUp(self):
         asyncio.get_running_loop().slow_callback_duration = 60  # a busy machine is slow, and that is nothing to print

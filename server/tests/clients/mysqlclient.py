@@ -1,0 +1,28 @@
+"""A cycle by mysqlclient; prints what `test_clients` expects."""
+import sys
+
+import MySQLdb
+
+connection = MySQLdb.connect(host="127.0.0.1", port=int(sys.argv[1]), user="root", charset="utf8mb4")
+connection.autocommit(True)
+cursor = connection.cursor()
+xid = (b"g\0", b"b", 7)
+for text, values in (("XA START %s,%s,%s", xid), ("PUT %s,%s", (b"k", b"\0\n'\xff\\")), ("XA END %s,%s,%s", xid), ("XA PREPARE %s,%s,%s", xid)):
+    cursor.execute(text, values)
+cursor.execute("XA RECOVER")
+number, gtrid, bqual, data = cursor.fetchone()
+print("listed", number, gtrid, bqual, data.hex())
+cursor.execute("XA COMMIT %s,%s,%s", xid)
+cursor.execute("GET 'k'")
+print("value", cursor.fetchone()[0].hex())
+for text in ("XA END 'none'", "SELECT * FROM t"):
+    try:
+        cursor.execute(text)
+    except MySQLdb.Error as refused:
+        print("refused", refused.args[0])
+connection.autocommit(False)
+cursor.execute("PUT 'l','local'")
+connection.commit()
+cursor.execute("GET 'l'")
+print("local", cursor.fetchone()[0].hex())
+connection.rollback()

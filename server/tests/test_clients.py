@@ -1,0 +1,130 @@
+"""MySQL's clients, as Debian packages them: each goes through a whole cycle, with binary values, errors, and prepared statements where it has them, and a pool of thirty."""
+import os
+import shutil
+import subprocess
+import tempfile
+import threading
+import unittest
+from pathlib import Path
+
+import pymysql
+from support import PYTHON, Case
+
+HERE = Path(__file__).resolve().parent
+# What each program prints for a cycle: XA RECOVER's first row, the value's bytes, the refusals' numbers, and the value of a local transaction.
+CYCLE = """\
+listed 7 2 1 670062
+value 000a27ff5c
+refused 1399
+refused 1064
+local 6c6f63616c
+prepared 700a27
+"""
+
+
+class Clients(Case):
+    def setUp(self):
+        super().setUp()
+        self.gate = self.gateway("--wait", "60")
+        self.folder = Path(self.ends.enter_context(tempfile.TemporaryDirectory()))
+
+    def cycle(self, *words, expected=CYCLE, env=None):
+        ran = subprocess.run([*map(str, words), str(self.gate.port)], stdout=subprocess.PIPE, stderr=subprocess.STDOUT, text=True, timeout=180, cwd=self.folder, env=env)
+        self.assertEqual((ran.stdout, ran.returncode), (expected, 0), "\n".join(self.gate.log))
+        self.assertEqual(self.gate.verdicts(), ["LEGAL"])
+
+    def test_mysqlclient(self):
+        """Python's over MariaDB's library in C. It has no prepared statements."""
+        self.cycle(PYTHON, HERE / "clients" / "mysqlclient.py", expected=CYCLE.rpartition("prepared")[0])
+
+    def test_dbd_mysql(self):
+        self.cycle("perl", HERE / "clients" / "cycle.pl", "mysql")
+
+    def test_dbd_mariadb(self):
+        self.cycle("perl", HERE / "clients" / "cycle.pl", "MariaDB")
+
+    def test_php_mysqli(self):
+        self.cycle("php", HERE / "clients" / "mysqli.php")
+
+    def test_php_pdo(self):
+        self.cycle("php", HERE / "clients" / "pdo.php")
+
+    def test_node_mysql(self):
+        self.cycle("node", HERE / "clients" / "cycle.js", env={**os.environ, "NODE_PATH": "/usr/share/nodejs:/usr/lib/nodejs"}, expected=CYCLE.rpartition("prepared")[0] + "pool 30\n")
+
+    def test_ruby_mysql2(self):
+        self.cycle("ruby", HERE / "clients" / "cycle.rb")
+
+    @unittest.skipUnless(shutil.which("go"), "there is no go")
+    def test_go(self):
+        shutil.copy(HERE / "clients" / "cycle.go", self.folder)
+        env = {**os.environ, "GOPATH": "/usr/share/gocode", "GO111MODULE": "off", "GOCACHE": str(self.folder / "cache"), "GOFLAGS": "-p=1"}
+        subprocess.run(["go", "build", "-o", "cycle", "cycle.go"], cwd=self.folder, env=env, check=True, timeout=600)
+        self.cycle(self.folder / "cycle", expected=CYCLE + "levels 4\npool 30\n")
+
+    def test_odbc(self):
+        """MariaDB's driver, by isql. It shows rows of SELECT alone, also of a MariaDB, so what was done is asked otherwise."""
+        settings = f"DRIVER=/usr/lib/x86_64-linux-gnu/odbc/libmaodbc.so;SERVER=127.0.0.1;PORT={self.gate.port};UID=root;PWD=;DATABASE=db"
+        asked = "SELECT CONNECTION_ID()\nXA START 'o'\nPUT 'k','v'\nXA END 'o'\nXA PREPARE 'o'\n"
+        ran = subprocess.run(["isql", "-b", "-k", "-v", settings], input=asked, stdout=subprocess.PIPE, stderr=subprocess.STDOUT, text=True, timeout=60)
+        self.assertEqual(ran.returncode, 0, ran.stdout + "\n".join(self.gate.log))
+        self.assertRegex(ran.stdout, r"CONNECTION_ID\(\)(?s:.*)\| 1 ")
+        self.assertIn("SQLRowCount returns 1", ran.stdout)
+        other = self.client(self.gate)
+        self.assertEqual(other.ask("XA RECOVER").rows, [(b"1", b"1", b"0", b"o")])
+        self.ok(other, "XA COMMIT 'o'")
+        self.assertEqual(self.value(other, "k"), b"v")
+        self.assertEqual(self.gate.verdicts(), ["LEGAL"])
+
+    def test_a_pool_of_thirty_by_pymysql(self):
+        """Thirty threads with a connection each, in branches at once."""
+        faults, barrier = [], threading.Barrier(30)
+
+        def work(number):
+            try:
+                connection = pymysql.connect(host="127.0.0.1", port=self.gate.port, user="root", autocommit=True)
+                with connection, connection.cursor() as cursor:
+                    barrier.wait(60)
+                    for turn in range(10):
+                        xid = (f"{number}", f"{turn}", 7)
+                        cursor.execute("XA START %s,%s,%s", xid)
+                        assert cursor.execute("PUT %s,%s", (f"row {number}", f"{turn}")) == 1
+                        for verb in ("END", "PREPARE", "COMMIT"):
+                            cursor.execute(f"XA {verb} %s,%s,%s", xid)
+            except Exception as fault:
+                faults.append(fault)
+
+        threads = [threading.Thread(target=work, args=(number,)) for number in range(30)]
+        for thread in threads:
+            thread.start()
+        for thread in threads:
+            thread.join()
+        self.assertEqual(faults, [])
+        self.assertEqual(self.gate.verdicts(), ["LEGAL"])
+
+
+class Java(Case):
+    """Pools of thirty connections."""
+
+    def says(self, name, *words):
+        folder = self.ends.enter_context(tempfile.TemporaryDirectory())
+        jars = ["mariadb-java-client", "HikariCP", "btm", "geronimo-jta-1.2-spec", "geronimo-jms_1.1_spec", "slf4j-api", "slf4j-nop"]
+        classes = ":".join(f"/usr/share/java/{jar}.jar" for jar in jars)
+        ran = subprocess.run(["java", "-Xshare:auto", "-XX:TieredStopAtLevel=1", "-cp", classes, HERE / "clients" / f"{name}.java", *[folder if word is None else str(word) for word in words]],
+                             stdout=subprocess.PIPE, stderr=subprocess.STDOUT, text=True, timeout=180)
+        self.assertEqual(ran.returncode, 0, ran.stdout)
+        return ran.stdout
+
+    def test_hikari(self):
+        gateway = self.gateway("--wait", "60")
+        self.assertIn("committed 300", self.says("Pool", gateway.port))
+        self.assertEqual(gateway.verdicts(), ["LEGAL"])
+
+    def test_bitronix(self):
+        gateway = self.gateway("--wait", "60", stores=2)
+        self.assertIn("committed 300", self.says("Transfers", None, *gateway.ports))
+        self.assertEqual(gateway.verdicts(), ["LEGAL", "LEGAL"])
+        for store in (0, 1):
+            client = self.client(gateway, store)
+            self.assertEqual(client.ask("XA RECOVER").rows, [])
+            self.assertEqual({self.value(client, f"row {number}") for number in range(30)}, {b"9"})

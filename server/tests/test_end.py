@@ -1,0 +1,86 @@
+"""The end, and what can be seen until then."""
+import json
+import signal
+import tempfile
+from pathlib import Path
+
+from support import Case, wait_for
+from test_lending import Worker
+from wire import Closed
+
+
+class End(Case):
+    def test_a_signal_amid_work(self):
+        """Statements that were called are answered or not, the record is whole and LEGAL, the history is written, and the status is 0."""
+        for number in (signal.SIGTERM, signal.SIGINT):
+            folder = Path(self.ends.enter_context(tempfile.TemporaryDirectory()))
+            gateway = self.gateway("--history", folder / "history", stores=2)
+            workers = [Worker(gateway, number, 100_000) for number in range(20)]
+            for worker in workers:
+                worker.start()
+            wait_for(lambda: sum(worker.ended for worker in workers) > 200, "they work")
+            gateway.process.send_signal(number)
+            self.assertEqual(gateway.process.wait(20), 0)
+            for worker in workers:
+                worker.join()
+                self.assertIsInstance(worker.fault, (Closed, ConnectionError, AssertionError))
+            self.assertEqual(gateway.verdicts(), ["LEGAL", "EMPTY"])
+            calls = [line for line in gateway.records()[0].read_text().splitlines() if " > " in line]
+            returns = [line for line in gateway.records()[0].read_text().splitlines() if " < " in line]
+            self.assertEqual(len(calls), len(returns))
+            self.assertGreater((folder / "history.1").stat().st_size, 10_000)
+
+    def test_a_signal_while_a_statement_is_held(self):
+        gateway = self.gateway(faults=["XA PREPARE 1 stall 600"])
+        client = self.client(gateway)
+        self.ok(client, "XA START 'a'", "PUT 'k','v'", "XA END 'a'")
+        client.send(b"\x03XA PREPARE 'a'")
+        wait_for(lambda: gateway.logged("held before it"), "it is held")
+        gateway.process.terminate()
+        self.assertEqual(gateway.process.wait(20), 0)
+        self.assertEqual(gateway.verdicts(), ["LEGAL"])
+        self.assertNotIn("XA PREPARE 0x61,X'',1\n", gateway.record.read_text())
+
+    def test_a_signal_during_an_outage(self):
+        gateway = self.gateway(faults=["NOW outage 600"])
+        wait_for(lambda: gateway.logged("is out for 600 seconds"), "it is out")
+        gateway.process.terminate()
+        self.assertEqual(gateway.process.wait(20), 0)
+
+
+class Status(Case):
+    def seen(self, client):
+        return client.ask("SHOW NIGBARU STATUS").rows
+
+    def test_as_a_table(self):
+        gateway = self.gateway()
+        one, two = self.client(gateway), self.client(gateway)
+        self.prepare(one, "'a','b',7", "k", "v")
+        self.ok(one, "XA START 'c'", "PUT 'm','v'")
+        self.assertIsNone(self.value(one, "l"))
+        two.ask("PUT 'k','w'")
+        rows = {(name.decode(), of.decode()): value.decode() for name, of, value in self.seen(two)}
+        self.assertEqual(rows["connections", "logged in"], "2")
+        self.assertEqual(rows["sessions", "lent"], "1")
+        self.assertEqual((rows["statements", "XA START"], rows["statements", "PUT"], rows["refusals", "3572"]), ("2", "3", "1"))
+        self.assertRegex(rows["branch", "0x61,0x62,7"], r"\APREPARED, connection 1, [0-9.]+ s, holds 0x6b\Z")
+        self.assertRegex(rows["branch", "0x63,X'',1"], r"\AACTIVE, connection 1 from 127.0.0.1:\d+, session \d+, [0-9.]+ s, shares 0x6c, holds 0x6d\Z")
+        self.ok(one, "XA END 'c'", "XA ROLLBACK 'c'", "XA ROLLBACK 'a','b',7")
+        self.assertEqual([row for row in self.seen(two) if row[0] == b"branch"], [])
+        self.ok(one, "BEGIN", "PUT 'k','v'")
+        self.assertEqual(len([row for row in self.seen(two) if row[0] == b"branch" and b"LOCAL" in row[2]]), 1)
+
+    def test_as_a_file(self):
+        folder = Path(self.ends.enter_context(tempfile.TemporaryDirectory()))
+        gateway = self.gateway("--status", folder / "status", stores=2)
+        client = self.client(gateway, 1)
+        self.ok(client, "XA START 'a'", "PUT 'k','v'")
+        wait_for((folder / "status").exists, "it is written")
+        wait_for(lambda: self.branches(folder) == [[], [("0x61,X'',1", "ACTIVE", {"0x6b": "HOLDS"})]], "the branch is there")
+        self.ok(client, "XA END 'a'", "XA PREPARE 'a'")
+        wait_for(lambda: self.branches(folder) == [[], [("0x61,X'',1", "PREPARED", {"0x6b": "HOLDS"})]], "it is prepared")
+
+    @staticmethod
+    def branches(folder):
+        stores = json.loads((folder / "status").read_text())["stores"]
+        return [[(it["xid"], it["state"], it["rows"]) for it in store["branches"]] for store in stores]

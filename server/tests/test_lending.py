@@ -1,0 +1,184 @@
+"""Many connections over few sessions: pools, who waits and how long, and two hundred at once."""
+import random
+import subprocess
+import tempfile
+import threading
+import time
+from pathlib import Path
+
+from support import PROGRAM, Case, wait_for
+
+CONNECTIONS, CYCLES = 30, 60
+HELD = "each of the store's 16 sessions has a branch"
+
+
+class Worker(threading.Thread):
+    """A client of a pool: cycles over rows that others want too."""
+
+    def __init__(self, gateway, number, cycles=CYCLES):
+        super().__init__()
+        self.gateway, self.number, self.cycles, self.draw = gateway, number, cycles, random.Random(number)
+        self.ended, self.fault, self.refusals = 0, None, {}
+
+    def run(self):
+        try:
+            with self.gateway.client() as client:
+                while self.ended < self.cycles:
+                    self.cycle(client, f"'{self.number} {self.ended}','b',7")
+                    self.ended += 1
+        except Exception as fault:
+            self.fault = fault
+
+    def ask(self, client, text, *allowed):
+        answer = client.ask(text)
+        if answer.kind == "error":
+            if answer.number not in allowed:
+                raise AssertionError(f"{text}: {answer}")
+            self.refusals[answer.number] = self.refusals.get(answer.number, 0) + 1
+        return answer.kind != "error"
+
+    def cycle(self, client, xid):
+        self.ask(client, f"XA START {xid}")
+        for _ in range(self.draw.randint(1, 3)):
+            key = self.draw.randrange(12)
+            self.ask(client, self.draw.choice([f"PUT '{key}','{self.number}'", f"GET '{key}'", f"DEL '{key}'"]), 3572)
+        self.ask(client, f"XA END {xid}")
+        if self.draw.random() < 0.2:
+            self.ask(client, f"XA COMMIT {xid} ONE PHASE")
+            return
+        self.ask(client, f"XA PREPARE {xid}")
+        self.ask(client, f"XA {self.draw.choice(['COMMIT', 'ROLLBACK'])} {xid}")
+
+
+class Lending(Case):
+    def work(self, gateway, count, cycles):
+        workers = [Worker(gateway, number, cycles) for number in range(count)]
+        for worker in workers:
+            worker.start()
+        for worker in workers:
+            worker.join()
+        self.assertEqual([worker.fault for worker in workers if worker.fault], [])
+        self.assertEqual([worker.ended for worker in workers], [cycles] * count)
+
+    def test_a_pool_of_thirty(self):
+        """The record, in which calls overlap, is LEGAL."""
+        gateway = self.gateway("--wait", "60")
+        self.work(gateway, CONNECTIONS, CYCLES)
+        with gateway.client() as client:
+            self.assertEqual(client.ask("XA RECOVER").rows, [])
+        self.assertEqual(gateway.verdicts(), ["LEGAL"])
+        self.assertTrue(self.overlaps(gateway.record.read_text()))
+
+    def overlaps(self, record):
+        """Whether some call stands between another's call and its return."""
+        open_calls = 0
+        for line in record.splitlines():
+            open_calls += {">": 1, "<": -1}.get(line.split(" ")[1], 0) if not line.startswith("#") else 0
+            if open_calls > 1:
+                return True
+        return False
+
+    def test_two_hundred_at_once(self):
+        gateway = self.gateway("--wait", "60")
+        self.work(gateway, 200, 5)
+        self.assertEqual(gateway.verdicts(), ["LEGAL"])
+
+    def test_a_seventeenth_branch_waits(self):
+        gateway = self.gateway("--wait", "20")
+        clients = [self.client(gateway) for _ in range(17)]
+        for number, client in enumerate(clients[:16]):
+            self.ok(client, f"XA START '{number}'")
+        clients[16].send(b"\x03XA START 'late'")
+        time.sleep(0.3)
+        self.assertFalse(clients[16].has_answer())
+        self.ok(clients[3], "XA END '3'", "XA PREPARE '3'")
+        self.assertEqual(clients[16].read(clients[16].packet()).kind, "ok")
+        self.ok(clients[16], "XA END 'late'", "XA ROLLBACK 'late'")
+        self.ok(clients[3], "XA COMMIT '3'")
+        self.assertEqual(gateway.verdicts(), ["LEGAL"])
+
+    def test_a_seventeenth_branch_is_refused(self):
+        for seconds in ("0.2", "0"):
+            gateway = self.gateway("--wait", seconds)
+            clients = [self.client(gateway) for _ in range(17)]
+            for number, client in enumerate(clients[:16]):
+                self.ok(client, f"XA START '{number}'")
+            began = time.monotonic()
+            for text in ("XA START 'late'", "GET 'k'"):
+                answer = self.refused(clients[16], text, 1040, "08004")
+                self.assertIn(HELD, answer.text)
+            self.assertGreaterEqual(time.monotonic() - began, 2 * float(seconds))
+            self.ok(clients[0], "XA END '0'", "XA ROLLBACK '0'")
+            self.ok(clients[16], "XA START 'late'")
+            self.refused(clients[0], "GET 'k'", 1040, "08004")
+            # what needs no session is answered
+            self.ok(clients[0], "SET NAMES utf8", "BEGIN", "COMMIT")
+            self.assertEqual(gateway.verdicts(), ["LEGAL"])
+
+    def test_a_client_that_leaves_gives_its_session_back(self):
+        gateway = self.gateway("--wait", "20")
+        for _ in range(3):
+            clients = [self.client(gateway) for _ in range(16)]
+            for number, client in enumerate(clients):
+                self.ok(client, f"XA START '{_} {number}'", f"PUT '{number}','v'")
+            for client in clients:
+                client.close()
+            with gateway.client() as other:
+                wait_for(lambda: all(other.ask(f"PUT '{number}','w'").kind == "ok" for number in range(16)), "the rows are free")
+        self.assertEqual(gateway.verdicts(), ["LEGAL"])
+
+    def test_more_connections_than_are_let_in(self):
+        gateway = self.gateway("--max-connections", "3")
+        clients = [self.client(gateway) for _ in range(3)]
+        refused = self.client(gateway)
+        self.assertEqual((refused.welcome.number, refused.welcome.sqlstate), (1040, "08004"))
+        self.assertIn("--max-connections", refused.welcome.text)
+        clients[0].quit()
+        wait_for(lambda: self.client(gateway).welcome.kind == "ok", "a place is free")
+
+    def test_a_thousand_that_idle(self):
+        """They cost less than 100 MB, and another is answered as before."""
+        gateway = self.gateway("--max-connections", "1100", record=False)
+        before = self.memory(gateway)
+        idle = [self.client(gateway) for _ in range(1000)]
+        self.assertEqual({client.welcome.kind for client in idle}, {"ok"})
+        for client in idle[::50]:
+            self.ok(client, "PUT 'k','v'")
+        self.assertLess(self.memory(gateway) - before, 100_000)
+
+    @staticmethod
+    def memory(gateway):
+        """Kilobytes that are resident."""
+        with open(f"/proc/{gateway.process.pid}/status") as status:
+            return next(int(line.split()[1]) for line in status if line.startswith("VmRSS"))
+
+
+class History(Case):
+    def test_a_history_is_a_script(self):
+        """`run` carries out each of its lines, and gives the rows that the store has, also those of branches that were cut off."""
+        for capacity in ("7", "1024"):
+            gateway = self.gateway("--history", self.folder_of() / "history", "--capacity", capacity, "--wait", "60")
+            workers = [Worker(gateway, number, 20) for number in range(20)]
+            for worker in workers:
+                worker.start()
+            for worker in workers:
+                worker.join()
+            with gateway.client() as client:
+                client.ask("XA START 'cut'")
+                client.ask("PUT 'cut','v'")
+            with gateway.client() as client:
+                wait_for(lambda: client.ask("PUT 'cut','w'").kind == "ok", "the branch is rolled back")
+                rows = {key: self.value(client, key) for key in [*map(str, range(12)), "cut"]}
+            gateway.end()
+            script = (self.folder / "history").read_bytes()
+            self.assertGreater(script.count(b"\n"), 1_500)
+            asked = script + b"".join(b"1 GET '%s'\n" % key.encode() for key in rows)
+            ran = subprocess.run([PROGRAM, "run"], input=asked, stdout=subprocess.PIPE, check=True)
+            answers = ran.stdout.splitlines()
+            self.assertEqual([line for line in answers if b"ERROR" in line], [])
+            expected = [b"1 NONE" if value is None else b"1 VALUE 0x" + value.hex().encode() for value in rows.values()]
+            self.assertEqual(answers[-len(rows):], expected)
+
+    def folder_of(self):
+        self.folder = Path(self.ends.enter_context(tempfile.TemporaryDirectory()))
+        return self.folder
