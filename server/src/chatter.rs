@@ -84,8 +84,14 @@ struct Words<'a> {
     words: &'a [Placed],
 }
 
+/// How long a text may be, so that its words take no more memory than a few megabytes.
+const LONGEST: usize = 65_536;
+
 /// What a text is; none if it is nothing that is known.
 pub fn read(text: &[u8], facts: &Facts) -> Option<Other> {
+    if text.len() > LONGEST {
+        return None;
+    }
     let found = words(text);
     let mut it = Words { text, words: &found };
     let other = match it.run()? {
@@ -429,14 +435,31 @@ fn value_of(name: &str, facts: &Facts) -> Option<(Value, bool)> {
     }
 }
 
-/// Whether a name fits a pattern of LIKE.
+/// Whether a name fits a pattern of LIKE. It goes back to the last `%` alone, so no pattern takes long.
 fn is_like(name: &[u8], pattern: &[u8]) -> bool {
-    match pattern.split_first() {
-        None => name.is_empty(),
-        Some((b'%', rest)) => (0..=name.len()).any(|skipped| is_like(&name[skipped..], rest)),
-        Some((b'\\', rest)) if !rest.is_empty() => name.first() == rest.first() && is_like(&name[1..], &rest[1..]),
-        Some((byte, rest)) => name.first().map_or(false, |it| *byte == b'_' || it == byte) && is_like(&name[1..], rest),
+    let (mut at, mut place) = (0, 0);
+    let mut back = None;
+    while at < name.len() {
+        let (wanted, length) = match pattern.get(place) {
+            Some(b'\\') if place + 1 < pattern.len() => (Some(pattern[place + 1]), 2),
+            Some(b'_') => (Some(name[at]), 1),
+            byte => (byte.copied(), 1),
+        };
+        if length == 1 && pattern.get(place) == Some(&b'%') {
+            back = Some((at, place));
+            place += 1;
+        } else if wanted == Some(name[at]) {
+            at += 1;
+            place += length;
+        } else if let Some((from, percent)) = back {
+            back = Some((from + 1, percent));
+            at = from + 1;
+            place = percent + 1;
+        } else {
+            return false;
+        }
     }
+    pattern[place..].iter().all(|byte| *byte == b'%')
 }
 
 #[cfg(test)]
@@ -506,6 +529,17 @@ mod tests {
         for text in ["select @@nothing", "SELECT", "SELECT 1 FROM t", "SELECT *", "SELECT 1;SELECT 2", "SELECT sleep(5)", "", ";", "SELECT 1 FROM DUAL WHERE 1", "SELECT @@", "SELECT 1,"] {
             assert_eq!(said(text), None, "{}", text);
         }
+    }
+
+    #[test]
+    fn patterns() {
+        for (name, pattern) in [("a", "a"), ("a", "%"), ("", ""), ("", "%%"), ("abc", "a%c"), ("abc", "_b_"), ("a_c", "a\\_c"), ("abcabd", "%ab%d"), ("a%", "a\\%"), ("aaab", "%a%b")] {
+            assert!(is_like(name.as_bytes(), pattern.as_bytes()), "{} {}", name, pattern);
+        }
+        for (name, pattern) in [("a", ""), ("a", "b"), ("abc", "a\\_c"), ("abc", "a%d"), ("", "_"), ("ab", "a"), ("abc", "%b"), ("abc", "a\\%")] {
+            assert!(!is_like(name.as_bytes(), pattern.as_bytes()), "{} {}", name, pattern);
+        }
+        assert!(!is_like(&[b'a'; 1_000], "%a".repeat(30_000).as_bytes()));
     }
 
     #[test]

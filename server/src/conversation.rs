@@ -14,9 +14,10 @@ use std::collections::HashMap;
 use std::sync::atomic::Ordering;
 use std::sync::Arc;
 
-/// How many statements a connection may keep prepared, and how many bytes each may have.
+/// How many statements a connection may keep prepared, how many bytes each may have, and all of them.
 const PREPARED: usize = 1024;
 const LONGEST_PREPARED: usize = 4096;
+const ALL_PREPARED: usize = 256 * 1024;
 
 /// A prepared text, and what was sent for its `?` ahead of its execution.
 struct Prepared {
@@ -329,8 +330,9 @@ impl Conversation {
             Ok(found) => found,
             Err(refused) => return self.answer(&refused.into(), false),
         };
-        if self.prepared.len() >= PREPARED || text.len() > LONGEST_PREPARED {
-            let why = format!("more than {} prepared statements, or one of more than {} bytes", PREPARED, LONGEST_PREPARED);
+        let held: usize = self.prepared.values().map(|it| it.text.len()).sum();
+        if self.prepared.len() >= PREPARED || text.len() > LONGEST_PREPARED || held + text.len() > ALL_PREPARED {
+            let why = format!("more than {} prepared statements, or one of more than {} bytes, or all of more than {}", PREPARED, LONGEST_PREPARED, ALL_PREPARED);
             return self.answer(&refusal_with(1295, why).into(), false);
         }
         self.last = self.last.wrapping_add(1);

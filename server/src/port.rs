@@ -8,6 +8,7 @@ use std::fs;
 use std::io::{self, ErrorKind};
 use std::net::{Shutdown, SocketAddr, TcpListener, TcpStream};
 use std::os::unix::net::{UnixListener, UnixStream};
+use std::panic::{self, AssertUnwindSafe};
 use std::path::PathBuf;
 use std::sync::atomic::{AtomicBool, AtomicUsize, Ordering};
 use std::sync::Arc;
@@ -176,7 +177,8 @@ impl Port {
         };
         let (port, kept) = (Arc::clone(self), Arc::clone(&connection));
         let begun = thread::Builder::new().stack_size(STACK).spawn(move || {
-            port.serve(channel, &connection, place);
+            // (a fault of the server's own is told by the panic's message, and ends this connection alone)
+            let _ = panic::catch_unwind(AssertUnwindSafe(|| port.serve(channel, &connection, place)));
             port.store.forget(&connection);
         });
         if let Err(fault) = begun {

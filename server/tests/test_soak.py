@@ -1,0 +1,54 @@
+"""A transaction manager that is killed over and over amid its work over two stores: nothing is lost or done twice, and what the stores did is LEGAL."""
+import os
+import random
+import subprocess
+import tempfile
+import time
+
+from support import Case
+from test_clients import HERE
+
+KILLS = int(os.environ.get("SOAK_KILLS", "10"))
+SECONDS = float(os.environ.get("SOAK_SECONDS", "2"))
+JARS = ":".join(f"/usr/share/java/{jar}.jar" for jar in ["mariadb-java-client", "btm", "geronimo-jta-1.2-spec", "geronimo-jms_1.1_spec", "slf4j-api", "slf4j-nop"])
+
+
+class Soak(Case):
+    def setUp(self):
+        super().setUp()
+        self.classes = self.ends.enter_context(tempfile.TemporaryDirectory())
+        self.journal = self.ends.enter_context(tempfile.TemporaryDirectory())
+        subprocess.run(["javac", "-d", self.classes, "-cp", JARS, HERE / "clients" / "Soak.java"], check=True)
+
+    def java(self, gateway, what):
+        words = ["java", "-Xshare:auto", "-XX:TieredStopAtLevel=1", "-cp", f"{JARS}:{self.classes}", "Soak", self.journal, *map(str, gateway.ports), what]
+        return subprocess.Popen(words, stderr=subprocess.DEVNULL)
+
+    def test_a_manager_that_is_killed(self):
+        draw = random.Random(62)
+        gateway = self.gateway("--wait", "60", stores=2)
+        moved = 0
+        for _ in range(KILLS):
+            before = self.size(gateway)
+            process = self.java(gateway, "move")
+            deadline = time.monotonic() + 60
+            while self.size(gateway) < before + 20_000 and time.monotonic() < deadline:
+                time.sleep(0.02)
+            time.sleep(draw.uniform(0.1, SECONDS))
+            process.kill()
+            process.wait(30)
+            moved += self.size(gateway) > before
+        self.assertEqual(moved, KILLS)
+        self.assertEqual(self.java(gateway, "recover").wait(120), 0)
+        clients = [self.client(gateway, store) for store in (0, 1)]
+        for client in clients:
+            self.assertEqual(client.ask("XA RECOVER").rows, [])
+        sums = [sum(int(self.value(client, str(account)) or b"0") for account in range(10)) for client in clients]
+        self.assertLess(sums[0], 0)
+        self.assertEqual(sum(sums), 0)
+        self.assertEqual(gateway.verdicts(), ["LEGAL", "LEGAL"])
+
+    @staticmethod
+    def size(gateway):
+        """Bytes of the records: how much was done."""
+        return sum(path.stat().st_size for path in gateway.records())
