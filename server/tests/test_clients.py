@@ -115,10 +115,11 @@ class Java(Case):
         self.assertEqual(ran.returncode, 0, ran.stdout)
         return ran.stdout
 
-    def test_hikari(self):
-        gateway = self.gateway("--wait", "60")
-        self.assertIn("committed 300", self.says("Pool", gateway.port))
-        self.assertEqual(gateway.verdicts(), ["LEGAL"])
+    def test_hikari_and_mariadb(self):
+        for pool in ("hikari", "mariadb"):
+            gateway = self.gateway("--wait", "60")
+            self.assertIn("committed 300", self.says("Pool", gateway.port, pool))
+            self.assertEqual(gateway.verdicts(), ["LEGAL"])
 
     def test_bitronix(self):
         gateway = self.gateway("--wait", "60", stores=2)

@@ -5,9 +5,10 @@ import struct
 import subprocess
 import sys
 import tempfile
+import time
 from pathlib import Path
 
-from support import HERE, PROGRAM, SERVER, Case
+from support import HERE, PROGRAM, SERVER, Case, wait_for
 from test_statements import any_text
 from wire import CAN, Client, proof_of
 
@@ -155,6 +156,31 @@ class Passwords(Case):
             proof = proof_of(b"right", client.greeted())
             client.send(struct.pack("<IIB23x", CAN & ~0x80000, 1 << 24, 45) + b"judy\0" + bytes((len(proof),)) + proof, 1)
             self.assertEqual(client.read(client.packet()).kind, "ok")
+
+
+class Patience(Case):
+    def test_time_limits(self):
+        """A client that is idle, one that stops in a packet, and one that doesn't log in are closed when their time is over; the one that asks goes on."""
+        gateway = self.gateway("--idle", "1", "--patience", "0.5")
+        asks, idle, half, silent = self.client(gateway), self.client(gateway), self.client(gateway), self.ends.enter_context(Client(gateway.port, log_in=False))
+        self.ok(idle, "XA START 'a'", "PUT 'k','v'")
+        half.socket.sendall(b"\x10\0\0\0\x03XA")
+        for _ in range(20):
+            self.ok(asks, "DO 1")
+            time.sleep(0.1)
+        for client, words in ((idle, "no command for 1 seconds"), (half, "half a packet, and nothing more for 0.5 seconds"), (silent, "silent for 0.5 seconds")):
+            self.assertTrue(client.is_closed())
+            wait_for(lambda: gateway.logged(words), words)
+        self.ok(asks, "PUT 'k','w'")
+        self.assertEqual(gateway.verdicts(), ["LEGAL"])
+
+    def test_longer_packets(self):
+        gateway = self.gateway("--max-packet", "16777214")
+        client = self.client(gateway)
+        self.ok(client, "PUT 'k','v'" + " " * 10_000_000)
+        self.assertEqual(client.ask("SHOW VARIABLES LIKE '" + "%a" * 1_000_000 + "'").number, 1064)
+        client.send(b"\x03" + b"x" * ((1 << 24) - 2))
+        self.assertEqual(client.read(client.packet()).number, 1153)
 
 
 class CommandLine(Case):
