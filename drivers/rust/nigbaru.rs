@@ -269,7 +269,13 @@ impl Store {
         match unsafe { nigbaru_raw_open(capacity, sessions, &mut store) } {
             OK => {
                 let free = (1..=sessions).rev().map(|number| Seat { number, handle: Handle::EMPTY, renewals: 0 }).collect();
-                Ok(Store { shared: Arc::new(Shared { current: Mutex::new(Current { store, free, kept }), renewals: AtomicU64::new(0), is_renewing: AtomicBool::new(false) }) })
+                Ok(Store {
+                    shared: Arc::new(Shared {
+                        current: Mutex::new(Current { store, free, kept }),
+                        renewals: AtomicU64::new(0),
+                        is_renewing: AtomicBool::new(false),
+                    }),
+                })
             }
             status => Err(fault(status)),
         }

@@ -65,7 +65,10 @@ impl Client {
             0xff => false,
             _ => {
                 for _ in 0..2 {
-                    while { let it = self.packet(); !(it[0] == 0xfe && it.len() < 9) } {}
+                    while {
+                        let it = self.packet();
+                        !(it[0] == 0xfe && it.len() < 9)
+                    } {}
                 }
                 true
             }

@@ -9,7 +9,9 @@ use crate::tokens::{words, Placed, Word};
 /// A text that is read.
 #[derive(Clone, Debug, PartialEq, Eq)]
 pub enum Other {
-    Begin { is_read_only: bool },
+    Begin {
+        is_read_only: bool,
+    },
     Commit,
     RollBack,
     /// Settings: autocommit's new value, if it is among them.
@@ -482,9 +484,24 @@ mod tests {
     #[test]
     fn settings_that_drivers_send() {
         for text in [
-            "SET NAMES utf8mb4", "set names 'utf8mb4'", "SET NAMES \"latin1\" COLLATE 'latin1_swedish_ci'", "SET NAMES utf8 COLLATE utf8_bin;", "SET NAMES DEFAULT", "SET CHARACTER SET utf8", "SET CHARACTER SET 'anything'",
-            "SET CHARSET x", "SET TRANSACTION ISOLATION LEVEL READ COMMITTED", "SET SESSION TRANSACTION ISOLATION LEVEL REPEATABLE READ", "set session transaction read only", "SET TRANSACTION READ WRITE, ISOLATION LEVEL SERIALIZABLE",
-            "SET character_set_results = NULL", "SET sql_mode='STRICT_TRANS_TABLES', time_zone = '+00:00'", "SET @@session.wait_timeout=28800", "SET @x := concat(1, 2)", "SET SQL_AUTO_IS_NULL = 0", "SET SESSION sql_mode=(SELECT CONCAT(@@sql_mode,',x'))",
+            "SET NAMES utf8mb4",
+            "set names 'utf8mb4'",
+            "SET NAMES \"latin1\" COLLATE 'latin1_swedish_ci'",
+            "SET NAMES utf8 COLLATE utf8_bin;",
+            "SET NAMES DEFAULT",
+            "SET CHARACTER SET utf8",
+            "SET CHARACTER SET 'anything'",
+            "SET CHARSET x",
+            "SET TRANSACTION ISOLATION LEVEL READ COMMITTED",
+            "SET SESSION TRANSACTION ISOLATION LEVEL REPEATABLE READ",
+            "set session transaction read only",
+            "SET TRANSACTION READ WRITE, ISOLATION LEVEL SERIALIZABLE",
+            "SET character_set_results = NULL",
+            "SET sql_mode='STRICT_TRANS_TABLES', time_zone = '+00:00'",
+            "SET @@session.wait_timeout=28800",
+            "SET @x := concat(1, 2)",
+            "SET SQL_AUTO_IS_NULL = 0",
+            "SET SESSION sql_mode=(SELECT CONCAT(@@sql_mode,',x'))",
         ] {
             assert_eq!(said(text), Some(Other::Set(None)), "{}", text);
         }
@@ -493,21 +510,51 @@ mod tests {
     #[test]
     fn autocommit_in_every_form() {
         for (word, value) in [("1", true), ("ON", true), ("true", true), ("0", false), ("off", false), ("FALSE", false)] {
-            for form in ["SET autocommit={}", "set SESSION autocommit = {}", "SET @@autocommit={}", "SET @@session.autocommit={}", "SET autocommit={}, sql_mode = concat(@@sql_mode,',STRICT_TRANS_TABLES')", "SET sql_mode='', autocommit={}"] {
+            for form in [
+                "SET autocommit={}",
+                "set SESSION autocommit = {}",
+                "SET @@autocommit={}",
+                "SET @@session.autocommit={}",
+                "SET autocommit={}, sql_mode = concat(@@sql_mode,',STRICT_TRANS_TABLES')",
+                "SET sql_mode='', autocommit={}",
+            ] {
                 assert_eq!(said(&form.replace("{}", word)), Some(Other::Set(Some(value))), "{}", form);
             }
         }
-        for text in ["SET autocommit=2", "SET autocommit", "SET autocommit=", "SET autocommit=0; BEGIN", "SET unknown = 1", "SET GLOBAL autocommit=1", "SET", "SET NAMES", "SET TRANSACTION", "SET x = (1"] {
+        for text in [
+            "SET autocommit=2",
+            "SET autocommit",
+            "SET autocommit=",
+            "SET autocommit=0; BEGIN",
+            "SET unknown = 1",
+            "SET GLOBAL autocommit=1",
+            "SET",
+            "SET NAMES",
+            "SET TRANSACTION",
+            "SET x = (1",
+        ] {
             assert_eq!(said(text), None, "{}", text);
         }
     }
 
     #[test]
     fn transactions() {
-        for (text, is_read_only) in [("BEGIN", false), ("begin work", false), ("START TRANSACTION", false), ("START TRANSACTION READ ONLY", true), ("START TRANSACTION READ WRITE", false), ("start transaction with consistent snapshot, read only", true)] {
+        for (text, is_read_only) in [
+            ("BEGIN", false),
+            ("begin work", false),
+            ("START TRANSACTION", false),
+            ("START TRANSACTION READ ONLY", true),
+            ("START TRANSACTION READ WRITE", false),
+            ("start transaction with consistent snapshot, read only", true),
+        ] {
             assert_eq!(said(text), Some(Other::Begin { is_read_only }), "{}", text);
         }
-        for (text, other) in [("COMMIT", Other::Commit), ("commit work and no chain no release;", Other::Commit), ("ROLLBACK", Other::RollBack), ("rollback work", Other::RollBack)] {
+        for (text, other) in [
+            ("COMMIT", Other::Commit),
+            ("commit work and no chain no release;", Other::Commit),
+            ("ROLLBACK", Other::RollBack),
+            ("rollback work", Other::RollBack),
+        ] {
             assert_eq!(said(text), Some(other), "{}", text);
         }
         for text in ["COMMIT AND CHAIN", "ROLLBACK TO x", "START", "START SLAVE", "START TRANSACTION READ", "BEGIN; COMMIT"] {
@@ -525,15 +572,41 @@ mod tests {
             row("select @@max_allowed_packet, @@session.autocommit AS c limit 1"),
             [("@@max_allowed_packet".to_string(), Value::Number(65_536)), ("c".to_string(), Value::Number(1))]
         );
-        assert_eq!(row("SELECT 'a' AS `B`, -5 x, @y"), [("B".to_string(), Value::from("a")), ("x".to_string(), Value::Number(-5)), ("@y".to_string(), Value::Null)]);
-        for text in ["select @@nothing", "SELECT", "SELECT 1 FROM t", "SELECT *", "SELECT 1;SELECT 2", "SELECT sleep(5)", "", ";", "SELECT 1 FROM DUAL WHERE 1", "SELECT @@", "SELECT 1,"] {
+        assert_eq!(
+            row("SELECT 'a' AS `B`, -5 x, @y"),
+            [("B".to_string(), Value::from("a")), ("x".to_string(), Value::Number(-5)), ("@y".to_string(), Value::Null)]
+        );
+        for text in [
+            "select @@nothing",
+            "SELECT",
+            "SELECT 1 FROM t",
+            "SELECT *",
+            "SELECT 1;SELECT 2",
+            "SELECT sleep(5)",
+            "",
+            ";",
+            "SELECT 1 FROM DUAL WHERE 1",
+            "SELECT @@",
+            "SELECT 1,",
+        ] {
             assert_eq!(said(text), None, "{}", text);
         }
     }
 
     #[test]
     fn patterns() {
-        for (name, pattern) in [("a", "a"), ("a", "%"), ("", ""), ("", "%%"), ("abc", "a%c"), ("abc", "_b_"), ("a_c", "a\\_c"), ("abcabd", "%ab%d"), ("a%", "a\\%"), ("aaab", "%a%b")] {
+        for (name, pattern) in [
+            ("a", "a"),
+            ("a", "%"),
+            ("", ""),
+            ("", "%%"),
+            ("abc", "a%c"),
+            ("abc", "_b_"),
+            ("a_c", "a\\_c"),
+            ("abcabd", "%ab%d"),
+            ("a%", "a\\%"),
+            ("aaab", "%a%b"),
+        ] {
             assert!(is_like(name.as_bytes(), pattern.as_bytes()), "{} {}", name, pattern);
         }
         for (name, pattern) in [("a", ""), ("a", "b"), ("abc", "a\\_c"), ("abc", "a%d"), ("", "_"), ("ab", "a"), ("abc", "%b"), ("abc", "a\\%")] {
@@ -547,7 +620,15 @@ mod tests {
         assert_eq!(said("DO 1"), Some(Other::Nothing));
         assert_eq!(said("USE db"), Some(Other::Nothing));
         assert_eq!(said("show nigbaru status"), Some(Other::Status));
-        for text in ["SHOW DATABASES", "show tables", "SHOW WARNINGS", "SHOW WARNINGS LIMIT 5", "SHOW SESSION STATUS LIKE 'x'", "SHOW VARIABLES LIKE 'lower\\_case\\_%'", "SHOW GLOBAL VARIABLES WHERE variable_name = 'wait_timeout'"] {
+        for text in [
+            "SHOW DATABASES",
+            "show tables",
+            "SHOW WARNINGS",
+            "SHOW WARNINGS LIMIT 5",
+            "SHOW SESSION STATUS LIKE 'x'",
+            "SHOW VARIABLES LIKE 'lower\\_case\\_%'",
+            "SHOW GLOBAL VARIABLES WHERE variable_name = 'wait_timeout'",
+        ] {
             assert!(matches!(said(text), Some(Other::Table(_))), "{}", text);
         }
         match said("SHOW VARIABLES LIKE 'lower%'") {

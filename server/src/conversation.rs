@@ -332,7 +332,8 @@ impl Conversation {
         };
         let held: usize = self.prepared.values().map(|it| it.text.len()).sum();
         if self.prepared.len() >= PREPARED || text.len() > LONGEST_PREPARED || held + text.len() > ALL_PREPARED {
-            let why = format!("more than {} prepared statements, or one of more than {} bytes, or all of more than {}", PREPARED, LONGEST_PREPARED, ALL_PREPARED);
+            let why =
+                format!("more than {} prepared statements, or one of more than {} bytes, or all of more than {}", PREPARED, LONGEST_PREPARED, ALL_PREPARED);
             return self.answer(&refusal_with(1295, why).into(), false);
         }
         self.last = self.last.wrapping_add(1);

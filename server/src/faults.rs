@@ -285,9 +285,28 @@ mod tests {
     #[test]
     fn what_is_refused() {
         for line in [
-            "XA PREPARE close-before", "XA PREPARE 0 close-before", "XA PREPARE 1 close", "XA PREPARE 1 close-after 3", "XA COMMIT 1 stall", "XA COMMIT 1 error 0", "XA COMMIT 1 error 1.5",
-            "XA COMMIT 1 error 70000", "CUT 1 close-after", "STORE 3 GET 1 close-after", "xa commit 1 close-after", "GET every 0 close-after", "GET chance 1.5 close-after", "NOW close-after",
-            "STORE", "STORE 1", "GET", "GET 1", "GET 1 stall -1", "GET 1 stall 1.", "GET 1 stall inf", "GET  1 close-after",
+            "XA PREPARE close-before",
+            "XA PREPARE 0 close-before",
+            "XA PREPARE 1 close",
+            "XA PREPARE 1 close-after 3",
+            "XA COMMIT 1 stall",
+            "XA COMMIT 1 error 0",
+            "XA COMMIT 1 error 1.5",
+            "XA COMMIT 1 error 70000",
+            "CUT 1 close-after",
+            "STORE 3 GET 1 close-after",
+            "xa commit 1 close-after",
+            "GET every 0 close-after",
+            "GET chance 1.5 close-after",
+            "NOW close-after",
+            "STORE",
+            "STORE 1",
+            "GET",
+            "GET 1",
+            "GET 1 stall -1",
+            "GET 1 stall 1.",
+            "GET 1 stall inf",
+            "GET  1 close-after",
         ] {
             assert!(read(line, 2).is_err(), "{}", line);
         }

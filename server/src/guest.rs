@@ -100,7 +100,8 @@ impl Guest {
     fn crowded(&self) -> Refusal {
         let size = self.store.pool.size();
         let wait = self.store.wait.as_secs_f64();
-        let text = format!("Too many connections: each of the store's {} sessions has a branch that isn't prepared, and none was free for {} s (--wait)", size, wait);
+        let text =
+            format!("Too many connections: each of the store's {} sessions has a branch that isn't prepared, and none was free for {} s (--wait)", size, wait);
         refusal_with(1040, text)
     }
 

@@ -67,8 +67,7 @@ const ROUNDS: [u32; 64] = [
 ];
 
 pub fn sha256(message: &[u8]) -> [u8; 32] {
-    let mut state =
-        [0x6a09_e667, 0xbb67_ae85, 0x3c6e_f372, 0xa54f_f53a, 0x510e_527f, 0x9b05_688c, 0x1f83_d9ab, 0x5be0_cd19];
+    let mut state = [0x6a09_e667, 0xbb67_ae85, 0x3c6e_f372, 0xa54f_f53a, 0x510e_527f, 0x9b05_688c, 0x1f83_d9ab, 0x5be0_cd19];
     for block in padded(message).chunks(BLOCK) {
         sha256_block(&mut state, block);
     }

@@ -62,8 +62,24 @@ struct Words {
 }
 
 const NAMES: [&str; 18] = [
-    "stores", "port", "host", "socket", "user", "password-file", "auth", "fault", "record", "history", "status", "max-connections", "max-logins", "wait",
-    "patience", "idle", "max-packet", "capacity",
+    "stores",
+    "port",
+    "host",
+    "socket",
+    "user",
+    "password-file",
+    "auth",
+    "fault",
+    "record",
+    "history",
+    "status",
+    "max-connections",
+    "max-logins",
+    "wait",
+    "patience",
+    "idle",
+    "max-packet",
+    "capacity",
 ];
 
 impl Words {
@@ -96,7 +112,11 @@ impl Words {
     fn number(&self, name: &str, least: u64, most: u64, usual: u64) -> Result<u64, String> {
         match self.text(name) {
             None => Ok(usual),
-            Some(word) => word.parse().ok().filter(|it| (least..=most).contains(it)).ok_or_else(|| format!("--{} takes a number from {} to {}, not {}", name, least, most, word)),
+            Some(word) => word
+                .parse()
+                .ok()
+                .filter(|it| (least..=most).contains(it))
+                .ok_or_else(|| format!("--{} takes a number from {} to {}, not {}", name, least, most, word)),
         }
     }
 
@@ -213,8 +233,18 @@ mod tests {
     #[test]
     fn what_is_refused() {
         for (words, said) in [
-            ("--stores 0", "1 to 64"), ("--port 65535 --stores 2", "no ports"), ("--host 0.0.0.0", "needs --user"), ("--user u", "go together"), ("--wait -1", "seconds"), ("--wait nan", "seconds"), ("--port", "takes a value"),
-            ("--shout", "isn't an option"), ("program", "isn't an option"), ("--auth x", "--auth takes"), ("--", "isn't an option"), ("--=1", "isn't an option"),
+            ("--stores 0", "1 to 64"),
+            ("--port 65535 --stores 2", "no ports"),
+            ("--host 0.0.0.0", "needs --user"),
+            ("--user u", "go together"),
+            ("--wait -1", "seconds"),
+            ("--wait nan", "seconds"),
+            ("--port", "takes a value"),
+            ("--shout", "isn't an option"),
+            ("program", "isn't an option"),
+            ("--auth x", "--auth takes"),
+            ("--", "isn't an option"),
+            ("--=1", "isn't an option"),
         ] {
             let why = options(words).unwrap_err();
             assert!(why.contains(said), "{}: {}", words, why);

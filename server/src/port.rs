@@ -126,8 +126,9 @@ impl Port {
         match accepted {
             Ok((stream, peer)) => self.take_in(stream, peer),
             Err(fault) => {
+                // (as without a free file: who comes waits in the system's queue meanwhile)
                 say(&format!("{} can't take in who comes: {}", self.store.name, fault));
-                thread::sleep(NAP);
+                thread::sleep(10 * NAP);
             }
         }
         Some(listener)

@@ -7,8 +7,8 @@ use crate::tokens::{after_blanks, is_word_byte, quoted_at, run_at, LONGEST};
 
 const GREATEST: u64 = (1 << 31) - 1; // formatID
 const WORDS: [&str; 20] = [
-    "XA", "START", "BEGIN", "JOIN", "RESUME", "END", "SUSPEND", "FOR", "MIGRATE", "PREPARE", "COMMIT", "ONE", "PHASE", "ROLLBACK", "RECOVER", "CONVERT",
-    "XID", "GET", "PUT", "DEL",
+    "XA", "START", "BEGIN", "JOIN", "RESUME", "END", "SUSPEND", "FOR", "MIGRATE", "PREPARE", "COMMIT", "ONE", "PHASE", "ROLLBACK", "RECOVER", "CONVERT", "XID",
+    "GET", "PUT", "DEL",
 ];
 const INTRODUCER: &[u8] = b"_binary";
 
@@ -416,10 +416,31 @@ mod tests {
     #[test]
     fn what_is_refused_and_where() {
         for (text, place) in [
-            ("", 0), ("  ", 2), ("XA START 'a','',2147483648", 16), ("XA START 'a','',0x80000000", 16), ("XA START 0x", 9), ("PUT 'k',0x", 8),
-            ("XA START 'a','b',0x", 17), ("/*! XA */ RECOVER", 0), ("XA RECOVER /* open", 11), ("XA RECOVER --x", 11), ("PUT _binary k,'v'", 4),
-            ("GET _binary", 4), ("GET _binary''", 4), ("GET _binaryx'41'", 4), ("DISCONNECT", 0), ("XA RECOVER;;", 11), ("XA RECOVER; XA RECOVER", 12),
-            ("GET ?", 4), ("GET 'k'\0", 7), ("GET 'k", 4), ("GET 0X41", 4), ("GET X'4'", 4), ("GET X'4g'", 4), ("GET ''", 4), ("XA START 'a' ONE PHASE", 13),
+            ("", 0),
+            ("  ", 2),
+            ("XA START 'a','',2147483648", 16),
+            ("XA START 'a','',0x80000000", 16),
+            ("XA START 0x", 9),
+            ("PUT 'k',0x", 8),
+            ("XA START 'a','b',0x", 17),
+            ("/*! XA */ RECOVER", 0),
+            ("XA RECOVER /* open", 11),
+            ("XA RECOVER --x", 11),
+            ("PUT _binary k,'v'", 4),
+            ("GET _binary", 4),
+            ("GET _binary''", 4),
+            ("GET _binaryx'41'", 4),
+            ("DISCONNECT", 0),
+            ("XA RECOVER;;", 11),
+            ("XA RECOVER; XA RECOVER", 12),
+            ("GET ?", 4),
+            ("GET 'k'\0", 7),
+            ("GET 'k", 4),
+            ("GET 0X41", 4),
+            ("GET X'4'", 4),
+            ("GET X'4g'", 4),
+            ("GET ''", 4),
+            ("XA START 'a' ONE PHASE", 13),
         ] {
             assert_eq!(canonical(text), Err(place), "{}", text);
         }
@@ -443,7 +464,13 @@ mod tests {
         let bound = |values: [Option<&str>; 3]| bind(b"XA START ?,?,?", &values.map(|it| it.map(|text| text.as_bytes().to_vec())));
         assert_eq!(bound([Some("a'"), Some(""), Some("7")]).unwrap().text, b"XA START 0x6127,X'',7");
         let long = "a".repeat(65);
-        for values in [[Some("a"), Some("b"), Some("x")], [Some("a"), Some("b"), Some("-1")], [Some("a"), Some("b"), Some("2147483648")], [Some(&long[..]), Some("b"), Some("1")], [None, Some("b"), Some("1")]] {
+        for values in [
+            [Some("a"), Some("b"), Some("x")],
+            [Some("a"), Some("b"), Some("-1")],
+            [Some("a"), Some("b"), Some("2147483648")],
+            [Some(&long[..]), Some("b"), Some("1")],
+            [None, Some("b"), Some("1")],
+        ] {
             assert!(bound(values).is_err(), "{:?}", values);
         }
     }

@@ -56,7 +56,15 @@ pub fn look(store: &Store) -> Seen {
         let look = lock(&it.look);
         if let Some((xid, state)) = &look.branch {
             let age = Some(look.since.elapsed());
-            branches.push(Branch { xid: text(xid), state, connection: Some(it.number), peer: Some(it.peer.clone()), session: look.session, age, rows: look.rows.clone() });
+            branches.push(Branch {
+                xid: text(xid),
+                state,
+                connection: Some(it.number),
+                peer: Some(it.peer.clone()),
+                session: look.session,
+                age,
+                rows: look.rows.clone(),
+            });
         }
     }
     branches.extend(prepared(store));
@@ -157,9 +165,15 @@ pub fn json_of(store: &Store) -> String {
 fn branch_json(it: &Branch) -> String {
     let number = |number: Option<u64>| number.map_or("null".to_string(), |number| number.to_string());
     let age = it.age.map_or("null".to_string(), |age| format!("{:.3}", age.as_secs_f64()));
-    let rows: Vec<String> = it.rows.iter().map(|(key, is_exclusive)| format!("\"{}\":\"{}\"", text(key), if *is_exclusive { "HOLDS" } else { "SHARES" })).collect();
+    let rows: Vec<String> =
+        it.rows.iter().map(|(key, is_exclusive)| format!("\"{}\":\"{}\"", text(key), if *is_exclusive { "HOLDS" } else { "SHARES" })).collect();
     format!(
         "{{\"xid\":\"{}\",\"state\":\"{}\",\"connection\":{},\"session\":{},\"age\":{},\"rows\":{{{}}}}}",
-        it.xid, it.state, number(it.connection), number(it.session), age, rows.join(",")
+        it.xid,
+        it.state,
+        number(it.connection),
+        number(it.session),
+        age,
+        rows.join(",")
     )
 }

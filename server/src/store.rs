@@ -52,8 +52,7 @@ pub struct Counts {
     refusals: Mutex<BTreeMap<u16, u64>>,
 }
 
-pub const KINDS: [&str; 11] =
-    ["XA START", "XA END", "XA PREPARE", "XA COMMIT", "ONE PHASE", "XA ROLLBACK", "XA RECOVER", "GET", "PUT", "DEL", "OTHER"];
+pub const KINDS: [&str; 11] = ["XA START", "XA END", "XA PREPARE", "XA COMMIT", "ONE PHASE", "XA ROLLBACK", "XA RECOVER", "GET", "PUT", "DEL", "OTHER"];
 
 impl Counts {
     /// Counts a statement; none is one of the others.

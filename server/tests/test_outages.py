@@ -1,4 +1,6 @@
 """Faults that the gateway hasn't: connects and logins, local transactions, one phase, every nth, chances, outages, and a file that is read again."""
+import random
+import threading
 import time
 
 from support import Case, wait_for
@@ -126,3 +128,97 @@ class Faults(Case):
         wait_for(lambda: gateway.logged("store 1 is out for 0.5 seconds: it is told so"), "it goes out")
         wait_for(lambda: gateway.logged("store 1 is back"), "it is back")
         self.ok(self.client(gateway), "PUT 'k','v'")
+
+
+class Worker(threading.Thread):
+    """A client that goes through cycles while it is cut at any place, and then commits what may be prepared."""
+
+    def __init__(self, gateway, number, cycles):
+        super().__init__()
+        self.gateway, self.number, self.cycles, self.draw = gateway, number, cycles, random.Random(number)
+        self.cut, self.fault, self.client = 0, None, None
+
+    def run(self):
+        try:
+            for turn in range(self.cycles):
+                self.cycle(f"'{self.number} {turn}','b',7")
+        except Exception as fault:
+            self.fault = fault
+        finally:
+            if self.client:
+                self.client.close()
+
+    def again(self):
+        """Connects, over as many tries as it takes."""
+        if self.client:
+            self.client.close()
+        while True:
+            self.client = Client(self.gateway.port, log_in=False) if self.is_open() else None
+            if self.client:
+                try:
+                    self.client.log_in(b"root", b"", b"mysql_native_password")
+                    if self.client.welcome.kind == "ok":
+                        return
+                except (Closed, ConnectionError):
+                    pass
+                self.client.close()
+            time.sleep(0.02)
+
+    def is_open(self):
+        try:
+            with Client(self.gateway.port, log_in=False):
+                return True
+        except ConnectionError:
+            return False
+
+    def ask(self, text, *allowed):
+        answer = self.client.ask(text)
+        if answer.kind == "error" and answer.number not in allowed:
+            raise AssertionError(f"{text}: {answer}")
+
+    def cycle(self, xid):
+        try:
+            if self.client is None:
+                self.again()
+            self.ask(f"XA START {xid}")
+            for _ in range(2):
+                key = self.draw.randrange(12)
+                self.ask(self.draw.choice([f"PUT '{key}','{self.number}'", f"GET '{key}'"]), 3572)
+            self.ask(f"XA END {xid}")
+            self.ask(f"XA PREPARE {xid}")
+            self.ask(f"XA {self.draw.choice(['COMMIT', 'ROLLBACK'])} {xid}")
+        except (Closed, ConnectionError):
+            self.finish(xid)
+
+    def finish(self, xid):
+        while True:
+            self.cut += 1
+            try:
+                self.again()
+                # an earlier connection may still be at it
+                wait_for(lambda: self.client.ask(f"XA COMMIT {xid}").number in (None, 1397), "it is over")
+                return
+            except (Closed, ConnectionError):
+                pass
+
+
+class Storm(Case):
+    def test_faults_at_random(self):
+        """Thirty clients, cut at any place and shut out again and again: each is served in the end, nothing is left, and the record is LEGAL."""
+        points = ["XA START", "XA END", "XA PREPARE", "XA COMMIT", "XA ROLLBACK", "PUT", "GET", "LOGIN", "CONNECT"]
+        lines = [f"{point} chance 0.02 seed {seed} {what}" for seed, (point, what) in enumerate((point, what) for point in points for what in ("close-before", "close-after", "stall 0.01", "stall-after 0.01"))]
+        gateway = self.gateway("--wait", "60", faults=[*lines, "XA PREPARE every 300 outage 0.2"])
+        workers = [Worker(gateway, number, 40) for number in range(30)]
+        for worker in workers:
+            worker.start()
+        for worker in workers:
+            worker.join()
+        self.assertEqual([worker.fault for worker in workers if worker.fault], [])
+        self.assertGreater(sum(worker.cut for worker in workers), 100)
+        self.assertGreater(sum("is back" in line for line in gateway.log), 1)
+        (gateway.folder / "faults").write_text("")
+        wait_for(lambda: gateway.logged("read again: 0 of all stores"), "there are no faults any more")
+        client = self.client(gateway)
+        wait_for(lambda: client.ask("XA RECOVER").rows == [], "nothing is prepared")
+        wait_for(lambda: all(client.ask(f"PUT '{key}','free'").kind == "ok" for key in range(12)), "no row is held")
+        self.assertEqual(gateway.verdicts(), ["LEGAL"])
