@@ -7,6 +7,7 @@ import time
 # The shell bounds its own memory and then becomes the program, so the bound stands from the program's first instruction on.
 BOUNDED = 'ulimit -c 0 && ulimit -v "$0" && exec "$@"'
 CHUNK = 65536
+MOST_SAID = 1 << 20  # bytes of the standard error that are kept
 
 
 class Trouble(Exception):
@@ -18,8 +19,9 @@ class Child:
         self.process = subprocess.Popen(
             ["/bin/sh", "-c", BOUNDED, str(memory_kib), str(program), *words], stdin=subprocess.PIPE, stdout=subprocess.PIPE,
             stderr=subprocess.PIPE, bufsize=0, cwd="/", env={"LC_ALL": "C"}, start_new_session=True)
-        for pipe in (self.process.stdin, self.process.stdout):
+        for pipe in (self.process.stdin, self.process.stdout, self.process.stderr):
             os.set_blocking(pipe.fileno(), False)
+        self._error, self._has_said_all = bytearray(), False  # the first of what it says there
 
     def exchange(self, text, last, seconds, most):
         """Writes a text and reads at the same time, up to where the output ends with `last`, or to its end.
@@ -34,6 +36,8 @@ class Child:
             ready = self._wait(bool(left), deadline - time.monotonic())
             if not ready:
                 raise Trouble(f"the program didn't answer within {seconds:g} seconds, and was ended")
+            if self.process.stderr in ready:
+                self._read_error()
             if self.process.stdin in ready:
                 left = self._write(left)
             if self.process.stdout in ready:
@@ -50,6 +54,9 @@ class Child:
         waiting = select.poll()
         ends = {self.process.stdout.fileno(): self.process.stdout}
         waiting.register(self.process.stdout, select.POLLIN)
+        if not self._has_said_all:
+            ends[self.process.stderr.fileno()] = self.process.stderr
+            waiting.register(self.process.stderr, select.POLLIN)
         if writes:
             ends[self.process.stdin.fileno()] = self.process.stdin
             waiting.register(self.process.stdin, select.POLLOUT)
@@ -61,6 +68,16 @@ class Child:
         except BrokenPipeError:
             return left[len(left):]  # the program has ended, or doesn't read its input
 
+    def _read_error(self):
+        """It may say more than is kept; what it says is read all the same, so that it isn't held up."""
+        try:
+            piece = self.process.stderr.read(CHUNK)
+        except (BlockingIOError, ValueError):
+            return
+        self._has_said_all = piece == b""
+        if piece:
+            self._error += piece[:max(0, MOST_SAID - len(self._error))]
+
     def has_ended(self):
         return self.process.poll() is not None
 
@@ -71,7 +88,12 @@ class Child:
         except subprocess.TimeoutExpired:
             self.process.kill()
             status = self.process.wait()
-        return {"status": status, "error": self.process.stderr.read(CHUNK).decode(errors="replace").strip()}
+        while not self._has_said_all:
+            before = len(self._error)
+            self._read_error()
+            if len(self._error) == before:
+                break
+        return {"status": status, "error": self._error.decode(errors="replace").strip()}
 
     def end(self):
         if self.process.poll() is None:

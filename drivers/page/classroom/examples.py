@@ -1,9 +1,11 @@
 """The scripts, calls and records of the repository, which the page offers to open."""
+import re
 
 KINDS = {
     "stories": ["cases/show/*.script"],
     "scripts": ["examples/*.script", "examples/schedules/*.script"],
     "races": ["drivers/page/races/*.script", "examples/races/*.script"],
+    "scenarios": ["drivers/page/scenarios/*.calls"],
     "calls": ["examples/*.calls", "examples/stops/*.calls"],
     "records": ["drivers/page/records/*.record"],
     "judged": ["examples/**/*.record"],
@@ -21,4 +23,4 @@ def entry(path):
     text = path.read_bytes().decode("latin-1")
     first = text.split("\n", 1)[0]
     title = first[1:].strip().encode("latin-1").decode(errors="replace") if first.startswith("#") else ""
-    return {"name": path.stem, "title": title, "text": text}
+    return {"name": re.sub(r"^\d+_", "", path.stem), "title": title, "text": text}

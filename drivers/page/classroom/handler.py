@@ -5,7 +5,7 @@ from http.server import BaseHTTPRequestHandler
 from .child import Trouble
 from .jobs import JOBS, BadQuestion
 
-POLICY = ("default-src 'none'; script-src 'self'; style-src 'self'; img-src 'self'; connect-src 'self'; "
+POLICY = ("default-src 'none'; script-src 'self'; style-src 'self'; img-src 'self' blob:; connect-src 'self'; "
           "base-uri 'none'; form-action 'none'; frame-ancestors 'none'")
 HEADERS = {
     "Content-Security-Policy": POLICY,

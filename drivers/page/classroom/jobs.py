@@ -3,6 +3,7 @@
 Bytes go both ways as strings of the characters U+0000 to U+00FF, one a byte.
 """
 from .child import Trouble
+from .diagram import FILE_WIDTH, diagram
 from .picture import picture
 from .probe import calls_in
 from .talk import Talk, remark, unknown_transaction
@@ -114,6 +115,21 @@ def calls(pool, question):
     return {"calls": [calls_in(run, lines, store) for store in range(int(words[2]))]}
 
 
+def sequence(pool, question):
+    """The calls as a sequence diagram, those from `at` on waiting, and whether all of it is known: else the page asks once more."""
+    words, lines, limits = coordinate_words(question), lines_in(question), pool.limits
+    at = number(question, "at", 0, len(lines), len(lines))
+    drawing = {"width": number(question, "width", 200, 8000, FILE_WIDTH), "size": number(question, "size", 8, 120, 14),
+               "asked": field(question, "asked", bool, False), "is_file": field(question, "file", bool, False)}
+
+    def run(more, text):
+        ran = run_once(pool, [*words, *more], text, limits.answer_seconds)
+        return ran["output"].encode("latin-1"), ran["error"].encode()
+
+    drawn, is_whole = diagram(run, pool.counts, lines, int(words[2]), limits.probe_seconds, at, **drawing)
+    return {"svg": drawn, "whole": is_whole}
+
+
 def stops(pool, question):
     """Every stop of a coordinator within these lines."""
     words, lines = coordinate_words(question), lines_in(question)
@@ -144,4 +160,4 @@ def end(pool, question):
     return {}
 
 
-JOBS = {"talk": talk, "calls": calls, "stops": stops, "race": race, "outcomes": outcomes, "judge": judge, "program": program, "end": end}
+JOBS = {"talk": talk, "calls": calls, "sequence": sequence, "stops": stops, "race": race, "outcomes": outcomes, "judge": judge, "program": program, "end": end}

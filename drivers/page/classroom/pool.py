@@ -3,11 +3,13 @@ import threading
 import time
 
 from .child import Child, Trouble
+from .probe import Counts
 
 
 class Pool:
     def __init__(self, program, limits):
         self.program, self.limits = program, limits
+        self.counts = Counts()
         self._lock = threading.Lock()
         self._children = set()
         self._talks = {}

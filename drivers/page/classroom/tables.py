@@ -1,5 +1,7 @@
-"""What the page cites of docs/STATEMENTS.md: the table of replies, and the table of errors."""
+"""What the page cites of docs/STATEMENTS.md: the table of replies, and the table of errors; and the words of two-phase commit."""
 import re
+
+from .sequence import LEGEND
 
 
 def rows_of(block):
@@ -17,4 +19,4 @@ def first_table(text, heading):
 
 def tables(root):
     text = (root / "docs/STATEMENTS.md").read_text(encoding="utf-8")
-    return {"replies": first_table(text, "Replies"), "refusals": first_table(text, "Errors")}
+    return {"replies": first_table(text, "Replies"), "refusals": first_table(text, "Errors"), "legend": LEGEND}

@@ -12,7 +12,7 @@ from selenium.webdriver.common.keys import Keys
 from selenium.webdriver.chrome.options import Options
 from selenium.webdriver.chrome.service import Service
 
-PATIENCE = 240  # seconds: a machine may be busy with other work
+PATIENCE = float(os.environ.get("PAGE_PATIENCE", 240))  # seconds: a machine may be busy with other work
 ROUNDS = 50  # the page may change under the keys, so what is left to go is counted anew after each round of them
 # How many elements the tabulator has to pass from the focus to the wanted one; fewer than 0 where it lies behind, 0 where it has the focus.
 # Nothing where it isn't there, or takes no focus.

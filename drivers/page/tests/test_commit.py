@@ -29,32 +29,33 @@ class Commit(View):
     view = "commit"
 
     def given(self):
-        return len(self.browser.all(".calls-list > li:not(.waiting)"))
+        return int(self.browser.run("return document.querySelector('#sequence').dataset.given ?? 0"))
+
+    def waiting(self):
+        return len(self.browser.all("#sequence .call.waiting"))
 
     def answers(self):
-        """What the program printed for each call."""
-        return self.browser.run("""return [...document.querySelectorAll('.calls-list .arrow.answer')].map((it) =>
-            [...it.querySelectorAll('.answer-line')].map((line) => line.dataset.printed ?? line.textContent).join('\\n'))""")
-
-    def read(self):
-        """The answers as a person reads them."""
-        return self.browser.run("""return [...document.querySelectorAll('.calls-list .arrow.answer')].map((it) =>
-            [...it.querySelectorAll('.answer-line')].map((line) => line.textContent).join('\\n'))""")
+        """What the program printed for each call, its values as texts."""
+        return self.browser.run("return [...document.querySelectorAll('#sequence .call[data-answer]')].map((it) => it.dataset.answer)")
 
     def doubt(self):
         """The identifiers of the cards in doubt."""
         return self.browser.run("return [...document.querySelectorAll('#doubt .card')].map((it) => it.dataset.xid)")
 
-    def marked(self, line):
-        """The lanes that are marked beside the answer of a line: the identifiers of each store."""
-        return self.browser.run("""return [...document.querySelectorAll(`.calls-list [data-line="${arguments[0]}"] .row:last-child .lane`)]
-            .slice(2, -1).map((lane) => (lane.dataset.doubt ?? '').split(' ').filter((it) => it))""", line)
+    def marked(self, stores):
+        """The branches whose bands reach over the end of each call: for each call the identifiers of each store, in order."""
+        return self.browser.run("""const bands = [...document.querySelectorAll('#sequence .doubt')].map((it) => [it.dataset, it.querySelector('rect').getBBox()]);
+            return [...document.querySelectorAll('#sequence .call')].map((call) => Array.from({ length: arguments[0] }, (_, store) =>
+                bands.filter(([data, box]) => Number(data.store) === store && box.y < call.dataset.bottom && box.y + box.height > call.dataset.bottom - 1)
+                    .map(([data]) => data.xid)))""", stores)
 
     def sessions(self, line):
-        """What a line asked the stores for, and what they answered: the store, and pairs in order."""
-        return self.browser.run("""return [...document.querySelectorAll(`.calls-list [data-line="${arguments[0]}"] .arrow.inner.right`)]
-            .map((it) => [Number(it.dataset.store), ...['.statement-call > bdi', '.store-answer bdi'].map((part) =>
-                [...it.querySelectorAll(part)].map((text) => text.textContent))])""", line)
+        """What a line asked the stores for, and what they answered: the store, the statements and the last answer."""
+        return self.browser.run("""const call = document.querySelector(`#sequence .call[data-line="${arguments[0]}"]`);
+            return [...(call?.querySelectorAll('.message.inner') ?? [])].map((it) => [Number(it.dataset.to) - 2,
+                [...it.querySelectorAll('.statement')].map((text) => text.textContent.replace(/,$/, '')),
+                [...(it.classList.contains('broken') ? it : it.nextElementSibling).querySelectorAll('.term.good, .term.bad, .reply, .bad')]
+                    .map((text) => text.textContent).join(' ')])""", line)
 
     def push(self, call):
         before = self.given()
@@ -76,30 +77,33 @@ class Commit(View):
                 self.open(calls=TRANSFER, at=0)
                 self.until(lambda: len(self.listed()) == len(stops), "all stops are offered")
                 self.browser.choose("#stops", ".".join(place))
-                self.until(lambda: "RECOVER" in "".join(self.browser.texts(".calls-list > li")[-1:]), "its calls are open")
+                self.until(lambda: self.texts_of_last().startswith("RECOVER"), "its calls are open")
                 self.browser.chord(Keys.ALT, Keys.END)
-                self.until(lambda: not self.browser.all(".calls-list > li.waiting"), "all is answered")
+                self.until(lambda: self.given() and not self.waiting(), "all is answered")
                 self.assertEqual(self.answers()[-1], recovered)
                 self.assertEqual(len(self.listed()), len(stops), "the other stops are still offered")
+
+    def texts_of_last(self):
+        found = self.browser.run("return [...document.querySelectorAll('#sequence .call:not(.remark, .blank)')].map((it) => it.querySelector('.statement').textContent)")
+        return found[-1] if found else ""
 
     def test_calls_with_crashes_have_no_stops(self):
         self.open(calls="BEGIN\nFAIL 0 AFTER 0")
         self.until(lambda: self.given() == 2, "all is answered")
         self.assertEqual(self.listed(), [])
 
-    def test_branches_are_marked_from_the_vote_to_their_end(self):
+    def test_branches_are_shaded_from_the_vote_to_their_end(self):
         calls = ["BEGIN", "FAIL 1 AFTER 4", *[f"WORK 1 {store} PUT 'k','v'" for store in range(3)], "PREPARE 1", "DECIDE 1", "FINISH 1", "STOP", "RECOVER", "SHOW"]
         self.open(calls="\n".join(calls))
-        self.until(lambda: self.given() == len(calls), "all is answered")
-        marks = [self.marked(at + 1) for at in range(len(calls))]
+        self.until(lambda: self.given() == len(calls) and len(self.sessions(6)) == 3, "all is answered")
+        marks = self.marked(3)
         self.assertEqual(marks, [in_doubt(calls[:at + 1], 3) for at in range(len(calls))])
         some = [at for at, mark in enumerate(marks) if any(mark)]
         self.assertEqual(calls[some[0]], "PREPARE 1")
         self.assertEqual(calls[some[-1] + 1], "RECOVER")
-        self.browser.push(f'.calls-list [data-line="{some[0] + 1}"] .here')
+        self.browser.push(f'#sequence .call[data-line="{some[0] + 1}"] .go')
         self.until(lambda: self.given() == some[0] + 1, "run to the vote")
         self.assertEqual(self.doubt(), [f"0x630000000000000001,0x0{store},22593" for store in range(3)])
-        self.until(lambda: len(self.sessions(some[0] + 1)) == 3, "the vote's calls")
         self.pictures()
 
     def test_a_transaction_by_buttons(self):
@@ -123,48 +127,83 @@ class Commit(View):
         self.browser.type("#any-call", "  PREPARE 77 \n")
         self.until(lambda: self.given() == 11, "any call")
         calls = ["BEGIN", "WORK 1 0 PUT 'k','v'", "WORK 1 1 PUT 'k','v'", "PREPARE 1", "DECIDE 1", "FINISH 1", "AT 1 GET 'k'", "SHOW", "BEGIN", "ABANDON 2", "PREPARE 77"]
-        self.assertEqual("\n".join(self.answers()) + "\n", says("coordinate", "\n".join(calls).encode() + b"\n")[0].decode())
+        self.assertEqual("\n".join(self.answers()) + "\n", says("coordinate", "\n".join(calls).encode() + b"\n", "--text")[0].decode())
 
     def test_a_crash_at_each_arrow_of_the_second_phase(self):
         """FAIL at the arrow to store 1, STOP behind its answer, RECOVER: decided, so the rest commits."""
         calls = ["BEGIN", *[f"WORK 1 {store} PUT 'k','v'" for store in range(3)], "PREPARE 1", "DECIDE 1", "FINISH 1"]
         self.open(calls="\n".join(calls))
         self.until(lambda: len(self.sessions(7)) == 3, "the calls of the second phase")
-        self.assertEqual(self.sessions(2), [[0, ["XA START", "PUT 'k','v'"], ["OK", "OK"]]])
-        self.assertEqual(self.sessions(5), [[store, ["XA END", "XA PREPARE"], ["OK", "OK: yes"]] for store in range(3)])
-        self.assertEqual(self.sessions(7), [[store, ["XA COMMIT"], ["OK"]] for store in range(3)])
-        self.browser.push('.calls-list [data-line="7"] .arrow.inner[data-store="1"] .crash')
+        self.assertEqual(self.sessions(2), [[0, ["XA START", "PUT 'k','v'"], "OK"]])
+        self.assertEqual(self.sessions(5), [[store, ["XA END", "XA PREPARE"], "vote yes OK"] for store in range(3)])
+        self.assertEqual(self.sessions(7), [[store, ["XA COMMIT"], "acknowledgement OK"] for store in range(3)])
+        cut = '#sequence .call[data-line="7"] .fail[data-store="1"]'
+        self.browser.focus(cut)
+        self.assertEqual(self.browser.text("#cut-says"), self.browser.one(cut).get_attribute("aria-label"))
+        self.assertIn("XA COMMIT doesn't reach store 1", self.browser.text("#cut-says"))
+        self.browser.press(Keys.ENTER)
         self.until(lambda: self.given() == 8, "the call fails")
         self.assertEqual(self.answers()[-2:], ["OK", "UNFINISHED 1: out of memory"])
-        self.until(lambda: self.read()[-1] == "UNFINISHED 1: stopped", "it is said what happened")
-        self.assertEqual(self.browser.run("return document.activeElement.closest('[data-line]')?.dataset.line"), "7", "the focus stays at the line")
-        self.until(lambda: self.sessions(8) == [[0, ["XA COMMIT"], ["OK"]], [1, ["XA COMMIT"], ["stopped"]]], "the arrow is broken")
+        self.until(lambda: self.sessions(8) == [[0, ["XA COMMIT"], "acknowledgement OK"], [1, ["XA COMMIT"], "stopped: no answer"]], "the arrow is broken")
+        self.assertIn("UNFINISHED 1: stopped", self.browser.text('#sequence .call[data-line="8"]'), "it is said what happened")
+        self.assertEqual(self.browser.run("return document.activeElement.dataset.line"), "7", "the focus stays at the line")
         self.assertEqual(len(self.doubt()), 2)
-        self.browser.push('.calls-list [data-line="8"] .arrow.answer .crash')
+        self.browser.push('#sequence .call[data-line="8"] .stop')
         self.until(lambda: self.given() == 9, "the coordinator is stopped")
+        self.assertEqual(len(self.browser.all("#sequence .cross.crash")), 1)
         self.push("RECOVER")
         self.assertEqual(self.answers()[-1], "RECOVERED committed 2 rolled back 0 missing 0")
         self.assertEqual(self.doubt(), [])
-        self.until(lambda: len(self.sessions(10)) == 3, "the calls of the recovery")
-        found = [["DISCONNECT", "XA RECOVER", "XA COMMIT of 1", "XA RECOVER"], ["OK", "1 prepared", "OK", "none"]]
-        self.assertEqual(self.sessions(10), [[0, ["DISCONNECT", "XA RECOVER", "XA RECOVER"], ["OK", "0 prepared", "none"]], [1, *found], [2, *found]])
+        self.assertIn("new coordinator", self.browser.text('#sequence .call[data-line="10"]'))
+        found = [["DISCONNECT", "XA RECOVER"], "1 prepared"], [["XA COMMIT of 1"], "acknowledgement OK"], [["XA RECOVER"], "none"]
+        none = [["DISCONNECT", "XA RECOVER"], "0 prepared"], [["XA RECOVER"], "none"]
+        self.assertEqual(self.sessions(10), [[store, *part] for store, parts in enumerate([none, found, found]) for part in parts])
         self.assertEqual("\n".join(self.answers()) + "\n",
                          says("coordinate", "\n".join([*calls[:6], "FAIL 1 AFTER 0", calls[6], "STOP", "RECOVER"]).encode() + b"\n")[0].decode())
 
     def test_its_state_is_in_the_address(self):
         self.open()
         self.browser.replace("#stores", "5\n")
-        self.until(lambda: len(self.browser.all(".lane-head")) == 8, "five stores")
         self.browser.replace("#k", "4")
         for call in ("BEGIN", "WORK n k s", "PREPARE n"):
             self.push(call)
+        self.assertEqual(len(self.browser.all("#sequence .head")), 8, "five stores")
         self.browser.push('#commit [data-do="back"]')
         self.until(lambda: self.given() == 2, "one back")
-        seen = (self.answers(), len(self.browser.all(".calls-list > li.waiting")))
+        seen = (self.answers(), self.waiting())
         self.reopen()
         self.until(lambda: self.given() == 2, "what was seen")
-        self.assertEqual((self.answers(), len(self.browser.all(".calls-list > li.waiting"))), seen)
-        self.assertEqual(len(self.browser.all(".lane-head")), 8)
+        self.assertEqual((self.answers(), self.waiting()), seen)
+        self.assertEqual(len(self.browser.all("#sequence .head")), 8)
+
+    def test_a_store_that_isnt_there_is_said_so(self):
+        self.open(calls="BEGIN")
+        self.until(lambda: self.given() == 1, "begun")
+        for wanted in ("3", "", "-1"):
+            self.browser.replace("#k", wanted)
+            self.browser.push('#calls-form button[value="WORK n k s"]')
+            self.until(lambda: "There are 3 stores, 0 to 2." in self.browser.text("#notices"), "it is said")
+            self.assertEqual(self.given(), 1, "nothing is given")
+        for wanted, taken in (("17", "16"), ("0", "1")):
+            self.browser.replace("#stores", f"{wanted}\n")
+            self.until(lambda taken=taken: "There are 1 to 16 stores" in self.browser.text("#notices") and
+                       self.browser.one("#stores").get_property("value") == taken, "the nearest is taken")
+
+    def test_a_transfer_of_ones_own_is_kept_in_its_address(self):
+        self.open()
+        self.browser.push("#own-transfer summary")
+        self.browser.replace("#from-name", "carol's")
+        self.browser.replace("#to-store", "4")
+        self.browser.replace("#amount", "30")
+        self.browser.choose("#crash", "within")
+        self.browser.push('#transfer-form button[type="submit"]')
+        self.until(lambda: self.waiting() > 5, "the calls wait")
+        self.reopen()
+        self.until(lambda: self.waiting() > 5, "they are in the address")
+        self.browser.chord(Keys.ALT, Keys.END)
+        self.until(lambda: self.given() and not self.waiting(), "all is answered")
+        self.assertEqual(self.answers()[-2:], ["VALUE '70'", "VALUE '130'"])
+        self.assertEqual(self.answers()[-3], "RECOVERED committed 1 rolled back 0 missing 0")
 
     def test_bytes_of_any_kind_are_shown_as_text(self):
         text = b"<img src=x onerror=window.hacked=1>\xff\n"
@@ -173,8 +212,9 @@ class Commit(View):
         self.open(calls="\n".join(calls))
         self.until(lambda: self.given() == len(calls), "all is answered")
         self.assertEqual(self.doubt(), [f"0x{text.hex()},X'',1"])
-        self.assertEqual(self.answers()[3], "ROWS 1\n1 37 0 <img src=x onerror=window.hacked=1>ff\n")
+        self.assertIn("<img src=x onerror=window.hacked=1>\\ff", self.answers()[3])
         self.assertEqual(self.answers()[4], "ERROR 1064 (42000): syntax fault at byte 0")
+        self.assertEqual(self.browser.all("#sequence img, #sequence b, #sequence script"), [])
 
 
 if __name__ == "__main__":

@@ -26,10 +26,12 @@ class Lesson(View):
     view = "sessions"
 
     def given(self, view):
-        return len(self.browser.all({"sessions": "#given > li", "commit": ".calls-list > li:not(.waiting)"}[view]))
+        if view == "sessions":
+            return len(self.browser.all("#given > li"))
+        return int(self.browser.run("return document.querySelector('#sequence').dataset.given ?? 0"))
 
     def run_to(self, view, line):
-        self.browser.push(f'#{view} [data-line="{line}"] .here')
+        self.browser.push(f'#{view} [data-line="{line}"] :is(.here, .go)')
         self.until(lambda: self.given(view) == line, f"run to line {line}")
 
     def say(self, session, statement):
@@ -37,6 +39,12 @@ class Lesson(View):
         self.browser.type(f'#entry input[name="{session}"]', statement + Keys.ENTER)
         self.until(lambda: self.given("sessions") == before + 1, f"{statement} is answered")
         return self.browser.texts("#given .reply")[-1]
+
+    def calls(self):
+        return self.browser.run("return [...document.querySelectorAll('#sequence .call:not(.remark, .blank)')].map((it) => it.querySelector('.statement').textContent)")
+
+    def replies(self):
+        return self.browser.run("return [...document.querySelectorAll('#sequence .call[data-answer]')].map((it) => it.dataset.answer)")
 
     def cards(self):
         return self.browser.run("""return [...document.querySelectorAll('#branches .card')].map((it) =>
@@ -93,17 +101,17 @@ class Lesson(View):
         self.browser.choose("#calls-example", "transfer")
         self.until(lambda: self.browser.texts("#stops optgroup option"), "the example is open")
         self.browser.choose("#stops", "17.0")
-        self.until(lambda: self.browser.texts(".calls-list > li") and "RECOVER" in self.browser.texts(".calls-list > li")[-1], "the stop's calls are open")
-        prepare = 1 + self.browser.run("return [...document.querySelectorAll('.calls-list > li')].findIndex((it) => it.textContent.includes('PREPARE 1'))")
-        self.run_to("commit", prepare)
-        self.assertEqual(len(self.browser.all(f'.calls-list [data-line="{prepare}"] .row:last-child .lane.doubt')), 3)
+        self.until(lambda: self.calls() and self.calls()[-1].startswith("RECOVER"), "the stop's calls are open")
+        prepare = self.browser.run("return [...document.querySelectorAll('#sequence .call')].find((it) => it.textContent.includes('PREPARE 1')).dataset.line")
+        self.run_to("commit", int(prepare))
+        self.assertEqual(len(self.browser.all("#sequence .doubt")), 3)
         self.browser.chord(Keys.ALT, Keys.END)
         self.until(lambda: self.browser.text("#doubt") == "No branch is in doubt.", "it is over")
-        self.assertIn("RECOVERED committed 0 rolled back 3 missing 0", self.browser.texts(".calls-list .answer-line"))
+        self.until(lambda: "RECOVERED committed 0 rolled back 3 missing 0" in self.replies(), "all is rolled back")
         self.browser.choose("#stops", "19.0")
-        self.until(lambda: self.given("commit") == 0 and self.browser.all(".calls-list > li"), "the other stop's calls are open")
+        self.until(lambda: self.given("commit") == 0 and self.calls(), "the other stop's calls are open")
         self.browser.chord(Keys.ALT, Keys.END)
-        self.until(lambda: "RECOVERED committed 3 rolled back 0 missing 0" in self.browser.texts(".calls-list .answer-line"), "all commits")
+        self.until(lambda: "RECOVERED committed 3 rolled back 0 missing 0" in self.replies(), "all commits")
 
     def test_a_crash_of_ones_own(self):
         self.browser.go(f"{self.page.address}#commit")
@@ -118,17 +126,17 @@ class Lesson(View):
             before = self.given("commit")
             self.browser.push(f'#calls-form button[value="{call}"]')
             self.until(lambda before=before: self.given("commit") == before + 1, call)
-        cut = '.calls-list [data-line="6"] .arrow.inner[data-store="1"] .crash'
+        cut = '#sequence [data-line="6"] .fail[data-store="1"]'
         self.until(lambda: self.browser.all(cut), "the calls of FINISH")
         self.browser.push(cut)
         self.until(lambda: self.given("commit") == 7, "it is carried out again")
-        self.assertTrue(self.browser.texts(".calls-list .answer-line")[-1].startswith("UNFINISHED 1"))
+        self.assertTrue(self.replies()[-1].startswith("UNFINISHED 1"))
         self.assertEqual(self.browser.texts("#doubt .card"), ["transaction 1, store 1"])
         for call, answer in [("SHOW", "CLOSED"), ("STOP", "STOPPED"), ("RECOVER", "RECOVERED committed 1 rolled back 0 missing 0")]:
             before = self.given("commit")
             self.browser.push(f'#calls-form button[value="{call}"]')
             self.until(lambda before=before: self.given("commit") == before + 1, call)
-            self.assertEqual(self.browser.texts(".calls-list .answer-line")[-1], answer)
+            self.assertTrue(self.replies()[-1].endswith(answer), call)
 
     def test_who_may_say_so(self):
         self.browser.go(f"{self.page.address}#judge")

@@ -30,3 +30,8 @@ export function lastBegun(answers) {
   const begun = answers.map((answer) => /^TRANSACTION (\d+)\n/.exec(answer)).filter(Boolean);
   return begun.length ? begun.at(-1)[1] : null;
 }
+
+const CAPTIONS = ["remark", "blank"];
+
+// Whether a line is read in passing: a step doesn't end behind it.
+export const isCaption = (line) => CAPTIONS.includes(readCall(line).kind);

@@ -2,21 +2,23 @@
 import { whole } from "./address.js";
 import { ask, Failure } from "./api.js";
 import { fromText, linesOf } from "./bytes.js";
-import { asksStores, lastBegun } from "./calls.js";
+import { asksStores, isCaption, lastBegun } from "./calls.js";
 import { enable, wire } from "./controls.js";
-import { bringIntoView, byId, el, fill, keepingFocus, options, printedInto } from "./dom.js";
-import { failing, followed } from "./fuses.js";
-import { callItem, doubtList, heads, isCaption } from "./lanes.js";
-import { Patch } from "./patch.js";
+import { bringIntoView, byId, el, fill, options, printedInto } from "./dom.js";
+import { doubtList, legend } from "./doubt.js";
+import * as rules from "./rules.js";
+import { savePng, saveSvg, Sequence } from "./sequence.js";
 import { readStores } from "./shown_stores.js";
-import { saidToStores } from "./statements.js";
 import { linesUntil, nameOfStop, readStops } from "./stops.js";
 import { Tape } from "./tape.js";
 import { follow, titleOf } from "./titles.js";
+import { transferCalls } from "./transfer.js";
 
 const STORES = 3;
 const MOST_STORES = 16;
+const BELOW = 12;
 const PEEK = 60; // so much of the calls that wait is seen
+const FIRST_SCENARIOS = ["all_yes", "crash_before_the_decision", "in_doubt_and_blocking"];
 const NUMBERS = ["UNDECIDED", "DECIDED", "CLOSED"];
 
 export class Commit {
@@ -26,38 +28,69 @@ export class Commit {
     this.stores = STORES;
     this.tape = new Tape({ job: "coordinate", stores: STORES }, (news) => this.changed(news), isCaption);
     this.read = [];
-    this.list = el("ol.calls-list");
-    this.head = el("div.lane-heads");
-    this.wanted = []; // for each line how many calls it makes of the session in each store, as far as the program was asked
-    this.looked = []; // the lines of which that is known
     this.whole = null; // the lines of which a stop is shown, and the calls that show it
     this.shown = null;
     this.stops = []; // of the whole lines, or of those that stand here
     this.stopped = null; // the lines of which these are
-    byId("lanes").append(this.head, this.list);
-    this.patch = new Patch(this.list);
-    this.does = {
-      goTo: (place) => this.tape.goTo(place),
+    this.sequence = new Sequence(byId("sequence"), {
+      go: (place) => this.tape.goTo(place + 1),
       fail: (place, { store, call }) => this.tape.insert(place, [`FAIL ${store} AFTER ${call}`], 1),
       stop: (place) => this.tape.insert(place + 1, ["STOP"]),
       remove: (place) => this.tape.remove(place),
-    };
+    }, () => this.showCursor());
+    addEventListener("resize", () => this.draw());
     wire(this.view, this.tape, (lines, at) => this.open(lines, at, this.stores));
     byId("calls-form").addEventListener("submit", (event) => this.submit(event));
     byId("any-call").addEventListener("keydown", (event) => this.enterKey(event));
-    byId("stores").addEventListener("change", (event) => this.open(this.tape.lines, this.tape.at, Number(event.target.value)));
+    byId("stores").addEventListener("change", (event) => this.setStores(event.target));
+    byId("transfer-form").addEventListener("submit", (event) => this.openTransfer(event));
+    byId("save-svg").addEventListener("click", () => this.save(saveSvg));
+    byId("save-png").addEventListener("click", () => this.save(savePng));
     byId("calls-example").addEventListener("change", (event) => this.openExample(this.examples[event.target.value]));
     byId("stops").addEventListener("change", (event) => this.openStop(this.stops[event.target.value]));
   }
 
-  offer({ calls }) {
-    this.examples = calls;
-    options(byId("calls-example"), [["Calls", calls.map((story, at) => [String(at), titleOf(story)])]]);
+  offer({ scenarios, calls }) {
+    this.examples = [...scenarios, ...calls];
+    const listed = (all, from) => all.map((story, at) => [String(from + at), titleOf(story)]);
+    options(byId("calls-example"), [["Scenarios", listed(scenarios, 0)], ["Examples", listed(calls, scenarios.length)]]);
     options(byId("stops"), []);
+    const first = FIRST_SCENARIOS.map((name) => scenarios.find((story) => story.name === name)).filter(Boolean);
+    fill(byId("first-scenarios"), first.map((story) => el("button.story", { type: "button", onclick: () => this.openExample(story) },
+      el("strong", {}, story.name.replaceAll("_", " ")), " ", story.title)));
+    legend(byId("legend"), rules.words());
   }
 
   openExample(example) {
     if (example) this.open(linesOf(example.text), 0, STORES);
+  }
+
+  // A number of stores that can't be is said to be none, and the nearest is taken.
+  setStores(input) {
+    const wanted = Number(input.value);
+    const stores = input.value === "" ? STORES : Math.max(1, Math.min(MOST_STORES, Math.round(wanted)));
+    if (stores !== wanted) this.tells = `There are 1 to ${MOST_STORES} stores. ${stores} ${stores === 1 ? "is" : "are"} taken.`;
+    this.open(this.tape.lines, this.tape.at, stores);
+    input.value = stores;
+  }
+
+  openTransfer(event) {
+    event.preventDefault();
+    const text = (id) => fromText(byId(id).value);
+    const number = (id) => Number(byId(id).value);
+    const stores = Math.max(this.stores, number("from-store") + 1, number("to-store") + 1);
+    const calls = transferCalls({ fromName: text("from-name"), fromHas: number("from-has"), fromStore: number("from-store"),
+      toName: text("to-name"), toHas: number("to-has"), toStore: number("to-store"), amount: number("amount"), crash: byId("crash").value });
+    this.open(calls, 0, stores);
+  }
+
+  async save(how) {
+    try {
+      await how(await this.sequence.file(this.question()));
+    } catch (fault) {
+      if (!(fault instanceof Failure)) throw fault;
+      this.app.notify({ fault: fault.message });
+    }
   }
 
   // The lines whose stops are offered: of a stop that is shown those from which it comes.
@@ -107,8 +140,6 @@ export class Commit {
     if (stores === this.stores && lines.join("\n") === this.tape.lines.join("\n") && at === this.tape.at) return this.changed({});
     this.stores = stores;
     this.tape.question = { job: "coordinate", stores };
-    this.looked = [];
-    this.wanted = [];
     return this.tape.open(lines, at);
   }
 
@@ -130,8 +161,19 @@ export class Commit {
   submit(event) {
     event.preventDefault();
     const form = event.submitter?.value;
-    if (form === "any") this.giveAny();
-    else if (form) this.tape.give(this.written(form));
+    if (form === "any") return this.giveAny();
+    if (!form || this.lacksStore(form)) return;
+    this.tape.give(this.written(form));
+  }
+
+  // Says so where a call's store isn't there.
+  lacksStore(form) {
+    const k = byId("k").value;
+    if (!/\bk\b/.test(form) || (/^\d+$/.test(k) && Number(k) < this.stores)) return false;
+    const all = this.stores === 1 ? "There is one store, 0." : `There are ${this.stores} stores, 0 to ${this.stores - 1}.`;
+    this.app.notify({ fault: `${all} There is no store ${k || "without a number"}: choose another, or raise Stores.` });
+    byId("k").focus();
+    return true;
   }
 
   enterKey(event) {
@@ -147,13 +189,13 @@ export class Commit {
   }
 
   changed(news) {
-    this.app.notify(news);
+    this.app.notify({ ...news, fault: news.fault ?? this.tells });
+    this.tells = null;
     const answers = this.tape.answers;
     this.read = answers.map(([answer, text], at) => (this.read[at]?.text === text ? this.read[at] : { text, ...readStores(text) }));
-    this.view.style.setProperty("--stores", this.stores);
-    heads(this.head, this.stores);
-    this.drawCalls(answers);
-    this.showCursor();
+    byId("commit-welcome").hidden = this.tape.lines.length > 0;
+    byId("k").max = this.stores - 1;
+    this.draw();
     const behind = this.read[this.tape.at - 1];
     doubtList(byId("doubt"), behind);
     fill(byId("decisions"), NUMBERS.flatMap((name) => [el("dt", {}, name), el("dd", {}, behind?.[name].join(" ") || "none")]));
@@ -167,30 +209,6 @@ export class Commit {
     enable(this.view, this.tape);
     this.app.keep("commit", this.state());
     if (news.times) this.app.measured(news.times);
-    this.look();
-  }
-
-  // Asks the program how many calls of sessions each line made, one line after another, and draws them.
-  async look() {
-    const { lines, at } = this.tape;
-    const same = this.looked.findIndex((line, place) => line !== lines[place]);
-    if (same >= 0) this.looked.length = this.wanted.length = same;
-    if (this.looking || this.looked.length >= at) return;
-    const asked = { lines: lines.slice(0, this.looked.length + 1), stores: this.stores };
-    this.looking = true;
-    const wanted = await this.callsOf(asked);
-    this.looking = false;
-    if (this.isNext(asked)) {
-      this.looked.push(asked.lines.at(-1));
-      this.wanted.push(wanted);
-      if (wanted.some((count) => count)) this.keepingPlace(() => this.drawCalls(this.tape.answers));
-    }
-    this.look();
-  }
-
-  // Whether what was asked is still what is to be known next: lines may have changed meanwhile.
-  isNext({ lines, stores }) {
-    return stores === this.stores && lines.length === this.looked.length + 1 && lines.every((line, at) => line === this.tape.lines[at]);
   }
 
   async callsOf(asked) {
@@ -211,38 +229,27 @@ export class Commit {
     byId("n").value = begun ?? "1";
   }
 
-  drawCalls(answers) {
-    const { lines, at } = this.tape;
-    const said = saidToStores(lines.slice(0, at), answers.map(([answer]) => answer), this.read, followed(lines.slice(0, at), this.wanted));
-    const captions = lines.filter(isCaption);
-    const isFailing = failing(lines);
-    let captionsSoFar = 0;
-    const entries = lines.map((line, place) => {
-      const isRepeated = isCaption(line) && captions[captionsSoFar++ - 1] === line;
-      const outcome = place < at
-        ? { answer: answers[place][0], behind: this.read[place], before: this.read[place - 1], stores: said[place], isFailing: isFailing[place] } : null;
-      const key = `${this.stores} ${place} ${isRepeated} ${line}`;
-      return [key, outcome && [outcome.answer, outcome.before?.text, outcome.behind.text, JSON.stringify(outcome.stores)].join("\n"), () => {
-        const item = callItem(line, place, outcome, this.stores, this.does, isRepeated);
-        item.classList.toggle("waiting", outcome === null);
-        return item;
-      }];
+  question() {
+    return { lines: this.tape.lines, at: this.tape.at, stores: this.stores };
+  }
+
+  // Draws the calls, where they can be seen.
+  draw() {
+    if (this.view.hidden) return;
+    if (this.tape.lines.length === 0) return this.sequence.clear();
+    this.sequence.show(this.question()).catch((fault) => {
+      if (!(fault instanceof Failure)) throw fault;
+      this.app.notify({ fault: fault.message });
     });
-    keepingFocus(this.list, () => this.patch.show(entries));
   }
 
-  // The last answer is to be seen, and a little of what waits.
+  // The last answer is to be seen, and a little of what waits; at the start the first call.
   showCursor() {
+    const room = byId("sequence").parentElement;
     const { at, lines } = this.tape;
-    if (this.view.hidden || at === 0) return;
-    bringIntoView(byId("lanes").parentElement, this.list.children[at - 1], at < lines.length ? PEEK : 0);
-  }
-
-  // What is drawn above the cursor moves nothing at it.
-  keepingPlace(redraw) {
-    const top = () => this.list.children[this.tape.at - 1]?.getBoundingClientRect().bottom ?? 0;
-    const before = top();
-    redraw();
-    byId("lanes").parentElement.scrollTop += top() - before;
+    const all = byId("sequence").querySelectorAll("[data-line]:is(.call)");
+    const given = [...all].filter((it) => Number(it.dataset.line) <= at).at(-1);
+    if (given) bringIntoView(room, given, at < lines.length ? PEEK : BELOW);
+    else room.scrollTop = 0;
   }
 }

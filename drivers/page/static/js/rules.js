@@ -1,7 +1,7 @@
 // Which line of docs/STATEMENTS.md's tables refused a statement: the tables come from the server, which reads them there.
 import { fetched } from "./api.js";
 
-let tables = { replies: [[]], refusals: [[]] };
+let tables = { replies: [[]], refusals: [[]], legend: [] };
 
 export async function load() {
   tables = await fetched("tables");
@@ -36,3 +36,6 @@ export function ruleOf(refusal, statement, state) {
   const row = tables.refusals.slice(1).find((it) => it[0] === refusal.number);
   return row ? { where: row.at(-1), rule: replyRule(refusal.number, statement, state) } : null;
 }
+
+// The words of two-phase commit, each with its meaning.
+export const words = () => tables.legend;

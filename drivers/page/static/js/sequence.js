@@ -1,0 +1,137 @@
+// The sequence diagram of a coordinator's calls: the server makes its SVG, which is shown as it is. What can be done in it are its buttons.
+import { ask } from "./api.js";
+import { byId, el, fill } from "./dom.js";
+import { isProjected } from "./projector.js";
+
+const LETTERS = 0.8; // of the page's letters
+const SCALE = 2; // of a picture for others: pixels for each of the drawing's
+const NARROWEST = 260;
+const PLACE = ["act", "line", "store", "call"];
+
+// Its style stands in a style sheet of the page's own.
+function read(svg) {
+  const [head, , rest] = svg.split(/<\/?style>/);
+  return document.importNode(new DOMParser().parseFromString(head + rest, "image/svg+xml").documentElement, true);
+}
+
+function selectorOf(button) {
+  return PLACE.filter((name) => name in button.dataset).map((name) => `[data-${name}="${CSS.escape(button.dataset[name])}"]`).join("");
+}
+
+export class Sequence {
+  // `does` has what each act of a button does; `drawn` is called behind each drawing.
+  constructor(room, does, drawn) {
+    this.room = room;
+    this.does = does;
+    this.drawn = drawn;
+    this.wanted = null;
+    this.shown = null;
+    room.addEventListener("click", (event) => this.act(event.target.closest("[data-act]"), event));
+    room.addEventListener("keydown", (event) => {
+      if (event.key === "Enter" || event.key === " ") this.act(event.target.closest("[data-act]"), event);
+    });
+    for (const kind of ["focusin", "mouseover"]) room.addEventListener(kind, (event) => this.say(event.target.closest("[data-act]")));
+    for (const kind of ["focusout", "mouseleave"]) room.addEventListener(kind, () => this.say(null));
+  }
+
+  act(button, event) {
+    if (!button) return;
+    event.preventDefault();
+    event.stopPropagation();
+    const { act, line, store, call } = button.dataset;
+    this.does[act](Number(line) - 1, { store: Number(store), call: Number(call) });
+  }
+
+  // What a button would do is said in words too, not only below the pointer.
+  say(button) {
+    fill(byId("cut-says"), button && button.dataset.act !== "go" ? button.getAttribute("aria-label") : "");
+  }
+
+  size() {
+    return Math.round(parseFloat(getComputedStyle(document.documentElement).fontSize) * (isProjected() ? 1 : LETTERS));
+  }
+
+  width() {
+    return Math.max(NARROWEST, Math.floor(this.room.clientWidth) || NARROWEST);
+  }
+
+  // Draws what is asked; while one drawing is made another may be asked for, of which only the last is made.
+  async show(question) {
+    this.wanted = { ...question, width: this.width(), size: this.size() };
+    if (this.drawing) return;
+    this.drawing = true;
+    try {
+      while (this.wanted) {
+        const asked = this.wanted;
+        this.wanted = null;
+        const key = JSON.stringify(asked);
+        if (key === this.shown) continue;
+        const { svg, whole } = await ask("sequence", asked);
+        this.put(svg, asked);
+        this.shown = whole ? key : null;
+        this.wanted ??= whole ? null : asked;
+      }
+    } finally {
+      this.drawing = false;
+    }
+  }
+
+  put(svg, asked) {
+    const focused = this.room.contains(document.activeElement) ? document.activeElement : null;
+    const made = read(svg);
+    fill(this.room, made);
+    const heads = made.querySelector(".heads");
+    const [, , width] = made.getAttribute("viewBox").split(" ");
+    const height = heads.getBBox().height;
+    const copy = made.cloneNode(false);
+    copy.setAttribute("viewBox", `0 0 ${width} ${height}`);
+    copy.setAttribute("height", height);
+    copy.append(heads.cloneNode(true));
+    fill(byId("sequence-heads"), copy);
+    byId("sequence-heads").style.setProperty("--head", `${height}px`);
+    if (focused && !this.room.contains(document.activeElement)) {
+      const same = focused.dataset.act ? this.room.querySelector(selectorOf(focused)) : null;
+      (same ?? this.room.querySelector(`[data-act="go"][data-line="${focused.dataset.line}"]`))?.focus({ preventScroll: true });
+    }
+    this.room.dataset.given = asked.at;
+    this.drawn();
+  }
+
+  clear() {
+    this.wanted = this.shown = null;
+    fill(this.room);
+    fill(byId("sequence-heads"));
+    this.room.dataset.given = 0;
+  }
+
+  // The drawing as a file of its own.
+  async file(question) {
+    return (await ask("sequence", { ...question, file: true })).svg;
+  }
+}
+
+function keep(name, blob) {
+  const address = URL.createObjectURL(blob);
+  el("a", { href: address, download: name }).click();
+  setTimeout(() => URL.revokeObjectURL(address), 10_000);
+}
+
+export const saveSvg = (svg) => keep("sequence.svg", new Blob([svg], { type: "image/svg+xml" }));
+
+export async function asPng(svg) {
+  const address = URL.createObjectURL(new Blob([svg], { type: "image/svg+xml" }));
+  try {
+    const image = new Image();
+    image.src = address;
+    await image.decode();
+    const canvas = el("canvas", { width: image.naturalWidth * SCALE, height: image.naturalHeight * SCALE });
+    canvas.getContext("2d").drawImage(image, 0, 0, canvas.width, canvas.height);
+    return await new Promise((done) => canvas.toBlob(done, "image/png"));
+  } finally {
+    URL.revokeObjectURL(address);
+  }
+}
+
+export async function savePng(svg) {
+  keep("sequence.png", await asPng(svg));
+}

@@ -1,0 +1,186 @@
+"""The sequence diagram: what it says of each scenario, and that nothing lies over anything else, as a file and in the page."""
+import base64
+import re
+import subprocess
+import unittest
+import xml.etree.ElementTree as ET
+
+from support import PAGE, PROGRAM, ask, room, says
+from views import View
+
+SCENARIOS = sorted((PAGE / "scenarios").glob("*.calls"))
+SVG = "{http://www.w3.org/2000/svg}"
+WORDS = ["coordinator", "participant", "vote", "decision", "in doubt", "presumed abort", "heuristic outcome"]
+# Of each label and each line number where it lies; and of each its words.
+BOXES = """return [...document.querySelectorAll('#sequence svg .label, #sequence svg .line-number, #sequence svg .head')].map((it) => {
+    const box = it.getBBox(); return [box.x, box.y, box.width, box.height, it.textContent]; })"""
+FONTS = """return [...new Set([...document.querySelectorAll('body *')].filter((it) => it.checkVisibility({ visibilityProperty: true }) &&
+    [...it.childNodes].some((node) => node.nodeType === 3 && node.data.trim()) && it.getBoundingClientRect().width > 2)
+    .map((it) => `${parseFloat(getComputedStyle(it).fontSize)} ${it.tagName} ${it.className.baseVal ?? it.className} ${it.id}`))]"""
+
+
+def drawn(path, *words):
+    ran = subprocess.run([PAGE / "sequence", "--program", PROGRAM, *words, path], capture_output=True, timeout=240)
+    if ran.returncode:
+        raise AssertionError(ran.stderr)
+    return ET.fromstring(ran.stdout)
+
+
+def call(svg, line):
+    return next(it for it in svg.iter(f"{SVG}g") if it.get("data-line") == str(line))
+
+
+def said(element):
+    return " ".join("".join(text.itertext()) for text in element.iter(f"{SVG}text"))
+
+
+def line_of(path, text):
+    return 1 + path.read_text().splitlines().index(text)
+
+
+class Files(unittest.TestCase):
+    """The command, without a browser."""
+
+    def scenario(self, name):
+        return next(path for path in SCENARIOS if name in path.stem)
+
+    def test_each_scenario_is_answered_as_the_program_answers_it(self):
+        for path in SCENARIOS:
+            with self.subTest(scenario=path.stem):
+                svg = drawn(path)
+                answers = [it.get("data-answer") for it in svg.iter(f"{SVG}g") if it.get("data-answer") is not None]
+                self.assertEqual("\n".join(answers) + "\n", says("coordinate", path.read_bytes(), "--text")[0].decode())
+                self.assertFalse([it for it in svg.iter() if it.get("role") == "button"], "a file has no buttons")
+                for word in WORDS:
+                    self.assertIn(word, said(svg))
+
+    def test_votes_decision_and_acknowledgements(self):
+        path = self.scenario("all_yes")
+        svg = drawn(path)
+        self.assertEqual(said(call(svg, line_of(path, "PREPARE 1"))).count("vote yes"), 2)
+        self.assertIn("decision: commit", said(call(svg, line_of(path, "DECIDE 1"))))
+        finish = said(call(svg, line_of(path, "FINISH 1")))
+        self.assertEqual((finish.count("XA COMMIT"), finish.count("acknowledgement")), (2, 2))
+
+    def test_a_no_vote_and_a_wrong_stage_with_its_reason(self):
+        path = self.scenario("a_no_vote")
+        svg = drawn(path)
+        self.assertIn("which counts as no", said(call(svg, line_of(path, "PREPARE 1"))))
+        decide = said(call(svg, line_of(path, "DECIDE 1")))
+        self.assertIn("WRONG STAGE 1", decide)
+        reason = re.search(r"transaction 1 .*", subprocess.run([PROGRAM, "coordinate", "--verbose"], input=path.read_bytes(), capture_output=True).stderr.decode())
+        self.assertIn(reason[0].split()[-1], decide)
+        self.assertIn("transaction 1 has voted NO", decide)
+
+    def test_a_crash_ends_the_lifeline_and_a_recovery_begins_it(self):
+        path = self.scenario("crash_before")
+        svg = drawn(path)
+        crosses = [it for it in svg.iter(f"{SVG}path") if it.get("class") == "cross crash"]
+        self.assertEqual(len(crosses), 1)
+        lines = [it for it in svg.iter(f"{SVG}line") if it.get("class") == "lifeline"]
+        coordinator = sorted(float(it.get("y1")) for it in lines if [it.get("x1")] == [sorted({one.get("x1") for one in lines}, key=float)[1]])
+        self.assertEqual(len(coordinator), 2, "before the crash, and from the recovery on")
+        self.assertGreater(coordinator[1], float(crosses[0].get("d").split()[1].split("l")[0]))
+        recover = said(call(svg, line_of(path, "RECOVER")))
+        for words in ("new coordinator", "presumed abort", "roll back", "acknowledgement"):
+            self.assertIn(words, recover)
+
+    def test_a_heuristic_outcome(self):
+        path = self.scenario("heuristic_mix")
+        svg = drawn(path)
+        self.assertIn("heuristic rollback", said(call(svg, 7)))
+        self.assertIn("heuristic outcome HAZARD 1", said(call(svg, line_of(path, "FINISH 1"))))
+
+    def test_one_phase_and_two_at_once(self):
+        path = self.scenario("one_phase")
+        finish = said(call(drawn(path), line_of(path, "FINISH 1")))
+        self.assertIn("commit in one phase", finish)
+        bands = [it for it in drawn(self.scenario("two_transactions")).iter(f"{SVG}g") if it.get("class") == "doubt"]
+        self.assertEqual(sorted(it.get("data-store") for it in bands), ["0", "1", "1", "2"])
+
+    def test_what_cant_be_drawn_is_one_line(self):
+        for words in (["nothing.calls"], [SCENARIOS[0], "--program", "/nothing"], [SCENARIOS[0], "--program", "/"]):
+            ran = subprocess.run([PAGE / "sequence", "--program", PROGRAM, *words], capture_output=True, text=True)
+            self.assertEqual((ran.returncode, ran.stdout, len(ran.stderr.splitlines())), (1, "", 1), words)
+            self.assertTrue(ran.stderr.startswith("sequence: "))
+        for words in (["--stores", "17", SCENARIOS[0]], ["--width", "9", SCENARIOS[0]], []):
+            self.assertEqual(subprocess.run([PAGE / "sequence", *words], capture_output=True).returncode, 2)
+
+    def test_a_page_that_has_little_time_asks_again(self):
+        lines = SCENARIOS[0].read_text().splitlines()
+        with room(probe_seconds=0) as served:
+            status, got = ask(served.server_port, "sequence", {"lines": lines})
+            self.assertEqual((status, got["whole"]), (200, False))
+        with room() as served:
+            status, got = ask(served.server_port, "sequence", {"lines": lines})
+            self.assertEqual((status, got["whole"]), (200, True))
+            for bad in ({"lines": lines, "at": 99}, {"lines": lines, "width": 1}, {"lines": lines, "size": True}, {"lines": lines, "file": 1}, {"lines": "BEGIN"}):
+                self.assertEqual(ask(served.server_port, "sequence", bad)[0], 400)
+
+    def test_refusals_of_many_lines_dont_hold_the_program_up(self):
+        with room() as served:
+            status, got = ask(served.server_port, "sequence", {"lines": ["what"] * 3000})
+            self.assertEqual((status, got["whole"]), (200, True))
+
+
+class Drawn(View):
+    view = "commit"
+
+    def given(self):
+        return int(self.browser.run("return document.querySelector('#sequence').dataset.given ?? 0"))
+
+    def sized(self, width, height):
+        self.browser.driver.execute_cdp_cmd("Emulation.setDeviceMetricsOverride", {"width": width, "height": height, "deviceScaleFactor": 1, "mobile": False})
+        self.addCleanup(self.browser.driver.execute_cdp_cmd, "Emulation.clearDeviceMetricsOverride", {})
+
+    def assert_apart(self, where):
+        """No two labels lie over one another, and none is outside the drawing, which is no wider than its room."""
+        boxes = self.browser.run(BOXES)
+        width = float(self.browser.run("return document.querySelector('#sequence svg').getAttribute('width')"))
+        self.assertGreater(len(boxes), 5)
+        for at, (x, y, wide, high, text) in enumerate(boxes):
+            self.assertGreaterEqual(x, 0, (where, text))
+            self.assertLessEqual(x + wide, width, (where, text))
+            for other in boxes[at + 1:]:
+                across = min(x + wide, other[0] + other[2]) - max(x, other[0])
+                down = min(y + high, other[1] + other[3]) - max(y, other[1])
+                self.assertFalse(across > 0.5 and down > high * 0.3, (where, text, other[4]))
+        self.assertEqual(self.browser.run("const room = document.querySelector('.lanes-room'); return room.scrollWidth - room.clientWidth"), 0, where)
+        self.assertEqual(self.browser.run("return document.documentElement.scrollWidth > innerWidth"), False, where)
+
+    def test_no_label_lies_over_another(self):
+        for width, height in ((1280, 800), (1920, 1080), (390, 844)):
+            self.sized(width, height)
+            for path in SCENARIOS:
+                self.open(calls=path.read_text(), stores=5)
+                lines = len(path.read_text().splitlines())
+                self.until(lambda lines=lines: self.given() == lines, "all is answered")
+                self.assert_apart((width, path.stem))
+
+    def test_the_words_stand_beside_it(self):
+        self.open()
+        self.assertEqual(self.browser.texts("#legend dt"), WORDS)
+
+    def test_pictures_are_saved(self):
+        self.open(calls=SCENARIOS[3].read_text())
+        self.until(lambda: self.given() > 10, "all is answered")
+        self.browser.run("""window.saved = [];
+            const real = URL.createObjectURL;
+            URL.createObjectURL = (blob) => { window.saved.push(blob); return real.call(URL, blob); };
+            HTMLAnchorElement.prototype.click = function () { window.names = [...(window.names ?? []), this.download]; };""")
+        for button, name in (("#save-svg", "sequence.svg"), ("#save-png", "sequence.png")):
+            if not self.browser.run("return document.querySelector('#commit .more').open"):
+                self.browser.push("#commit .more summary")
+            self.browser.push(button)
+            self.until(lambda name=name: name in self.browser.run("return window.names ?? []"), f"{name} is saved")
+        svg = self.browser.driver.execute_async_script("const done = arguments[0]; window.saved[0].text().then(done)")
+        self.assertEqual([it.tag for it in ET.fromstring(svg).iter() if it.get("role") == "button"], [])
+        png = self.browser.driver.execute_async_script("""const done = arguments[0], reader = new FileReader();
+            reader.onload = () => done(reader.result.split(',')[1]); reader.readAsDataURL(window.saved.at(-1))""")
+        picture = base64.b64decode(png)
+        self.assertEqual(picture[:8], b"\x89PNG\r\n\x1a\n")
+        self.assertGreater(len(picture), 30_000, "it isn't blank")
+
+
+if __name__ == "__main__":
+    unittest.main()
