@@ -51,6 +51,8 @@ class Sequence:
 
     def __init__(self, found, stores, at, width=900, size=14, asked=False, is_file=False):
         self.found, self.stores, self.at, self.asked, self.is_file = found, stores, at, asked, is_file
+        if asked and self.next() is not None:
+            self.found = found[:self.next() + 1]  # what stands behind it may tell the answer
         self.width, self.size = max(260, width), size
         self.gutter = (1.2 if is_file else 1.6) * size + 0.62 * size * len(str(max(1, len(found))))
         count = stores + 3

@@ -1,11 +1,12 @@
 // The view of two-phase commit: calls of a transaction manager, one after another, over stores of its own.
 import { whole } from "./address.js";
 import { ask, Failure } from "./api.js";
-import { fromText, linesOf } from "./bytes.js";
+import { fromText, linesOf, readableValue } from "./bytes.js";
 import { asksStores, isCaption, lastBegun } from "./calls.js";
 import { enable, wire } from "./controls.js";
-import { bringIntoView, byId, el, fill, options, printedInto } from "./dom.js";
+import { bringIntoView, byId, el, fill, options, printedInto, shown } from "./dom.js";
 import { doubtList, legend } from "./doubt.js";
+import { Quiz } from "./quiz.js";
 import * as rules from "./rules.js";
 import { savePng, saveSvg, Sequence } from "./sequence.js";
 import { readStores } from "./shown_stores.js";
@@ -39,7 +40,8 @@ export class Commit {
       remove: (place) => this.tape.remove(place),
     }, () => this.showCursor());
     addEventListener("resize", () => this.draw());
-    wire(this.view, this.tape, (lines, at) => this.open(lines, at, this.stores));
+    this.quiz = new Quiz(this.view, this.tape, (place) => this.answerAt(place), () => this.changed({}));
+    wire(this.view, this.tape, { story: (lines, at) => this.open(lines, at, this.stores), quiz: this.quiz, print: () => this.print() });
     byId("calls-form").addEventListener("submit", (event) => this.submit(event));
     byId("any-call").addEventListener("keydown", (event) => this.enterKey(event));
     byId("stores").addEventListener("change", (event) => this.setStores(event.target));
@@ -193,6 +195,8 @@ export class Commit {
     this.tells = null;
     const answers = this.tape.answers;
     this.read = answers.map(([answer, text], at) => (this.read[at]?.text === text ? this.read[at] : { text, ...readStores(text) }));
+    this.quiz.follow();
+    this.announce();
     byId("commit-welcome").hidden = this.tape.lines.length > 0;
     byId("k").max = this.stores - 1;
     this.draw();
@@ -230,7 +234,34 @@ export class Commit {
   }
 
   question() {
-    return { lines: this.tape.lines, at: this.tape.at, stores: this.stores };
+    return { lines: this.tape.lines, at: this.tape.at, stores: this.stores, asked: this.quiz.asked !== null };
+  }
+
+  answerAt(place) {
+    const found = this.tape.answers[place]?.[0].replace(/\n$/, "");
+    return found ? { printed: found, read: readableValue(found) ?? found } : null;
+  }
+
+  // Says to who hears the page what was answered last, and how much is in doubt.
+  announce() {
+    const place = this.tape.lines.slice(0, this.tape.at).findLastIndex((line) => !isCaption(line));
+    const answer = this.answerAt(place);
+    const doubt = (this.read[this.tape.at - 1]?.stores ?? []).reduce((sum, { prepared }) => sum + prepared.length, 0);
+    fill(byId("commit-said"), answer ? [`Line ${place + 1}: `, shown(this.tape.lines[place].trim()), ": ", shown(answer.read), `. Branches in doubt: ${doubt}`] : null);
+  }
+
+  // Prints the whole diagram in pages, and comes back to the call that was shown.
+  async print() {
+    const { at } = this.tape;
+    await this.tape.toEnd();
+    try {
+      await this.sequence.pages(this.question(), byId("sequence-pages"));
+      print();
+    } catch (fault) {
+      if (!(fault instanceof Failure)) throw fault;
+      this.app.notify({ fault: fault.message });
+    }
+    await this.tape.goTo(at);
   }
 
   // Draws the calls, where they can be seen.

@@ -65,9 +65,14 @@ export class Judge {
     byId("limit").value = whole(state.limit, 1, 1_000_000, 100_000);
     this.asks = Math.max(this.asks, whole(state.go, 1, 1e9, 0));
     const wanted = JSON.stringify(state);
-    if (wanted === this.judged) return;
+    if (wanted === this.judged) {
+      if (this.picture) drawInto(byId("picture"), this.picture);
+      return;
+    }
+    this.picture = null;
     this.judged = null;
     byId("verdict-room").hidden = true;
+    byId("judge-welcome").hidden = false;
     fill(byId("judge-progress"));
     if (state.go) this.judge(wanted);
   }
@@ -89,6 +94,7 @@ export class Judge {
   draw(record, ran) {
     this.verdict = readVerdict(ran.output);
     byId("verdict-room").hidden = false;
+    byId("judge-welcome").hidden = true;
     fill(byId("judge-progress"));
     const { kind } = this.verdict;
     byId("verdict").className = (kind ?? "none").toLowerCase();

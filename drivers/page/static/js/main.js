@@ -2,9 +2,11 @@
 import * as address from "./address.js";
 import { ask, Failure, fetched } from "./api.js";
 import { Commit } from "./commit.js";
+import { listenToMenus } from "./controls.js";
 import { byId, el, fill } from "./dom.js";
 import { endingText } from "./ending.js";
 import { Judge } from "./judge.js";
+import { copy } from "./links.js";
 import { listen } from "./projector.js";
 import { Race } from "./race.js";
 import * as rules from "./rules.js";
@@ -20,6 +22,8 @@ class App {
     this.current = null;
     addEventListener("hashchange", () => this.enter());
     listen(() => this.enter());
+    listenToMenus();
+    byId("copy-link").addEventListener("click", (event) => copy(location.href, event.target));
   }
 
   async begin() {

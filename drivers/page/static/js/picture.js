@@ -1,7 +1,9 @@
 // The picture of a record: the server makes its SVG, which is shown as it is and saved as it is.
 import { bringIntoView, el, fill } from "./dom.js";
+import { isProjected } from "./projector.js";
 
 const UNITS = 16; // of the picture for the height of the page's letters
+const PROJECTED = 11; // and on a projector, where its smallest letters are as high as those
 const BELOW = 120; // pixels that are seen below the mark
 const BESIDE = 24; // and beside it
 
@@ -9,7 +11,8 @@ const BESIDE = 24; // and beside it
 export function drawInto(room, svg) {
   const [head, , rest] = svg.split(/<\/?style>/);
   const made = document.importNode(new DOMParser().parseFromString(head + rest, "image/svg+xml").documentElement, true);
-  for (const side of ["width", "height"]) made.setAttribute(side, `${Number(made.getAttribute(side)) / UNITS}rem`);
+  const units = isProjected() ? PROJECTED : UNITS;
+  for (const side of ["width", "height"]) made.setAttribute(side, `${Number(made.getAttribute(side)) / units}rem`);
   fill(room, made);
   room.scrollTo(0, 0);
   const marked = room.querySelector(".marked");

@@ -1,26 +1,72 @@
-// For the projector: F leaves out tools and forms, and makes the rest larger; F again, or Escape, brings them back.
+// For a lecture hall: F leaves out tools and forms and makes the rest larger, + and - make all larger and smaller, and a clicker's keys step.
+import { byId } from "./dom.js";
+
+const ZOOMS = [0.6, 0.7, 0.8, 0.9, 1, 1.15, 1.3, 1.5, 1.75, 2, 2.5];
+const KEPT = "zoom";
 
 export const isTyping = (event) => Boolean(event.target.closest?.("input, textarea, select"));
 
 export const isProjected = () => document.body.classList.contains("projected");
 
-// A list in which a pointer has chosen keeps no keys: F and the arrows are the projector's again.
-function listenToPointers() {
+// Whether a key is the control's own that has the focus: a blank in a text, or on a button.
+const hasKeys = (event) => Boolean(event.target.closest?.("input, textarea, select, button, a, summary, [role=button]"));
+
+// What a clicker's key is meant to do: "step", "back", or nothing.
+export function clicked(event) {
+  if (event.altKey || event.ctrlKey || event.metaKey || event.target.closest?.("textarea")) return null;
+  if (event.key === "PageDown") return "step";
+  if (event.key === "PageUp") return "back";
+  return event.key === " " && !event.shiftKey && !hasKeys(event) ? "step" : null;
+}
+
+// A list in which a pointer has chosen, or in which the choice was confirmed, leaves the keys to the view: the focus goes to its Step.
+function listenToChoices() {
   let pointed = null;
+  const leave = (select) => {
+    const step = select.closest("main")?.querySelector('[data-do="step"]');
+    select.blur();
+    if (step?.disabled) select.closest("main").dataset.wants = "step";
+    else step?.focus();
+  };
   addEventListener("pointerdown", (event) => { pointed = event.target.closest?.("select"); });
-  addEventListener("keydown", () => { pointed = null; }, true);
+  addEventListener("keydown", (event) => {
+    pointed = null;
+    if (event.key !== "Enter" || !event.target.closest?.(".tools select")) return;
+    event.preventDefault();
+    leave(event.target);
+  }, true);
   addEventListener("change", (event) => {
-    if (event.target === pointed) pointed.blur();
+    if (event.target === pointed) leave(pointed);
   });
 }
 
+function setZoom(at) {
+  const wanted = Math.max(0, Math.min(ZOOMS.length - 1, at));
+  sessionStorage.setItem(KEPT, wanted);
+  document.documentElement.style.setProperty("--zoom", ZOOMS[wanted]);
+  return wanted;
+}
+
+// What zooming or projecting changes is drawn anew by `changed`.
 export function listen(changed) {
-  listenToPointers();
+  listenToChoices();
+  const kept = Number(sessionStorage.getItem(KEPT) ?? ZOOMS.indexOf(1));
+  let zoom = setZoom(Number.isInteger(kept) ? kept : ZOOMS.indexOf(1));
+  addEventListener("keydown", (event) => {
+    if (event.altKey || event.ctrlKey || event.metaKey || isTyping(event)) return;
+    const zooms = { "+": zoom + 1, "=": zoom + 1, "-": zoom - 1, 0: ZOOMS.indexOf(1) };
+    if (!(event.key in zooms)) return;
+    event.preventDefault();
+    zoom = setZoom(zooms[event.key]);
+    changed();
+  });
   addEventListener("keydown", (event) => {
     const isToggle = (event.key === "f" || event.key === "F") && !event.altKey && !event.ctrlKey && !event.metaKey && !isTyping(event);
     if (!isToggle && !(event.key === "Escape" && isProjected())) return;
     event.preventDefault();
     document.body.classList.toggle("projected");
+    byId("projector-hint").hidden = false;
+    setTimeout(() => { byId("projector-hint").hidden = true; }, 6000);
     changed();
   });
 }

@@ -109,6 +109,7 @@ export class Race {
     fill(byId("race-faults"));
     fill(byId("race-progress"));
     byId("one-history").hidden = true;
+    byId("race-welcome").hidden = false;
   }
 
   // Races what the form says, which `asked` has as the address has it.
@@ -240,6 +241,7 @@ export class Race {
     this.picked = found.key;
     this.drawn = null;
     byId("one-history").hidden = false;
+    byId("race-welcome").hidden = true;
     this.drawBars();
     if (isAnother) byId("history").scrollTop = 0;
   }

@@ -6,6 +6,8 @@ import { isProjected } from "./projector.js";
 const LETTERS = 0.8; // of the page's letters
 const SCALE = 2; // of a picture for others: pixels for each of the drawing's
 const NARROWEST = 260;
+const PAGE = [1000, 1300]; // of a page's drawing, in its own units
+const HEADS = 43;
 const PLACE = ["act", "line", "store", "call"];
 
 // Its style stands in a style sheet of the page's own.
@@ -102,6 +104,31 @@ export class Sequence {
     fill(this.room);
     fill(byId("sequence-heads"));
     this.room.dataset.given = 0;
+  }
+
+  // The whole drawing in pieces for paper, none cut within a call, each with the heads above it.
+  async pages(question, room) {
+    const whole = read((await ask("sequence", { ...question, width: PAGE[0], size: 14 })).svg);
+    const [width, height] = ["width", "height"].map((side) => Number(whole.getAttribute(side)));
+    const heads = whole.querySelector(".heads");
+    const ends = [...whole.querySelectorAll(".call")].map((call) => Number(call.dataset.bottom));
+    const made = [];
+    for (let top = HEADS; top < height;) {
+      const end = ends.findLast((at) => at <= top + PAGE[1]) ?? height;
+      const bottom = end <= top || height - top <= PAGE[1] ? Math.min(height, top + PAGE[1]) : end + 4;
+      const page = whole.cloneNode(true);
+      page.querySelector(".heads").remove();
+      const above = whole.cloneNode(false);
+      page.setAttribute("viewBox", `0 ${top} ${width} ${bottom - top}`);
+      page.setAttribute("y", HEADS);
+      page.setAttribute("height", bottom - top);
+      above.setAttribute("viewBox", `0 0 ${width} ${HEADS + bottom - top}`);
+      above.setAttribute("height", HEADS + bottom - top);
+      above.append(page, heads.cloneNode(true));
+      made.push(above);
+      top = bottom;
+    }
+    fill(room, made);
   }
 
   // The drawing as a file of its own.

@@ -1,12 +1,13 @@
 // The view of sessions: a column each, the branches as cards, and the rows.
 import { whole } from "./address.js";
-import { fromText, linesOf } from "./bytes.js";
+import { fromText, linesOf, readableValue } from "./bytes.js";
 import { card, rowLine, rowsOf, xidText } from "./cards.js";
-import { isCaption, lineItem, widestSession } from "./columns.js";
+import { cut, isCaption, lineItem, widestSession } from "./columns.js";
 import { enable, wire } from "./controls.js";
-import { bringIntoView, byId, el, fill, keepingFocus, options, printedInto, remarkOf, sessionClass } from "./dom.js";
+import { bringIntoView, byId, el, fill, keepingFocus, options, printedInto, remarkOf, sessionClass, shown } from "./dom.js";
 import { readShown } from "./listing.js";
 import { Patch } from "./patch.js";
+import { Quiz } from "./quiz.js";
 import { Tape } from "./tape.js";
 import { follow, titleOf } from "./titles.js";
 
@@ -25,7 +26,8 @@ export class Sessions {
     this.read = [];  // the answers, read
     this.given = new Patch(byId("given"));
     this.pending = new Patch(byId("pending"));
-    wire(this.view, this.tape, (lines, at) => this.open(lines, at));
+    this.quiz = new Quiz(this.view, this.tape, (place) => this.answerAt(place), () => this.changed({}));
+    wire(this.view, this.tape, { story: (lines, at) => this.open(lines, at), quiz: this.quiz, print: () => this.print() });
     byId("add-session").addEventListener("click", () => this.addSession());
     byId("race-this").addEventListener("click", () => this.raceThese());
     byId("story").addEventListener("change", (event) => this.openStory(event.target.value));
@@ -80,6 +82,27 @@ export class Sessions {
     this.app.visit("race", { script: lines.join("\n") });
   }
 
+  answerAt(place) {
+    const found = this.read[place];
+    return found?.reply ? { printed: found.reply, read: readableValue(found.reply) ?? found.reply } : null;
+  }
+
+  // Prints the whole story, and comes back to the line that was shown.
+  async print() {
+    const { at } = this.tape;
+    await this.tape.toEnd();
+    print();
+    await this.tape.goTo(at);
+  }
+
+  // Says to who hears the page what was answered last.
+  announce() {
+    const place = this.tape.lines.slice(0, this.tape.at).findLastIndex((line) => !isCaption(line));
+    const answer = this.answerAt(place);
+    const { session, statement } = place < 0 ? {} : cut(this.tape.lines[place]);
+    fill(byId("sessions-said"), answer ? [`Line ${place + 1}${session ? `, session ${session}` : ""}: `, shown(statement), ": ", shown(answer.read)] : null);
+  }
+
   addSession() {
     this.columns = Math.min(MOST, this.columns + 1);
     this.drawHeads();
@@ -96,9 +119,11 @@ export class Sessions {
     this.app.notify(news);
     this.read = this.tape.answers.map(([text], at) => (text === this.read[at]?.text ? this.read[at] : { text, ...readShown(text) }));
     this.columns = Math.max(this.columns, widestSession(this.tape.lines));
+    this.quiz.follow();
     this.drawHeads();
     this.drawLines();
     this.drawStore();
+    this.announce();
     enable(this.view, this.tape);
     byId("welcome").hidden = this.tape.lines.length > 0;
     fill(byId("story-remark"), remarkOf(this.tape.lines));
@@ -150,8 +175,28 @@ export class Sessions {
       this.given.show(lines.slice(0, at).map((line, place) => item(line, place, this.read[place])));
       this.pending.show(lines.slice(at).map((line, place) => item(line, at + place, null)));
     });
+    this.mark(lines, at);
+    const room = byId("given").parentElement;
     const last = byId("given").lastElementChild;
-    if (last && !this.view.hidden) bringIntoView(byId("given").parentElement, last, byId("entry").offsetHeight + (at < lines.length ? PEEK : 0));
+    if (this.view.hidden) return;
+    if (last) bringIntoView(room, last, byId("entry").offsetHeight + (at < lines.length ? PEEK : 0));
+    else {
+      room.scrollTop = 0;
+      if (lines.length) this.view.querySelector(".tools").scrollIntoView({ block: "nearest" });
+    }
+  }
+
+  // Marks the line that was answered last, and the one that the quiz asks about.
+  mark(lines, at) {
+    const current = lines.slice(0, at).findLastIndex((line) => !isCaption(line));
+    for (const item of this.view.querySelectorAll(".lines > li")) {
+      const place = Number(item.dataset.line) - 1;
+      item.classList.toggle("current", place === current);
+      item.classList.toggle("asked", place === this.quiz.asked);
+      item.classList.toggle("veiled", this.quiz.isOn && place > (this.quiz.next() ?? place) && isCaption(lines[place])); // it may tell the answer
+      if (place === current) item.setAttribute("aria-current", "step");
+      else item.removeAttribute("aria-current");
+    }
   }
 
   item(line, place, answer) {
