@@ -81,13 +81,16 @@ def run_once(pool, words, text, seconds, memory_kib=None):
 
 
 def race(pool, question):
-    """Races a script so often, each time in a child of its own, and sends back what each wrote."""
+    """Races a script so often, each time in a child of its own, and sends back what each wrote; where it has parts, one child counts the outcomes of all."""
     text, times = script(question, "script"), number(question, "times", 1, pool.limits.batch, 1)
     words = ["race", "--capacity", str(number(question, "capacity", 1, 1024, 1024))]
     words += [f"--{option}" for option in ("together", "renew") if field(question, option, bool, False)]
     seed = question.get("seed")
     if seed is not None:
         seed = number(question, "seed", 0, 2 ** 53, 0)
+    if field(question, "parts", bool, False):
+        shuffled = [] if seed is None else ["--shuffle", str(seed)]
+        return {"words": words, "ran": [run_once(pool, [*words, *shuffled, "--runs", str(times)], text, pool.limits.answer_seconds, pool.limits.judge_kib(pool.limits.ways))]}
     ran = []
     for turn in range(times):
         shuffled = [] if seed is None else ["--shuffle", str(seed + turn)]

@@ -8,6 +8,7 @@ from support import ROOT, help_of, says
 from views import View, replies
 
 WRITERS = (ROOT / "drivers/page/races/two_writers.script").read_bytes()
+CAUSE = re.search(r"^\| 1399 \|.*\| ([^|]*?) \|$", (ROOT / "docs/STATEMENTS.md").read_text(encoding="utf-8"), re.MULTILINE)[1].replace("`", "")
 HUNG = """return [...document.querySelectorAll('#history .hung')].map((it) => [Number(it.dataset.session), Number(it.dataset.place),
     it.querySelector('.statement').textContent, it.querySelector('.reply').dataset.printed ?? it.querySelector('.reply').textContent])"""
 PLAYED = """return [...document.querySelectorAll('#given .cell')].map((it) =>
@@ -94,7 +95,7 @@ class Race(View):
         rows = self.browser.run("""return [...document.querySelectorAll('#history tbody tr')].map((row) =>
             [row.classList.contains('entry'), [...row.querySelectorAll('.statement')].map((it) => it.textContent)])""")
         self.assertEqual(rows, [[enters, [statement]] for enters, statement in zip(enter, script)])
-        self.assertEqual(self.browser.texts("#history .rule"), ["the statement can't be given in that state"] * 2, "a race doesn't say the state")
+        self.assertEqual(self.browser.texts("#history .rule"), [CAUSE] * 2, "a race doesn't say the state")
         self.browser.push("#open-order")
         self.until(lambda: len(self.browser.all("#given > li")) == len(script), "the order is played")
         self.assertEqual([statement for _, statement, _ in self.browser.run(PLAYED)], script)
@@ -178,6 +179,64 @@ class Race(View):
                 else:
                     self.until(lambda: "status 2" in self.browser.text("#notices"), "the program's refusal")
                     self.assertRegex(self.browser.text("#notices"), re.escape(option))
+
+    def test_remarks_and_parts_are_taken(self):
+        """Remarks are left out, and a script in parts is raced by its outcomes, each shown with its statements."""
+        script = "# Both write.\n1 PUT 'k','1'\n\nBESIDE\n1 GET 'k'\n2 PUT 'k','2'\nAFTER\n3 GET 'k'"
+        self.open(script=script, runs=20, go=1)
+        self.until(lambda: self.browser.text("#race-progress") == "20 of 20 runs" and self.browser.all("#possible li.came"), "all runs came back")
+        came = [int(count) for count in self.browser.run("return [...document.querySelectorAll('#possible li.came')].map((it) => it.dataset.came)")]
+        self.assertEqual(sum(came), 20)
+        listed = self.browser.run("return [...document.querySelectorAll('#possible > li')].map((it) => [...it.querySelectorAll('.answered li')].map((line) => line.textContent))")
+        explored = says("explore", script.encode(), "--text")[0].decode()
+        self.assertEqual(["\n".join(f"{line.split(' ')[0]} {line.rsplit(' ', 2 if 'VALUE' in line else 1)[1]}" for line in lines).split("\n")[0] for lines in listed], ["1 OK"] * len(listed))
+        self.assertEqual(explored.count("\nOUTCOME "), len(listed))
+        self.assertIn("1 GET 'k' VALUE '1'", [line for lines in listed for line in lines])
+        self.assertIn("BESIDE or AFTER parts this script", self.browser.text("#race-parts"))
+        self.browser.push("#possible li.came button")
+        self.until(lambda: self.opened() and len(self.opened()) == 4, "its lines are opened in one order")
+        self.assertEqual((self.opened()[0], self.opened()[-1]), ("1 PUT 'k','1'", "3 GET 'k'"))
+
+    def test_a_faulty_line_behind_a_remark_has_its_own_number(self):
+        self.open(script="# Two lines.\n1 PUT 'k','1'\n1 PUTT 'k'", go=1)
+        self.until(lambda: self.browser.texts("#race-faults li"), "it is named")
+        self.assertTrue(self.browser.texts("#race-faults li")[0].startswith("LINE 3 ERROR 1064"))
+
+    def test_a_race_by_hand(self):
+        script = "# Both want it.\n1 PUT 'k','1'\nBESIDE\n1 GET 'k'\n2 PUT 'k','2'\n2 GET 'k'\nAFTER\n3 GET 'k'"
+        self.open(script=script)
+        self.browser.push("#by-hand-begin")
+        self.until(lambda: len(self.browser.all("#hand-next .go-next")) == 2, "two sessions can go")
+        self.assertEqual(self.browser.texts("#hand-lines .reply"), ["OK"], "what comes first has come")
+        self.assertIn("2 of 2 possible outcomes agree", self.browser.text("#hand-left"))
+        self.browser.push('#hand-next [data-session="2"]')
+        self.until(lambda: len(self.browser.all("#hand-lines .reply")) == 2, "session 2")
+        self.browser.push('#hand-next [data-session="1"]')
+        self.until(lambda: len(self.browser.all("#hand-lines .reply")) == 3, "session 1")
+        self.assertEqual(self.as_printed("#hand-lines .reply")[-1], "VALUE 0x32")
+        self.assertRegex(self.browser.text("#hand-left"), "1 of 2 possible outcomes agree")
+        self.reopen()
+        self.until(lambda: len(self.browser.all("#hand-lines .reply")) == 3, "the address has the order")
+        self.browser.push('#hand-next [data-session="2"]')
+        self.until(lambda: len(self.browser.all("#hand-lines .reply")) == 5, "the last, and what comes after")
+        self.assertRegex(self.browser.text("#hand-left"), "This is outcome [12] of 2.")
+        order = "1 PUT 'k','1'\n2 PUT 'k','2'\n1 GET 'k'\n2 GET 'k'\n3 GET 'k'\n"
+        self.assertEqual(self.as_printed("#hand-lines .reply"), replies(says("run", order.encode())[0].decode()))
+        self.browser.push("#hand-back")
+        self.until(lambda: len(self.browser.all("#hand-lines .reply")) == 3, "one back")
+        self.browser.push("#hand-again")
+        self.until(lambda: len(self.browser.all("#hand-lines .reply")) == 1, "from the start")
+
+    def test_a_blank_view_says_what_to_do(self):
+        self.open()
+        self.assertTrue(self.browser.one("#race-welcome").is_displayed())
+        self.browser.go(f"{self.page.address}#judge")
+        self.assertTrue(self.browser.one("#judge-welcome").is_displayed())
+        self.browser.go(f"{self.page.address}#commit")
+        self.assertTrue(self.browser.one("#commit-welcome").is_displayed())
+        self.browser.push("#first-scenarios button:first-child")
+        self.until(lambda: self.browser.all("#sequence .call"), "a scenario is open")
+        self.assertFalse(self.browser.one("#commit-welcome").is_displayed())
 
     def test_remarks_of_a_story_are_left_out(self):
         self.open()

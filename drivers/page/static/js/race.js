@@ -6,7 +6,10 @@ import { byId, el, fill, keepingFocus, options, printedInto, sessionClass, shown
 import { isCaption } from "./columns.js";
 import { endingText } from "./ending.js";
 import { orderOf, readOutcome, tie } from "./outcome.js";
-import { answersOf, possibleItems, readPossible } from "./possible.js";
+import { ByHand } from "./by_hand.js";
+import { answersOf, possibleItems, readCame, readPossible } from "./possible.js";
+import { clicked } from "./projector.js";
+import { partsOf } from "./script_parts.js";
 import { draw } from "./timeline.js";
 import { follow, titleOf } from "./titles.js";
 
@@ -14,6 +17,7 @@ const BATCH = 10;
 const STRIP = 48; // entries that a bar shows
 const UNSHUFFLED = "none"; // in place of a seed: else the sessions' turns are shuffled, so that a script shows its histories soon
 const MANY = "The possible outcomes are too many to be listed.";
+const IN_PARTS = "BESIDE or AFTER parts this script, so its histories aren't listed: see its outcomes.";
 const GONE = "The history that the address names didn't come in these runs.";
 
 // A short name for a history, so that an address can say which one is looked at.
@@ -44,6 +48,9 @@ export class Race {
     });
     byId("race-example").addEventListener("change", (event) => this.openExample(event.target.value));
     byId("outcome").addEventListener("change", (event) => this.drawOutcome(Number(event.target.value)));
+    this.byHand = new ByHand(app, (hand) => this.app.keep("race", { ...this.asked(false), hand }));
+    byId("by-hand-begin").addEventListener("click", () => this.app.visit("race", { ...this.asked(false), hand: "0" }));
+    addEventListener("keydown", (event) => this.clickerKey(event));
     byId("open-order").addEventListener("click", () => this.app.visit("sessions", { script: orderOf(this.drawn).join("\n") }));
   }
 
@@ -86,6 +93,12 @@ export class Race {
       byId(id).value = whole(state[id], Number(byId(id).min), Number(byId(id).max), plain);
     }
     this.runs = Math.max(this.runs, whole(state.go, 1, 1e9, 0));
+    if (state.hand) {
+      this.clear();
+      byId("race-welcome").hidden = true;
+      return this.byHand.open(partsOf(this.script()), state.hand);
+    }
+    this.byHand.leave();
     this.named = state.history ?? null;
     const asked = { ...this.asked(false), go: state.go };
     if (state.go && JSON.stringify(asked) !== this.begun) this.race(asked);
@@ -104,6 +117,7 @@ export class Race {
     this.picked = null;
     this.chosen = false;
     fill(byId("histories"));
+    fill(byId("race-parts"));
     fill(byId("possible"));
     byId("all-outcomes").hidden = true;
     fill(byId("race-faults"));
@@ -119,8 +133,10 @@ export class Race {
     this.begun = wanted;
     this.address = asked;
     this.raced = this.script();
+    this.parts = partsOf(this.raced);
+    fill(byId("race-parts"), this.parts.hasParts ? IN_PARTS : null);
     const times = Math.max(1, Math.min(200, Number(byId("runs").value) || 1));
-    const question = { script: this.raced, together: byId("together").checked, renew: byId("renew").checked,
+    const question = { script: this.parts.text, parts: this.parts.hasParts, together: byId("together").checked, renew: byId("renew").checked,
       capacity: Number(byId("capacity").value) };
     const seed = byId("shuffled").checked ? Number(byId("seed").value) : null;
     this.app.notify({});
@@ -130,8 +146,8 @@ export class Race {
       for (let done = 0; done < times && this.begun === wanted; ) {
         const { ran } = await ask("race", { ...question, times: Math.min(BATCH, times - done), seed: seed === null ? null : seed + done });
         if (this.begun !== wanted) return;
-        done += ran.length;
-        if (!this.take(ran)) break;
+        done += this.parts.hasParts ? Math.min(BATCH, times - done) : ran.length;
+        if (!(this.parts.hasParts ? this.takeCounted(ran[0]) : this.take(ran))) break;
         fill(byId("race-progress"), `${done} of ${times} runs`);
       }
       if (this.begun === wanted && this.named && this.histories.size) this.app.notify({ fault: GONE });
@@ -145,7 +161,7 @@ export class Race {
   async explore(wanted) {
     let found = null;
     try {
-      found = readPossible((await ask("outcomes", { script: this.raced })).output, this.raced);
+      found = readPossible((await ask("outcomes", { script: this.parts.text })).output, this.parts);
     } catch (fault) {
       if (!(fault instanceof Failure)) throw fault;
     }
@@ -156,10 +172,10 @@ export class Race {
   }
 
   drawPossible() {
-    if (!this.isExplored || !this.histories.size) return;
+    if (!this.isExplored || !this.came.size) return;
     byId("all-outcomes").hidden = false;
     if (this.possible === null) return void fill(byId("possible-seen"), MANY);
-    const { seen, items } = possibleItems(this.possible, this.came, this.raced, (lines) => this.app.visit("sessions", { script: lines.join("\n") }));
+    const { seen, items } = possibleItems(this.possible, this.came, this.parts, (lines) => this.app.visit("sessions", { script: lines.join("\n") }));
     fill(byId("possible-seen"), seen);
     keepingFocus(byId("possible"), () => fill(byId("possible"), items));
   }
@@ -181,20 +197,35 @@ export class Race {
     return true;
   }
 
+  // The same of runs that the program has counted.
+  takeCounted({ output, status, error }) {
+    if (status !== 0) {
+      this.app.notify({ fault: endingText({ status, error }) });
+      return false;
+    }
+    const counted = readCame(output, this.parts);
+    if (!counted.length) return this.drawFaults(linesOf(output));
+    for (const [text, count] of counted) this.came.set(text, (this.came.get(text) ?? 0) + count);
+    byId("race-welcome").hidden = true;
+    this.drawPossible();
+    return true;
+  }
+
   count(outcome, output) {
     if (!this.histories.has(outcome.key)) this.histories.set(outcome.key, { key: outcome.key, count: 0, history: outcome.history, outcomes: new Map() });
     const found = this.histories.get(outcome.key);
     found.count += 1;
     found.outcomes.set(output, (found.outcomes.get(output) ?? 0) + 1);
-    const answers = answersOf(outcome, this.raced);
+    const answers = answersOf(outcome, this.parts);
     this.came.set(answers, (this.came.get(answers) ?? 0) + 1);
   }
 
   drawFaults(faults) {
     const lines = linesOf(this.raced);
     fill(byId("race-faults"), faults.map((fault) => {
-      const number = /^LINE (\d+) /.exec(fault);
-      return el("li", {}, shown(fault), number ? [": ", shown(lines[Number(number[1]) - 1] ?? "")] : null);
+      const found = /^LINE (\d+) (.*)$/s.exec(fault);
+      const number = found && this.parts.numbers[Number(found[1]) - 1];
+      return number ? el("li", {}, `LINE ${number} `, shown(found[2]), ": ", shown(lines[number - 1])) : el("li", {}, shown(fault));
     }));
     if (faults.length) fill(byId("histories"));
     return faults.length === 0;
@@ -215,6 +246,18 @@ export class Race {
     fill(room, all.map((it) => this.bar(it, most)));
     if (focused) room.querySelector('[aria-pressed="true"]').focus();
     this.listOutcomes();
+  }
+
+  // A clicker goes from one history to the next, or takes a step back by hand.
+  clickerKey(event) {
+    const wanted = byId("race").hidden ? null : clicked(event);
+    if (!wanted) return;
+    const all = this.sorted();
+    const at = all.findIndex((it) => it.key === this.picked) + (wanted === "step" ? 1 : -1);
+    if (all[at]) this.choose(all[at]);
+    else if (wanted === "back") this.byHand.back();
+    else if (!all.length && !this.byHand.stepOnly()) return;
+    event.preventDefault();
   }
 
   bar(found, most) {
@@ -261,7 +304,7 @@ export class Race {
   drawOutcome(at) {
     const text = this.outcomes[at];
     this.text = text;
-    this.drawn = tie(readOutcome(text), this.raced);
+    this.drawn = tie(readOutcome(text), this.parts.text);
     draw(byId("history"), this.drawn);
     printedInto(byId("race-printed"), text);
   }
