@@ -65,11 +65,12 @@ def refuse(channel: Channel, number: int) -> None:
 class Conversation:
     """A client that is let in, over a session of the store."""
 
-    def __init__(self, channel: Channel, session: Session, faults: Faults, log: Callable[[str], None]) -> None:
+    def __init__(self, channel: Channel, session: Session, faults: Faults, log: Callable[[str], None], outage: Callable[[float], None] = lambda seconds: None) -> None:
         self.channel = channel
         self.session = session
         self.faults = faults
         self.log = log
+        self.outage = outage
         self.prepared: dict[int, Prepared] = {}
         self.last = 0  # number of a prepared statement
 
@@ -127,7 +128,7 @@ class Conversation:
 
     async def _statement(self, it: Statement) -> Answer:
         """A statement, with the fault that is meant for it."""
-        fault = self.faults.next(it.kind)
+        fault = self.faults.next("ONE PHASE" if it.text.endswith(b" ONE PHASE") else it.kind)
         if fault is None:
             return await self.session.statement(it)
         return await self._disturbed(it, fault)
@@ -145,6 +146,10 @@ class Conversation:
             case "stall":
                 self._note(note + "held before it")
                 await self._pause(fault.number)
+            case "outage":
+                self._note(note + f"all connections are cut, and refused for {fault.number:g} seconds")
+                self.outage(fault.number)
+                raise Cut
         answer = await self.session.statement(it)
         match fault.what:
             case "close-after":

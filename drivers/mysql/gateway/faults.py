@@ -2,20 +2,21 @@
 
     [STORE n] KIND nth WHAT
 
-KIND is a statement's first words, as XA PREPARE or PUT; nth counts such statements at the store from 1, of all connections. What can be done is in WHAT.
+KIND is a statement's first words, as XA PREPARE or PUT, or ONE PHASE for an XA COMMIT with this clause; nth counts such statements at the store from 1, of all connections. What can be done is in WHAT.
 """
 import re
 from collections import Counter
 from collections.abc import Iterable
 from dataclasses import dataclass
 
-KINDS = ("XA START", "XA END", "XA PREPARE", "XA COMMIT", "XA ROLLBACK", "XA RECOVER", "GET", "PUT", "DEL")
+KINDS = ("XA START", "XA END", "XA PREPARE", "XA COMMIT", "ONE PHASE", "XA ROLLBACK", "XA RECOVER", "GET", "PUT", "DEL")
 WHAT = {
     "close-before": "the connection is cut, and the store never hears of the statement",
     "close-after": "the statement takes effect, and the connection is cut in place of an answer",
     "stall": "the statement is held for so many seconds; where the client leaves meanwhile, the store never hears of it",
     "stall-after": "the statement takes effect, and its answer is held for so many seconds",
     "error": "the client is given this error, and the store never hears of the statement",
+    "outage": "the store never hears of the statement. All connections to the store are cut, and new ones refused, for so many seconds; prepared branches and rows are kept",
 }
 LINE = re.compile(r"(?:STORE (?P<store>[1-9]\d*) )?(?P<kind>[A-Z]+(?: [A-Z]+)?) (?P<nth>[1-9]\d*) (?P<what>[a-z-]+)(?: (?P<number>\d+(?:\.\d+)?))?")
 
@@ -67,7 +68,7 @@ def read_line(line: str, place: int) -> tuple[int | None, Fault]:
     it = LINE.fullmatch(line)
     if not it or it["kind"] not in KINDS or it["what"] not in WHAT:
         raise Unreadable(f"line {place}: not as in `XA PREPARE 3 close-before`")
-    takes = it["what"] in ("stall", "stall-after", "error")
+    takes = it["what"] in ("stall", "stall-after", "error", "outage")
     if takes != (it["number"] is not None):
         raise Unreadable(f"line {place}: {it['what']} takes {'a' if takes else 'no'} number")
     number = float(it["number"] or 0)

@@ -11,6 +11,7 @@ from . import conversation
 from .channel import PATIENCE, Channel, Left, TooLong
 from .conversation import Account, Conversation, Cut
 from .faults import Fault, Faults
+from .history import History
 from .packets import LONGEST, Malformed
 from .record import Record
 from .sessions import Session
@@ -27,6 +28,7 @@ class Options:
     account: Account | None
     faults: Sequence[Sequence[Fault]]  # of each store
     record: str | None
+    history: str | None = None
 
 
 def say(text: str) -> None:
@@ -43,11 +45,15 @@ class Port:
         self.account = account
         self.channels: set[Channel] = set()
         self._strangers = 0
+        self._returns = 0.0  # when an outage ends, by the loop's clock
         self._connections = itertools.count(1)
 
     async def serve(self, channel: Channel) -> None:
         """A client from its coming to its going. Whatever it does wrong is its own end alone."""
         connection = next(self._connections)
+        if asyncio.get_running_loop().time() < self._returns:
+            channel.cut()
+            return
         self.channels.add(channel)
         try:
             await self._meet(channel, connection)
@@ -70,6 +76,12 @@ class Port:
         finally:
             channel.close()
             self.channels.discard(channel)
+
+    def begin_outage(self, seconds: float) -> None:
+        """Cuts all connections, and those that come in so many seconds. The store keeps its prepared branches and its rows."""
+        self._returns = asyncio.get_running_loop().time() + seconds
+        for channel in list(self.channels):
+            channel.cut()
 
     def _log(self, connection: int, text: str) -> None:
         say(f"{self.name}, connection {connection}: {text}")
@@ -97,7 +109,7 @@ class Port:
             return
         session = Session(self.store, number)
         try:
-            await Conversation(channel, session, self.faults, lambda text: self._log(connection, text)).hold()
+            await Conversation(channel, session, self.faults, lambda text: self._log(connection, text), self.begin_outage).hold()
         finally:
             session.leave()
 
@@ -106,20 +118,22 @@ def name_of(index: int) -> str:
     return f"store {index + 1}"
 
 
-def path_of_record(options: Options, index: int) -> str | None:
-    """Where a store's record is written: the given path, with the store's number behind it where there are several."""
-    if options.record is None or len(options.faults) == 1:
-        return options.record
-    return f"{options.record}.{index + 1}"
+def path_of(path: str | None, options: Options, index: int) -> str | None:
+    """Where a store's record or history is written: the given path, with the store's number behind it where there are several."""
+    return path if path is None or len(options.faults) == 1 else f"{path}.{index + 1}"
 
 
 async def open_port(options: Options, index: int, ends: contextlib.AsyncExitStack) -> Port:
     """Starts a store and listens for its clients."""
-    path = path_of_record(options, index)
+    path = path_of(options.record, options, index)
     record = Record(path) if path else None
     if record:
         ends.callback(record.close)
-    store = await Store.start([options.program, "serve"], record)
+    path = path_of(options.history, options, index)
+    history = History(path) if path else None
+    if history:
+        ends.callback(history.close)
+    store = await Store.start([options.program, "serve"], record, history)
     ends.push_async_callback(store.close)
     port = Port(name_of(index), store, options.faults[index], options.account)
     loop = asyncio.get_running_loop()

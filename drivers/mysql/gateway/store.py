@@ -5,6 +5,7 @@ from collections.abc import Sequence
 from dataclasses import dataclass
 from typing import cast
 
+from .history import History
 from .record import Record
 
 SESSIONS = 16
@@ -26,8 +27,9 @@ class Question:
 class Store(asyncio.SubprocessProtocol):
     """The process, its unanswered questions, and the numbers of its sessions that are free."""
 
-    def __init__(self, record: Record | None) -> None:
+    def __init__(self, record: Record | None, history: History | None = None) -> None:
         self.record = record
+        self.history = history
         self.ended: asyncio.Future[str] = asyncio.get_running_loop().create_future()
         self._questions: deque[Question] = deque()
         self._unsent: list[bytes] = []
@@ -38,10 +40,10 @@ class Store(asyncio.SubprocessProtocol):
         self._leaving: set[asyncio.Future[list[bytes]]] = set()
 
     @classmethod
-    async def start(cls, command: Sequence[str], record: Record | None) -> "Store":
+    async def start(cls, command: Sequence[str], record: Record | None, history: History | None = None) -> "Store":
         """Starts the process. It has a process group of its own, so ^C in a terminal doesn't reach it before the gateway."""
         loop = asyncio.get_running_loop()
-        _, store = await loop.subprocess_exec(lambda: cls(record), *command, stderr=None, start_new_session=True)
+        _, store = await loop.subprocess_exec(lambda: cls(record, history), *command, stderr=None, start_new_session=True)
         return store
 
     # questions
@@ -107,7 +109,7 @@ class Store(asyncio.SubprocessProtocol):
         except (Gone, ValueError) as fault:
             self._end(str(fault))
         except OSError as fault:
-            self._end(f"its record can't be written: {fault.strerror}")
+            self._end(f"its record or history can't be written: {fault.strerror}")
 
     def _line(self, line: bytes) -> None:
         """A line of the store: a row of the answer that has begun, or the next answer's first line."""
@@ -126,6 +128,8 @@ class Store(asyncio.SubprocessProtocol):
     def _answer(self, question: Question, lines: list[bytes]) -> None:
         if self.record:
             self.record.answered(question.session, question.statement, lines)
+        if self.history:
+            self.history.answered(question.session, question.statement, lines)
         if not question.answer.done():
             question.answer.set_result(lines)
 
