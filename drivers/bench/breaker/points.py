@@ -3,7 +3,6 @@ import re
 from collections import Counter
 from collections.abc import Iterable, Sequence
 from dataclasses import dataclass
-from pathlib import Path
 
 HOLD = 600  # seconds that a statement is held while its manager is killed
 PAUSE = 1.5  # seconds that a statement is held while somebody else rolls its branch back
@@ -25,10 +24,12 @@ REFUSALS = {"XA START": (1399,), "XA END": (1399, 1402), "XA PREPARE": (1397, 13
 
 RUN, REDO, UNDO = "", "redo ", "undo "  # where a point is: in the run, or in the recovery of a run that was killed after or before its decision
 
-MARK = b"the bench looks"  # the key that the bench reads when it looks, so that a record shows where a recovery begins
-OWN = b"local "  # how the server names branches of its own, for local transactions
+MARKED = "0x" + b"the bench looks".hex()  # the key that the bench reads when it looks, so that the log shows where a recovery begins
+MOST = 100  # statements of a kind that are counted at a store
 
-ASKED = re.compile(rb"\d+ > (XA START|XA END|XA PREPARE|XA COMMIT|XA ROLLBACK|XA RECOVER|GET|PUT|DEL)\b ?([^,\n ]*)[^\n]*?( ONE PHASE)?\n")
+# How the server tells that it held a statement: its store, kind and number, and the statement.
+TOLD = re.compile(r"store (\d+), .*?the fault ([A-Z]+(?: [A-Z]+)?) (\d+) stall(?: 0)?, at (.*): held before it")
+HELD = re.compile(rf"the fault .* stall(?:-after)? (?:{HOLD}|{PAUSE}), at .*: held (?:before|after) it$")
 
 
 @dataclass(frozen=True)
@@ -67,32 +68,25 @@ def actions(kind: str) -> list[str]:
     return [*found, *([ROLLED_BACK] if kind == "XA COMMIT" else []), RESTARTED]
 
 
-def asked(record: Path) -> Iterable[tuple[str, bytes, bytes]]:
-    """The kind, first literal and text of each statement of clients that a record has, in order."""
-    for found in ASKED.finditer(record.read_bytes()):
-        kind = "ONE PHASE" if found[3] else found[1].decode()
-        literal = found[2]
-        if not (kind.startswith(("XA", "ONE")) and literal.startswith(b"0x" + OWN.hex().encode())):
-            yield kind, literal, found[0]
+def counting(stores: int, base: Point | None) -> list[str]:
+    """Lines that have the server tell each statement that reaches it, with its number: each is held for no time."""
+    return [f"STORE {store} {kind} {number} stall 0" for store in range(1, stores + 1) for kind in REFUSALS for number in range(1, MOST + 1)
+            if not base or (store, kind, number) != (base.site.store, base.site.kind, base.site.fault)]
 
 
-def sites(records: Sequence[Path], phase: str) -> list[Site]:
-    """The statements of a run, or those of the recovery after it: the bench's own, by which these are told apart, are left out."""
+def sites(log: Iterable[str], phase: str) -> list[Site]:
+    """The statements of a run, or those of the recovery after it, in the order in which the server told them. The bench's own, by which these are told apart, are left out."""
     found = []
-    for store, record in enumerate(records, 1):
-        all_counts: Counter[str] = Counter()
-        counts: Counter[str] = Counter()
-        looks = 0
-        for kind, literal, text in asked(record):
-            all_counts[kind] += 1
-            if literal == b"0x" + MARK.hex().encode():
-                looks += 1
-            elif is_of(phase, looks):
-                counts[kind] += 1
-                found.append(Site(phase, store, kind, counts[kind], all_counts[kind]))
+    counts: Counter[tuple[int, str]] = Counter()
+    looks: Counter[int] = Counter()
+    for line in log:
+        told = TOLD.fullmatch(line)
+        if not told:
+            continue
+        store, kind = int(told[1]), told[2]
+        if told[4] == f"GET {MARKED}":
+            looks[store] += 1
+        elif looks[store] == (1 if phase == RUN else 3):  # a look ends what is planted, and two stand around the XA RECOVER of each further one
+            counts[store, kind] += 1
+            found.append(Site(phase, store, kind, counts[store, kind], int(told[3])))
     return found
-
-
-def is_of(phase: str, looks: int) -> bool:
-    """Whether a statement after so many looks is one of the phase. A look ends what is planted; two stand around the XA RECOVER of each further one."""
-    return looks == (1 if phase == RUN else 3)

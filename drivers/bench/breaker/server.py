@@ -6,8 +6,9 @@ import time
 from collections.abc import Sequence
 from pathlib import Path
 
+from .points import HELD
+
 LISTENS = re.compile(r"store (\d+) listens on .*:(\d+)")
-HELD = re.compile(r"held (?:before|after) it$")
 PATIENCE = 30.0  # seconds for a server to start, and to end
 
 
@@ -20,7 +21,7 @@ class Server:
 
     def __init__(self, command: Sequence[str], stores: int, port: int, folder: Path, faults: Sequence[str]) -> None:
         self.folder, self.stores = folder, stores
-        self.held = 0  # statements that were held so far
+        self.held = 0  # statements that were held so far, for a kill or for somebody else
         self.log: list[str] = []
         self.ports: list[int] = []
         self._news = threading.Condition()

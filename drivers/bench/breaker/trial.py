@@ -13,10 +13,11 @@ from pathlib import Path
 
 from .audit import Auditor, Global
 from .client import Client, Refused
-from .points import KILLS, MARK, OWN, ROLLED_BACK, RUN, Point, Site, sites
+from .points import KILLS, MARKED, ROLLED_BACK, RUN, Point, Site, counting, sites
 from .server import Server
 
 FOREIGN = b"\0another manager's "  # how the gtrid of a planted branch begins: before any other in a list
+OWN = b"local "  # how the server names branches of its own, for local transactions
 
 ATOMIC, TOLD, MIXED, PARTIAL, IN_DOUBT, OPEN, UNTRUE, TOUCHED, UNREACHED = (
     "atomic", "heuristic, told", "MIXED", "PARTIAL", "IN DOUBT", "OPEN", "UNTRUE", "FOREIGN", "not reached")
@@ -120,6 +121,8 @@ class Trial:
         else:
             work.mkdir()
         lines = [point.line() for point in (self.base, self.point) if point]
+        if not self.point:
+            lines += counting(self.setup.stores, self.base)
         self.server = Server(self.setup.server, self.setup.stores, self.setup.port, folder, lines)
         try:
             ports = self.server.ports
@@ -130,7 +133,7 @@ class Trial:
             left = self._recover(work, broken)
         finally:
             self.server.end()
-        self.outcome.asked = sites(self.server.records(), RUN if self.base is None else self.phase)
+        self.outcome.asked = sites(self.server.log, self.phase)
         self._judge(left)
         return self.outcome
 
@@ -144,7 +147,7 @@ class Trial:
                     xid = f"0x{(FOREIGN + b'%d' % number).hex()},'branch',{format_id}"
                     for text in (f"XA START {xid}", f"PUT 0x{(FOREIGN + b'%d %d' % (number, format_id)).hex()},'row'", f"XA END {xid}", f"XA PREPARE {xid}"):
                         client.ask(text)
-            client.ask(f"GET 0x{MARK.hex()}")
+            client.ask(f"GET {MARKED}")
 
     # the run and its recovery
 
@@ -200,9 +203,9 @@ class Trial:
             while True:
                 try:
                     with Client(port) as client:
-                        client.ask(f"GET 0x{MARK.hex()}")
+                        client.ask(f"GET {MARKED}")
                         found.append(len(self._prepared(client)))
-                        client.ask(f"GET 0x{MARK.hex()}")
+                        client.ask(f"GET {MARKED}")
                     break
                 except OSError:
                     if time.monotonic() > deadline:

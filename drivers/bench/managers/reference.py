@@ -3,7 +3,7 @@
 
     reference.py run VALUE | recover
 
-It writes a row into each store at 127.0.0.1 whose port is in $PORTS, in one transaction, and keeps its decisions in the current folder. Status 0: it committed, or recovered.
+It writes a row into each store of 127.0.0.1 whose port is in $PORTS, in one transaction, and keeps its decisions in the current folder. Status 0: all is committed, or recovered.
 """
 import os
 import sys
@@ -11,68 +11,80 @@ import sys
 import pymysql
 
 MANAGER = "reference "  # its gtrids begin so
-PORTS = [int(port) for port in os.environ["PORTS"].split()]
-NOTA = 1397
+STORES = dict(enumerate(map(int, os.environ["PORTS"].split()), 1))
+ASKED = set()  # branches that this process has asked to end: if one isn't there any more, this did it
+NOTA = 1397  # what a store answers if it hasn't the branch
 
 
-def connect(port):
-    return pymysql.connect(host="127.0.0.1", port=port, user="root", autocommit=True)
+def connect(number):
+    return pymysql.connect(host="127.0.0.1", port=STORES[number], user="root", autocommit=True)
 
 
 def ask(connection, text, *values):
     with connection.cursor() as cursor:
-        cursor.execute(text, values)
+        cursor.execute(text, tuple(map(str, values)))
         return cursor.fetchall()
 
 
+def vote(connection, gtrid, number):
+    """Whether the branch is prepared. An answer that is lost counts as no."""
+    try:
+        ask(connection, "XA PREPARE %s,%s", gtrid, number)
+        return True
+    except pymysql.Error:
+        return False
+
+
 def decide(gtrid):
-    """Writes the decision to commit. No decision means to roll back."""
+    """Keeps the decision to commit. No decision means to roll back."""
     with open("decisions", "a") as file:
         file.write(f"{gtrid}\n")
         os.fsync(file)
 
 
-def finish(verb, gtrid, number, port):
-    """Commits or rolls back a branch, and tries again where an answer is lost; whether it is certain how the branch ended."""
-    for is_second in (False, True):
+def finish(verb, gtrid, number):
+    """Commits or rolls back a prepared branch, with two tries; whether it is known to have ended so."""
+    for _ in range(2):
         try:
-            ask(connect(port), f"XA {verb} %s,%s", gtrid, number)
+            ask(connect(number), f"XA {verb} %s,%s", gtrid, number)
             return True
         except pymysql.Error as fault:
             if fault.args[0] == NOTA:
-                return is_second or verb == "ROLLBACK"  # the first try may have done it; else somebody has
+                return verb == "ROLLBACK" or (gtrid, number) in ASKED
+        finally:
+            ASKED.add((gtrid, number))
     return False
 
 
 def run(value):
     gtrid = MANAGER + os.urandom(8).hex()
-    stores = {}
+    connections = {}
     try:
-        for number, port in enumerate(PORTS, 1):
-            stores[number] = connect(port)
-            ask(stores[number], "XA START %s,%s", gtrid, f"{number}")
-            ask(stores[number], "PUT 'row',%s", value)
-            ask(stores[number], "XA END %s,%s", gtrid, f"{number}")
-        for number in stores:
-            ask(stores[number], "XA PREPARE %s,%s", gtrid, f"{number}")
-        decide(gtrid)
-        verb = "COMMIT"
+        for number in STORES:
+            connections[number] = connect(number)
+            ask(connections[number], "XA START %s,%s", gtrid, number)
+            ask(connections[number], "PUT 'row',%s", value)
+            ask(connections[number], "XA END %s,%s", gtrid, number)
+        votes = [vote(connections[number], gtrid, number) for number in STORES]
     except pymysql.Error:
-        verb = "ROLLBACK"
-        for store in stores.values():
-            store.close()  # which rolls back what isn't prepared
-    ended = [finish(verb, gtrid, f"{number}", port) for number, port in enumerate(PORTS, 1)]
-    return verb == "COMMIT" and all(ended)
+        votes = [False]
+    is_yes = all(votes)
+    if is_yes:
+        decide(gtrid)
+    for connection in connections.values():
+        connection._force_close()  # which rolls back what isn't prepared
+    ended = [finish("COMMIT" if is_yes else "ROLLBACK", gtrid, number) for number in STORES]
+    return is_yes and all(ended)
 
 
 def recover():
     decided = open("decisions").read().splitlines() if os.path.exists("decisions") else []
     ended = []
-    for port in PORTS:
-        for _, length, _, data in ask(connect(port), "XA RECOVER"):
-            gtrid, number = data[:length].decode(), data[length:].decode()
+    for number in STORES:
+        for _, length, _, name in ask(connect(number), "XA RECOVER"):
+            gtrid = name[:length].decode()
             if gtrid.startswith(MANAGER):
-                ended.append(finish("COMMIT" if gtrid in decided else "ROLLBACK", gtrid, number, port))
+                ended.append(finish("COMMIT" if gtrid in decided else "ROLLBACK", gtrid, number))
     return all(ended)
 
 

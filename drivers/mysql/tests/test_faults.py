@@ -3,7 +3,7 @@ import sys
 import time
 
 from support import HERE, Case, of_gateway, wait_for
-from wire import Closed
+from wire import Client, Closed
 
 sys.path.insert(0, str(HERE.parent))
 
@@ -90,6 +90,31 @@ class Faults(Case):
         self.assertEqual(self.left(gateway), [])
         self.ok(self.watch, "PUT 'k','w'")
         self.ends_legal(gateway, "held before it")
+
+    def test_an_outage(self):
+        """All connections are cut and new ones refused for a while; what is prepared is kept, and the rest rolled back."""
+        gateway, client = self.start("XA PREPARE 2 outage 1")
+        self.ok(client, f"XA PREPARE {XID}")
+        one, two = self.client(gateway), self.client(gateway)
+        self.ok(one, "XA START 'lost'", "PUT 'other','v'")
+        self.ok(two, "XA START 'two'", "XA END 'two'")
+        began = time.monotonic()
+        self.assert_cut(two, "XA PREPARE 'two'")
+        for each in (one, client):
+            self.assert_cut(each, "XA RECOVER")
+        with Client(gateway.port, log_in=False) as refused:
+            self.assertTrue(refused.is_closed())
+        wait_for(lambda: time.monotonic() > began + 1.1, "the outage's end")
+        self.assertEqual(len(self.left(gateway)), 1)
+        self.ok(self.watch, "PUT 'other','w'")
+        self.ends_legal(gateway, "all connections are cut, and refused for 1 seconds")
+
+    def test_one_phase_is_counted_apart(self):
+        gateway, client = self.start("ONE PHASE 1 close-before", "XA COMMIT 1 error 1402")
+        other = self.client(gateway)
+        self.ok(other, "XA START 'other'", "XA END 'other'", "XA PREPARE 'other'")
+        self.refused(other, "XA COMMIT 'other'", 1402, "XA100")
+        self.assert_cut(client, f"XA COMMIT {XID} ONE PHASE")
 
     def test_a_wrong_answer(self):
         gateway, client = self.start("XA PREPARE 1 error 1402", "PUT 2 error 65000")

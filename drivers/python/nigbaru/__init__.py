@@ -1,4 +1,4 @@
-"""PEP 249's two-phase calls over `xa_script serve`. It needs nothing but the standard library."""
+"""PEP 249's two-phase calls over `xa_script serve`, or over a server of MySQL's protocol. It needs nothing but the standard library."""
 from __future__ import annotations
 
 from typing import Optional, Sequence
@@ -8,6 +8,7 @@ from .cursor import BINARY, DATETIME, NUMBER, ROWID, STRING, Cursor
 from .errors import (DatabaseError, DataError, Error, IntegrityError, InterfaceError, InternalError, NotSupportedError,
                      OperationalError, ProgrammingError, Warning)
 from .manager import Branch
+from .network import Remote
 from .server import Server, Word
 from .xid import Xid
 
@@ -39,5 +40,5 @@ class _Alone(Connection):
 
 
 __all__ = ["BINARY", "Binary", "Branch", "Connection", "Cursor", "DATETIME", "DataError", "DatabaseError", "Error", "IntegrityError",
-           "InterfaceError", "InternalError", "NUMBER", "NotSupportedError", "OperationalError", "ProgrammingError", "ROWID", "STRING",
+           "InterfaceError", "InternalError", "NUMBER", "NotSupportedError", "OperationalError", "ProgrammingError", "ROWID", "Remote", "STRING",
            "Server", "Warning", "Xid", "__version__", "apilevel", "connect", "paramstyle", "threadsafety"]
