@@ -59,15 +59,22 @@ class Outcome:
         return self.verdict in RIGHT
 
 
+class Stopped(Exception):
+    """The bench ends, so no more commands are started."""
+
+
 class Commands:
     """The process groups that were started and haven't ended, so that none outlives the bench."""
 
     def __init__(self) -> None:
         self._lock = threading.Lock()
         self._groups: set[int] = set()
+        self._is_over = False
 
     def start(self, command: str, folder: Path, environment: dict[str, str], name: str) -> subprocess.Popen[bytes]:
         with self._lock, (folder.parent / name).open("wb") as said:
+            if self._is_over:
+                raise Stopped
             process = subprocess.Popen(["/bin/sh", "-c", command], cwd=folder, env=environment, stdin=subprocess.DEVNULL, stdout=said, stderr=subprocess.STDOUT, start_new_session=True)
             self._groups.add(process.pid)
         return process
@@ -83,7 +90,9 @@ class Commands:
             self._groups.discard(process.pid)
 
     def kill_all(self) -> None:
+        """Kills all groups, and lets no more be started."""
         with self._lock:
+            self._is_over = True
             for group in self._groups:
                 try:
                     os.killpg(group, signal.SIGKILL)
@@ -207,7 +216,7 @@ class Trial:
                         found.append(len(self._prepared(client)))
                         client.ask(f"GET {MARKED}")
                     break
-                except OSError:
+                except (OSError, Refused):
                     if time.monotonic() > deadline:
                         raise
                     time.sleep(0.05)

@@ -1,0 +1,150 @@
+"""The bench itself: its options, its reports, and managers that misbehave."""
+import contextlib
+import shlex
+import signal
+import socket
+import subprocess
+import tempfile
+import time
+import unittest
+import xml.etree.ElementTree
+from pathlib import Path
+
+from support import BENCH, FOLDER, PROGRAM, PYTHON, bench, found, manager, name_of
+
+REFERENCE = f"{PYTHON} {FOLDER}/managers/reference.py"
+
+
+def running(words):
+    """Processes whose command line begins with these words."""
+    found = []
+    for path in Path("/proc").glob("[0-9]*/cmdline"):
+        with contextlib.suppress(OSError):  # it may have ended
+            if path.read_bytes().replace(b"\0", b" ").decode(errors="replace").startswith(words):
+                found.append(path.parent.name)
+    return found
+
+
+class Reports(unittest.TestCase):
+    def test_files_and_the_command_that_repeats(self):
+        """What a manager that never decides has at one statement: the table, three files, and a command that gives the same again."""
+        with tempfile.TemporaryDirectory() as folder:
+            said, points = bench(*manager("wrong.py", "never-decides"), "--only", "store 2 XA COMMIT 1", "--junit", f"{folder}/j.xml", "--tap", f"{folder}/t.tap", "--keep", f"{folder}/kept", status=1)
+            names = [name_of(point) for point in points]
+            self.assertEqual(len(points), 1 + 9)
+            self.assertEqual(names[0], "without a fault")
+            wrong = found(points)
+            self.assertIn("store 2 XA COMMIT 1, manager killed before: MIXED", wrong)
+            self.assertIn(f"{len(points)} points: ", said)
+            suite = xml.etree.ElementTree.parse(f"{folder}/j.xml").getroot()
+            self.assertEqual([case.get("name") for case in suite], names)
+            self.assertEqual([case.get("name") for case in suite if case.find("failure") is not None], [line.rpartition(": ")[0] for line in wrong])
+            self.assertEqual((suite.get("tests"), suite.get("failures")), (str(len(points)), str(len(wrong))))
+            tap = Path(f"{folder}/t.tap").read_text().splitlines()
+            self.assertEqual(tap[:2], ["TAP version 13", f"1..{len(points)}"])
+            self.assertEqual(sum(line.startswith("not ok ") for line in tap), len(wrong))
+            kept = Path(folder) / "kept" / "store-2-XA-COMMIT-1-manager-killed-before"
+            self.assertLessEqual({"faults", "record.1", "record.2", "history.1", "history.2", "server.log", "run.out", "recovery1.out", "work"}, {path.name for path in kept.iterdir()})
+            self.assertIn("STORE 2 XA COMMIT 1 stall 600\n", (kept / "faults").read_text())
+            (again,) = [line.strip() for line in said.splitlines() if line.startswith("    ") and "'store 2 XA COMMIT 1, manager killed before'" in line]
+            words = shlex.split(again)
+            ran = subprocess.run([PYTHON, *words], stdout=subprocess.PIPE, text=True)
+            self.assertEqual(ran.returncode, 1, ran.stdout)
+            self.assertRegex(ran.stdout, r"\nstore 2 XA COMMIT 1 +manager killed before +1 in doubt +MIXED ")
+            self.assertRegex(ran.stdout, r"\n2 points: 1 atomic, 1 mixed; ")
+
+    def test_list(self):
+        said, _ = bench(*manager("reference.py"), "--stores", "3", "--list", status=0)
+        lines = said.splitlines()
+        self.assertEqual(lines[0], "store 1 XA START 1, lost on its way")
+        self.assertEqual(len(lines), len(set(lines)))
+        self.assertEqual(sum(line.startswith("store 3 ") for line in lines), len(lines) // 3)
+
+    def test_repeat_and_side_by_side(self):
+        for jobs in ("1", "3"):
+            _, points = bench(*manager("reference.py"), "--only", "store 1 XA PREPARE 1", "--only", "redo store 1 XA RECOVER 1, answer lost", "--repeat", "2", "--jobs", jobs, status=0)
+            names = [name_of(point) for point in points[1:]]
+            self.assertEqual(names[:len(names) // 2], names[len(names) // 2:])
+            self.assertIn("redo store 1 XA RECOVER 1, answer lost", names)
+
+    def test_one_store(self):
+        """With one store nothing can be mixed, and all else is the same."""
+        _, points = bench(*manager("wrong.py", "one-phase"), "--stores", "1", "--only", "store 1 ONE PHASE 1", "--only", "store 1 XA COMMIT 1", status=0)
+        self.assertIn("store 1 ONE PHASE 1, answer lost", [name_of(point) for point in points])
+
+
+class Managers(unittest.TestCase):
+    def test_one_that_fails_without_a_fault(self):
+        with tempfile.TemporaryDirectory() as folder:
+            for run, words in (("false", "with status 1"), ("true", "nothing is committed"), ("no-such-command", "status 127")):
+                said, points = bench("--run", run, "--recover", "true", "--keep", folder, status=2)
+                self.assertIn(words, said)
+                self.assertIn("--folder", said)
+                self.assertEqual(points, [])
+
+    def test_one_that_hangs(self):
+        """A run that doesn't end is killed at the limit, and its recovery goes on."""
+        _, points = bench("--run", f"{REFERENCE} run 90 || sleep 600.0451", "--recover", f"{REFERENCE} recover", "--limit", "6", "--only", "store 2 XA PREPARE 1, answer lost", status=0)
+        self.assertEqual(points[1]["statuses"][:2], [None, 0])
+        self.assertGreater(points[1]["seconds"], 6)
+        self.assertEqual(running("sleep 600.0451"), [])
+
+    def test_a_whole_group_is_killed(self):
+        """The manager is a child of the command, and dies with it."""
+        _, points = bench("--run", f"{REFERENCE} run 90 & wait $!", "--recover", f"{REFERENCE} recover", "--only", "store 1 XA COMMIT 1, manager killed before", status=0)
+        self.assertEqual((points[1]["in_between"], points[1]["statuses"]), (2, [None, 0]))
+
+    def test_one_that_says_that_it_committed(self):
+        _, points = bench("--run", f"{REFERENCE} run 90; true", "--recover", f"{REFERENCE} recover", "--only", "store 1 PUT 1, lost on its way", status=1)
+        self.assertEqual(points[1]["verdict"], "UNTRUE")
+
+    def test_one_that_leaves_out_a_store(self):
+        """It commits in the first store where the second can't be reached: nothing is mixed for the histories, but a store is missing."""
+        script = f"{REFERENCE} run 90 || PORTS=$PORT1 {REFERENCE} run 90"
+        _, points = bench("--run", script, "--recover", f"{REFERENCE} recover", "--only", "store 2 XA START 1, lost on its way", status=1)
+        self.assertIn(points[1]["verdict"], ("PARTIAL", "MIXED"))
+
+    def test_one_that_recovers_nothing(self):
+        _, points = bench("--run", f"{REFERENCE} run 90", "--recover", "true", "--only", "store 1 XA COMMIT 1, manager killed before", status=1)
+        self.assertEqual((points[1]["verdict"], len(points[1]["statuses"])), ("IN DOUBT", 4))
+
+    def test_fixed_ports(self):
+        with socket.socket() as one:
+            one.bind(("127.0.0.1", 0))
+            port = one.getsockname()[1]
+        port = port if port < 65_000 else 20_000
+        run = f"PORTS='{port} {port + 1}' {REFERENCE}"
+        _, points = bench("--run", f"{run} run 90", "--recover", f"{run} recover", "--port", str(port), "--only", "store 2 XA COMMIT 1, answer lost", status=0)
+        self.assertEqual(points[1]["verdict"], "atomic")
+
+    def test_a_folder(self):
+        """Each point has a copy of its own, so that no journal is seen twice."""
+        with tempfile.TemporaryDirectory() as folder:
+            (Path(folder) / "run.sh").write_text(f"[ -e decisions ] && exit 9\nexec {REFERENCE} run 90\n")
+            _, points = bench("--run", "sh run.sh", "--recover", f"{REFERENCE} recover", "--folder", folder, "--only", "store 2 XA COMMIT 1, answer lost", status=0)
+            self.assertEqual(points[1]["statuses"][0], 0)
+            self.assertEqual([path.name for path in Path(folder).iterdir()], ["run.sh"])
+
+    def test_it_ends_by_a_signal(self):
+        """At once, with all that it started."""
+        for number in (signal.SIGTERM, signal.SIGINT):
+            process = subprocess.Popen([PYTHON, BENCH, "--program", PROGRAM, "--run", "sleep 600.0452", "--recover", "true"], stdout=subprocess.PIPE, stderr=subprocess.STDOUT)
+            deadline = time.monotonic() + 30
+            while not running("sleep 600.0452") and time.monotonic() < deadline:
+                time.sleep(0.1)
+            process.send_signal(number)
+            self.assertIn(process.wait(20), (130, 143))
+            process.stdout.close()
+            self.assertEqual(running("sleep 600.0452"), [])
+
+    def test_what_is_wrong_in_the_command(self):
+        ran = subprocess.run([PYTHON, BENCH, "--program", "/nowhere", "--run", "true", "--recover", "true"], stderr=subprocess.PIPE, text=True)
+        self.assertEqual(ran.returncode, 2)
+        self.assertIn("no program at /nowhere", ran.stderr)
+        ran = subprocess.run([PYTHON, BENCH, "--program", PROGRAM, "--server", "true", "--run", "true", "--recover", "true"], stderr=subprocess.PIPE, text=True)
+        self.assertEqual(ran.returncode, 2)
+        self.assertIn("the server doesn't start", ran.stderr)
+
+
+if __name__ == "__main__":
+    unittest.main()
