@@ -1,4 +1,4 @@
-//! What clients saw, as a record for `judge` (docs/JUDGE.md), and what was logged, as a script for `run`.
+//! What clients saw, as a record for `judge` (docs/HISTORIES.md), and what was logged, as a script for `run`.
 use crate::answers::digits;
 use crate::statements::write_literal;
 use crate::stop::Stop;
