@@ -29,14 +29,16 @@ class Classroom(ThreadingHTTPServer):
     daemon_threads = True
     block_on_close = False
 
-    def __init__(self, program, root, port, limits):
+    def __init__(self, program, root, port, limits, host="127.0.0.1"):
         self.limits = limits
         self.files = files(root)
         self._places = threading.BoundedSemaphore(limits.connections)
-        super().__init__(("127.0.0.1", port), Handler)
-        self.address = f"http://127.0.0.1:{self.server_port}/"
-        self.hosts = {f"127.0.0.1:{self.server_port}", f"localhost:{self.server_port}"}
         self.pool = Pool(program, limits)
+        super().__init__((host, port), Handler)
+        self.host, self.is_open = host, not host.startswith("127.")
+        here = "127.0.0.1" if host == "0.0.0.0" else host
+        self.address = f"http://{here}:{self.server_port}/"
+        self.hosts = {f"{here}:{self.server_port}", *([f"localhost:{self.server_port}"] if here.startswith("127.") else [])}
 
     def process_request(self, request, address):
         """A connection for which there is no place is closed at once."""

@@ -73,8 +73,8 @@ export class ByHand {
       const differs = lines.findIndex((line, at) => line !== this.lines[at]);
       if (differs >= 0) {
         const { answers } = await ask("talk", { talk: TALK, job: "show", lines, known: differs });
-        this.lines = lines;
         this.answers = [...this.answers.slice(0, differs), ...answers.map(([text]) => text)];
+        this.lines = lines.slice(0, this.answers.length);
       }
       return this.answers.slice(0, lines.length);
     });

@@ -1,0 +1,86 @@
+"""How the page is started: what is said where it can't be, and who can open it where `--host` says so."""
+import re
+import socket
+import subprocess
+import unittest
+
+from browser import ELSEWHERE, the_browser
+from selenium.webdriver.common.keys import Keys
+from support import MEMORY, PAGE, PROGRAM, Page, send
+
+SERVE = [PAGE / "serve", "--memory", MEMORY]
+
+
+def refused(*words):
+    """What a start that fails says; it is one line."""
+    ran = subprocess.run([*SERVE, *words], capture_output=True, text=True, timeout=60)
+    return ran.returncode, ran.stderr
+
+
+class Started(unittest.TestCase):
+    def assert_advice(self, words, *said):
+        status, text = refused(*words)
+        self.assertEqual((status, len(text.splitlines())), (1, 1), text)
+        for part in ("serve: ", *said):
+            self.assertIn(part, text)
+
+    def test_a_port_in_use(self):
+        with Page() as page:
+            self.assert_advice(["--program", PROGRAM, "--port", str(page.port)], f"port {page.port} is in use", f"--port {page.port + 1}")
+
+    def test_a_wrong_program(self):
+        self.assert_advice(["--program", "/nothing/here"], "/nothing/here isn't there", "--program")
+        self.assert_advice(["--program", "/tmp"], "/tmp is a folder", "scripts/build")
+        self.assert_advice(["--program", PAGE / "README.md"], "isn't executable")
+
+    def test_another_machines_address(self):
+        self.assert_advice(["--program", PROGRAM, "--port", "0", "--host", "203.0.113.9"], "203.0.113.9 is no IPv4 address of this machine")
+
+    def test_words_that_arent_read(self):
+        for words in (["--port", "99999"], ["--port", "x"], ["--nothing"]):
+            self.assertEqual(refused("--program", PROGRAM, *words)[0], 2)
+
+
+class Opened(unittest.TestCase):
+    """A page for students on other machines. A name of another machine is still none that is served."""
+
+    def setUp(self):
+        self.process = subprocess.Popen([*SERVE, "--program", PROGRAM, "--port", "0", "--host", "0.0.0.0"], stdout=subprocess.PIPE, stderr=subprocess.PIPE, text=True)
+        self.addCleanup(self.process.stderr.close)
+        self.addCleanup(self.process.stdout.close)
+        self.addCleanup(self.process.wait, 20)
+        self.addCleanup(self.process.terminate)
+        self.port = int(re.fullmatch(r"http://127\.0\.0\.1:(\d+)/\n", self.process.stdout.readline())[1])
+        self.said = [self.process.stderr.readline() for _ in range(3)]
+
+    def test_what_it_opens_is_said(self):
+        self.assertTrue(self.said[0].startswith("Other machines open it at "), self.said)
+        self.assertIn(f"port {self.port}", self.said[1])
+        self.assertIn("no password", self.said[2])
+
+    def test_it_answers_at_this_machines_addresses_by_number_only(self):
+        own = {it[4][0] for it in socket.getaddrinfo(socket.gethostname(), None, socket.AF_INET)} - {"127.0.1.1"}
+        for address in sorted({"127.0.0.1", *own}):
+            with socket.create_connection((address, self.port), 10) as line:
+                line.sendall(f"GET / HTTP/1.1\r\nHost: {address}:{self.port}\r\nConnection: close\r\n\r\n".encode())
+                self.assertIn(b" 200 ", line.recv(64))
+        for host in (f"{ELSEWHERE}:{self.port}", f"203.0.113.9:{self.port}", f"localhost:{self.port + 1}"):
+            self.assertEqual(send(self.port, "GET", "/", headers=[("Host", host)])[0], 403)
+
+    def test_the_page_works_there(self):
+        """A browser of another machine has no crypto.randomUUID and no clipboard."""
+        own = sorted({it[4][0] for it in socket.getaddrinfo(socket.gethostname(), None, socket.AF_INET)} - {"127.0.0.1", "127.0.1.1"})
+        if not own:
+            self.skipTest("this machine has no address in a network")
+        browser = the_browser()
+        self.addCleanup(browser.leave)
+        browser.go(f"http://{own[0]}:{self.port}/#sessions")
+        self.assertFalse(browser.run("return isSecureContext"))
+        browser.type('#entry input[name="1"]', "GET 'k'" + Keys.ENTER)
+        browser.until(lambda: browser.texts("#given .reply") == ["NONE"], "it is answered")
+        browser.push("#copy-link")
+        browser.until(lambda: browser.text("#copy-link") in ("Copied", "Copy the address bar"), "the link is copied")
+
+
+if __name__ == "__main__":
+    unittest.main()
