@@ -6,7 +6,7 @@ use std::os::unix::net::UnixStream;
 use std::sync::Arc;
 use std::time::{Duration, Instant};
 
-/// How much is read at once: a thread's stack holds it.
+/// How much is read at once.
 const PIECE: usize = 4096;
 
 /// Why a connection is over.
@@ -94,6 +94,8 @@ pub struct Channel {
     /// What was read, and how much of it was taken.
     held: Vec<u8>,
     taken: usize,
+    /// Where a read puts its bytes; kept, so that it is cleared once.
+    piece: Vec<u8>,
     /// What the socket waits at most, so that it is told only of changes.
     waits: Option<Duration>,
     /// Until when the login has to be there.
@@ -109,7 +111,7 @@ enum Came {
 impl Channel {
     pub fn new(stream: Arc<Stream>, limits: Limits) -> Channel {
         let login = Some(Instant::now() + limits.patience);
-        Channel { stream, limits, held: Vec::new(), taken: 0, waits: None, login, out: Out::new() }
+        Channel { stream, limits, held: Vec::new(), taken: 0, piece: vec![0; PIECE], waits: None, login, out: Out::new() }
     }
 
     /// From now on the client has all the time it wants for its next command.
@@ -184,13 +186,12 @@ impl Channel {
                 self.stream.set_read_timeout(wait).map_err(|_| self.left())?;
                 self.waits = wait;
             }
-            let mut piece = [0; PIECE];
-            match self.stream.read(&mut piece) {
+            match self.stream.read(&mut self.piece) {
                 Ok(0) => return Err(self.left()),
                 Ok(length) => {
                     self.held.drain(..self.taken);
                     self.taken = 0;
-                    self.held.extend(&piece[..length]);
+                    self.held.extend(&self.piece[..length]);
                     return Ok(Came::Bytes);
                 }
                 Err(fault) if matches!(fault.kind(), ErrorKind::WouldBlock | ErrorKind::TimedOut | ErrorKind::Interrupted) => (),

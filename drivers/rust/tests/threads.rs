@@ -116,6 +116,7 @@ fn a_keeper_is_given_the_history_over_renewals() {
     for turn in 0..10 {
         ok(&mut one, &format!("PUT 'k','{}'", turn));
         ok(&mut two, "DEL 'l'");
+        one.catch_up().unwrap();
         assert_eq!(two.execute("GET 'none'"), Ok(Reply::NoRow));
         expected.extend([(1, format!("PUT 0x6b,0x3{}", turn)), (2, "DEL 0x6c".to_string())]);
     }
