@@ -13,7 +13,11 @@ use crate::status::table_of;
 use crate::store::{lock, Connection, Prepared, Rows, Store};
 use nigbaru::{Error, Reply};
 use std::sync::Arc;
-use std::time::Instant;
+use std::time::{Duration, Instant};
+
+/// How often a branch is tried to be rolled back for which there is no memory, and how long is waited between.
+const TRIES: usize = 100;
+const BREATH: Duration = Duration::from_millis(50);
 
 /// Where the client's branch stands; a prepared one is nobody's.
 #[derive(Clone, Copy, Debug, PartialEq, Eq)]
@@ -135,6 +139,24 @@ impl Guest {
             Err(Error::NoMemory) => Ok(refusal(1037).into()),
             Err(fault) => Err(End::Wrong(format!("the store says what it never says: {}", fault))),
         }
+    }
+
+    /// Rolls back what is open in the session. Without memory the branch would stay, and whoever has the session next would be in it, so that is tried again, and
+    /// a session that can't be cleared is never lent again.
+    fn disconnect(&mut self) -> Result<Answer, End> {
+        let mut answer = self.ask(b"DISCONNECT", None, false)?;
+        for _ in 0..TRIES {
+            if answer.is_ok() {
+                return Ok(answer);
+            }
+            std::thread::sleep(BREATH);
+            answer = self.ask(b"DISCONNECT", None, false)?;
+        }
+        if !answer.is_ok() {
+            self.store.log(self.connection.number, "its branch can't be rolled back, and its session is lost");
+            std::mem::forget(self.lent.take());
+        }
+        Ok(answer)
     }
 
     /// Gives the session back where no branch needs it.
@@ -265,7 +287,7 @@ impl Guest {
             answer = self.ask(&[&b"XA COMMIT "[..], &own, b" ONE PHASE"].concat(), None, false)?;
         }
         if !answer.is_ok() {
-            self.ask(b"DISCONNECT", None, false)?;
+            self.disconnect()?;
         }
         Ok(answer)
     }
@@ -274,7 +296,7 @@ impl Guest {
     fn roll_back(&mut self) -> Result<Answer, End> {
         self.begun = None;
         match self.own.take() {
-            Some(_) => self.ask(b"DISCONNECT", None, false),
+            Some(_) => self.disconnect(),
             None => Ok(OK),
         }
     }
@@ -325,7 +347,7 @@ impl Guest {
         self.autocommit = true;
         self.own = None;
         self.begun = None;
-        let answer = if self.lent.is_some() { self.ask(b"DISCONNECT", None, false) } else { Ok(OK) };
+        let answer = if self.lent.is_some() { self.disconnect() } else { Ok(OK) };
         self.settle();
         answer
     }
