@@ -7,7 +7,7 @@ import subprocess
 import tempfile
 import threading
 import time
-from collections.abc import Sequence
+from collections.abc import Iterable, Sequence
 from dataclasses import dataclass, field
 from pathlib import Path
 
@@ -37,7 +37,7 @@ class Setup:
     keep: Path | None
     limit: float  # seconds for a command
     foreign: int  # branches of another manager that are planted in each store
-    formats: Sequence[int] = (1,)  # of the manager's identifiers
+    names: frozenset[tuple[int, int, bytes]] = frozenset()  # the manager's branches by store, formatID and bqual, in a run without faults
     base: frozenset[int] = frozenset()  # the stores that a run without faults commits in
 
 
@@ -51,7 +51,7 @@ class Outcome:
     statuses: list[int | None] = field(default_factory=list)  # of the run and each recovery; None where it was killed
     seconds: float = 0.0
     committed: frozenset[int] = frozenset()
-    formats: frozenset[int] = frozenset()
+    names: frozenset[tuple[int, int, bytes]] = frozenset()
     asked: Sequence[Site] = ()  # the statements of the run, or of the recovery if a run was killed for it
     folder: Path | None = None
 
@@ -136,8 +136,8 @@ class Trial:
         try:
             ports = self.server.ports
             self.environment = {**os.environ, "STORES": str(len(ports)), "PORTS": " ".join(map(str, ports)), **{f"PORT{store}": str(port) for store, port in enumerate(ports, 1)}}
-            for port in ports:
-                self._plant(port)
+            for store, port in enumerate(ports, 1):
+                self._plant(store, port)
             broken = self._break(work)
             left = self._recover(work, broken)
         finally:
@@ -148,13 +148,14 @@ class Trial:
 
     # before
 
-    def _plant(self, port: int) -> None:
-        """Prepares branches of another manager, which the manager must leave alone, and marks the record."""
+    def _plant(self, store: int, port: int) -> None:
+        """Prepares branches of another manager, which the manager must leave alone, and marks the log. They are named as its own, but for the gtrid."""
         with Client(port) as client:
             for number in range(self.setup.foreign):
-                for format_id in self.setup.formats:
-                    xid = f"0x{(FOREIGN + b'%d' % number).hex()},'branch',{format_id}"
-                    for text in (f"XA START {xid}", f"PUT 0x{(FOREIGN + b'%d %d' % (number, format_id)).hex()},'row'", f"XA END {xid}", f"XA PREPARE {xid}"):
+                for place, (_, format_id, bqual) in enumerate(sorted(name for name in self.setup.names if name[0] == store)):
+                    key = FOREIGN + b"%d %d" % (number, place)
+                    xid = f"{literal(FOREIGN + b'%d' % number)},{literal(bqual)},{format_id}"
+                    for text in (f"XA START {xid}", f"PUT {literal(key)},'row'", f"XA END {xid}", f"XA PREPARE {xid}"):
                         client.ask(text)
             client.ask(f"GET {MARKED}")
 
@@ -189,7 +190,7 @@ class Trial:
         with Client(self.server.ports[store - 1]) as client:
             for format_id, gtrid, bqual in self._prepared(client):
                 try:
-                    client.ask(f"XA ROLLBACK 0x{gtrid.hex()},{'0x' + bqual.hex() if bqual else repr('')},{format_id}")
+                    client.ask(f"XA ROLLBACK {literal(gtrid)},{literal(bqual)},{format_id}")
                 except Refused:
                     pass  # somebody was faster
 
@@ -245,7 +246,7 @@ class Trial:
         all_found = self.setup.auditor.globals(self.server.histories())
         found = [one for one in all_found if not one.gtrid.startswith((FOREIGN, OWN))]
         it.committed = frozenset(store for one in found for store in one.committed())
-        it.formats = frozenset(one.format_id for one in found)
+        it.names = frozenset((branch.store, one.format_id, branch.bqual) for one in found for branch in one.branches)
         recoveries = len(it.statuses) - 1
         it.after = "committed" if it.committed else "rolled back"
         touched = [one for one in all_found if one.gtrid.startswith(FOREIGN) and one.verdict != "IN DOUBT"]
@@ -254,14 +255,14 @@ class Trial:
             it.verdict, it.why = UNREACHED, "this run or recovery had no such statement"
         elif mixed:
             it.verdict, it.why = MIXED, ends_of(mixed[0])
-        elif it.committed and not it.committed >= self.setup.base:
-            it.verdict, it.why = PARTIAL, f"only {stores_of(it.committed)} committed, where {stores_of(self.setup.base)} had to"
         elif touched:
             it.verdict, it.why = TOUCHED, f"another manager's branch: {ends_of(touched[0])}"
         elif any(left):
             it.verdict, it.why = IN_DOUBT, f"left in {stores_of(store for store, count in enumerate(left, 1) if count)} by {recoveries} recoveries"
         elif any(one.verdict != "ATOMIC" for one in found):
             it.verdict, it.why = OPEN, ends_of(next(one for one in found if one.verdict != "ATOMIC"))
+        elif it.committed and not it.committed >= self.setup.base:
+            it.verdict, it.why = PARTIAL, f"only {stores_of(it.committed)} committed, where {stores_of(self.setup.base)} had to"
         elif it.statuses[0] == 0 and not it.committed:
             it.verdict, it.why = UNTRUE, "the run ended with status 0, and nothing is committed"
         if self.point and self.point.action == ROLLED_BACK and it.verdict == MIXED and any(it.statuses):
@@ -270,7 +271,12 @@ class Trial:
             it.after = it.verdict.split(",")[0].lower()
 
 
-def stores_of(numbers) -> str:
+def literal(data: bytes) -> str:
+    """As it stands in a statement."""
+    return f"X'{data.hex()}'"
+
+
+def stores_of(numbers: Iterable[int]) -> str:
     return " and ".join(f"store {number}" for number in sorted(numbers))
 
 

@@ -141,6 +141,8 @@ class Managers(unittest.TestCase):
         ran = subprocess.run([PYTHON, BENCH, "--program", "/nowhere", "--run", "true", "--recover", "true"], stderr=subprocess.PIPE, text=True)
         self.assertEqual(ran.returncode, 2)
         self.assertIn("no program at /nowhere", ran.stderr)
+        said, _ = bench(*manager("reference.py"), "--only", "store 3 XA COMMIT 1", status=2)
+        self.assertIn("no point is named store 3 XA COMMIT 1", said)
         ran = subprocess.run([PYTHON, BENCH, "--program", PROGRAM, "--server", "true", "--run", "true", "--recover", "true"], stderr=subprocess.PIPE, text=True)
         self.assertEqual(ran.returncode, 2)
         self.assertIn("the server doesn't start", ran.stderr)

@@ -63,7 +63,10 @@ class Wrong(unittest.TestCase):
 def test_of(name, words):
     def test(self):
         said, points = bench(*manager(*words), *CHOSEN, status=1)
-        self.assertEqual(found(points), expected()[name], said)
+        lines = expected()[name]
+        if lines == ["every point: FOREIGN"]:
+            lines = [f"{name_of(point)}: FOREIGN" for point in points]
+        self.assertEqual(sorted(found(points)), sorted(lines), said)
     return test
 
 
@@ -83,7 +86,7 @@ class Bitronix(unittest.TestCase):
             lines = expected()["bitronix"]
             chosen = [] if IS_LONG else [word for line in lines for word in ("--only", line.rpartition(": ")[0])] + ["--only", "store 1 XA COMMIT 1, manager killed before", "--only", "store 2 XA PREPARE 1, answer lost"]
             said, points = bench("--run", "sh run.sh 90", "--recover", "sh run.sh", "--folder", folder, *chosen, status=1)
-            self.assertEqual(found(points), lines, said)
+            self.assertEqual(sorted(found(points)), sorted(lines), said)
 
 
 if __name__ == "__main__":
