@@ -143,6 +143,7 @@ class Sessions(View):
         self.until(lambda: self.given() == len(wanted) - 1, "one back")
         self.assertEqual(self.printed(), wanted[-2].decode())
         self.assert_store(wanted[-2].decode())
+        self.browser.push("#sessions .more summary")
         self.browser.push('#sessions [data-do="drop"]')
         self.until(lambda: not self.browser.all("#pending > li"), "nothing waits")
 
@@ -268,6 +269,7 @@ class Sessions(View):
         self.until(lambda: self.given() == 1, "one line")
         self.browser.push('#sessions li[data-line="2"] .remove')
         self.until(lambda: self.browser.texts("#pending .statement") == ["GET 'c'"], "it is gone")
+        self.browser.push("#sessions .more summary")
         self.browser.push('#sessions [data-do="clear"]')
         self.until(lambda: self.given() == 0 and not self.browser.all("#pending > li"), "all is gone")
         self.assertEqual(self.browser.run("return location.hash"), "#sessions")

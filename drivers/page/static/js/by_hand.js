@@ -1,5 +1,6 @@
 // A race stepped by hand: whoever chooses says which session goes next, and sees what it is answered and which outcomes are left.
 import { ask, Failure, NAME } from "./api.js";
+import { readableValue } from "./bytes.js";
 import { lineItem, widestSession } from "./columns.js";
 import { byId, el, fill, sessionClass, shown } from "./dom.js";
 import { readShown } from "./listing.js";
@@ -115,7 +116,8 @@ export class ByHand {
     const bad = this.parts.lines.filter(({ session }) => session === null).length;
     if (bad) return `${bad} of the lines ${bad === 1 ? "is" : "are"} of no session, and left out.`;
     if (!this.parts.lines.length) return "There is no line to step through: type a script, or choose an example.";
-    const last = places.length ? [`Session ${this.parts.lines[places.at(-1)].session}: ${answers.at(-1)?.reply ?? ""}. `] : [];
+    const reply = answers.at(-1)?.reply ?? "";
+    const last = places.length ? [`Session ${this.parts.lines[places.at(-1)].session}: `, shown(readableValue(reply) ?? reply), ". "] : [];
     if (!this.possible) return [...last, "The possible outcomes are too many to be listed."];
     const left = this.possible.map((one, at) => [one, at + 1]).filter(([one]) => places.every((place, at) => answers[at] && answerOf(one.answers[place]) === answerOf(answers[at])));
     const numbers = left.slice(0, 12).map(([, number]) => number).join(", ");
