@@ -1,0 +1,4 @@
+pub mod Places
+pub mod RingRule
+pub mod RingTransitions
+pub mod RingCounts

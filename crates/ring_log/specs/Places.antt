@@ -1,0 +1,35 @@
+-- Where the words of a ring lie. Each row has one cell for each session, and the rows are used again and again, in turn.
+--     most            how many entries a ring can have beside its rows
+--     rows_of         how many rows a ring has, by how many entries it can have
+--     word_count      how many words a ring has
+--     cell_at         where the cell of a row and a column begins
+--     cell_of         where the cell of a place of the history and of a session begins
+--     cell_words      what the words of an entry's cell are
+use Rattle.std.specs.Prelude.{ℕ, ◌+◌, ◌-◌, ◌*◌, ◌%◌, List, ◌∷◌}
+use Rattle.xa_words.specs.Entry.{Entry}
+use Rattle.xa_words.specs.Words.{words_of}
+use Rattle.chain_log.specs.Cells.{name_at, name_before}
+
+-- 2 ^ 59: so many entries are never reached, and their names are numbers of 64 bits
+abbrev pub most : ℕ
+most = 576460752303423488
+
+-- what a ring can have beyond that
+unfoldable pub rows_of : ℕ → ℕ
+rows_of capacity = capacity - most
+
+-- the newest entry's name, and 23 words for each session in each row
+abbrev pub word_count : ℕ → ℕ → ℕ
+word_count sessions rows = 1 + rows * sessions * 23
+
+-- the first word of a cell; the cells are numbered from 1 on, row by row and session by session
+abbrev pub cell_at : ℕ → ℕ
+cell_at cell = 1 + (cell - 1) * 23
+
+-- a place of the history lies in the row that its number comes to, where rows are counted round and round
+abbrev pub cell_of : ℕ → ℕ → ℕ → ℕ → ℕ
+cell_of capacity sessions place session = cell_at (name_at sessions (place % rows_of capacity) session)
+
+-- the entry's own name, its link, which is the name of the entry before it, and the entry
+abbrev pub cell_words : ℕ → List Entry → ℕ → Entry → List ℕ
+cell_words sessions log place entry = name_at sessions place entry.session ∷ name_before sessions log place ∷ words_of entry

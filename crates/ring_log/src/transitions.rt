@@ -1,0 +1,52 @@
+//! What each step tells. These types are for the proofs alone.
+ghost use Rattle.decision_log.specs.Atomic.{AtLoad, AtStore, AtExchange};
+ghost use Rattle.ring_log.specs.RingTransitions.{Sees, Checks, Reads, Drafts, Exchanges};
+ghost use Rattle.ring_log.specs.RingCounts.{see_counts, check_counts, read_counts, draft_counts, exchange_counts};
+
+use crate::Turning;
+use decision_log::LogTransition;
+
+/// A load of the newest entry's name.
+pub(crate) struct SeeAll;
+
+impl LogTransition<Turning> for SeeAll {
+    ghost then = { AtLoad Sees };
+
+    ghost counts = { see_counts };
+}
+
+/// A load of the name in a cell.
+pub(crate) struct CheckName;
+
+impl LogTransition<Turning> for CheckName {
+    ghost then = { AtLoad Checks };
+
+    ghost counts = { check_counts };
+}
+
+/// A load of another word of a cell.
+pub(crate) struct ReadWord;
+
+impl LogTransition<Turning> for ReadWord {
+    ghost then = { AtLoad Reads };
+
+    ghost counts = { read_counts };
+}
+
+/// A store into the own cell.
+pub(crate) struct DraftWord;
+
+impl LogTransition<Turning> for DraftWord {
+    ghost then = { AtStore Drafts };
+
+    ghost counts = { draft_counts };
+}
+
+/// An exchange of the newest entry's name, told the entry that the own cell has.
+pub(crate) struct Publish;
+
+impl LogTransition<Turning> for Publish {
+    ghost then = { AtExchange Exchanges };
+
+    ghost counts = { exchange_counts };
+}
