@@ -1,2 +1,4 @@
 pub mod Turns
 pub mod RingSteps
+pub mod RingStores
+pub mod RingSeats
