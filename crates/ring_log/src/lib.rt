@@ -1,7 +1,13 @@
 //! A ring of cells in place of a log's rows: a history that several sessions share, that no session holds up by stopping, and that has no end.
 #![tactic(auto)]
 
+mod layout;
+mod pass;
+mod ring;
 mod rule;
+mod steps;
 mod transitions;
 
+pub use pass::RingPass;
+pub use ring::RingLog;
 pub use rule::Turning;

@@ -1,0 +1,16 @@
+-- A pass of a ring between two calls.
+--     IsRingPass      its number is one of the log's, and what it knows fits together
+use Rattle.std.specs.Prelude.{◌≡◌, ◌≤◌, ℕ, length}
+use Rattle.decision_log.specs.declared.view.PassView.{PassView}
+use Rattle.decision_log.specs.History.{entries_of}
+use Rattle.decision_log.specs.Known.{AllOf}
+
+-- of a number, and with so many entries seen
+pub record IsRingPass (number front : ℕ) (h : PassView) : Type 0 where
+  pub numbered : number ≡ h.known.number
+  pub measured : front ≡ length h.known.seen
+  pub first : 1 ≤ h.known.number
+  pub last : h.known.number ≤ h.sessions
+  pub within : length h.known.seen ≤ h.capacity
+  pub among : AllOf h.sessions h.known.seen
+  pub part : entries_of h.known.number h.known.seen ≡ h.known.mine

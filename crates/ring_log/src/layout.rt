@@ -1,0 +1,85 @@
+//! Where the words of a ring lie.
+ghost use Rattle.std.specs.Prelude.{◌≡◌, ◌<◌, ◌≤◌, ◌+◌, ◌%◌, ℕ, List, length};
+ghost use Rattle.xa_words.specs.Entry.{Entry};
+ghost use Rattle.decision_log.specs.Known.{AllOf};
+ghost use Rattle.chain_log.specs.Cells.{name_at, newest_of};
+ghost use Rattle.ring_log.specs.Places.{most, word_count, cell_at};
+
+use xa_words::WORDS;
+
+/// The word that names the newest entry, or is 0.
+pub(crate) const NEWEST: usize = 0;
+
+/// How many words a cell has: its entry's name, a link, and the entry's.
+pub(crate) const CELL: usize = 2 + WORDS;
+
+/// How many entries a ring can have beside its rows: 2 to the 59th.
+pub(crate) const MOST: u64 = 576_460_752_303_423_488;
+
+/// How many rows a ring can have at most.
+pub const MOST_ROWS: u64 = 65_536;
+
+/// How many words a ring has.
+pub(crate) fn count_words(sessions: u64, rows: u64) -> usize
+    requires sessions { sessions ≤ 16 }
+    requires rows { rows ≤ 65536 }
+    ensures { result ≡ word_count sessions rows }
+{
+    1 + rows as usize * sessions as usize * CELL
+}
+
+/// The name of the entry of a place and a session.
+pub(crate) fn entry_name(sessions: u64, place: u64, session: u64) -> u64
+    requires sessions { sessions ≤ 16 }
+    requires place { place < most + 65536 }
+    requires session { session ≤ 16 }
+    ensures { result ≡ name_at sessions place session }
+{
+    place * sessions + session
+}
+
+/// The session of the entry of a name, in whose column its cell stands.
+pub(crate) fn name_column(sessions: u64, name: u64) -> u8
+    requires some { 1 ≤ sessions }
+    requires few { sessions ≤ 16 }
+    requires name { 1 ≤ name }
+    ensures { (place session : ℕ) → 1 ≤ session → session ≤ sessions → name ≡ name_at sessions place session → result ≡ session }
+{
+    ((name - 1) % sessions + 1) as u8
+}
+
+/// The first word of the cell of a place and a session.
+pub(crate) fn cell_start(sessions: u64, rows: u64, place: u64, session: u64) -> usize
+    requires sessions { sessions ≤ 16 }
+    requires some { 0 < rows }
+    requires rows { rows ≤ 65536 }
+    requires first { 1 ≤ session }
+    requires last { session ≤ sessions }
+    ensures { result ≡ cell_at (name_at sessions (place % rows) session) }
+{
+    let cell = (place % rows) as usize * sessions as usize + session as usize;
+    1 + (cell - 1) * CELL
+}
+
+/// How many entries a history has whose newest entry has this name: its place, and one.
+pub(crate) fn place_count(sessions: u64, newest: u64) -> u64
+    requires { 1 ≤ sessions }
+    ensures { (seen : List Entry) → AllOf sessions seen → newest ≡ newest_of sessions seen → result ≡ length seen }
+{
+    if newest == 0 {
+        return 0;
+    }
+    (newest - 1) / sessions + 1
+}
+
+/// The same where it is known for another name, which most often is the same name.
+pub(crate) fn count_from(sessions: u64, known: u64, count: u64, newest: u64) -> u64
+    requires sessions { 1 ≤ sessions }
+    requires counted { (seen : List Entry) → AllOf sessions seen → known ≡ newest_of sessions seen → count ≡ length seen }
+    ensures { (seen : List Entry) → AllOf sessions seen → newest ≡ newest_of sessions seen → result ≡ length seen }
+{
+    if newest == known {
+        return count;
+    }
+    place_count(sessions, newest)
+}

@@ -1,0 +1,151 @@
+//! The steps of a ring on its words, one function each.
+//!
+//! All are sequentially consistent, and between two steps of a pass any other pass may step. By role:
+//!
+//! 1. Who looks loads word 0 (`load_newest`). What the pass has seen stays a prefix of the history, which grows only at its end. The
+//!    draft is given up, since the own cell may be another from then on.
+//! 2. Who reads words of a cell loads its first word, the name of the cell's entry, before and after (`check_name`, `load_word` between). Who
+//!    uses a cell again stores the new name there before any other word, and no name ever comes twice: so where the same name stands there
+//!    afterwards, all that was loaded between was that entry's. Where another stands there, as many entries follow the one that was looked for
+//!    as there are rows, since its session has seen so many when it uses the cell again.
+//! 3. Who adds writes its own cell, its name first (`store_name`, `store_word`). No entry that still counts is there: all entries of its own
+//!    are among those that it has seen, and the last one in this row is a whole turn back. Then it exchanges word 0 from the last name it has
+//!    seen to its own (`exchange`). The cell was whole before its entry became the newest. A name has one place and one session, so an equal
+//!    name in word 0 means that exactly what the pass has seen is the history; the exchange tests it and adds at one step.
+//! 4. Who meets splits off an empty seat, joins two seats, loads word 0 there, and splits them (`LogTable::meet`). Each pass has seen
+//!    a prefix of one history, so the longer begins with the shorter.
+//! 5. Who opens splits the seat that knows the passes not yet issued, once for each session (`LogTable::issue`).
+ghost use Rattle.std.specs.Prelude.{◌≡◌, ◌≢◌, ◌<◌, ◌≤◌, ◌+◌, ◌%◌, ℕ, List, [], ◌∷◌, length};
+ghost use Rattle.xa_words.specs.Entry.{Entry};
+ghost use Rattle.xa_words.specs.Words.{words_of};
+ghost use Rattle.decision_log.specs.declared.view.Turn.TheVariants.{Without};
+ghost use Rattle.decision_log.specs.Observed.{HistoryIs};
+ghost use Rattle.decision_log.specs.Seats.{pass_view};
+ghost use Rattle.chain_log.specs.Cells.{newest_of};
+ghost use Rattle.ring_log.specs.Places.{cell_of};
+ghost use Rattle.ring_log.specs.RingRule.{own_name, own_cell};
+ghost use Rattle.ring_log.specs.RingTransitions.{with_look, won, lost, stored, Checks, Reads};
+ghost use Rattle.ring_log.specs.RingSeat.{IsSeat, IsStart};
+
+use crate::RingLog;
+use crate::layout::{NEWEST, cell_start};
+use crate::transitions::{CheckName, DraftWord, Publish, ReadWord, SeeAll};
+use atomic_table::Seat;
+use decision_log::SeatView;
+use xa_words::Entry;
+
+impl RingLog {
+    /// Where the cell of a place and a session begins.
+    pub(crate) fn start(&self, place: u64, session: u64) -> usize
+        requires first { 1 ≤ session }
+        requires last { session ≤ self.now.sessions }
+        ensures start { IsStart self.now result }
+        ensures value { result ≡ cell_of self.now.capacity self.now.sessions place session }
+    {
+        cell_start(self.sessions, self.rows, place, session)
+    }
+
+    /// Loads the newest entry's name: the pass has then seen the whole history.
+    pub(crate) fn load_newest(&self, seat: &mut Seat<Entry, SeatView>) -> u64
+        requires { IsSeat self.now seat.old }
+        ensures seat { IsSeat self.now seat.new }
+        ensures seen { (seen : List Entry)
+            × (pass_view seat.new ≡ with_look (pass_view seat.old) seen)
+            × (result ≡ newest_of (pass_view seat.old).sessions seen)
+            × HistoryIs (pass_view seat.old) seen }
+    {
+        // Nothing was loaded before that this load rests on.
+        self.table.load::<SeeAll>(seat, NEWEST)
+    }
+
+    /// Loads the name in a cell.
+    pub(crate) fn check_name(&self, seat: &mut Seat<Entry, SeatView>, start: usize) -> u64
+        requires seat { IsSeat self.now seat.old }
+        requires start { IsStart self.now start }
+        ensures seat { IsSeat self.now seat.new }
+        ensures checked { Checks start (pass_view seat.old) result (pass_view seat.new) }
+    {
+        // Where it is the name that was found before, the words that were loaded since then are of the entry of that name.
+        self.table.load::<CheckName>(seat, start)
+    }
+
+    /// Loads a word of a cell: its link at 1, and the entry's words behind it.
+    pub(crate) fn load_word(&self, seat: &mut Seat<Entry, SeatView>, start: usize, index: usize) -> u64
+        requires seat { IsSeat self.now seat.old }
+        requires start { IsStart self.now start }
+        requires index { index < 23 }
+        ensures seat { IsSeat self.now seat.new }
+        ensures read { Reads (start + index) (pass_view seat.old) result (pass_view seat.new) }
+    {
+        let word = start + index;
+        // The cell may be another entry's already: the name is loaded once more behind this.
+        self.table.load::<ReadWord>(seat, word)
+    }
+
+    /// Stores the own name into the own cell.
+    pub(crate) fn store_name(&self, seat: &mut Seat<Entry, SeatView>, start: usize, name: u64)
+        requires seat { IsSeat self.now seat.old }
+        requires start { IsStart self.now start }
+        requires own { start ≡ own_cell (pass_view seat.old) }
+        requires name { name ≡ own_name (pass_view seat.old) }
+        ensures seat { IsSeat self.now seat.new }
+        ensures stored { pass_view seat.new ≡ stored (pass_view seat.old) 0 name }
+    {
+        // The last entry that had the own cell is a whole turn back, and no other pass stores in this column.
+        self.table.store::<DraftWord>(seat, start, name)
+    }
+
+    /// Stores another word into the own cell.
+    pub(crate) fn store_word(
+        &self,
+        seat: &mut Seat<Entry, SeatView>,
+        start: usize,
+        index: usize,
+        new: u64,
+    )
+        requires seat { IsSeat self.now seat.old }
+        requires start { IsStart self.now start }
+        requires own { start ≡ own_cell (pass_view seat.old) }
+        requires turn { (pass_view seat.old).turn ≡ Without }
+        requires behind { 0 < index }
+        requires along { index ≤ length (pass_view seat.old).draft }
+        requires index { index < 23 }
+        ensures seat { IsSeat self.now seat.new }
+        ensures stored { pass_view seat.new ≡ stored (pass_view seat.old) index new }
+    {
+        let word = start + index;
+        // The own name stands in the cell, which is in no history yet, and no other pass stores in this column.
+        self.table.store::<DraftWord>(seat, word, new)
+    }
+
+    /// Makes the own entry the newest, if the one that was seen last still is. The answer is the newest before.
+    pub(crate) fn exchange(
+        &self,
+        seat: &mut Seat<Entry, SeatView>,
+        old: u64,
+        own: u64,
+        entry: &Entry,
+    ) -> u64
+        requires seat { IsSeat self.now seat.old }
+        requires room { length (pass_view seat.old).known.seen < (pass_view seat.old).capacity }
+        requires old { old ≡ newest_of (pass_view seat.old).sessions (pass_view seat.old).known.seen }
+        requires own { own ≡ own_name (pass_view seat.old) }
+        requires entry { entry.now.session ≡ (pass_view seat.old).known.number }
+        requires turn { (pass_view seat.old).turn ≡ Without }
+        requires whole { (pass_view seat.old).draft ≡ own ∷ old ∷ words_of entry.now }
+        ensures seat { IsSeat self.now seat.new }
+        ensures won { result ≡ old → pass_view seat.new ≡ won (pass_view seat.old) entry.now }
+        ensures named { result ≡ old → own ≡ newest_of (pass_view seat.new).sessions (pass_view seat.new).known.seen }
+        ensures lost { result ≢ old
+            → (seen : List Entry)
+            × (pass_view seat.new ≡ lost (pass_view seat.old) seen)
+            × (result ≡ newest_of (pass_view seat.old).sessions seen)
+            × HistoryIs (pass_view seat.old) seen
+            × (length (pass_view seat.old).known.seen < length seen) }
+    {
+        let _session = entry.session();
+        // The exchange itself tests whether `old` is still the newest, and with it whether all that was seen is the history.
+        self.table
+            .compare_exchange_with::<Publish>(seat, NEWEST, old, own, entry)
+    }
+}
