@@ -6,7 +6,12 @@ use native.Mathlib.Decide.{dec_le, ℕ_discrete}
 use Rattle.std.proofs.Math.Nat.{mod-lt, mod-add-div'}
 use Rattle.chain_log.specs.Cells.{name_at}
 use Rattle.chain_log.proofs.Names.{one_cell, name_low}
-use Rattle.ring_log.specs.Places.{rows_of, word_count, cell_at, cell_of}
+use Rattle.ring_log.specs.Places.{most, rows_of, word_count, cell_at, cell_of}
+
+-- how many rows a ring of so many more entries has
+pub rows_most : (rows : ℕ) → rows_of (most + rows) ≡ rows
+unfolding rows_of
+rows_most rows = omega arith
 
 further : (row above width : ℕ) → row < above → row * width + width ≤ above * width
 further row above width low =

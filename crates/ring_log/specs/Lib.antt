@@ -6,3 +6,4 @@ pub mod RingCounts
 pub mod IsRingPass
 pub mod RingSeat
 pub mod RingPass
+pub mod RingOpens

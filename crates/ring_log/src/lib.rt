@@ -1,13 +1,17 @@
 //! A ring of cells in place of a log's rows: a history that several sessions share, that no session holds up by stopping, and that has no end.
 #![tactic(auto)]
 
+mod fault;
 mod layout;
+mod open;
 mod pass;
 mod ring;
 mod rule;
 mod steps;
 mod transitions;
 
+pub use fault::RingFault;
+pub use layout::MOST_ROWS;
 pub use pass::RingPass;
 pub use ring::RingLog;
 pub use rule::Turning;

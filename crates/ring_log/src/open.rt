@@ -1,0 +1,121 @@
+//! Opening a ring.
+ghost use Rattle.std.specs.Prelude.{◌≡◌, ◌≤◌, ◌+◌, IfOk, IfErr};
+ghost use Rattle.decision_log.specs.AtTable.{KnowsRest, identity_at};
+ghost use Rattle.decision_log.specs.Known.{newcomer};
+ghost use Rattle.decision_log.specs.Opens.{IsCount};
+ghost use Rattle.decision_log.specs.Seats.{pass_view, newcomer_view, seated};
+ghost use Rattle.ring_log.specs.Places.{most, rows_of, word_count};
+ghost use Rattle.ring_log.specs.RingOpens.{AreRows, OpensPasses, OpensRing, Refuses};
+ghost use Rattle.ring_log.specs.RingPass.{log_of, known_of};
+
+use crate::layout::{MOST, MOST_ROWS, count_words};
+use crate::{RingFault, RingLog, RingPass, Turning};
+use atomic_table::Seat;
+use decision_log::{LogTable, SeatView, Sizes};
+use std::alloc::{AllocError, Global};
+use xa_words::Entry;
+use xa_xid::SessionNo;
+
+impl RingLog {
+    /// An empty log with `rows` rows of cells, in `[1, 65536]`, and the passes of sessions 1 to `sessions`, in `[1, 16]`. Each pass has a byte
+    /// for each row, and the log `23 * 8 * sessions` bytes.
+    ///
+    /// Errors, in the order of test: `RowsOutOfRange`, `SessionsOutOfRange`, `NoMemory`.
+    ///
+    /// May answer `NoMemory`. Doesn't wait.
+    pub fn open(
+        alloc: Global,
+        rows: u64,
+        sessions: u64,
+    ) -> Result<(RingLog, Vec<RingPass>), RingFault>
+        ensures ok { IfOk result (λ opened. OpensRing rows sessions opened.0 opened.1.items) }
+        ensures err { IfErr result (λ fault. Refuses rows sessions fault) }
+    {
+        if rows < 1 || rows > MOST_ROWS {
+            return Err(RingFault::RowsOutOfRange);
+        }
+        if sessions < 1 || sessions > SessionNo::MAX {
+            return Err(RingFault::SessionsOutOfRange);
+        }
+        let (log, rest) = lay_out(alloc, rows, sessions)?;
+        let passes = deal_all(alloc, &log, rest)?;
+        Ok((log, passes))
+    }
+}
+
+/// The log, and the seat that knows all passes.
+fn lay_out(
+    alloc: Global,
+    rows: u64,
+    sessions: u64,
+) -> Result<(RingLog, Seat<Entry, SeatView>), AllocError>
+    requires rows { AreRows rows }
+    requires sessions { IsCount sessions }
+    ensures rows { IfOk result (λ made. made.0.rows ≡ rows) }
+    ensures sessions { IfOk result (λ made. made.0.sessions ≡ sessions) }
+    ensures rest { IfOk result (λ made. KnowsRest made.0.table.inner.shared.table_id made.1) }
+    ensures all { IfOk result (λ made. pass_view made.1 ≡ newcomer_view sessions made.0.capacity 1) }
+{
+    let capacity = MOST + rows;
+    let sizes = Sizes { sessions, capacity };
+    let words: Vec<u64> = vec![in alloc; 0; count_words(sessions, rows)]?;
+    let (table, rest) = LogTable::<Turning>::of_words(alloc, &words, &sizes)?;
+    let log = RingLog {
+        table,
+        sessions,
+        rows,
+        capacity,
+    };
+    Ok((log, rest))
+}
+
+/// The passes, in order.
+fn deal_all(
+    alloc: Global,
+    log: &RingLog,
+    mut rest: Seat<Entry, SeatView>,
+) -> Result<Vec<RingPass>, AllocError>
+    requires rest { KnowsRest log.now.table.inner.shared.table_id rest }
+    requires all { pass_view rest ≡ newcomer_view log.now.sessions log.now.capacity 1 }
+    ensures { IfOk result
+        (λ passes. OpensPasses log.now.sessions (identity_at log.now.table.inner.shared.table_id record { sessions = log.now.sessions; capacity = log.now.capacity })
+            passes.items) }
+{
+    let mut passes = Vec::with_capacity(alloc, log.sessions as usize)?;
+    for index in 0..log.sessions {
+        let seat = log.table.issue(&mut rest);
+        let number = SessionNo::of(index + 1).unwrap();
+        passes.push(RingPass::at_seat(alloc, seat, number, log.rows)?)?;
+    }
+    Ok(passes)
+}
+
+impl RingPass {
+    /// The pass of a session, at its seat, before its first call.
+    ///
+    /// May answer `AllocError`. Doesn't wait.
+    fn at_seat(
+        alloc: Global,
+        seat: Seat<Entry, SeatView>,
+        number: SessionNo,
+        rows: u64,
+    ) -> Result<RingPass, AllocError>
+        requires held { seat.me ≡ seated (pass_view seat) }
+        requires issued { pass_view seat ≡ newcomer_view (pass_view seat).sessions (pass_view seat).capacity number }
+        requires last { number ≤ (pass_view seat).sessions }
+        requires rows { rows ≡ rows_of (pass_view seat).capacity }
+        ensures { IfOk result
+            (λ pass. (log_of pass ≡ record { table = seat.table_id; sessions = (pass_view seat).sessions; capacity = (pass_view seat).capacity })
+                × (known_of pass ≡ newcomer number)) }
+    {
+        let columns = vec![in alloc; 0; rows as usize]?;
+        Ok(RingPass {
+            seat,
+            number,
+            newest: 0,
+            count: 0,
+            low: 0,
+            columns,
+        })
+    }
+}
