@@ -2,3 +2,4 @@ pub mod Turns
 pub mod RingSteps
 pub mod RingStores
 pub mod RingSeats
+pub mod Watching

@@ -3,13 +3,17 @@
 --     IsStart         a cell of this log begins at a word
 --     IsOurs          the pass has this log's sizes, one of its numbers, and has seen what it can have
 --     KeepsPass       a call leaves what the pass knows of the history
-use Rattle.std.specs.Prelude.{◌≡◌, ◌<◌, ◌≤◌, ◌+◌, ℕ, length}
+--     ReadsCell       the pass reads the cell of an entry that it has seen
+use Rattle.std.specs.Prelude.{◌≡◌, ◌<◌, ◌≤◌, ◌+◌, ℕ, length, slice_get, Some}
 use Rattle.atomic_table.specs.declared.shared.Seat.{Seat}
 use Rattle.xa_words.specs.Entry.{Entry}
 use Rattle.decision_log.specs.declared.view.SeatView.{SeatView}
 use Rattle.decision_log.specs.declared.view.PassView.{PassView}
 use Rattle.decision_log.specs.Known.{AllOf}
 use Rattle.decision_log.specs.AtTable.{KnowsOne}
+use Rattle.chain_log.specs.Cells.{name_at}
+use Rattle.ring_log.specs.Places.{cell_of}
+use Rattle.ring_log.specs.RingRule.{watched_word, watched_name}
 use Rattle.ring_log.specs.declared.ring.RingLog.{RingLog}
 
 -- it is a seat of this log, and knows one pass
@@ -35,3 +39,10 @@ pub record KeepsPass (old new : PassView) : Type 0 where
   pub known : new.known ≡ old.known
   pub sessions : new.sessions ≡ old.sessions
   pub capacity : new.capacity ≡ old.capacity
+
+-- it found the entry's name in the cell that begins here
+pub record ReadsCell (start place : ℕ) (entry : Entry) (h : PassView) : Type 0 where
+  pub seen : slice_get h.known.seen place ≡ Some entry
+  pub cell : start ≡ cell_of h.capacity h.sessions place entry.session
+  pub word : watched_word h ≡ start
+  pub name : watched_name h ≡ name_at h.sessions place entry.session

@@ -1,0 +1,147 @@
+//! The cells, read and written.
+ghost use Rattle.std.specs.Prelude.{◌≡◌, ◌<◌, ◌≤◌, ◌+◌, ℕ, ◌∷◌, length, slice_get, slice_index, Some, IfSome, IfNone};
+ghost use Rattle.xa_words.specs.Entry.{Entry, IsEntry};
+ghost use Rattle.xa_words.specs.Words.{words_of};
+ghost use Rattle.decision_log.specs.declared.view.Turn.TheVariants.{Won};
+ghost use Rattle.decision_log.specs.Seats.{pass_view};
+ghost use Rattle.chain_log.specs.Cells.{name_at, session_at, name_before};
+ghost use Rattle.ring_log.specs.Places.{rows_of, cell_of};
+ghost use Rattle.ring_log.specs.RingRule.{own_name, own_cell, watched_word, least};
+ghost use Rattle.ring_log.specs.RingTransitions.{KeepsWatch, with_words};
+ghost use Rattle.ring_log.specs.RingSeat.{IsSeat, IsStart, KeepsPass, ReadsCell};
+
+use crate::RingLog;
+use atomic_table::Seat;
+use decision_log::SeatView;
+use xa_words::{Entry, WORDS, decode, encode, is_behind_text};
+
+impl RingLog {
+    /// The entry's word at `index` in the cell that the pass reads, where the words before it are known. One behind the end of
+    /// its text isn't loaded: others' cells are far, and most texts are short.
+    fn read_word(
+        &self,
+        seat: &mut Seat<Entry, SeatView>,
+        start: usize,
+        index: usize,
+        words: &[u64; WORDS],
+    ) -> u64
+        requires seat { IsSeat self.now seat.old }
+        requires start { IsStart self.now start }
+        requires index { index < 21 }
+        ensures seat { IsSeat self.now seat.new }
+        ensures keeps { KeepsWatch (pass_view seat.old) (pass_view seat.new) }
+        ensures read { (place : ℕ) (entry : Entry)
+            → ReadsCell start place entry (pass_view seat.old)
+            → (pass_view seat.new).turn ≡ Won
+            → (0 < index → IsEntry entry)
+            → ((before : ℕ) → before < index → slice_index words.now before ≡ slice_index (words_of entry) before)
+            → IsEntry entry × (result ≡ slice_index (words_of entry) index) }
+    {
+        if is_behind_text(words, index) {
+            return 0;
+        }
+        self.load_word(seat, start, 2 + index)
+    }
+
+    /// The entry's words in the cell that the pass reads.
+    fn read_cell(&self, seat: &mut Seat<Entry, SeatView>, start: usize) -> [u64; WORDS]
+        requires seat { IsSeat self.now seat.old }
+        requires start { IsStart self.now start }
+        ensures seat { IsSeat self.now seat.new }
+        ensures keeps { KeepsWatch (pass_view seat.old) (pass_view seat.new) }
+        ensures read { (place : ℕ) (entry : Entry)
+            → ReadsCell start place entry (pass_view seat.old)
+            → (pass_view seat.new).turn ≡ Won
+            → IsEntry entry × (result ≡ words_of entry) }
+    {
+        let mut words = [0; WORDS];
+        for index in 0..WORDS {
+            words[index] = self.read_word(seat, start, index, &words);
+        }
+        words
+    }
+
+    /// The entry of a place that was seen, or `None` where its cell is another entry's.
+    pub(crate) fn read_entry(
+        &self,
+        seat: &mut Seat<Entry, SeatView>,
+        start: usize,
+        name: u64,
+        place: u64,
+    ) -> Option<Entry>
+        requires seat { IsSeat self.now seat.old }
+        requires start { IsStart self.now start }
+        requires seen { place < length (pass_view seat.old).known.seen }
+        requires cell { start
+            ≡ cell_of (pass_view seat.old).capacity (pass_view seat.old).sessions place (session_at (pass_view seat.old).known.seen place) }
+        requires name { name ≡ name_at (pass_view seat.old).sessions place (session_at (pass_view seat.old).known.seen place) }
+        ensures seat { IsSeat self.now seat.new }
+        ensures keeps { KeepsPass (pass_view seat.old) (pass_view seat.new) }
+        ensures some { IfSome result (λ entry. slice_get (pass_view seat.old).known.seen place ≡ Some entry) }
+        ensures none { IfNone result (place + rows_of (pass_view seat.old).capacity ≤ least (pass_view seat.new)) }
+    {
+        if self.check_name(seat, start) != name {
+            return None;
+        }
+        let words = self.read_cell(seat, start);
+        // Others may have used the cell again since: the words count only if its name is still the entry's.
+        if self.check_name(seat, start) != name {
+            return None;
+        }
+        decode(&words)
+    }
+
+    /// The link in the cell of a place that was seen, which is the name of the entry before it, or `None` where the cell is another entry's.
+    pub(crate) fn read_link(
+        &self,
+        seat: &mut Seat<Entry, SeatView>,
+        start: usize,
+        name: u64,
+        place: u64,
+    ) -> Option<u64>
+        requires seat { IsSeat self.now seat.old }
+        requires start { IsStart self.now start }
+        requires seen { place < length (pass_view seat.old).known.seen }
+        requires cell { start
+            ≡ cell_of (pass_view seat.old).capacity (pass_view seat.old).sessions place (session_at (pass_view seat.old).known.seen place) }
+        requires name { name ≡ name_at (pass_view seat.old).sessions place (session_at (pass_view seat.old).known.seen place) }
+        ensures seat { IsSeat self.now seat.new }
+        ensures keeps { KeepsPass (pass_view seat.old) (pass_view seat.new) }
+        ensures some { IfSome result (λ link. link ≡ name_before (pass_view seat.old).sessions (pass_view seat.old).known.seen place) }
+        ensures none { IfNone result (place + rows_of (pass_view seat.old).capacity ≤ least (pass_view seat.new)) }
+    {
+        if self.check_name(seat, start) != name {
+            return None;
+        }
+        let link = self.load_word(seat, start, 1);
+        // Others may have used the cell again since: the link counts only if the name is still the entry's.
+        if self.check_name(seat, start) != name {
+            return None;
+        }
+        Some(link)
+    }
+
+    /// Writes a name, a link and an entry's words into the own cell, over what stood there before.
+    pub(crate) fn write_cell(
+        &self,
+        seat: &mut Seat<Entry, SeatView>,
+        start: usize,
+        name: u64,
+        link: u64,
+        entry: &Entry,
+    )
+        requires seat { IsSeat self.now seat.old }
+        requires start { IsStart self.now start }
+        requires own { start ≡ own_cell (pass_view seat.old) }
+        requires name { name ≡ own_name (pass_view seat.old) }
+        ensures seat { IsSeat self.now seat.new }
+        ensures written { pass_view seat.new ≡ with_words (pass_view seat.old) (name ∷ link ∷ words_of entry.now) }
+    {
+        self.store_name(seat, start, name);
+        self.store_word(seat, start, 1, link);
+        let words = encode(entry);
+        for index in 0..WORDS {
+            self.store_word(seat, start, 2 + index, words[index]);
+        }
+    }
+}
