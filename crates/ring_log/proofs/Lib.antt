@@ -3,3 +3,5 @@ pub mod RingSteps
 pub mod RingStores
 pub mod RingSeats
 pub mod Watching
+pub mod Tables
+pub mod Walks

@@ -2,6 +2,7 @@
 #![tactic(auto)]
 
 mod cells;
+mod columns;
 mod fault;
 mod layout;
 mod open;
