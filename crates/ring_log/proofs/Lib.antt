@@ -5,3 +5,4 @@ pub mod RingSeats
 pub mod Watching
 pub mod Tables
 pub mod Walks
+pub mod Passes

@@ -74,3 +74,25 @@ window_joined rows low first stop count column log before after some whole top r
       ∙ beside_set rows (count - 1) place column before (λ e. omega arith) (omega arith) (omega arith)
       ∙ kept.filled place from less near);
 }
+
+-- one entry more
+pub window_more : (rows low : ℕ) (xs : List Entry) (entry : Entry) (columns : List ℕ) (column : ℕ) → 0 < rows → column ≡ entry.session
+    → HasWindow rows low (length xs) xs columns
+    → HasWindow rows low (length (xs ++ entry ∷ [])) (xs ++ entry ∷ []) (set columns (length xs % rows) column)
+window_more rows low xs entry columns column some is kept =
+    let ys : List Entry = xs ++ entry ∷ [] in
+    let row : ℕ = length xs % rows in
+    let fits : row < rows = mod-lt (length xs) some in
+    let longer : length ys ≡ length xs + 1 = length-append xs (entry ∷ []) in
+    let begins : Begins xs ys = begins_append xs (entry ∷ []) in
+    let last : session_at ys (length xs) ≡ entry.session = session_there ys (length xs) entry (get_end xs entry) in
+    record {
+      sized = length-set columns row column ∙ kept.sized;
+      filled = λ place from below near.
+          dite (ℕ_discrete place (length xs))
+          (λ e. ap (λ n. get_or (set columns row column) (n % rows) 0) e ∙ get_or-set_same columns row column 0 (omega (arith, kept.sized)) ∙ is ∙ sym last
+          ∙ ap (session_at ys) (sym e))
+          (λ ne. get_or-set_other columns row (place % rows) column 0 (rows_apart rows place (length xs) ne (omega (arith, longer)) (omega (arith, longer)))
+          ∙ kept.filled place from (omega (arith, longer)) (omega (arith, longer))
+          ∙ session_begins xs ys place begins (omega (arith, longer)));
+    }

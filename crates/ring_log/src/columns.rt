@@ -31,7 +31,7 @@ impl RingLog {
 
     /// Fills the table from a place that it has back to `stop`, along the links. The answer is the place from which on the table has the columns;
     /// where that is above `stop`, so many entries follow the one there that its cell is another's.
-    fn walk(
+    pub(crate) fn walk(
         &self,
         seat: &mut Seat<Entry, SeatView>,
         columns: &mut Vec<u8>,
