@@ -6,3 +6,4 @@ pub mod Watching
 pub mod Tables
 pub mod Walks
 pub mod Passes
+pub mod RingLaws

@@ -23,7 +23,7 @@ abbrev pub CountsBy : ℕ → ℕ → ℕ → Type 0
 CountsBy sessions newest count = (seen : List Entry) → AllOf sessions seen → newest ≡ newest_of sessions seen → count ≡ length seen
 
 -- one name counts the same entries in every history
-same_count : (sessions newest : ℕ) (xs ys : List Entry) → AllOf sessions xs → newest ≡ newest_of sessions xs → AllOf sessions ys
+pub same_count : (sessions newest : ℕ) (xs ys : List Entry) → AllOf sessions xs → newest ≡ newest_of sessions xs → AllOf sessions ys
     → newest ≡ newest_of sessions ys → length xs ≡ length ys
 same_count sessions newest xs ys x xn y yn =
     dite (ℕ_discrete newest 0)

@@ -5,6 +5,7 @@ mod calls;
 mod cells;
 mod columns;
 mod fault;
+pub mod laws;
 mod layout;
 mod open;
 mod pass;
