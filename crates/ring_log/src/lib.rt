@@ -12,6 +12,8 @@ mod pass;
 mod ring;
 mod rule;
 mod steps;
+#[cfg(test)]
+mod tests;
 mod transitions;
 
 pub use fault::RingFault;
