@@ -8,7 +8,7 @@ use native.Mathlib.Decide.{ℕ_discrete, dec_le}
 use lib.ListN.{get_elem?}
 use prog.Atomic.{either}
 use Rattle.std.proofs.lemmas.Option.{slice_get_within}
-use Rattle.std.proofs.lemmas.List.{length-set, get_or-set_same, get_or-set_other, length-take-le}
+use Rattle.std.proofs.lemmas.List.{length-set, get_or-set_same, get_or-set_other, length-take-le, set-get_or}
 use Rattle.atomic_table.specs.Table.{keeps, Allows}
 use Rattle.atomic_table.proofs.Lists.{exchanged}
 use Rattle.xa_words.specs.Entry.{Entry, IsEntry}
@@ -25,13 +25,13 @@ use Rattle.decision_log.specs.Draft.{HasWordsAt}
 use Rattle.decision_log.specs.Atomic.{Tells}
 use Rattle.decision_log.proofs.Histories.{begins_append, begins_same, get_begins, get_last, later_other, length_begins}
 use Rattle.decision_log.proofs.Drafts.{holds_beside, holds_one_more}
-use Rattle.decision_log.proofs.LogRules.{RuleOf, known, ranged, history, stepped, appended, loaded}
+use Rattle.decision_log.proofs.LogRules.{RuleOf, known, ranged, history, stepped, appended, loaded, load_step}
 use Rattle.chain_log.specs.Cells.{name_at, name_before, newest_of}
 use Rattle.chain_log.proofs.Names.{name_begins, newest_added, one_cell, one_length}
 use Rattle.ring_log.specs.Places.{rows_of, cell_at, cell_of, cell_words}
 use Rattle.ring_log.specs.RingRule.{own_name, own_cell, try_word, newest_for, watched_word, watched_name, beyond, HasCells, IsDraft, IsBroken, Notes}
 use Rattle.ring_log.specs.RingRule.{HasNotes, Knows, RingRule}
-use Rattle.ring_log.specs.RingTransitions.{won, lost, stored, Drafts, Exchanges}
+use Rattle.ring_log.specs.RingTransitions.{won, lost, stored, Finds, Drafts, Exchanges}
 use Rattle.ring_log.proofs.Turns.{same_row, cell_low, one_word, within_words}
 use Rattle.ring_log.proofs.RingSteps.{Rules, idle, newest_by, seen_keeps}
 
@@ -358,6 +358,24 @@ pub word_step : (sizes : Sizes) (slots id word index new : ℕ) (h : PassView) �
     → Allows (Rules sizes) slots id (seated h) word (λ n. new) (λ n. Tells (Drafts word new h) new)
 word_step sizes slots id word index new h at without behind along below =
     draft_step sizes slots id word index new h at (λ words views r here. (next_keeps r id h index new here without behind along below).0)
+
+-- a word that is found in the own cell is a word of the draft
+pub find_step : (sizes : Sizes) (slots id word index : ℕ) (h : PassView) → word ≡ own_cell h + index → h.turn ≡ Without → 0 < index
+    → index ≤ length h.draft → index < 23
+    → Allows (Rules sizes) slots id (seated h) word (λ n. n) (Tells (Finds word h))
+find_step sizes slots id word index h at without behind along below =
+    let back : word - own_cell h ≡ index = omega arith in
+    let far : word ≢ 0 = λ e. omega arith in
+    load_step sizes slots id word h (Finds word h)
+    (λ words views r here.
+    let n = get_or words word 0 in (
+      stored h (word - own_cell h) n,
+      subst (λ ws. RingRule sizes ws (set views id (Single (stored h (word - own_cell h) n)))) (set-get_or words word 0)
+          (subst (λ i. RingRule sizes (set words word n) (set views id (Single (stored h i n)))) (sym back)
+          (subst (λ w. RingRule sizes (set words w n) (set views id (Single (stored h index n)))) (sym at)
+          (next_keeps r id h index n here without behind along below).0)),
+      (far, refl),
+    ))
 
 pub exchange_step : (sizes : Sizes) (slots id old own : ℕ) (h : PassView) (entry : Entry) → old ≡ newest_of h.sessions h.known.seen → own ≡ own_name h
     → IsEntry entry → entry.session ≡ h.known.number → h.turn ≡ Without → h.draft ≡ own ∷ old ∷ words_of entry → length h.known.seen < h.capacity

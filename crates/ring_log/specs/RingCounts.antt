@@ -1,5 +1,5 @@
 -- Each step of a ring raises the counts of its pass as it should.
---     see_counts, check_counts, read_counts, draft_counts, exchange_counts     the laws of the transitions
+--     see_counts, check_counts, read_counts, find_counts, draft_counts, exchange_counts     the laws of the transitions
 use Rattle.std.specs.Prelude.{◌≡◌, ℕ}
 use Rattle.std.proofs.Common.{ap, ◌∙◌, sym, inl, inr}
 use mathlib.Core.Option.{Option, none, some}
@@ -10,7 +10,7 @@ use Rattle.decision_log.specs.declared.view.PassView.{PassView}
 use Rattle.decision_log.specs.Atomic.{Load, Exchange, AtLoad, AtStore, AtExchange, Counts}
 use Rattle.decision_log.specs.Counted.{IsCounted, leaves_counts, counts_at_load, counts_at_store, counts_at_exchange}
 use Rattle.ring_log.specs.RingRule.{try_word, newest_for}
-use Rattle.ring_log.specs.RingTransitions.{Sees, Checks, Reads, Drafts, Exchanges}
+use Rattle.ring_log.specs.RingTransitions.{Sees, Checks, Reads, Finds, Drafts, Exchanges}
 
 pub see_counts : IsCounted newest_for try_word (AtLoad Sees)
 see_counts =
@@ -31,6 +31,12 @@ pub read_counts : IsCounted newest_for try_word (AtLoad Reads)
 read_counts =
     counts_at_load Reads
     (λ word old found new is. leaves_counts (Load word) found old new (ap (λ k. k.looks) is.1.known) (ap (λ k. k.tries) is.1.known) (ap (λ k. k.since) is.1.known) is.0
+    (λ never. never))
+
+pub find_counts : IsCounted newest_for try_word (AtLoad Finds)
+find_counts =
+    counts_at_load Finds
+    (λ word old found new is. leaves_counts (Load word) found old new (ap (λ h. h.known.looks) is.1) (ap (λ h. h.known.tries) is.1) (ap (λ h. h.known.since) is.1) is.0
     (λ never. never))
 
 pub draft_counts : IsCounted newest_for try_word (AtStore Drafts)

@@ -1,7 +1,7 @@
 -- What each step of a ring does to the pass that takes it, and what it tells.
 --     with_look, won, lost, stored, noted     the pass after a step
 --     KeepsWatch      what a load of a word leaves of a pass
---     Sees, Checks, Reads, Drafts, Exchanges      the steps, each by its word, its operands, the pass before, what was found and the pass after
+--     Sees, Checks, Reads, Finds, Drafts, Exchanges      the steps, each by its word, its operands, the pass before, what was found and the pass after
 use Rattle.std.specs.Prelude.{◌≡◌, ◌≢◌, ◌<◌, ◌≤◌, ◌+◌, ◌-◌, ℕ, List, [], ◌∷◌, ◌++◌, length, take, slice_get, slice_index, Some}
 use mathlib.Core.Option.{Option, none, some}
 use Rattle.xa_words.specs.Entry.{Entry, IsEntry}
@@ -101,6 +101,10 @@ Reads word old found new =
     → watched_word old ≡ cell_of old.capacity old.sessions place entry.session → watched_name old ≡ name_at old.sessions place entry.session
     → word ≡ watched_word old + index → index < 23
     → IsEntry entry × (found ≡ slice_index (cell_words old.sessions old.known.seen place entry) index))
+
+-- a load of a word of the own cell: what it finds is the draft's next word, without a store
+abbrev pub Finds : ℕ → PassView → ℕ → PassView → Type 0
+Finds word old found new = (word ≢ 0) × (new ≡ stored old (word - own_cell old) found)
 
 -- a store of a word into the own cell
 abbrev pub Drafts : ℕ → ℕ → PassView → ℕ → PassView → Type 0

@@ -1,7 +1,10 @@
 //! What a session does with a ring by its pass.
 ghost use Rattle.std.specs.Prelude.{◌≡◌, ◌<◌, ◌≤◌, ◌+◌, false, length, slice_get, Some, IfSome, IfNone, IsTrue, MatchBool};
+ghost use Rattle.decision_log.specs.Opens.{IsCount};
 ghost use Rattle.decision_log.specs.Calls.{Looked, Adds, MeetsFirst, MeetsSecond};
 ghost use Rattle.chain_log.specs.Tries.{TriesOnce};
+ghost use Rattle.ring_log.specs.Places.{most};
+ghost use Rattle.ring_log.specs.RingOpens.{AreRows};
 ghost use Rattle.ring_log.specs.RingPass.{identity_of, log_of, known_of, least_of};
 
 use crate::layout::{count_from, entry_name, place_count};
@@ -15,7 +18,8 @@ impl RingLog {
     ///
     /// Takes no memory. Doesn't wait.
     pub fn rows(&self) -> u64
-        ensures { result ≡ self.now.rows }
+        ensures value { result ≡ self.now.rows }
+        ensures range { AreRows result }
     {
         self.rows
     }
@@ -24,9 +28,20 @@ impl RingLog {
     ///
     /// Takes no memory. Doesn't wait.
     pub fn sessions(&self) -> u64
-        ensures { result ≡ self.now.sessions }
+        ensures value { result ≡ (identity_of self.now).sessions }
+        ensures range { IsCount result }
     {
         self.sessions
+    }
+
+    /// How many entries the log can have: 2 to the 59th, and its rows. So many are never reached.
+    ///
+    /// Takes no memory. Doesn't wait.
+    pub fn capacity(&self) -> u64
+        ensures value { result ≡ (identity_of self.now).capacity }
+        ensures range { result ≡ most + self.now.rows }
+    {
+        self.capacity
     }
 
     /// The pass's session number.
@@ -147,10 +162,8 @@ impl RingLog {
         }
     }
 
-    /// The entry at `at`, in `[0, length)`, or `None` where as many entries follow it as the ring has rows, or more: its cell is another's,
-    /// or may be any time. The last entries, as many as there are rows, but one, are there as long as no other session adds.
-    ///
-    /// What the pass has seen stays. After `None` it knows that the history has `at + rows` entries at least.
+    /// The entry at `at`, in `[0, length)`, or `None` where its cell is another's. That comes only where the history has `at + rows` entries
+    /// at least, which the pass then knows (`least_of`). What it has seen stays.
     ///
     /// Takes no memory. Doesn't wait.
     pub fn entry(&self, pass: &mut RingPass, at: u64) -> Option<Entry>

@@ -141,7 +141,7 @@ impl RingLog {
         self.store_word(seat, start, 1, link);
         let words = encode(entry);
         for index in 0..WORDS {
-            self.store_word(seat, start, 2 + index, words[index]);
+            self.put_word(seat, start, 2 + index, words[index]);
         }
     }
 }

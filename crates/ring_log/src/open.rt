@@ -17,8 +17,8 @@ use xa_words::Entry;
 use xa_xid::SessionNo;
 
 impl RingLog {
-    /// An empty log with `rows` rows of cells, in `[1, 65536]`, and the passes of sessions 1 to `sessions`, in `[1, 16]`. Each pass has a byte
-    /// for each row, and the log `23 * 8 * sessions` bytes.
+    /// An empty log with `rows` rows of cells, in `[1, 65536]`, and the passes of sessions 1 to `sessions`, in `[1, 16]`. A row takes 184 bytes
+    /// for each session in the log, and a byte in each pass.
     ///
     /// Errors, in the order of test: `RowsOutOfRange`, `SessionsOutOfRange`, `NoMemory`.
     ///
@@ -79,7 +79,7 @@ fn deal_all(
     requires all { pass_view rest ≡ newcomer_view log.now.sessions log.now.capacity 1 }
     ensures { IfOk result
         (λ passes. OpensPasses log.now.sessions (identity_at log.now.table.inner.shared.table_id record { sessions = log.now.sessions; capacity = log.now.capacity })
-            passes.items) }
+        passes.items) }
 {
     let mut passes = Vec::with_capacity(alloc, log.sessions as usize)?;
     for index in 0..log.sessions {
@@ -106,7 +106,7 @@ impl RingPass {
         requires rows { rows ≡ rows_of (pass_view seat).capacity }
         ensures { IfOk result
             (λ pass. (log_of pass ≡ record { table = seat.table_id; sessions = (pass_view seat).sessions; capacity = (pass_view seat).capacity })
-                × (known_of pass ≡ newcomer number)) }
+            × (known_of pass ≡ newcomer number)) }
     {
         let columns = vec![in alloc; 0; rows as usize]?;
         Ok(RingPass {

@@ -8,8 +8,9 @@
 //!    uses a cell again stores the new name there before any other word, and no name ever comes twice: so where the same name stands there
 //!    afterwards, all that was loaded between was that entry's. Where another stands there, as many entries follow the one that was looked for
 //!    as there are rows, since its session has seen so many when it uses the cell again.
-//! 3. Who adds writes its own cell, its name first (`store_name`, `store_word`). No entry that still counts is there: all entries of its own
-//!    are among those that it has seen, and the last one in this row is a whole turn back. Then it exchanges word 0 from the last name it has
+//! 3. Who adds writes its own cell, its name first (`store_name`, `store_word`); a word of the entry that stands there already it leaves
+//!    (`find_word`). No entry that still counts is there: all entries of its own are among those that it has seen, and the last one in this row
+//!    is a whole turn back. Then it exchanges word 0 from the last name it has
 //!    seen to its own (`exchange`). The cell was whole before its entry became the newest. A name has one place and one session, so an equal
 //!    name in word 0 means that exactly what the pass has seen is the history; the exchange tests it and adds at one step.
 //! 4. Who meets splits off an empty seat, joins two seats, loads word 0 there, and splits them (`LogTable::meet`). Each pass has seen
@@ -29,7 +30,7 @@ ghost use Rattle.ring_log.specs.RingSeat.{IsSeat, IsStart};
 
 use crate::RingLog;
 use crate::layout::{NEWEST, cell_start};
-use crate::transitions::{CheckName, DraftWord, Publish, ReadWord, SeeAll};
+use crate::transitions::{CheckName, DraftWord, FindWord, Publish, ReadWord, SeeAll};
 use atomic_table::Seat;
 use decision_log::SeatView;
 use xa_words::Entry;
@@ -70,7 +71,12 @@ impl RingLog {
     }
 
     /// Loads a word of a cell: its link at 1, and the entry's words behind it.
-    pub(crate) fn load_word(&self, seat: &mut Seat<Entry, SeatView>, start: usize, index: usize) -> u64
+    pub(crate) fn load_word(
+        &self,
+        seat: &mut Seat<Entry, SeatView>,
+        start: usize,
+        index: usize,
+    ) -> u64
         requires seat { IsSeat self.now seat.old }
         requires start { IsStart self.now start }
         requires index { index < 23 }
@@ -93,6 +99,47 @@ impl RingLog {
     {
         // The last entry that had the own cell is a whole turn back, and no other pass stores in this column.
         self.table.store::<DraftWord>(seat, start, name)
+    }
+
+    /// Loads a word of the own cell behind its name.
+    fn find_word(&self, seat: &mut Seat<Entry, SeatView>, start: usize, index: usize) -> u64
+        requires seat { IsSeat self.now seat.old }
+        requires start { IsStart self.now start }
+        requires own { start ≡ own_cell (pass_view seat.old) }
+        requires turn { (pass_view seat.old).turn ≡ Without }
+        requires behind { 0 < index }
+        requires along { index ≤ length (pass_view seat.old).draft }
+        requires index { index < 23 }
+        ensures seat { IsSeat self.now seat.new }
+        ensures found { pass_view seat.new ≡ stored (pass_view seat.old) index result }
+    {
+        let word = start + index;
+        // No other pass stores in this column, so what is found stays until this pass stores there.
+        self.table.load::<FindWord>(seat, word)
+    }
+
+    /// Writes a word of the own cell behind its name. One that stands there already isn't stored again: a load costs much less than a store.
+    pub(crate) fn put_word(
+        &self,
+        seat: &mut Seat<Entry, SeatView>,
+        start: usize,
+        index: usize,
+        new: u64,
+    )
+        requires seat { IsSeat self.now seat.old }
+        requires start { IsStart self.now start }
+        requires own { start ≡ own_cell (pass_view seat.old) }
+        requires turn { (pass_view seat.old).turn ≡ Without }
+        requires behind { 0 < index }
+        requires along { index ≤ length (pass_view seat.old).draft }
+        requires index { index < 23 }
+        ensures seat { IsSeat self.now seat.new }
+        ensures put { pass_view seat.new ≡ stored (pass_view seat.old) index new }
+    {
+        if self.find_word(seat, start, index) == new {
+            return;
+        }
+        self.store_word(seat, start, index, new);
     }
 
     /// Stores another word into the own cell.

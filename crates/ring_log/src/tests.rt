@@ -174,7 +174,13 @@ fn looks_slowly(log: &RingLog, slow: &mut RingPass, fast: &mut RingPass, more: u
 }
 
 /// Whether a pass that looks slowly has the columns from a place on, and of two places reads one alone.
-fn looks_slowly_to(log: &RingLog, slow: &mut RingPass, fast: &mut RingPass, more: u64, low: u64) -> bool
+fn looks_slowly_to(
+    log: &RingLog,
+    slow: &mut RingPass,
+    fast: &mut RingPass,
+    more: u64,
+    low: u64,
+) -> bool
     requires slow { log_of slow.old ≡ identity_of log.now }
     requires fast { log_of fast.old ≡ identity_of log.now }
     ensures slow { log_of slow.new ≡ log_of slow.old }
@@ -230,7 +236,12 @@ fn goes_on(log: &RingLog, pass: &mut RingPass, entry: &Entry) -> bool
 }
 
 /// Whether a pass that stops before its exchange holds up no other.
-fn holds_up_nobody(log: &RingLog, first: &mut RingPass, second: &mut RingPass, entry: &Entry) -> bool
+fn holds_up_nobody(
+    log: &RingLog,
+    first: &mut RingPass,
+    second: &mut RingPass,
+    entry: &Entry,
+) -> bool
     requires first { log_of first.old ≡ identity_of log.now }
     requires second { log_of second.old ≡ identity_of log.now }
     requires own { entry.now.session ≡ (known_of first.old).number }

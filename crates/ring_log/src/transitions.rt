@@ -1,7 +1,7 @@
 //! What each step tells. These types are for the proofs alone.
 ghost use Rattle.decision_log.specs.Atomic.{AtLoad, AtStore, AtExchange};
-ghost use Rattle.ring_log.specs.RingTransitions.{Sees, Checks, Reads, Drafts, Exchanges};
-ghost use Rattle.ring_log.specs.RingCounts.{see_counts, check_counts, read_counts, draft_counts, exchange_counts};
+ghost use Rattle.ring_log.specs.RingTransitions.{Sees, Checks, Reads, Finds, Drafts, Exchanges};
+ghost use Rattle.ring_log.specs.RingCounts.{see_counts, check_counts, read_counts, find_counts, draft_counts, exchange_counts};
 
 use crate::Turning;
 use decision_log::LogTransition;
@@ -31,6 +31,15 @@ impl LogTransition<Turning> for ReadWord {
     ghost then = { AtLoad Reads };
 
     ghost counts = { read_counts };
+}
+
+/// A load of a word of the own cell.
+pub(crate) struct FindWord;
+
+impl LogTransition<Turning> for FindWord {
+    ghost then = { AtLoad Finds };
+
+    ghost counts = { find_counts };
 }
 
 /// A store into the own cell.
