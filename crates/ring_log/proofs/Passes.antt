@@ -1,5 +1,5 @@
 -- What a pass keeps beside its seat, where a step has seen more or has added an entry.
-use Rattle.std.proofs.Common.{◌≡◌, ℕ, ◌+◌, ◌%◌, ◌<◌, ◌≤◌, List, [], ◌∷◌, ◌++◌, length, set, ap, sym, ◌∙◌, subst, arith, length-append}
+use Rattle.std.proofs.Common.{◌≡◌, ℕ, ◌%◌, List, [], ◌∷◌, ◌++◌, length, set, ap, sym, ◌∙◌, subst, arith}
 use mathlib.Core.Logic.{dite}
 use native.Mathlib.Decide.{ℕ_discrete}
 use Rattle.xa_words.specs.Entry.{Entry}
@@ -7,7 +7,6 @@ use Rattle.decision_log.specs.declared.view.PassView.{PassView}
 use Rattle.decision_log.specs.History.{Begins}
 use Rattle.decision_log.specs.Known.{LogIdentity, AllOf}
 use Rattle.decision_log.specs.Seats.{pass_view}
-use Rattle.decision_log.proofs.Histories.{begins_append}
 use Rattle.chain_log.specs.Cells.{newest_of}
 use Rattle.chain_log.proofs.Names.{length_by_newest, length_by_zero}
 use Rattle.ring_log.specs.declared.ring.RingLog.{RingLog}

@@ -1,9 +1,9 @@
 -- What the words of a ring say of the history.
 use Rattle.std.proofs.Common.{◌≡◌, ◌≢◌, ℕ, zero, suc, ◌+◌, ◌-◌, ◌<◌, ◌≤◌, List, [], ◌∷◌, ◌++◌, length, set, get_or, refl, ap, sym, ◌∙◌, subst, Some, None, arith}
-use Rattle.std.specs.Prelude.{slice_get, slice_index}
+use Rattle.std.specs.Prelude.{slice_get}
 use mathlib.Core.Option.{some}
 use mathlib.Core.Logic.{dite}
-use native.Mathlib.Decide.{dec_le, ℕ_discrete}
+use native.Mathlib.Decide.{dec_le}
 use lib.ListN.{get_elem?}
 use Rattle.std.proofs.lemmas.List.{ext_get_or}
 use Rattle.xa_words.specs.Entry.{Entry, IsEntry}
@@ -21,7 +21,7 @@ use Rattle.decision_log.proofs.Counting.{look_is}
 use Rattle.decision_log.proofs.Histories.{there, length_begins}
 use Rattle.decision_log.proofs.LogRules.{known, ranged, all_of}
 use Rattle.chain_log.specs.Cells.{name_at, name_before, newest_of}
-use Rattle.chain_log.proofs.Names.{one_cell, name_next, name_next_one}
+use Rattle.chain_log.proofs.Names.{one_cell, name_next}
 use Rattle.ring_log.specs.Places.{rows_of, cell_of, cell_words}
 use Rattle.ring_log.specs.RingRule.{own_name, own_cell, try_word, newest_for, beyond_in, least, Notes, RingRule}
 use Rattle.ring_log.specs.RingTransitions.{won, stored}

@@ -7,7 +7,7 @@ use native.Mathlib.Decide.{dec_le, ℕ_discrete}
 use lib.ListN.{get_elem?}
 use Rattle.std.proofs.lemmas.Option.{slice_get_within}
 use Rattle.atomic_table.specs.Table.{State, Allows}
-use Rattle.xa_words.specs.Entry.{Entry, IsEntry}
+use Rattle.xa_words.specs.Entry.{Entry}
 use Rattle.xa_words.specs.Words.{words_of}
 use Rattle.xa_words.proofs.Spelling.{length-words_of}
 use Rattle.decision_log.specs.declared.view.PassView.{PassView}
@@ -25,8 +25,8 @@ use Rattle.decision_log.proofs.LogRules.{known, history, stepped, unmoved, load_
 use Rattle.chain_log.specs.Cells.{name_at, name_before, newest_of}
 use Rattle.chain_log.proofs.Names.{name_begins}
 use Rattle.ring_log.specs.Places.{rows_of, cell_of, cell_words}
-use Rattle.ring_log.specs.RingRule.{own_name, own_cell, watched_word, watched_name, beyond, HasCells, IsDraft, IsBroken, Notes, HasNotes, Knows, RingRule}
-use Rattle.ring_log.specs.RingTransitions.{with_look, noted, KeepsWatch, Sees, Checks, Reads}
+use Rattle.ring_log.specs.RingRule.{own_cell, watched_word, watched_name, IsDraft, IsBroken, Notes, HasNotes, Knows, RingRule}
+use Rattle.ring_log.specs.RingTransitions.{with_look, noted, Sees, Checks, Reads}
 
 abbrev pub Rules : Sizes → State Entry SeatView → Type 0
 Rules sizes state = RingRule sizes state.words state.views

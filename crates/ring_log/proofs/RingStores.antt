@@ -1,5 +1,5 @@
 -- The steps of a ring that change a word keep the rule.
-use Rattle.std.proofs.Common.{◌≡◌, ◌≢◌, ℕ, zero, suc, ◌+◌, ◌-◌, ◌%◌, ◌<◌, ◌≤◌, List, [], ◌∷◌, ◌++◌, length, take, set, get_or, refl, ap, sym, ◌∙◌, subst, ⊎_elim, Some}
+use Rattle.std.proofs.Common.{◌≡◌, ◌≢◌, ℕ, zero, suc, ◌+◌, ◌-◌, ◌<◌, ◌≤◌, List, [], ◌∷◌, ◌++◌, length, take, set, get_or, refl, ap, sym, ◌∙◌, subst, ⊎_elim, Some}
 use Rattle.std.proofs.Common.{arith, eqb, length-append}
 use Rattle.std.specs.Prelude.{slice_get}
 use mathlib.Core.Option.{some}
@@ -29,7 +29,7 @@ use Rattle.decision_log.proofs.LogRules.{RuleOf, known, ranged, history, stepped
 use Rattle.chain_log.specs.Cells.{name_at, name_before, newest_of}
 use Rattle.chain_log.proofs.Names.{name_begins, newest_added, one_cell, one_length}
 use Rattle.ring_log.specs.Places.{rows_of, cell_at, cell_of, cell_words}
-use Rattle.ring_log.specs.RingRule.{own_name, own_cell, try_word, newest_for, watched_word, watched_name, beyond, HasCells, IsDraft, IsBroken, Notes}
+use Rattle.ring_log.specs.RingRule.{own_name, own_cell, watched_word, HasCells, IsDraft, Notes}
 use Rattle.ring_log.specs.RingRule.{HasNotes, Knows, RingRule}
 use Rattle.ring_log.specs.RingTransitions.{won, lost, stored, Finds, Drafts, Exchanges}
 use Rattle.ring_log.proofs.Turns.{same_row, cell_low, one_word, within_words}

@@ -1,5 +1,5 @@
 -- The table of columns says whose entry stands at each of the last places, and stays so of a longer history.
-use Rattle.std.proofs.Common.{◌≡◌, ◌≢◌, ℕ, ◌+◌, ◌-◌, ◌%◌, ◌<◌, ◌≤◌, List, [], ◌∷◌, ◌++◌, length, get_or, set, refl, ap, sym, ◌∙◌, subst, arith, length-append}
+use Rattle.std.proofs.Common.{◌≡◌, ◌≢◌, ℕ, ◌+◌, ◌-◌, ◌%◌, ◌<◌, ◌≤◌, List, [], ◌∷◌, ◌++◌, length, get_or, set, ap, sym, ◌∙◌, arith, length-append}
 use Rattle.std.specs.Prelude.{slice_index}
 use mathlib.Core.Logic.{dite}
 use native.Mathlib.Decide.{ℕ_discrete, dec_le}
@@ -7,11 +7,10 @@ use Rattle.std.proofs.Math.Nat.{mod-lt}
 use Rattle.std.proofs.lemmas.List.{length-set, get_or-set_same, get_or-set_other}
 use Rattle.xa_words.specs.Entry.{Entry}
 use Rattle.decision_log.specs.History.{Begins}
-use Rattle.decision_log.specs.Known.{AllOf}
 use Rattle.decision_log.proofs.Histories.{length_begins, begins_append}
-use Rattle.chain_log.specs.Cells.{session_at, name_at, name_before, newest_of}
+use Rattle.chain_log.specs.Cells.{session_at}
 use Rattle.chain_log.proofs.Names.{session_there, get_end}
-use Rattle.chain_log.proofs.KeptColumns.{session_begins, session_ranged, name_by_column}
+use Rattle.chain_log.proofs.KeptColumns.{session_begins}
 use Rattle.ring_log.specs.Windows.{HasWindow}
 use Rattle.ring_log.proofs.Turns.{rows_apart}
 

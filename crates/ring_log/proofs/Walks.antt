@@ -1,9 +1,6 @@
 -- Names, columns and cells that a pass of the log computes on its way back along the links.
-use Rattle.std.proofs.Common.{◌≡◌, ℕ, ◌+◌, ◌-◌, ◌%◌, ◌<◌, ◌≤◌, List, length, get_or, refl, ap, sym, ◌∙◌, subst, arith}
-use Rattle.std.proofs.lemmas.List.{get_or_read}
-use Rattle.xa_words.specs.Entry.{Entry}
+use Rattle.std.proofs.Common.{◌≡◌, ℕ, ◌+◌, ◌-◌, ◌<◌, ◌≤◌, length, refl, ap, sym, ◌∙◌, arith}
 use Rattle.decision_log.specs.declared.view.PassView.{PassView}
-use Rattle.decision_log.specs.Known.{AllOf}
 use Rattle.chain_log.specs.Cells.{name_at, session_at, name_before, newest_of}
 use Rattle.chain_log.proofs.Names.{name_low}
 use Rattle.chain_log.proofs.KeptColumns.{session_ranged, name_by_column}

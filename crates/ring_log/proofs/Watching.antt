@@ -10,7 +10,7 @@ use Rattle.chain_log.specs.Cells.{name_at, session_at, name_before}
 use Rattle.chain_log.proofs.Names.{session_there}
 use Rattle.ring_log.specs.Places.{rows_of, cell_of, cell_words}
 use Rattle.ring_log.specs.RingRule.{watched_word, watched_name, least}
-use Rattle.ring_log.specs.RingTransitions.{noted, KeepsWatch, Checks, Reads}
+use Rattle.ring_log.specs.RingTransitions.{KeepsWatch, Checks, Reads}
 use Rattle.ring_log.specs.RingSeat.{KeepsPass, ReadsCell}
 use Rattle.ring_log.proofs.RingSteps.{without_won}
 

@@ -1,6 +1,6 @@
 -- Each step of a ring raises the counts of its pass as it should.
 --     see_counts, check_counts, read_counts, find_counts, draft_counts, exchange_counts     the laws of the transitions
-use Rattle.std.specs.Prelude.{◌≡◌, ℕ}
+use Rattle.std.specs.Prelude.{ℕ}
 use Rattle.std.proofs.Common.{ap, ◌∙◌, sym, inl, inr}
 use mathlib.Core.Option.{Option, none, some}
 use mathlib.Core.Logic.{dite}

@@ -11,7 +11,7 @@
 --     Notes, HasNotes what a pass knows of the words is so
 --     Knows           what a pass knows of the log is so
 --     RingRule        the rule
-use Rattle.std.specs.Prelude.{◌≡◌, ◌≢◌, ◌<◌, ◌≤◌, ◌+◌, ◌%◌, ℕ, List, length, slice_get, slice_index, Some}
+use Rattle.std.specs.Prelude.{◌≡◌, ◌≢◌, ◌<◌, ◌≤◌, ◌+◌, ℕ, List, length, slice_get, slice_index, Some}
 use Rattle.xa_words.specs.Entry.{Entry}
 use Rattle.decision_log.specs.declared.view.PassView.{PassView}
 use Rattle.decision_log.specs.declared.view.SeatView.{SeatView}

@@ -11,7 +11,7 @@ use Rattle.decision_log.specs.declared.view.Turn.TheVariants.{Without, Won, Fres
 use Rattle.decision_log.specs.Observed.{HistoryIs}
 use Rattle.chain_log.specs.Cells.{name_at, newest_of}
 use Rattle.ring_log.specs.Places.{rows_of, cell_of, cell_words}
-use Rattle.ring_log.specs.RingRule.{own_name, own_cell, try_word, newest_for, watched_word, watched_name, least}
+use Rattle.ring_log.specs.RingRule.{own_name, own_cell, try_word, newest_for, watched_word, watched_name}
 
 -- after a look that saw this history: the own cell is another now, and its draft is empty
 abbrev pub with_look : PassView → List Entry → PassView

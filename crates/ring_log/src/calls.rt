@@ -89,11 +89,12 @@ impl RingLog {
         count
     }
 
-    /// Adds an entry of the pass's own at the end of the history, if the pass has seen all of it. Makes one exchange, but none at `Full`.
+    /// Adds an entry of the pass's own at the end of the history, if the pass has seen all of it. Makes one exchange,
+    /// but none at `Full`.
     ///
-    /// Errors, in this order: `Full` where the pass has seen as many entries as the log can have, 2 to the 59th and its rows. `Overtaken`
-    /// where the history had more than the pass had seen; the pass has then seen more. `Busy` never. After an error nothing of the entry
-    /// stands in the history.
+    /// Errors, in this order: `Full` where the pass has seen as many entries as the log can have, 2 to the 59th and
+    /// its rows. `Overtaken` where the history had more than the pass had seen; the pass has then seen more. `Busy`
+    /// never. After an error nothing of the entry stands in the history.
     ///
     /// Takes no memory. Doesn't wait.
     pub fn try_add(&self, pass: &mut RingPass, entry: &Entry) -> Result<(), AddFault>
@@ -162,8 +163,8 @@ impl RingLog {
         }
     }
 
-    /// The entry at `at`, in `[0, length)`, or `None` where its cell is another's. That comes only where the history has `at + rows` entries
-    /// at least, which the pass then knows (`least_of`). What it has seen stays.
+    /// The entry at `at`, in `[0, length)`, or `None` where its cell is another's. That comes only where the history
+    /// has `at + rows` entries at least, which the pass then knows (`least_of`). What it has seen stays.
     ///
     /// Takes no memory. Doesn't wait.
     pub fn entry(&self, pass: &mut RingPass, at: u64) -> Option<Entry>

@@ -16,8 +16,8 @@ use decision_log::SeatView;
 use xa_words::{Entry, WORDS, decode, encode, is_behind_text};
 
 impl RingLog {
-    /// The entry's word at `index` in the cell that the pass reads, where the words before it are known. One behind the end of
-    /// its text isn't loaded: others' cells are far, and most texts are short.
+    /// The entry's word at `index` in the cell that the pass reads, where the words before it are known. One behind
+    /// the end of its text isn't loaded: others' cells are far, and most texts are short.
     fn read_word(
         &self,
         seat: &mut Seat<Entry, SeatView>,
@@ -91,7 +91,8 @@ impl RingLog {
         decode(&words)
     }
 
-    /// The link in the cell of a place that was seen, which is the name of the entry before it, or `None` where the cell is another entry's.
+    /// The link in the cell of a place that was seen, which is the name of the entry before it, or `None` where the
+    /// cell is another entry's.
     pub(crate) fn read_link(
         &self,
         seat: &mut Seat<Entry, SeatView>,

@@ -1,4 +1,5 @@
-//! The table of columns: for each of the last places that a pass has seen, in whose column the cell of its entry stands.
+//! The table of columns: for each of the last places that a pass has seen, in whose column the cell of its entry
+//! stands.
 ghost use Rattle.std.specs.Prelude.{◌≡◌, ◌<◌, ◌≤◌, ◌+◌, ◌%◌, ℕ, List, IsTrue, length, slice_index};
 ghost use Rattle.xa_words.specs.Entry.{Entry};
 ghost use Rattle.decision_log.specs.Known.{AllOf};
@@ -29,8 +30,9 @@ impl RingLog {
         u64::from(pass.columns[(place % self.rows) as usize])
     }
 
-    /// Fills the table from a place that it has back to `stop`, along the links. The answer is the place from which on the table has the columns;
-    /// where that is above `stop`, so many entries follow the one there that its cell is another's.
+    /// Fills the table from a place that it has back to `stop`, along the links. The answer is the place from which
+    /// on the table has the columns; where that is above `stop`, so many entries follow the one there that its cell
+    /// is another's.
     pub(crate) fn walk(
         &self,
         seat: &mut Seat<Entry, SeatView>,
@@ -72,8 +74,8 @@ impl RingLog {
         stop
     }
 
-    /// Fills the table for the places from `first` to `count`, so far as its rows reach, from the newest entry back along the links. The answer is
-    /// the place from which on the table has the columns then.
+    /// Fills the table for the places from `first` to `count`, so far as its rows reach, from the newest entry back
+    /// along the links. The answer is the place from which on the table has the columns then.
     pub(crate) fn fill(
         &self,
         seat: &mut Seat<Entry, SeatView>,

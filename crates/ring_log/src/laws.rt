@@ -18,7 +18,8 @@ ghost use Rattle.ring_log.specs.Places.{rows_of, cell_of, cell_words};
 ghost use Rattle.ring_log.specs.RingRule.{own_name, own_cell, try_word, newest_for, least, Knows, RingRule};
 ghost use Rattle.ring_log.specs.RingTransitions.{won, stored};
 
-/// Whatever words and seats keep the rule, the words spell the last entries of the rule's history, as many as there are rows, but one.
+/// Whatever words and seats keep the rule, the words spell the last entries of the rule's history, as many as there
+/// are rows, but one.
 ///
 /// Takes no memory. Doesn't wait.
 pub fn words_spell_the_last_entries()
@@ -28,7 +29,8 @@ pub fn words_spell_the_last_entries()
         → HasWordsAt words (cell_of sizes.capacity sizes.sessions place entry.session) (cell_words sizes.sessions rule.log place entry) }
 {}
 
-/// Words spell one history, so far as they spell any: how long it is, and its last entries, as many as there are rows, but one.
+/// Words spell one history, so far as they spell any: how long it is, and its last entries, as many as there are
+/// rows, but one.
 ///
 /// Takes no memory. Doesn't wait.
 pub fn one_history_of_its_words()
@@ -76,7 +78,8 @@ pub fn passes_are_sessions_of_the_machine()
         → (machine : Machine) × HasPasses sizes.sessions sizes.capacity rule.log views machine }
 {}
 
-/// The name of its next entry, which a pass stores into its own cell, leaves the history as it was, whatever entries had the cell before.
+/// The name of its next entry, which a pass stores into its own cell, leaves the history as it was, whatever entries
+/// had the cell before.
 ///
 /// Takes no memory. Doesn't wait.
 pub fn stored_name_keeps_the_history()
@@ -100,8 +103,8 @@ pub fn stored_word_keeps_the_history()
         × (after.log ≡ rule.log) }
 {}
 
-/// An exchange that finds the newest name to be that of the last entry which the pass has seen puts the entry of the pass's own cell
-/// at the end of the history.
+/// An exchange that finds the newest name to be that of the last entry which the pass has seen puts the entry of the
+/// pass's own cell at the end of the history.
 ///
 /// Takes no memory. Doesn't wait.
 pub fn won_exchange_adds_its_entry()
@@ -116,8 +119,8 @@ pub fn won_exchange_adds_its_entry()
         → (after : RingRule sizes (set words 0 (own_name pass)) (set views id (Single (won pass entry)))) × (after.log ≡ rule.log ++ entry ∷ []) }
 {}
 
-/// A step by which a pass's `looks` rise loads the newest name and leaves as many entries as there were, and all of them are what the pass has seen
-/// after it.
+/// A step by which a pass's `looks` rise loads the newest name and leaves as many entries as there were, and all of
+/// them are what the pass has seen after it.
 ///
 /// Takes no memory. Doesn't wait.
 pub fn each_look_sees_the_history()

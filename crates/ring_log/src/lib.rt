@@ -1,4 +1,5 @@
-//! A ring of cells in place of a log's rows: a history that several sessions share, that no session holds up by stopping, and that has no end.
+//! A ring of cells in place of a log's rows: a history that several sessions share, that no session holds up by
+//! stopping, and that has no end.
 #![tactic(auto)]
 
 mod calls;

@@ -17,8 +17,8 @@ use xa_words::Entry;
 use xa_xid::SessionNo;
 
 impl RingLog {
-    /// An empty log with `rows` rows of cells, in `[1, 65536]`, and the passes of sessions 1 to `sessions`, in `[1, 16]`. A row takes 184 bytes
-    /// for each session in the log, and a byte in each pass.
+    /// An empty log with `rows` rows of cells, in `[1, 65536]`, and the passes of sessions 1 to `sessions`, in `[1,
+    /// 16]`. A row takes 184 bytes for each session in the log, and a byte in each pass.
     ///
     /// Errors, in the order of test: `RowsOutOfRange`, `SessionsOutOfRange`, `NoMemory`.
     ///

@@ -11,8 +11,9 @@ use decision_log::SeatView;
 use xa_words::Entry;
 use xa_xid::SessionNo;
 
-/// What one session knows of a ring. At run time it keeps its number, the name of the last entry it has seen, 0 for none, how many
-/// entries it has seen, and a table that says for the last of them in whose column the cell of each stands.
+/// What one session knows of a ring. At run time it keeps its number, the name of the last entry it has seen, 0 for
+/// none, how many entries it has seen, and a table that says for the last of them in whose column the cell of each
+/// stands.
 #[derive(Drop)]
 pub struct RingPass {
     pub(crate) seat: Seat<Entry, SeatView>,
@@ -20,7 +21,8 @@ pub struct RingPass {
     pub(crate) newest: u64,
     /// How many entries it has seen.
     pub(crate) count: u64,
-    /// From which place on the table has the columns, so far as its rows reach. Below it a cell was another entry's when the pass came there.
+    /// From which place on the table has the columns, so far as its rows reach. Below it a cell was another entry's
+    /// when the pass came there.
     pub(crate) low: u64,
     /// A byte for each row.
     pub(crate) columns: Vec<u8>,

@@ -5,8 +5,8 @@ ghost use Rattle.ring_log.specs.Places.{most, rows_of, word_count};
 use crate::Turning;
 use decision_log::LogTable;
 
-/// A log without a turn whose history has no end. Who adds writes a cell of its own, which links to the newest entry it has seen, and then
-/// makes that entry the newest by one exchange. The cells of old entries are used again.
+/// A log without a turn whose history has no end. Who adds writes a cell of its own, which links to the newest entry
+/// it has seen, and then makes that entry the newest by one exchange. The cells of old entries are used again.
 ///
 /// A pass that stops keeps no other from adding: a lost exchange means that the history grew.
 #[derive(Drop)]

@@ -2,19 +2,21 @@
 //!
 //! All are sequentially consistent, and between two steps of a pass any other pass may step. By role:
 //!
-//! 1. Who looks loads word 0 (`load_newest`). What the pass has seen stays a prefix of the history, which grows only at its end. The
-//!    draft is given up, since the own cell may be another from then on.
-//! 2. Who reads words of a cell loads its first word, the name of the cell's entry, before and after (`check_name`, `load_word` between). Who
-//!    uses a cell again stores the new name there before any other word, and no name ever comes twice: so where the same name stands there
-//!    afterwards, all that was loaded between was that entry's. Where another stands there, as many entries follow the one that was looked for
-//!    as there are rows, since its session has seen so many when it uses the cell again.
-//! 3. Who adds writes its own cell, its name first (`store_name`, `store_word`); a word of the entry that stands there already it leaves
-//!    (`find_word`). No entry that still counts is there: all entries of its own are among those that it has seen, and the last one in this row
-//!    is a whole turn back. Then it exchanges word 0 from the last name it has
-//!    seen to its own (`exchange`). The cell was whole before its entry became the newest. A name has one place and one session, so an equal
-//!    name in word 0 means that exactly what the pass has seen is the history; the exchange tests it and adds at one step.
-//! 4. Who meets splits off an empty seat, joins two seats, loads word 0 there, and splits them (`LogTable::meet`). Each pass has seen
-//!    a prefix of one history, so the longer begins with the shorter.
+//! 1. Who looks loads word 0 (`load_newest`). What the pass has seen stays a prefix of the history, which grows only
+//!    at its end. The draft is given up, since the own cell may be another from then on.
+//! 2. Who reads words of a cell loads its first word, the name of the cell's entry, before and after (`check_name`,
+//!    `load_word` between). Who uses a cell again stores the new name there before any other word, and no name ever
+//!    comes twice: so where the same name stands there afterwards, all that was loaded between was that entry's.
+//!    Where another stands there, as many entries follow the one that was looked for as there are rows, since its
+//!    session has seen so many when it uses the cell again.
+//! 3. Who adds writes its own cell, its name first (`store_name`, `store_word`); a word of the entry that stands
+//!    there already it leaves (`find_word`). No entry that still counts is there: all entries of its own are among
+//!    those that it has seen, and the last one in this row is a whole turn back. Then it exchanges word 0 from the
+//!    last name it has seen to its own (`exchange`). The cell was whole before its entry became the newest. A name
+//!    has one place and one session, so an equal name in word 0 means that exactly what the pass has seen is the
+//!    history; the exchange tests it and adds at one step.
+//! 4. Who meets splits off an empty seat, joins two seats, loads word 0 there, and splits them (`LogTable::meet`).
+//!    Each pass has seen a prefix of one history, so the longer begins with the shorter.
 //! 5. Who opens splits the seat that knows the passes not yet issued, once for each session (`LogTable::issue`).
 ghost use Rattle.std.specs.Prelude.{◌≡◌, ◌≢◌, ◌<◌, ◌≤◌, ◌+◌, ◌%◌, ℕ, List, [], ◌∷◌, length};
 ghost use Rattle.xa_words.specs.Entry.{Entry};
@@ -66,7 +68,8 @@ impl RingLog {
         ensures seat { IsSeat self.now seat.new }
         ensures checked { Checks start (pass_view seat.old) result (pass_view seat.new) }
     {
-        // Where it is the name that was found before, the words that were loaded since then are of the entry of that name.
+        // Where it is the name that was found before, the words that were loaded since then are of the entry of that
+        // name.
         self.table.load::<CheckName>(seat, start)
     }
 
@@ -118,7 +121,8 @@ impl RingLog {
         self.table.load::<FindWord>(seat, word)
     }
 
-    /// Writes a word of the own cell behind its name. One that stands there already isn't stored again: a load costs much less than a store.
+    /// Writes a word of the own cell behind its name. One that stands there already isn't stored again: a load costs
+    /// much less than a store.
     pub(crate) fn put_word(
         &self,
         seat: &mut Seat<Entry, SeatView>,
@@ -191,7 +195,8 @@ impl RingLog {
             × (length (pass_view seat.old).known.seen < length seen) }
     {
         let _session = entry.session();
-        // The exchange itself tests whether `old` is still the newest, and with it whether all that was seen is the history.
+        // The exchange itself tests whether `old` is still the newest, and with it whether all that was seen is the
+        // history.
         self.table
             .compare_exchange_with::<Publish>(seat, NEWEST, old, own, entry)
     }

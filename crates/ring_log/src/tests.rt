@@ -149,7 +149,8 @@ fn slow_pass_is_told_that_it_is_behind(rt: HostRuntime) {
     assert!(rt; log.length(&slow) == 3);
 }
 
-/// Looks as `RingLog::look` does, but another pass adds between the step that sees the history and those that follow the links.
+/// Looks as `RingLog::look` does, but another pass adds between the step that sees the history and those that follow
+/// the links.
 fn looks_slowly(log: &RingLog, slow: &mut RingPass, fast: &mut RingPass, more: u64) -> bool
     requires slow { log_of slow.old ≡ identity_of log.now }
     requires fast { log_of fast.old ≡ identity_of log.now }

@@ -1,4 +1,4 @@
-use Rattle.std.proofs.Common.{◌≡◌, ℕ, ◌+◌, ◌-◌, ◌%◌, ◌<◌, ◌≤◌, length, set, sym, ◌∙◌, subst, arith}
+use Rattle.std.proofs.Common.{◌-◌, ◌<◌, length, subst, arith}
 use Rattle.decision_log.specs.Seats.{pass_view}
 use Rattle.ring_log.specs.Windows.{HasWindow}
 use Rattle.ring_log.proofs.Tables.{window_top, window_joined}

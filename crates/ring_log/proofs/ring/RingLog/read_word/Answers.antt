@@ -1,4 +1,4 @@
-use Rattle.std.proofs.Common.{◌≡◌, ◌+◌, sym, ap, ◌∙◌, arith}
+use Rattle.std.proofs.Common.{◌+◌, sym, ◌∙◌, arith}
 use Rattle.xa_words.specs.Words.{words_of}
 use Rattle.decision_log.specs.Seats.{pass_view}
 use Rattle.chain_log.specs.Cells.{name_at, name_before}

@@ -1,10 +1,9 @@
-use Rattle.std.proofs.Common.{◌≡◌, ℕ, ◌+◌, ◌-◌, ◌%◌, ◌<◌, ◌≤◌, length, get_or, refl, ap, sym, ◌∙◌, subst, arith}
-use Rattle.decision_log.specs.declared.view.PassView.{PassView}
+use Rattle.std.proofs.Common.{◌≡◌, ℕ, ◌+◌, ◌-◌, ◌<◌, ◌≤◌, length, ap, ◌∙◌, subst, arith}
 use Rattle.decision_log.specs.Seats.{pass_view}
-use Rattle.chain_log.specs.Cells.{name_at, session_at, name_before}
+use Rattle.chain_log.specs.Cells.{session_at}
 use Rattle.ring_log.specs.Windows.{HasWindow}
 use Rattle.ring_log.proofs.Tables.{window_lower, beside_set}
-use Rattle.ring_log.proofs.Walks.{session_fits, column_is, name_some, cell_is, name_is, link_is}
+use Rattle.ring_log.proofs.Walks.{session_fits, column_is, name_some, cell_is, link_is}
 use Rattle.ring_log.proofs.Watching.{keeps_through}
 use Rattle.ring_log.proofs.ring.RingLog.walk.Goals as goal
 
