@@ -7,3 +7,4 @@ pub mod IsRingPass
 pub mod RingSeat
 pub mod RingPass
 pub mod RingOpens
+pub mod Shared

@@ -12,6 +12,7 @@ mod open;
 mod pass;
 mod ring;
 mod rule;
+mod shared_log;
 mod steps;
 #[cfg(test)]
 mod tests;
@@ -22,3 +23,4 @@ pub use layout::MOST_ROWS;
 pub use pass::RingPass;
 pub use ring::RingLog;
 pub use rule::Turning;
+pub use shared_log::{Keeping, Lapping, SharedLog};
