@@ -251,22 +251,23 @@ class Trial:
         it.after = "committed" if it.committed else "rolled back"
         touched = [one for one in all_found if one.gtrid.startswith(FOREIGN) and one.verdict != "IN DOUBT"]
         mixed = [one for one in found if one.verdict == "MIXED"]
+        is_told = self.point is not None and self.point.action == ROLLED_BACK and any(it.statuses)
         if not self._was_reached():
             it.verdict, it.why = UNREACHED, "this run or recovery had no such statement"
-        elif mixed:
+        elif mixed and not is_told:
             it.verdict, it.why = MIXED, ends_of(mixed[0])
         elif touched:
             it.verdict, it.why = TOUCHED, f"another manager's branch: {ends_of(touched[0])}"
         elif any(left):
             it.verdict, it.why = IN_DOUBT, f"left in {stores_of(store for store, count in enumerate(left, 1) if count)} by {recoveries} recoveries"
+        elif mixed:
+            it.verdict, it.why = TOLD, ends_of(mixed[0])
         elif any(one.verdict != "ATOMIC" for one in found):
             it.verdict, it.why = OPEN, ends_of(next(one for one in found if one.verdict != "ATOMIC"))
         elif it.committed and not it.committed >= self.setup.base:
             it.verdict, it.why = PARTIAL, f"only {stores_of(it.committed)} committed, where {stores_of(self.setup.base)} had to"
         elif it.statuses[0] == 0 and not it.committed:
             it.verdict, it.why = UNTRUE, "the run ended with status 0, and nothing is committed"
-        if self.point and self.point.action == ROLLED_BACK and it.verdict == MIXED and any(it.statuses):
-            it.verdict = TOLD
         if it.verdict in (MIXED, PARTIAL, IN_DOUBT, OPEN, TOLD):
             it.after = it.verdict.split(",")[0].lower()
 

@@ -133,8 +133,8 @@ class Managers(unittest.TestCase):
             while not running("sleep 600.0452") and time.monotonic() < deadline:
                 time.sleep(0.1)
             process.send_signal(number)
-            self.assertIn(process.wait(20), (130, 143))
-            process.stdout.close()
+            said, _ = process.communicate(timeout=30)
+            self.assertIn(process.returncode, (130, 143), said)
             self.assertEqual(running("sleep 600.0452"), [])
 
     def test_what_is_wrong_in_the_command(self):
