@@ -1,5 +1,5 @@
 #!/usr/bin/env python3
-"""A transaction manager in fifty lines: presumed abort, a file of decisions, and recovery.
+"""A small transaction manager: presumed abort, a file of decisions, and recovery.
 
     reference.py run VALUE | recover
 
