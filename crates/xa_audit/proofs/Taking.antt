@@ -1,0 +1,83 @@
+-- A branch takes by an accepted XA COMMIT.
+use Rattle.std.proofs.Common.{◌≡◌, List, [], ◌∷◌, ◌++◌, refl, ap, sym, ◌∙◌, Bool, true, false}
+use Rattle.std.specs.Prelude.{Option, Some, None, ◌||◌}
+use Rattle.std.specs.List.{list_any}
+use Rattle.std.specs.Option.{option_map_or, unwrap_or}
+use Rattle.xa_audit.specs.declared.deed.Deed.{Deed}
+use Rattle.xa_audit.specs.declared.deed.Deed.TheVariants.{Starts, Writes, Prepares, Commits, RollsBack}
+use Rattle.xa_audit.specs.declared.lives.Life.{Life}
+use Rattle.xa_audit.specs.declared.lives.Lives.{Lives}
+use Rattle.xa_audit.specs.Globals.{is_committed}
+use Rattle.xa_audit.specs.Laws.{is_commit}
+use Rattle.xa_audit.specs.Lives.{no_lives, noted, dropped, dropped_by, left_by, left_going, ends_in, lives_after}
+
+or_assoc : (a b c : Bool) → (a || (b || c)) ≡ ((a || b) || c)
+or_assoc true b c = refl
+or_assoc false b c = refl
+
+or_false : (a : Bool) → (a || false) ≡ a
+or_false true = refl
+or_false false = refl
+
+any_append : {A : Type 0} (p : A → Bool) (xs ys : List A) → list_any p (xs ++ ys) ≡ (list_any p xs || list_any p ys)
+any_append p [] ys = refl
+any_append p (x ∷ xs) ys = ap (λ b. p x || b) (any_append p xs ys) ∙ or_assoc (p x) (list_any p xs) (list_any p ys)
+
+left_none : (going : Option Life) → list_any is_committed (left_going going) ≡ false
+left_none None = refl
+left_none (Some life) = by life.prepared
+  where
+    by : (b : Bool) → list_any is_committed (left_by b ∷ []) ≡ false
+    by true = refl
+    by false = refl
+
+dropped_none : (going : Option Life) → list_any is_committed (dropped going ∷ []) ≡ false
+dropped_none None = refl
+dropped_none (Some life) = by life.wrote
+  where
+    by : (b : Bool) → list_any is_committed (dropped_by b ∷ []) ≡ false
+    by true = refl
+    by false = refl
+
+-- only lives that are over are COMMITTED
+ends_over : (lives : Lives) → list_any is_committed (ends_in lives) ≡ list_any is_committed lives.over
+ends_over lives =
+    any_append is_committed lives.over (left_going lives.going)
+    ∙ ap (λ b. list_any is_committed lives.over || b) (left_none lives.going) ∙ or_false (list_any is_committed lives.over)
+
+noted_over : (lives : Lives) (deed : Deed)
+    → list_any is_committed (noted lives deed).over ≡ (list_any is_committed lives.over || is_commit deed)
+noted_over lives Starts = sym (or_false (list_any is_committed lives.over))
+noted_over lives Writes = sym (or_false (list_any is_committed lives.over))
+noted_over lives Prepares = sym (or_false (list_any is_committed lives.over))
+noted_over lives Commits = any_append is_committed lives.over _
+noted_over lives RollsBack =
+    any_append is_committed lives.over _ ∙ ap (λ b. list_any is_committed lives.over || b) (dropped_none lives.going)
+
+has : Option Lives → Bool
+has None = false
+has (Some lives) = list_any is_committed lives.over
+
+or_none : (lives : Option Lives) → list_any is_committed (unwrap_or lives no_lives).over ≡ has lives
+unfolding has
+or_none None = refl
+or_none (Some lives) = refl
+
+has_after : (lives : Option Lives) (deeds : List Deed) → has (lives_after lives deeds) ≡ (has lives || list_any is_commit deeds)
+unfolding has lives_after
+has_after lives [] = sym (or_false (has lives))
+has_after lives (deed ∷ deeds) =
+    has_after (Some (noted (unwrap_or lives no_lives) deed)) deeds
+    ∙ ap (λ b. b || list_any is_commit deeds)
+    (noted_over (unwrap_or lives no_lives) deed ∙ ap (λ b. b || is_commit deed) (or_none lives))
+    ∙ sym (or_assoc (has lives) (is_commit deed) (list_any is_commit deeds))
+
+has_is : (lives : Option Lives) → option_map_or (λ (l : Lives). list_any is_committed (ends_in l)) lives false ≡ has lives
+unfolding has
+has_is None = refl
+has_is (Some lives) = ends_over lives
+
+pub took_by : (deeds : List Deed)
+    → option_map_or (λ (l : Lives). list_any is_committed (ends_in l)) (lives_after None deeds) false ≡ list_any is_commit deeds
+unfolding has
+took_by deeds = has_is (lives_after None deeds) ∙ has_after None deeds

@@ -1,0 +1,107 @@
+-- What is written for each of a list.
+use Rattle.std.proofs.Common.{◌≡◌, ℕ, ◌+◌, ◌<◌, ◌≤◌, List, [], ◌∷◌, ◌++◌, length, drop, get_or, refl, ap, sym, ◌∙◌, Bool, true, false, ◌==◌, arith, append_assoc, append-nil}
+use Rattle.std.proofs.lemmas.Grind.{common_steps}
+use Rattle.xa_lines.specs.Script.{lines_of}
+use Rattle.xa_audit.specs.Histories.{said_on, fault_said, faults_in}
+use Rattle.std.proofs.lemmas.List.{drop_more, drop_all}
+use Rattle.xa_audit.specs.Written.{each_text, comma_unless, comma_before, each_json}
+
+-- one more was written, of what is left
+pub each_next : {A : Type 0} (text : A → List ℕ) (left rest : List A) (x : A) (whole old new : List ℕ) → left ≡ x ∷ rest → new ≡ old ++ text x
+    → whole ≡ old ++ each_text text left → whole ≡ new ++ each_text text rest
+unfolding each_text
+each_next text left rest x whole old new cut put before =
+    before ∙ ap (λ l. old ++ each_text text l) cut ∙ sym (append_assoc old (text x) (each_text text rest)) ∙ ap (λ l. l ++ each_text text rest) (sym put)
+
+-- the same, of a list by its places
+pub each_step : {A : Type 0} (text : A → List ℕ) (xs : List A) (i : ℕ) (x d : A) (whole old new : List ℕ) → i < length xs → x ≡ get_or xs i d
+    → new ≡ old ++ text x → whole ≡ old ++ each_text text (drop i xs) → whole ≡ new ++ each_text text (drop (i + 1) xs)
+each_step text xs i x d whole old new below at put before =
+    each_next text (drop i xs) (drop (i + 1) xs) x whole old new (drop_more xs i d below ∙ ap (λ y. y ∷ drop (i + 1) xs) (sym at)) put before
+
+-- nothing is left
+pub each_done : {A : Type 0} (text : A → List ℕ) (left : List A) (whole old : List ℕ) → left ≡ [] → whole ≡ old ++ each_text text left → old ≡ whole
+unfolding each_text
+each_done text left whole old none before = sym (append-nil old) ∙ ap (λ l. old ++ each_text text l) (sym none) ∙ sym before
+
+pub each_end : {A : Type 0} (text : A → List ℕ) (xs : List A) (i : ℕ) (whole old : List ℕ) → length xs ≤ i → whole ≡ old ++ each_text text (drop i xs)
+    → old ≡ whole
+each_end text xs i whole old past before = each_done text (drop i xs) whole old (drop_all i xs past) before
+
+-- the comma before what is left: none, if nothing was written yet
+abbrev pub lead : {A : Type 0} → Bool → List A → List ℕ
+lead true xs = []
+lead false xs = comma_before xs
+
+lead_some : {A : Type 0} (first : Bool) (x : A) (xs : List A) → lead first (x ∷ xs) ≡ comma_unless first
+lead_some true x xs = refl
+lead_some false x xs = refl
+
+lead_none : {A : Type 0} (first : Bool) (xs : List A) → xs ≡ [] → lead first xs ≡ []
+lead_none true xs none = refl
+lead_none false xs none = ap comma_before none
+
+pub json_next : {A : Type 0} (json : A → List ℕ) (first : Bool) (left rest : List A) (x : A) (whole old one new : List ℕ) → left ≡ x ∷ rest
+    → one ≡ old ++ comma_unless first → new ≡ one ++ json x
+    → whole ≡ (old ++ lead first left) ++ each_json json left → whole ≡ (new ++ lead false rest) ++ each_json json rest
+unfolding each_json
+json_next json first left rest x whole old one new cut led put before =
+    before ∙ ap (λ l. (old ++ lead first l) ++ each_json json l) cut
+    ∙ ap (λ l. (old ++ l) ++ each_json json (x ∷ rest)) (lead_some first x rest)
+    ∙ ap (λ l. l ++ each_json json (x ∷ rest)) (sym led)
+    ∙ regroup one (json x) (comma_before rest) (each_json json rest)
+    ∙ ap (λ l. (l ++ comma_before rest) ++ each_json json rest) (sym put)
+  where
+    regroup : (a b c d : List ℕ) → a ++ ((b ++ c) ++ d) ≡ ((a ++ b) ++ c) ++ d
+    regroup a b c d = simp append_assoc
+
+pub json_step : {A : Type 0} (json : A → List ℕ) (first : Bool) (xs : List A) (i : ℕ) (x d : A) (whole old one new : List ℕ) → i < length xs
+    → x ≡ get_or xs i d → one ≡ old ++ comma_unless first → new ≡ one ++ json x
+    → whole ≡ (old ++ lead first (drop i xs)) ++ each_json json (drop i xs)
+    → whole ≡ (new ++ lead false (drop (i + 1) xs)) ++ each_json json (drop (i + 1) xs)
+json_step json first xs i x d whole old one new below at led put before =
+    json_next json first (drop i xs) (drop (i + 1) xs) x whole old one new (drop_more xs i d below ∙ ap (λ y. y ∷ drop (i + 1) xs) (sym at)) led put before
+
+pub json_done : {A : Type 0} (json : A → List ℕ) (first : Bool) (left : List A) (whole old : List ℕ) → left ≡ []
+    → whole ≡ (old ++ lead first left) ++ each_json json left → old ≡ whole
+unfolding each_json
+json_done json first left whole old none before =
+    sym (append-nil old) ∙ ap (λ l. old ++ l) (sym (lead_none first left none)) ∙ sym (append-nil (old ++ lead first left))
+    ∙ ap (λ l. (old ++ lead first left) ++ each_json json l) (sym none) ∙ sym before
+
+pub json_end : {A : Type 0} (json : A → List ℕ) (first : Bool) (xs : List A) (i : ℕ) (whole old : List ℕ) → length xs ≤ i
+    → whole ≡ (old ++ lead first (drop i xs)) ++ each_json json (drop i xs) → old ≡ whole
+json_end json first xs i whole old past before = json_done json first (drop i xs) whole old (drop_all i xs past) before
+
+-- no line is left
+pub no_lines : (text : List ℕ) → (length text == 0) ≡ true → lines_of text ≡ []
+unfolding lines_of
+no_lines [] empty = refl
+no_lines (byte ∷ text) empty = absurd (let none : length (byte ∷ text) ≡ 0 = grind (arith, common_steps) in omega arith)
+
+-- a line of faults more
+pub faults_cut : (store number : ℕ) (text line rest old new whole : List ℕ) → lines_of text ≡ line ∷ lines_of rest
+    → new ≡ old ++ fault_said store number (said_on line) → whole ≡ old ++ faults_in store number (lines_of text)
+    → whole ≡ new ++ faults_in store (number + 1) (lines_of rest)
+unfolding faults_in
+faults_cut store number text line rest old new whole cut put before =
+    before ∙ ap (λ l. old ++ faults_in store number l) cut
+    ∙ sym (append_assoc old (fault_said store number (said_on line)) (faults_in store (number + 1) (lines_of rest)))
+    ∙ ap (λ l. l ++ faults_in store (number + 1) (lines_of rest)) (sym put)
+
+pub faults_end : (store number : ℕ) (text old whole : List ℕ) → (length text == 0) ≡ true → whole ≡ old ++ faults_in store number (lines_of text) → old ≡ whole
+unfolding faults_in
+faults_end store number text old whole empty before =
+    sym (append-nil old) ∙ ap (λ l. old ++ faults_in store number l) (sym (no_lines text empty)) ∙ sym before
+
+-- four words with numbers, one after another
+pub four_counts : (old one two three four a b c d : List ℕ) (words others more last : List ℕ) → one ≡ old ++ (words ++ a) → two ≡ one ++ (others ++ b)
+    → three ≡ two ++ (more ++ c) → four ≡ three ++ (last ++ d)
+    → four ≡ old ++ (((((((words ++ a) ++ others) ++ b) ++ more) ++ c) ++ last) ++ d)
+four_counts old one two three four a b c d words others more last e f g h =
+    h ∙ ap (λ l. l ++ (last ++ d)) (g ∙ ap (λ l. l ++ (more ++ c)) (f ∙ ap (λ l. l ++ (others ++ b)) e)) ∙ regroup
+  where
+    regroup :
+        (((old ++ (words ++ a)) ++ (others ++ b)) ++ (more ++ c)) ++ (last ++ d)
+        ≡ old ++ (((((((words ++ a) ++ others) ++ b) ++ more) ++ c) ++ last) ++ d)
+    regroup = simp append_assoc

@@ -1,0 +1,70 @@
+-- What an audit of histories comes to. Every rule here is the project's own: docs/COMMANDS.md#audit.
+--     history_bytes, history_reads     the greatest length of a history;  the greatest number of reads
+--     IsAuditOf         what is kept of these histories
+--     ended_of          how an audit of global transactions ends
+--     IsAudited         an audit of these histories ends so, and this is written for it
+--     AppendsAudit, AppendsAuditPrefix     the writer got that text;  a prefix of it
+--     AfterAuditFault   what a fault leaves in the writer
+use Rattle.std.specs.Prelude.{◌≡◌, ℕ, ◌==◌, Bool, true, false, Option, List, [], ◌∷◌, length}
+use Rattle.std.specs.Io.KnownBytes.{Keeps, Appends}
+use Rattle.xa_lines.specs.declared.script_fault.ScriptFault.{ScriptFault}
+use Rattle.xa_lines.specs.declared.script_fault.ScriptFault.TheVariants.{Read, TooLong, Write, NoMemory, Full, GateShut, ThreadRefused}
+use Rattle.xa_lines.specs.Transcript.{AppendsPrefix}
+use Rattle.xa_audit.specs.declared.audit.Audit.{Audit}
+use Rattle.xa_audit.specs.declared.ended.Ended.{Ended}
+use Rattle.xa_audit.specs.declared.ended.Ended.TheVariants.{AllAtomic, SomeNotAtomic, Unread}
+use Rattle.xa_audit.specs.declared.form.Form.{Form}
+use Rattle.xa_audit.specs.declared.verdict.Verdict.TheVariants.{Atomic}
+use Rattle.xa_audit.specs.Histories.{faults_of}
+use Rattle.xa_audit.specs.Branches.{AreBranches}
+use Rattle.xa_audit.specs.Globals.{Global, IsAccount, count_of}
+use Rattle.xa_audit.specs.Written.{text_in}
+
+-- 16 MiB, as for a record
+abbrev pub history_bytes : ℕ
+history_bytes = 16777216
+
+abbrev pub history_reads : ℕ
+history_reads = 33554432
+
+-- how many histories there are, their lines that aren't read, and, if each is read, their branches
+pub record IsAuditOf (histories : List (List ℕ)) (audit : Audit) : Type 0 where
+  pub stores : audit.stores ≡ length histories
+  pub faults : audit.faults.items ≡ faults_of histories
+  pub branches : faults_of histories ≡ [] → AreBranches 1 histories audit.branches
+
+-- whether each global transaction is ATOMIC
+abbrev pub ended_by : Bool → Ended
+ended_by true = AllAtomic
+ended_by false = SomeNotAtomic
+
+unfoldable pub ended_of : List Global → Ended
+ended_of globals = ended_by (count_of Atomic globals == length globals)
+
+-- if a line isn't read, only such lines are written; else the global transactions
+abbrev pub IsAuditedWith : List ℕ → List (List ℕ) → Form → Ended → List ℕ → Type 0
+IsAuditedWith [] histories form ended text =
+    (globals : List Global) × IsAccount histories globals × (ended ≡ ended_of globals) × (text ≡ text_in form globals)
+IsAuditedWith (byte ∷ faults) histories form ended text = (ended ≡ Unread) × (text ≡ byte ∷ faults)
+
+-- how an audit of these histories ends, and what is written
+abbrev pub IsAudited : List (List ℕ) → Form → Ended → List ℕ → Type 0
+IsAudited histories form ended text = IsAuditedWith (faults_of histories) histories form ended text
+
+-- the writer got what is written for these histories
+abbrev pub AppendsAudit : List (List ℕ) → Form → Ended → Option (List ℕ) → Option (List ℕ) → Type 0
+AppendsAudit histories form ended old new = (text : List ℕ) × IsAudited histories form ended text × Appends old new text
+
+-- the writer got a prefix of that
+abbrev pub AppendsAuditPrefix : List (List ℕ) → Form → Option (List ℕ) → Option (List ℕ) → Type 0
+AppendsAuditPrefix histories form old new = (ended : Ended) × (text : List ℕ) × IsAudited histories form ended text × AppendsPrefix old new text
+
+-- what a fault leaves in the writer: a prefix of the text if a write failed, nothing if there was no memory
+abbrev pub AfterAuditFault : List (List ℕ) → Form → ScriptFault → Option (List ℕ) → Option (List ℕ) → Type 0
+AfterAuditFault histories form Read old new = ⊥
+AfterAuditFault histories form TooLong old new = ⊥
+AfterAuditFault histories form Write old new = AppendsAuditPrefix histories form old new
+AfterAuditFault histories form NoMemory old new = Keeps old new
+AfterAuditFault histories form Full old new = ⊥
+AfterAuditFault histories form GateShut old new = ⊥
+AfterAuditFault histories form ThreadRefused old new = ⊥

@@ -1,0 +1,40 @@
+-- The branches of every store, with the ends of their lives.
+--     IsIndex              a list has exactly the keys for which something is told, ascending, each with that
+--     lives_in             the lives of a branch in a history
+--     AreBranchesOf        the branches of one store
+--     AreBranches          those of every store, in the order of the stores
+use Rattle.std.specs.Prelude.{◌≡◌, ℕ, ◌+◌, None, Option, List, [], ◌∷◌, ◌++◌, map}
+use Rattle.std.specs.declared.cmp.Ordering.{Ordering}
+use Rattle.std.specs.List.Sorted.{IsStrictlySortedBy}
+use Rattle.std.specs.Map.{lookup, keys_of}
+use Rattle.std.specs.BTreeMap.{is_at}
+use Rattle.xa_xid.specs.declared.xid.Xid.{Xid}
+use Rattle.xa_xid.specs.Xid.{xid_cmp}
+use Rattle.xa_audit.specs.Deeds.{deeds_in, deeds_about}
+use Rattle.xa_audit.specs.Lives.{lives_after, ends_in}
+use Rattle.xa_audit.specs.declared.lives.Lives.{Lives}
+use Rattle.xa_audit.specs.declared.branch.Branch.{Branch}
+
+-- the keys ascend, and a key is there if something is told of it, with what is told
+pub record IsIndex {K V : Type 0} (cmp : K → K → Ordering) (told : K → Option V) (entries : List (K × V)) : Type 0 where
+  pub ascending : IsStrictlySortedBy cmp (keys_of entries)
+  pub found : (key : K) → lookup (is_at (cmp key)) entries ≡ told key
+
+-- the lives of a branch in a history, if a deed is about it
+abbrev pub lives_in : List ℕ → Xid → Option Lives
+lives_in history xid = lives_after None (deeds_about xid (deeds_in history))
+
+-- a branch of the store of this number
+abbrev pub branch_in : ℕ → Xid × Lives → Branch
+branch_in store named = record { store = store; xid = named.0; ends = ends_in named.1 }
+
+-- the branches of the store of this number that has this history, ascending by their identifiers
+abbrev pub AreBranchesOf : ℕ → List ℕ → List Branch → Type 0
+AreBranchesOf store history branches =
+    (entries : List (Xid × Lives)) × IsIndex xid_cmp (lives_in history) entries × (branches ≡ map (branch_in store) entries)
+
+-- the branches of the stores that have these histories, the first of which has this number
+abbrev pub AreBranches : ℕ → List (List ℕ) → List Branch → Type 0
+AreBranches store [] branches = branches ≡ []
+AreBranches store (history ∷ histories) branches =
+    (here : List Branch) × (later : List Branch) × AreBranchesOf store history here × AreBranches (store + 1) histories later × (branches ≡ here ++ later)

@@ -1,0 +1,50 @@
+-- What the accepted statements of a history do to branches: their deeds.
+--     deed_of         what a statement does, in a state: the branch and the deed
+--     deeds_from      the deeds of a history, beginning in a state
+--     deeds_in        the deeds of a history whose lines these are, by a server that holds nothing at first
+--     deeds_about     the deeds that are about one branch
+use Rattle.std.specs.Prelude.{ℕ, cond, Option, Some, None, option_to_list, List, [], ◌∷◌, ◌++◌}
+use Rattle.std.specs.Option.{option_map}
+use Rattle.xa_xid.specs.declared.xid.Xid.{Xid}
+use Rattle.xa_xid.specs.Xid.{same_xid}
+use Rattle.xa_xid.specs.declared.statement.Statement.{Statement}
+use Rattle.xa_xid.specs.declared.statement.Statement.TheVariants.{Start, End, Prepare, Commit, Rollback, Recover, Unsupported, Get, Put, Del, Disconnect}
+use Rattle.xa_server.specs.State.{State, no_state, own_xid}
+use Rattle.xa_server.specs.Replies.{reply_to}
+use Rattle.xa_server.specs.Step.{after, is_refused}
+use Rattle.xa_lines.specs.Script.{lines_of}
+use Rattle.xa_audit.specs.Histories.{statements_in}
+use Rattle.xa_audit.specs.declared.deed.Deed.{Deed}
+use Rattle.xa_audit.specs.declared.deed.Deed.TheVariants.{Starts, Writes, Prepares, Commits, RollsBack}
+
+-- a statement of `XA` names its branch; any other is about the branch that the session owns
+abbrev pub deed_by : Option Xid → Statement → Option (Xid × Deed)
+deed_by own (Start xid) = Some (xid, Starts)
+deed_by own (End xid) = None
+deed_by own (Prepare xid) = Some (xid, Prepares)
+deed_by own (Commit xid one_phase) = Some (xid, Commits)
+deed_by own (Rollback xid) = Some (xid, RollsBack)
+deed_by own (Recover convert) = None
+deed_by own Unsupported = None
+deed_by own (Get key) = None
+deed_by own (Put key value) = option_map (λ xid. (xid, Writes)) own
+deed_by own (Del key) = option_map (λ xid. (xid, Writes)) own
+deed_by own Disconnect = option_map (λ xid. (xid, RollsBack)) own
+
+-- what a statement does in this state: nothing, if it is refused
+unfoldable pub deed_of : State → ℕ → Statement → Option (Xid × Deed)
+deed_of state session statement = cond (is_refused (reply_to state session statement)) None (deed_by (own_xid state session) statement)
+
+-- the deeds of a history, in order
+unfoldable pub deeds_from : State → List (ℕ × Statement) → List (Xid × Deed)
+deeds_from state [] = []
+deeds_from state (entry ∷ entries) = option_to_list (deed_of state entry.0 entry.1) ++ deeds_from (after state entry.0 entry.1) entries
+
+-- the deeds of a history, by a server that holds nothing at first
+abbrev pub deeds_in : List ℕ → List (Xid × Deed)
+deeds_in history = deeds_from no_state (statements_in (lines_of history))
+
+-- those that are about this branch
+unfoldable pub deeds_about : Xid → List (Xid × Deed) → List Deed
+deeds_about xid [] = []
+deeds_about xid (told ∷ deeds) = cond (same_xid xid told.0) (told.1 ∷ deeds_about xid deeds) (deeds_about xid deeds)

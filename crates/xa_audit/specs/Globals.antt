@@ -1,0 +1,99 @@
+-- Global transactions, and whether each is atomic.
+--     global_cmp        the order of their names: by formatID, then gtrid
+--     IsAccount         these are the global transactions, each with its branches
+--     took, failed      some life of a branch is COMMITTED;  none is, and its last life is ROLLED BACK
+--     verdict_of        the verdict on a global transaction
+--     count_of          how many have this verdict
+use Rattle.std.specs.Prelude.{ℕ, ◌+◌, Bool, true, false, not, ◌&&◌, cond, if◌then◌else◌, Option, Some, None, List, [], ◌∷◌, filter}
+use Rattle.std.specs.List.{list_any}
+use Rattle.std.specs.Option.{option_map_or}
+use Rattle.std.specs.declared.cmp.Ordering.{Ordering}
+use Rattle.std.specs.Ordering.{nat_cmp, ordering_then, eq_by_cmp}
+use Rattle.xa_xid.specs.declared.xid.Xid.{Xid}
+use Rattle.xa_xid.specs.Xid.{bytes_cmp}
+use Rattle.xa_audit.specs.declared.ends.End.{End}
+use Rattle.xa_audit.specs.declared.ends.End.TheVariants.{Committed, RolledBack, InDoubt, Open}
+use Rattle.xa_audit.specs.declared.branch.Branch.{Branch}
+use Rattle.xa_audit.specs.declared.global.GlobalName.{GlobalName}
+use Rattle.xa_audit.specs.declared.verdict.Verdict.{Verdict}
+use Rattle.xa_audit.specs.declared.verdict.Verdict.TheVariants.{Atomic, Mixed, InDoubt as LeftInDoubt, Open as LeftOpen}
+use Rattle.xa_audit.specs.Branches.{IsIndex, AreBranches}
+
+-- by formatID, then gtrid
+abbrev pub global_cmp : GlobalName → GlobalName → Ordering
+global_cmp a b = ordering_then (nat_cmp a.format_id b.format_id) (bytes_cmp a.gtrid.items b.gtrid.items)
+
+-- the global transaction of a branch
+abbrev pub global_of : Xid → GlobalName
+global_of xid = record { format_id = xid.format_id; gtrid = xid.gtrid }
+
+-- the branch is one of this global transaction
+abbrev pub is_of : GlobalName → Branch → Bool
+is_of name branch = eq_by_cmp global_cmp name (global_of branch.xid)
+
+-- the list, if it isn't empty
+abbrev pub if_any : {A : Type 0} → List A → Option (List A)
+if_any [] = None
+if_any (x ∷ xs) = Some (x ∷ xs)
+
+-- a global transaction, with its branches
+abbrev pub Global : Type 0
+Global = GlobalName × List Branch
+
+-- each global transaction of a branch in some history, ascending, with its branches: by store, then bqual
+pub record IsAccount (histories : List (List ℕ)) (globals : List Global) : Type 0 where
+  pub branches : List Branch
+  pub all : AreBranches 1 histories branches
+  pub index : IsIndex global_cmp (λ name. if_any (filter (is_of name) branches)) globals
+
+abbrev pub is_committed : End → Bool
+is_committed Committed = true
+is_committed end = false
+
+abbrev pub is_rolled_back : End → Bool
+is_rolled_back RolledBack = true
+is_rolled_back end = false
+
+abbrev pub is_in_doubt : End → Bool
+is_in_doubt InDoubt = true
+is_in_doubt end = false
+
+abbrev pub is_open : End → Bool
+is_open Open = true
+is_open end = false
+
+-- how the last life ends
+abbrev pub last_end : List End → Option End
+last_end [] = None
+last_end (end ∷ []) = Some end
+last_end (end ∷ next ∷ ends) = last_end (next ∷ ends)
+
+-- the last life ends so
+abbrev pub ends_as : (End → Bool) → Branch → Bool
+ends_as test branch = option_map_or test (last_end branch.ends) false
+
+-- some life of the branch is COMMITTED
+abbrev pub took : Branch → Bool
+took branch = list_any is_committed branch.ends
+
+-- no life of the branch is, and its last is ROLLED BACK
+abbrev pub failed : Branch → Bool
+failed branch = not (took branch) && ends_as is_rolled_back branch
+
+-- MIXED, if one branch took and another failed
+abbrev pub verdict_of : List Branch → Verdict
+verdict_of branches =
+    if list_any took branches && list_any failed branches then Mixed
+    else (if list_any (ends_as is_in_doubt) branches then LeftInDoubt else (if list_any (ends_as is_open) branches then LeftOpen else Atomic))
+
+abbrev pub same_verdict : Verdict → Verdict → Bool
+same_verdict Atomic Atomic = true
+same_verdict Mixed Mixed = true
+same_verdict LeftInDoubt LeftInDoubt = true
+same_verdict LeftOpen LeftOpen = true
+same_verdict verdict other = false
+
+-- how many global transactions have this verdict
+unfoldable pub count_of : Verdict → List Global → ℕ
+count_of verdict [] = 0
+count_of verdict (global ∷ globals) = cond (same_verdict verdict (verdict_of global.1)) 1 0 + count_of verdict globals

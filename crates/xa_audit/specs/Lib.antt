@@ -1,0 +1,9 @@
+pub mod Histories
+pub mod Deeds
+pub mod Lives
+pub mod Branches
+pub mod Following
+pub mod Globals
+pub mod Written
+pub mod Audits
+pub mod Laws

@@ -1,0 +1,67 @@
+-- The lives of a branch, from an accepted XA START to their ends.
+--     noted           the lives after one more deed
+--     lives_after     the lives after these deeds;  none, if there is no deed
+--     ends_in         how each of the lives ends, in order
+use Rattle.std.specs.Prelude.{Bool, true, false, Option, Some, None, List, [], ◌∷◌, ◌++◌}
+use Rattle.std.specs.Option.{option_map, unwrap_or}
+use Rattle.xa_audit.specs.declared.deed.Deed.{Deed}
+use Rattle.xa_audit.specs.declared.deed.Deed.TheVariants.{Starts, Writes, Prepares, Commits, RollsBack}
+use Rattle.xa_audit.specs.declared.ends.End.{End}
+use Rattle.xa_audit.specs.declared.ends.End.TheVariants.{Committed, RolledBack, Empty, InDoubt, Open}
+use Rattle.xa_audit.specs.declared.lives.Life.{Life}
+use Rattle.xa_audit.specs.declared.lives.Lives.{Lives}
+
+-- no life is over, and none goes on
+abbrev pub no_lives : Lives
+no_lives = record { over = []; going = None }
+
+-- a life that has just begun
+abbrev pub new_life : Life
+new_life = record { wrote = false; prepared = false }
+
+-- a life that is rolled back: what it wrote is dropped, if it wrote
+abbrev pub dropped_by : Bool → End
+dropped_by true = RolledBack
+dropped_by false = Empty
+
+abbrev pub dropped : Option Life → End
+dropped None = Empty
+dropped (Some life) = dropped_by life.wrote
+
+-- the life that goes on ends so
+abbrev pub over_by : End → Lives → Lives
+over_by end lives = record { over = lives.over ++ end ∷ []; going = None }
+
+-- a life after it wrote
+abbrev pub written_life : Life → Life
+written_life life = record life { wrote = true }
+
+-- a life after it was prepared
+abbrev pub prepared_life : Life → Life
+prepared_life life = record life { prepared = true }
+
+-- the lives after one more deed
+abbrev pub noted : Lives → Deed → Lives
+noted lives Starts = record lives { going = Some new_life }
+noted lives Writes = record lives { going = option_map written_life lives.going }
+noted lives Prepares = record lives { going = option_map prepared_life lives.going }
+noted lives Commits = over_by Committed lives
+noted lives RollsBack = over_by (dropped lives.going) lives
+
+-- the lives after these deeds
+unfoldable pub lives_after : Option Lives → List Deed → Option Lives
+lives_after lives [] = lives
+lives_after lives (deed ∷ deeds) = lives_after (Some (noted (unwrap_or lives no_lives) deed)) deeds
+
+abbrev pub left_by : Bool → End
+left_by true = InDoubt
+left_by false = Open
+
+-- a life that goes on at the end of the history
+abbrev pub left_going : Option Life → List End
+left_going None = []
+left_going (Some life) = left_by life.prepared ∷ []
+
+-- how each of the lives ends, in order
+abbrev pub ends_in : Lives → List End
+ends_in lives = lives.over ++ left_going lives.going
