@@ -1,4 +1,4 @@
--- What an audit of histories comes to. Every rule here is the project's own: docs/COMMANDS.md#audit.
+-- What an audit of histories comes to. Every rule here is the project's own: docs/HISTORIES.md#audits.
 --     history_bytes, history_reads     the greatest length of a history;  the greatest number of reads
 --     IsAuditOf         what is kept of these histories
 --     ended_of          how an audit of global transactions ends

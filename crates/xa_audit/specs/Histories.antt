@@ -1,5 +1,5 @@
 -- How a history is read: a script, as `run` reads it, in which comments too say nothing.
--- Every rule here is the project's own: docs/COMMANDS.md#audit.
+-- Every rule here is the project's own: docs/HISTORIES.md#audits.
 --     said_on           what a line says
 --     statements_in     the statements of a history, each with its session
 --     faults_in         what is written for the lines of one history that aren't read

@@ -1,4 +1,4 @@
--- What is written for global transactions. Every rule here is the project's own: docs/COMMANDS.md#audit.
+-- What is written for global transactions. Every rule here is the project's own: docs/HISTORIES.md#audits.
 --     end_text, verdict_text     the words for an end, and for a verdict
 --     lines_text                 a line for each global transaction, each life and each verdict, and the last line
 --     last_text                  the last line: how many have which verdict

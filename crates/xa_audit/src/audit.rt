@@ -39,7 +39,7 @@ impl Audit {
     ///
     /// After `NoMemory` the audit is of no use.
     /// May return `NoMemory`. Doesn't wait.
-    /// Own rule: docs/COMMANDS.md#audit.
+    /// Own rule: docs/HISTORIES.md#audits.
     pub fn add(&mut self, alloc: Global, history: &[u8]) -> Result<(), NoMemory>
         requires { self.old.stores < 64 }
         ensures audit { OnOk result ((histories : List (List ℕ)) → IsAuditOf histories self.old → IsAuditOf (histories ++ history.now ∷ []) self.new) }

@@ -60,7 +60,7 @@ fn text_in(
 /// If lines aren't read, only what is written for these is, in any form.
 /// Errors: `NoMemory` if an allocation failed.
 /// May return `NoMemory`. Doesn't wait.
-/// Own rule: docs/COMMANDS.md#audit.
+/// Own rule: docs/HISTORIES.md#audits.
 pub fn audit_text(alloc: Global, audit: Audit, form: Form) -> Result<Audited, NoMemory>
     // Proved (audit, text): If a line of some history isn't read, exactly such lines are written, each with
     //   its store, its number and the place of its fault. Otherwise the text has exactly the global

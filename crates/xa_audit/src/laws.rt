@@ -11,7 +11,7 @@ ghost use Rattle.xa_audit.specs.Laws.{is_commit, took_in};
 /// States that a branch took if, and only if, an `XA COMMIT` of it was accepted in its history.
 ///
 /// Takes no memory. Doesn't wait.
-/// Own rule: docs/COMMANDS.md#audit.
+/// Own rule: docs/HISTORIES.md#audits.
 pub fn branch_takes_by_an_accepted_commit()
     // Proved (audit, took): Some life of a branch is COMMITTED if, and only if, its history has an accepted
     //   `XA COMMIT` of it.
@@ -21,7 +21,7 @@ pub fn branch_takes_by_an_accepted_commit()
 /// States that MIXED stands if, and only if, one branch took and another one failed.
 ///
 /// Takes no memory. Doesn't wait.
-/// Own rule: docs/COMMANDS.md#audit.
+/// Own rule: docs/HISTORIES.md#audits.
 pub fn mixed_is_one_that_took_and_one_that_failed()
     // Proved (audit, mixed): The verdict on a global transaction is MIXED if, and only if, one of its branches
     //   took, and one failed.

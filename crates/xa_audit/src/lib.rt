@@ -2,7 +2,7 @@
 //!
 //! Each history is that of one store: a script that a server of its own carries out. An audit says how each
 //! life of each branch ended, and for each global transaction whether it is ATOMIC, MIXED, IN DOUBT or OPEN.
-//! Read docs/COMMANDS.md#audit, then `specs/Deeds.antt`, `specs/Lives.antt`, `specs/Globals.antt`,
+//! Read docs/HISTORIES.md#audits, then `specs/Deeds.antt`, `specs/Lives.antt`, `specs/Globals.antt`,
 //! `specs/Written.antt` and `specs/Audits.antt`. In the code begin with `src/audit.rt` and `src/run.rt`.
 #![tactic(auto)]
 

@@ -25,7 +25,7 @@ const HISTORY_READS: u64 = 33_554_432;
 /// `NoMemory` if an allocation failed. A reader that failed isn't read again. After an error the audit is of
 /// no use.
 /// May return `NoMemory`. Waits only if the reader does.
-/// Own rule: docs/COMMANDS.md#audit.
+/// Own rule: docs/HISTORIES.md#audits.
 pub fn add_history<R: PieceReader>(
     alloc: Global,
     audit: &mut Audit,
@@ -58,7 +58,7 @@ pub fn add_history<R: PieceReader>(
 /// Errors: `NoMemory` if an allocation failed, and nothing was written then; `Write` if a write failed or took
 /// no byte, and a prefix of the text was written then. A writer that failed isn't called again.
 /// May return `NoMemory`. Waits only if the writer does.
-/// Own rule: docs/COMMANDS.md#audit.
+/// Own rule: docs/HISTORIES.md#audits.
 pub fn write_audit<W: PieceWriter>(
     alloc: Global,
     audit: Audit,
