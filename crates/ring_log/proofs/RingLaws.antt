@@ -12,35 +12,22 @@ use Rattle.xa_words.proofs.Spelling.{one_entry, length-words_of}
 use Rattle.decision_log.specs.declared.view.PassView.{PassView}
 use Rattle.decision_log.specs.declared.view.SeatView.{SeatView}
 use Rattle.decision_log.specs.declared.view.SeatView.TheVariants.{Single}
-use Rattle.decision_log.specs.declared.view.Turn.{Turn}
-use Rattle.decision_log.specs.declared.view.Turn.TheVariants.{Without, Won, Fresh}
+use Rattle.decision_log.specs.declared.view.Turn.TheVariants.{Without}
 use Rattle.decision_log.specs.declared.sizes.Sizes.{Sizes}
 use Rattle.decision_log.specs.Draft.{HasWordsAt}
 use Rattle.decision_log.specs.Atomic.{Atomic, Does, Counts}
 use Rattle.decision_log.proofs.Counting.{look_is}
-use Rattle.decision_log.proofs.Histories.{there, length_begins}
+use Rattle.decision_log.proofs.Histories.{there}
 use Rattle.decision_log.proofs.LogRules.{known, ranged, all_of}
 use Rattle.chain_log.specs.Cells.{name_at, name_before, newest_of}
 use Rattle.chain_log.proofs.Names.{one_cell, name_next}
 use Rattle.ring_log.specs.Places.{rows_of, cell_of, cell_words}
-use Rattle.ring_log.specs.RingRule.{own_name, own_cell, try_word, newest_for, beyond_in, least, Notes, RingRule}
+use Rattle.ring_log.specs.RingRule.{own_name, own_cell, try_word, newest_for, RingRule}
 use Rattle.ring_log.specs.RingTransitions.{won, stored}
 use Rattle.ring_log.proofs.Passes.{same_count}
 use Rattle.ring_log.proofs.RingStores.{first_keeps, win_keeps, all_seen}
 
--- what a pass knows of the history's length
-least_by : (words : List ℕ) (log : List Entry) (h : PassView) (turn : Turn) → length h.known.seen ≤ length log → Notes words log h turn
-    → length h.known.seen + beyond_in h turn ≤ length log
-least_by words log h Without low notes = omega arith
-least_by words log h Won low notes = notes
-least_by words log h Fresh low notes = notes.0
-
 module _ {sizes : Sizes} {words : List ℕ} {views : List SeatView} (r : RingRule sizes words views) where
-  pub least_low : (id : ℕ) (h : PassView) → get_elem? views id ≡ some (Single h) → least h ≤ length r.log
-  least_low id h here =
-      let k = (known r id h here).fact_is in
-      least_by words r.log h h.turn (length_begins h.known.seen r.log k.seen) k.own.notes
-
   -- the last entries are in the words
   pub spelled_last : (place : ℕ) (entry : Entry) → slice_get r.log place ≡ Some entry → length r.log < place + rows_of sizes.capacity
       → HasWordsAt words (cell_of sizes.capacity sizes.sessions place entry.session) (cell_words sizes.sessions r.log place entry)

@@ -25,7 +25,7 @@ use Rattle.decision_log.proofs.LogRules.{known, history, stepped, unmoved, load_
 use Rattle.chain_log.specs.Cells.{name_at, name_before, newest_of}
 use Rattle.chain_log.proofs.Names.{name_begins}
 use Rattle.ring_log.specs.Places.{rows_of, cell_of, cell_words}
-use Rattle.ring_log.specs.RingRule.{own_cell, watched_word, watched_name, IsDraft, IsBroken, Notes, HasNotes, Knows, RingRule}
+use Rattle.ring_log.specs.RingRule.{own_cell, watched_word, watched_name, beyond_in, least, IsDraft, IsBroken, Notes, HasNotes, Knows, RingRule}
 use Rattle.ring_log.specs.RingTransitions.{with_look, noted, Sees, Checks, Reads}
 
 abbrev pub Rules : Sizes → State Entry SeatView → Type 0
@@ -53,7 +53,19 @@ blank words h empty = record {
 pub idle : (words : List ℕ) (log : List Entry) (h : PassView) → h.draft ≡ [] → h.turn ≡ Without → HasNotes words log h
 idle words log h empty without = record { notes = subst (λ turn. Notes words log h turn) (sym without) (blank words h empty) }
 
+-- what a pass knows of the history's length
+least_by : (words : List ℕ) (log : List Entry) (h : PassView) (turn : Turn) → length h.known.seen ≤ length log → Notes words log h turn
+    → length h.known.seen + beyond_in h turn ≤ length log
+least_by words log h Without low notes = omega arith
+least_by words log h Won low notes = notes
+least_by words log h Fresh low notes = notes.0
+
 module _ {sizes : Sizes} {words : List ℕ} {views : List SeatView} (r : RingRule sizes words views) where
+  pub least_low : (id : ℕ) (h : PassView) → get_elem? views id ≡ some (Single h) → least h ≤ length r.log
+  least_low id h here =
+      let k = (known r id h here).fact_is in
+      least_by words r.log h h.turn (length_begins h.known.seen r.log k.seen) k.own.notes
+
   -- the newest entry's name, by the pass's own count of the sessions
   pub newest_by : (h : PassView) → h.sessions ≡ sizes.sessions → get_or words 0 0 ≡ newest_of h.sessions r.log
   newest_by h sessions = r.spelled.newest ∙ ap (λ s. newest_of s r.log) (sym sessions)
@@ -129,7 +141,7 @@ look_step sizes slots id h =
     load_step sizes slots id 0 h (Sees 0 h)
     (λ words views r here.
     let k = (known r id h here).fact_is in
-    (with_look h r.log, seen_keeps r id h (with_look h r.log) here refl refl refl refl refl refl refl, (refl, r.log, refl, newest_by r h k.sessions, history r h k)))
+    (with_look h r.log, seen_keeps r id h (with_look h r.log) here refl refl refl refl refl refl refl, (refl, r.log, refl, newest_by r h k.sessions, history r h k, least_low r id h here)))
 
 -- what a pass that reads another's cell now knows
 broken : (words : List ℕ) (log : List Entry) (h : PassView) → HasNotes words log h → h.turn ≡ Fresh → IsBroken words h

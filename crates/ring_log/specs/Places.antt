@@ -1,20 +1,20 @@
--- Where the words of a ring lie. Each row has one cell for each session, and the rows are used again and again, in turn.
---     most            how many entries a ring can have beside its rows
+-- The layout of a ring's words. Each row has one cell for each session, and the rows are used again and again, in turn.
+--     most            how many entries a ring can have in addition to its rows
 --     rows_of         how many rows a ring has, by how many entries it can have
 --     word_count      how many words a ring has
---     cell_at         where the cell of a row and a column begins
---     cell_of         where the cell of a place of the history and of a session begins
+--     cell_at         the first word of the cell of a row and a column
+--     cell_of         the first word of the cell of a place of the history and a session
 --     cell_words      what the words of an entry's cell are
 use Rattle.std.specs.Prelude.{ℕ, ◌+◌, ◌-◌, ◌*◌, ◌%◌, List, ◌∷◌}
 use Rattle.xa_words.specs.Entry.{Entry}
 use Rattle.xa_words.specs.Words.{words_of}
 use Rattle.chain_log.specs.Cells.{name_at, name_before}
 
--- 2 ^ 59: so many entries are never reached, and their names are numbers of 64 bits
+-- 2 ^ 59, so that all names are numbers of 64 bits
 abbrev pub most : ℕ
 most = 576460752303423488
 
--- what a ring can have beyond that
+-- what a ring can have in addition to that
 unfoldable pub rows_of : ℕ → ℕ
 rows_of capacity = capacity - most
 
@@ -26,7 +26,7 @@ word_count sessions rows = 1 + rows * sessions * 23
 abbrev pub cell_at : ℕ → ℕ
 cell_at cell = 1 + (cell - 1) * 23
 
--- a place of the history lies in the row that its number comes to, where rows are counted round and round
+-- a place of the history is in the row of its number, if rows are counted round and round
 abbrev pub cell_of : ℕ → ℕ → ℕ → ℕ → ℕ
 cell_of capacity sessions place session = cell_at (name_at sessions (place % rows_of capacity) session)
 

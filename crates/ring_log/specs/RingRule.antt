@@ -1,8 +1,8 @@
 -- The rule of a ring, which holds between any two steps.
---     own_name        the name that an entry of the pass gets behind all that it has seen
---     own_cell        where the cell of that entry begins
---     try_word        which word passes exchange where they try to add
---     newest_for      what that word is where a pass has seen the whole history
+--     own_name        the name that an entry of the pass gets after all that it has seen
+--     own_cell        the first word of the cell of that entry
+--     try_word        which word passes exchange when they try to add
+--     newest_for      what that word is if a pass has seen the whole history
 --     watched_word, watched_name, beyond      what a pass that reads keeps
 --     least           how many entries the history has at least, as a pass knows
 --     HasCells        the words spell the last entries of a history
@@ -23,7 +23,7 @@ use Rattle.decision_log.specs.LogRule.{KnowsLog, LogRule}
 use Rattle.chain_log.specs.Cells.{name_at, newest_of}
 use Rattle.ring_log.specs.Places.{rows_of, word_count, cell_of, cell_words}
 
--- of the place behind all that it has seen, and of the pass's session
+-- of the place after all that it has seen, and of the pass's session
 abbrev pub own_name : PassView → ℕ
 own_name h = name_at h.sessions (length h.known.seen) h.known.number
 
@@ -79,7 +79,7 @@ pub record IsDraft (words : List ℕ) (h : PassView) : Type 0 where
   pub named : 0 < length h.draft → slice_index h.draft 0 ≡ own_name h
   pub draft : HasWordsAt words (own_cell h) h.draft
 
--- where the name that the pass found is of an entry that it has seen, and of that entry's cell, it doesn't stand there any more
+-- if the name that the pass found is of an entry that it has seen, and of that entry's cell, it isn't there any more
 abbrev pub IsBroken : List ℕ → PassView → Type 0
 IsBroken words h =
     (place : ℕ) (entry : Entry) → slice_get h.known.seen place ≡ Some entry → watched_word h ≡ cell_of h.capacity h.sessions place entry.session

@@ -20,7 +20,7 @@ use Rattle.ring_log.specs.declared.ring.RingLog.{RingLog}
 abbrev pub IsSeat : RingLog → Seat Entry SeatView → Type 0
 IsSeat log seat = KnowsOne log.table.inner.shared.table_id seat
 
--- the 23 words from here on are words of this log, behind the first
+-- the 23 words from here on are words of this log, after the first
 pub record IsStart (log : RingLog) (start : ℕ) : Type 0 where
   pub behind : 1 ≤ start
   pub within : start + 22 < log.table.inner.shared.table_id.words

@@ -1,4 +1,4 @@
--- What each step of a ring does to the pass that takes it, and what it tells.
+-- What each step of a ring does to the pass that takes it, and what the pass learns.
 --     with_look, won, lost, stored, noted     the pass after a step
 --     KeepsWatch      what a load of a word leaves of a pass
 --     Sees, Checks, Reads, Finds, Drafts, Exchanges      the steps, each by its word, its operands, the pass before, what was found and the pass after
@@ -11,7 +11,7 @@ use Rattle.decision_log.specs.declared.view.Turn.TheVariants.{Without, Won, Fres
 use Rattle.decision_log.specs.Observed.{HistoryIs}
 use Rattle.chain_log.specs.Cells.{name_at, newest_of}
 use Rattle.ring_log.specs.Places.{rows_of, cell_of, cell_words}
-use Rattle.ring_log.specs.RingRule.{own_name, own_cell, try_word, newest_for, watched_word, watched_name}
+use Rattle.ring_log.specs.RingRule.{own_name, own_cell, try_word, newest_for, watched_word, watched_name, least}
 
 -- after a look that saw this history: the own cell is another now, and its draft is empty
 abbrev pub with_look : PassView → List Entry → PassView
@@ -56,7 +56,7 @@ lost h seen = record {
 abbrev pub with_words : PassView → List ℕ → PassView
 with_words h words = record { known = h.known; sessions = h.sessions; capacity = h.capacity; draft = words; turn = Without }
 
--- after a store of a word of the draft, which forgets what was stored behind it
+-- after a store of a word of the draft, which forgets what was stored after it
 abbrev pub stored : PassView → ℕ → ℕ → PassView
 stored h index word = with_words h (take index h.draft ++ word ∷ [])
 
@@ -79,9 +79,11 @@ pub record KeepsWatch (old new : PassView) : Type 0 where
 abbrev pub Sees : ℕ → PassView → ℕ → PassView → Type 0
 Sees word old found new =
     (word ≡ 0) × (seen : List Entry) × (new ≡ with_look old seen) × (found ≡ newest_of old.sessions seen) × HistoryIs old seen
+    × (least old ≤ length seen)
 
--- a load of the first word of a cell. Where it isn't the name of an entry that was seen, so many entries follow that one; where it is, the words that were
--- read since the pass found it there before were the entry's
+-- a load of the first word of a cell. If it isn't the name of an entry that was seen, the history has at least as many
+-- entries from that one's place on as there are rows. If it is, the words that were read since the pass found it there
+-- before were the entry's
 abbrev pub Checks : ℕ → PassView → ℕ → PassView → Type 0
 Checks word old found new =
     (word ≢ 0) × (more : ℕ) × (new ≡ noted old word found more Won)
@@ -110,8 +112,8 @@ Finds word old found new = (word ≢ 0) × (new ≡ stored old (word - own_cell 
 abbrev pub Drafts : ℕ → ℕ → PassView → ℕ → PassView → Type 0
 Drafts word value old found new = new ≡ stored old (word - own_cell old) value
 
--- an exchange of word 0 from the last name that was seen to the own one, which is a try: the announced entry is added only where that name was found, and else
--- more was seen
+-- an exchange of word 0 from the last name that was seen to the own one, which is a try: the announced entry is added
+-- only if that name was found, and else more was seen
 abbrev pub Exchanges : ℕ → ℕ → ℕ → Option Entry → PassView → ℕ → PassView → Type 0
 Exchanges word from to none old found new = ⊥
 Exchanges word from to (some entry) old found new =

@@ -14,9 +14,11 @@ use xa_words::Entry;
 use xa_xid::SessionNo;
 
 impl RingLog {
-    /// How many rows of cells the ring has, in `[1, 65536]`: so many of the last entries a pass can read.
+    /// Returns how many rows of cells the ring has, in `[1, 65536]`.
     ///
-    /// Takes no memory. Doesn't wait.
+    /// An entry can be read while, from its place on, the history has fewer entries than that. Takes no memory.
+    /// Doesn't wait.
+    /// Own rule: docs/INTERNALS.md#the-ring.
     pub fn rows(&self) -> u64
         ensures value { result ≡ self.now.rows }
         ensures range { AreRows result }
@@ -24,9 +26,10 @@ impl RingLog {
         self.rows
     }
 
-    /// How many sessions the log has, in `[1, 16]`.
+    /// Returns how many sessions the log has, in `[1, 16]`.
     ///
     /// Takes no memory. Doesn't wait.
+    /// Own rule: docs/INTERNALS.md#the-ring.
     pub fn sessions(&self) -> u64
         ensures value { result ≡ (identity_of self.now).sessions }
         ensures range { IsCount result }
@@ -34,9 +37,10 @@ impl RingLog {
         self.sessions
     }
 
-    /// How many entries the log can have: 2 to the 59th, and its rows. So many are never reached.
+    /// Returns how many entries the log can have: 2^59 and as many more as it has rows.
     ///
     /// Takes no memory. Doesn't wait.
+    /// Own rule: docs/INTERNALS.md#the-ring.
     pub fn capacity(&self) -> u64
         ensures value { result ≡ (identity_of self.now).capacity }
         ensures range { result ≡ most + self.now.rows }
@@ -44,33 +48,43 @@ impl RingLog {
         self.capacity
     }
 
-    /// The pass's session number.
+    /// Returns the pass's session number.
     ///
     /// Takes no memory. Doesn't wait.
+    /// Own rule: docs/INTERNALS.md#what-a-log-promises.
     pub fn number(&self, pass: &RingPass) -> SessionNo
         requires { log_of pass.now ≡ identity_of self.now }
+        // Proved (log, ring-entry)
         ensures { result ≡ (known_of pass.now).number }
     {
         pass.number
     }
 
-    /// How many entries the pass has seen.
+    /// Returns how many entries the pass has seen.
     ///
     /// Takes no memory. Doesn't wait.
+    /// Own rule: docs/INTERNALS.md#what-a-log-promises.
     pub fn length(&self, pass: &RingPass) -> u64
         requires { log_of pass.now ≡ identity_of self.now }
+        // Proved (log, ring-entry)
         ensures { result ≡ length (known_of pass.now).seen }
     {
         pass.count
     }
 
-    /// Sees the whole history, as it is at one step of the call. The answer is its length.
+    /// Sees the whole history, as it is at one step of the call, and returns its length.
     ///
     /// Takes no memory. Doesn't wait.
+    /// Own rule: docs/INTERNALS.md#the-ring.
     pub fn look(&self, pass: &mut RingPass) -> u64
         requires { log_of pass.old ≡ identity_of self.now }
         ensures belongs { log_of pass.new ≡ log_of pass.old }
+        // Proved (log, ring-look): What a pass of a ring has seen after a look begins with what it had seen before,
+        //   and the look is counted. It is as long as the result, and no shorter than the pass knew the history to be.
         ensures looked { Looked (known_of pass.old) (known_of pass.new) }
+        // Proved (log, ring-look)
+        ensures least { least_of pass.old ≤ length (known_of pass.new).seen }
+        // Proved (log, ring-look)
         ensures length { result ≡ length (known_of pass.new).seen }
     {
         let first = pass.count;
@@ -89,19 +103,24 @@ impl RingLog {
         count
     }
 
-    /// Adds an entry of the pass's own at the end of the history, if the pass has seen all of it. Makes one exchange,
-    /// but none at `Full`.
+    /// Appends an entry of the pass's own session to the history, if the pass has seen all of it.
     ///
-    /// Errors, in this order: `Full` where the pass has seen as many entries as the log can have, 2 to the 59th and
-    /// its rows. `Overtaken` where the history had more than the pass had seen; the pass has then seen more. `Busy`
-    /// never. After an error nothing of the entry stands in the history.
-    ///
-    /// Takes no memory. Doesn't wait.
+    /// It makes one exchange, and none at `Full`. Errors, in this order: `Full` if the pass has seen as many entries
+    /// as the log can have. `Overtaken` if the history had more entries than the pass had seen; the pass has then
+    /// seen more. `Busy` is never returned. After an error the history has nothing of this call. Takes no memory.
+    /// Doesn't wait.
+    /// Own rule: docs/INTERNALS.md#the-ring.
     pub fn try_add(&self, pass: &mut RingPass, entry: &Entry) -> Result<(), AddFault>
         requires belongs { log_of pass.old ≡ identity_of self.now }
         requires own { entry.now.session ≡ (known_of pass.old).number }
         ensures belongs { log_of pass.new ≡ log_of pass.old }
+        // Proved (log, ring-append): An append to a ring succeeds only if the entry comes right after all that the
+        //   pass had seen, once. `Overtaken` is returned only if the pass has seen more now, `Full` only if it has seen
+        //   as much as the log can have, and `Busy` never. After an error `mine` is unchanged.
         ensures added { Adds false (identity_of self.now).capacity entry.now result (known_of pass.old) (known_of pass.new) }
+        // Proved (log, ring-one-exchange): An append to a ring makes one exchange, and none at `Full`. It counts no
+        //   look.
+        // Proved (log, ring-append)
         ensures once { TriesOnce result (known_of pass.old) (known_of pass.new) }
     {
         let place = pass.count;
@@ -113,7 +132,7 @@ impl RingLog {
         let own = entry_name(self.sessions, place, number);
         let start = self.start(place, number);
         self.write_cell(&mut pass.seat, start, own, pass.newest, entry);
-        // Others may have added since `pass.newest` was loaded: the exchange tests it.
+        // Others may have appended since `pass.newest` was loaded: the exchange tests it.
         let found = self.exchange(&mut pass.seat, pass.newest, own, entry);
         if found != pass.newest {
             let front = place_count(self.sessions, found);
@@ -135,20 +154,24 @@ impl RingLog {
         Ok(())
     }
 
-    /// Two passes meet: what the first has seen begins what the second has seen afterwards.
+    /// Lets two passes meet: the second has then seen all that the first has.
     ///
     /// Takes no memory. Doesn't wait.
+    /// Own rule: docs/INTERNALS.md#the-ring.
     pub fn meet(&self, first: &mut RingPass, second: &mut RingPass)
         requires first { log_of first.old ≡ identity_of self.now }
         requires second { log_of second.old ≡ identity_of self.now }
         ensures belongs { (log_of first.new ≡ log_of first.old) × (log_of second.new ≡ log_of second.old) }
+        // Proved (log, ring-meet): After two passes of a ring meet, the second has seen all that the first has. The
+        //   entries of the first's number there are the first's own.
         ensures first { MeetsFirst (known_of first.old) (known_of first.new) }
+        // Proved (log, ring-meet)
         ensures second { MeetsSecond (known_of first.old) (known_of second.old) (known_of second.new) }
     {
         let newest = self.table.meet(&mut first.seat, &mut second.seat);
         let unseen = second.count;
         if unseen < first.count {
-            // `newest` was loaded where both passes are known, so what the second has seen ends there.
+            // `newest` was loaded at a seat that knows both passes, so what the second has seen ends there.
             let count = place_count(self.sessions, newest);
             second.low = self.fill(
                 &mut second.seat,
@@ -163,19 +186,26 @@ impl RingLog {
         }
     }
 
-    /// The entry at `at`, in `[0, length)`, or `None` where its cell is another's. That comes only where the history
-    /// has `at + rows` entries at least, which the pass then knows (`least_of`). What it has seen stays.
+    /// Returns the entry at place `at`, in `[0, length)`, or `None` if its cell is another entry's now.
     ///
-    /// Takes no memory. Doesn't wait.
+    /// `None` is returned only if the history has at least `at + rows` entries. The pass then knows so (`least_of`).
+    /// What it has seen is unchanged. Takes no memory. Doesn't wait.
+    /// Own rule: docs/INTERNALS.md#the-ring.
     pub fn entry(&self, pass: &mut RingPass, at: u64) -> Option<Entry>
         requires belongs { log_of pass.old ≡ identity_of self.now }
         requires seen { at < length (known_of pass.old).seen }
         ensures belongs { log_of pass.new ≡ log_of pass.old }
+        // Proved (log, ring-entry): If `entry` returns an entry, it is the one at that place of what the pass has seen.
+        //   Nothing that the pass has seen or counted changes. A pass also returns its number, and how many entries
+        //   it has seen.
         ensures same { known_of pass.new ≡ known_of pass.old }
+        // Proved (log, ring-entry)
         ensures some { IfSome result (λ entry. slice_get (known_of pass.old).seen at ≡ Some entry) }
+        // Proved (log, ring-lost-entries): An entry of a ring is lost only if from its place on the history has as many
+        //   entries as the ring has rows.
         ensures none { IfNone result (at + self.now.rows ≤ least_of pass.new) }
     {
-        // The table has no place for it: its row's is a later entry's.
+        // The table has one byte for each row, and this row's is a later entry's.
         if at + self.rows < pass.count {
             return None;
         }
@@ -188,7 +218,8 @@ impl RingLog {
         self.read_entry(&mut pass.seat, start, name, at)
     }
 
-    /// Whether the table of a pass has the column of a place, after it was filled back to there where it can be.
+    /// Fills the table of a pass back to a place, as far as that is possible. Returns whether the table then has the
+    /// place.
     fn reach(&self, pass: &mut RingPass, at: u64) -> bool
         requires belongs { log_of pass.old ≡ identity_of self.now }
         requires seen { at < length (known_of pass.old).seen }

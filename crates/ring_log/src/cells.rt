@@ -16,8 +16,8 @@ use decision_log::SeatView;
 use xa_words::{Entry, WORDS, decode, encode, is_behind_text};
 
 impl RingLog {
-    /// The entry's word at `index` in the cell that the pass reads, where the words before it are known. One behind
-    /// the end of its text isn't loaded: others' cells are far, and most texts are short.
+    /// Returns the entry's word at `index` in the cell that the pass reads. The words before it are known. A word
+    /// after the end of its text is 0, and isn't loaded: others' cells are far, and most texts are short.
     fn read_word(
         &self,
         seat: &mut Seat<Entry, SeatView>,
@@ -43,7 +43,7 @@ impl RingLog {
         self.load_word(seat, start, 2 + index)
     }
 
-    /// The entry's words in the cell that the pass reads.
+    /// Returns the entry's words in the cell that the pass reads.
     fn read_cell(&self, seat: &mut Seat<Entry, SeatView>, start: usize) -> [u64; WORDS]
         requires seat { IsSeat self.now seat.old }
         requires start { IsStart self.now start }
@@ -61,7 +61,7 @@ impl RingLog {
         words
     }
 
-    /// The entry of a place that was seen, or `None` where its cell is another entry's.
+    /// Returns the entry of a place that was seen, or `None` if its cell is another entry's now.
     pub(crate) fn read_entry(
         &self,
         seat: &mut Seat<Entry, SeatView>,
@@ -91,8 +91,8 @@ impl RingLog {
         decode(&words)
     }
 
-    /// The link in the cell of a place that was seen, which is the name of the entry before it, or `None` where the
-    /// cell is another entry's.
+    /// Returns the link in the cell of a place that was seen, or `None` if the cell is another entry's now. The link is
+    /// the name of the entry before.
     pub(crate) fn read_link(
         &self,
         seat: &mut Seat<Entry, SeatView>,
@@ -122,7 +122,7 @@ impl RingLog {
         Some(link)
     }
 
-    /// Writes a name, a link and an entry's words into the own cell, over what stood there before.
+    /// Writes a name, a link and an entry's words into the own cell, over what was there before.
     pub(crate) fn write_cell(
         &self,
         seat: &mut Seat<Entry, SeatView>,

@@ -1,5 +1,4 @@
-//! The table of columns: for each of the last places that a pass has seen, in whose column the cell of its entry
-//! stands.
+//! The table of columns. It gives the column of the cell of each of the last entries that a pass has seen.
 ghost use Rattle.std.specs.Prelude.{◌≡◌, ◌<◌, ◌≤◌, ◌+◌, ◌%◌, ℕ, List, IsTrue, length, slice_index};
 ghost use Rattle.xa_words.specs.Entry.{Entry};
 ghost use Rattle.decision_log.specs.Known.{AllOf};
@@ -30,9 +29,8 @@ impl RingLog {
         u64::from(pass.columns[(place % self.rows) as usize])
     }
 
-    /// Fills the table from a place that it has back to `stop`, along the links. The answer is the place from which
-    /// on the table has the columns; where that is above `stop`, so many entries follow the one there that its cell
-    /// is another's.
+    /// Fills the table from a place that it has back to `stop`, along the links. Returns the place from which on the
+    /// table has the columns. If that is above `stop`, the cell there is another entry's now.
     pub(crate) fn walk(
         &self,
         seat: &mut Seat<Entry, SeatView>,
@@ -74,8 +72,8 @@ impl RingLog {
         stop
     }
 
-    /// Fills the table for the places from `first` to `count`, so far as its rows reach, from the newest entry back
-    /// along the links. The answer is the place from which on the table has the columns then.
+    /// Fills the table for the places from `first` to `count`, as far as its rows reach, from the newest entry back
+    /// along the links. Returns the place from which on the table then has the columns.
     pub(crate) fn fill(
         &self,
         seat: &mut Seat<Entry, SeatView>,
@@ -104,12 +102,12 @@ impl RingLog {
         columns[(top % self.rows) as usize] = name_column(self.sessions, newest);
         let stop = walk_stop(self.rows, first, count);
         let reached = self.walk(seat, columns, top, newest, stop);
-        // All between is known: then what was known below it still is.
+        // If all places between are known, the places below them that were known still are.
         if reached == stop { low } else { reached }
     }
 }
 
-/// How far back the table is to be filled: to the first place that is new, but no further than its rows reach.
+/// Returns how far back to fill the table: to the first place that is new, but no further than its rows reach.
 fn walk_stop(rows: u64, first: u64, count: u64) -> u64
     requires some { 0 < rows }
     requires first { first < count }

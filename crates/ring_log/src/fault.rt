@@ -13,7 +13,7 @@ pub enum RingFault {
     /// The number of sessions isn't in `[1, 16]`.
     #[error("the number of sessions is not from 1 to 16")]
     SessionsOutOfRange,
-    /// There was no memory.
+    /// An allocation failed.
     #[error("out of memory")]
     NoMemory,
 }

@@ -7,13 +7,13 @@ ghost use Rattle.ring_log.specs.Places.{most, word_count, cell_at};
 
 use xa_words::WORDS;
 
-/// The word that names the newest entry, or is 0.
+/// The word that names the newest entry, or is 0 if there is none.
 pub(crate) const NEWEST: usize = 0;
 
 /// How many words a cell has: its entry's name, a link, and the entry's.
 pub(crate) const CELL: usize = 2 + WORDS;
 
-/// How many entries a ring can have beside its rows: 2 to the 59th.
+/// How many entries a ring can have in addition to its rows: 2^59.
 pub(crate) const MOST: u64 = 576_460_752_303_423_488;
 
 /// How many rows a ring can have at most.
@@ -61,7 +61,7 @@ pub(crate) fn cell_start(sessions: u64, rows: u64, place: u64, session: u64) -> 
     1 + (cell - 1) * CELL
 }
 
-/// How many entries a history has whose newest entry has this name: its place, and one.
+/// How many entries a history has if its newest entry has this name: one more than its place.
 pub(crate) fn place_count(sessions: u64, newest: u64) -> u64
     requires { 1 ≤ sessions }
     ensures { (seen : List Entry) → AllOf sessions seen → newest ≡ newest_of sessions seen → result ≡ length seen }
@@ -72,7 +72,7 @@ pub(crate) fn place_count(sessions: u64, newest: u64) -> u64
     (newest - 1) / sessions + 1
 }
 
-/// The same where it is known for another name, which most often is the same name.
+/// Returns the same as `place_count`. The count of another name is known, which most often is the same name.
 pub(crate) fn count_from(sessions: u64, known: u64, count: u64, newest: u64) -> u64
     requires sessions { 1 ≤ sessions }
     requires counted { (seen : List Entry) → AllOf sessions seen → known ≡ newest_of sessions seen → count ≡ length seen }

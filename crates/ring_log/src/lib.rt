@@ -1,5 +1,9 @@
-//! A ring of cells in place of a log's rows: a history that several sessions share, that no session holds up by
-//! stopping, and that has no end.
+//! A history that threads share and that has no end: `RingLog` uses the cells of old entries again. It has no turn,
+//! and no session that stops holds up another. README.md has an example.
+//!
+//! Read first: docs/INTERNALS.md#the-ring; then specs/Places.antt, specs/RingRule.antt, src/calls.rt, src/steps.rt,
+//! src/cells.rt and src/columns.rt. proofs/RingStores.antt shows why stores and exchanges keep the rule, and
+//! proofs/Watching.antt what a reader learns by a name.
 #![tactic(auto)]
 
 mod calls;
@@ -12,6 +16,7 @@ mod open;
 mod pass;
 mod ring;
 mod rule;
+mod shared;
 mod shared_log;
 mod steps;
 #[cfg(test)]

@@ -17,18 +17,21 @@ use xa_words::Entry;
 use xa_xid::SessionNo;
 
 impl RingLog {
-    /// An empty log with `rows` rows of cells, in `[1, 65536]`, and the passes of sessions 1 to `sessions`, in `[1,
-    /// 16]`. A row takes 184 bytes for each session in the log, and a byte in each pass.
+    /// Opens an empty log with `rows` rows of cells, in `[1, 65536]`, and the passes of sessions 1 to `sessions`, in
+    /// `[1, 16]`.
     ///
-    /// Errors, in the order of test: `RowsOutOfRange`, `SessionsOutOfRange`, `NoMemory`.
-    ///
-    /// May answer `NoMemory`. Doesn't wait.
+    /// A row takes 184 bytes for each session in the log, and a byte in each pass. Errors, in the order of test:
+    /// `RowsOutOfRange`, `SessionsOutOfRange`, `NoMemory`. Doesn't wait.
+    /// Own rule: docs/INTERNALS.md#the-ring.
     pub fn open(
         alloc: Global,
         rows: u64,
         sessions: u64,
     ) -> Result<(RingLog, Vec<RingPass>), RingFault>
+        // Proved (log, ring-opening): A ring opens with the passes of sessions 1 to S, in order, with nothing seen; or
+        //   with the first fault, in the order of test, whose cause holds.
         ensures ok { IfOk result (λ opened. OpensRing rows sessions opened.0 opened.1.items) }
+        // Proved (log, ring-opening)
         ensures err { IfErr result (λ fault. Refuses rows sessions fault) }
     {
         if rows < 1 || rows > MOST_ROWS {
@@ -93,7 +96,7 @@ fn deal_all(
 impl RingPass {
     /// The pass of a session, at its seat, before its first call.
     ///
-    /// May answer `AllocError`. Doesn't wait.
+    /// May return `AllocError`. Doesn't wait.
     fn at_seat(
         alloc: Global,
         seat: Seat<Entry, SeatView>,

@@ -11,9 +11,10 @@ use decision_log::SeatView;
 use xa_words::Entry;
 use xa_xid::SessionNo;
 
-/// What one session knows of a ring. At run time it keeps its number, the name of the last entry it has seen, 0 for
-/// none, how many entries it has seen, and a table that says for the last of them in whose column the cell of each
-/// stands.
+/// A session's handle on a ring.
+///
+/// At run time it keeps its number, the name of the last entry that it has seen (0 for none), and how many entries it
+/// has seen. A table gives the column of the cell of each of the last entries.
 #[derive(Drop)]
 pub struct RingPass {
     pub(crate) seat: Seat<Entry, SeatView>,
@@ -21,14 +22,19 @@ pub struct RingPass {
     pub(crate) newest: u64,
     /// How many entries it has seen.
     pub(crate) count: u64,
-    /// From which place on the table has the columns, so far as its rows reach. Below it a cell was another entry's
-    /// when the pass came there.
+    /// The place from which on the table has the columns, as far as its rows reach. If it isn't 0, the links ended
+    /// there: the pass found that the cell was another entry's.
     pub(crate) low: u64,
     /// A byte for each row.
     pub(crate) columns: Vec<u8>,
     ghost held: { seat.me ≡ seated (pass_view_of seat.me.0) },
+    // Proved (log, ring-pass): Between any two calls the number of a ring's pass is one of the log's sessions, and all
+    //   that it has seen is of these sessions. The entries of its number there are its own. It has seen no more
+    //   entries than the log can have.
     ghost state: { IsRingPass number count (pass_view_of seat.me.0) },
     ghost named: { newest ≡ newest_of (pass_view_of seat.me.0).sessions (pass_view_of seat.me.0).known.seen },
+    // Proved (log, ring-table): Between any two calls a pass of a ring has a table with the session of each of the last
+    //   entries that it has seen, back to the place `low`.
     ghost kept: { HasWindow (rows_of (pass_view_of seat.me.0).capacity) low (length (pass_view_of seat.me.0).known.seen) (pass_view_of seat.me.0).known.seen
         columns.items },
     ghost bottom: { 0 < low → low < length (pass_view_of seat.me.0).known.seen },

@@ -2,22 +2,22 @@
 //!
 //! All are sequentially consistent, and between two steps of a pass any other pass may step. By role:
 //!
-//! 1. Who looks loads word 0 (`load_newest`). What the pass has seen stays a prefix of the history, which grows only
+//! 1. To look, a pass loads word 0 (`load_newest`). What it has seen stays a prefix of the history, which grows only
 //!    at its end. The draft is given up, since the own cell may be another from then on.
-//! 2. Who reads words of a cell loads its first word, the name of the cell's entry, before and after (`check_name`,
-//!    `load_word` between). Who uses a cell again stores the new name there before any other word, and no name ever
-//!    comes twice: so where the same name stands there afterwards, all that was loaded between was that entry's.
-//!    Where another stands there, as many entries follow the one that was looked for as there are rows, since its
-//!    session has seen so many when it uses the cell again.
-//! 3. Who adds writes its own cell, its name first (`store_name`, `store_word`); a word of the entry that stands
-//!    there already it leaves (`find_word`). No entry that still counts is there: all entries of its own are among
-//!    those that it has seen, and the last one in this row is a whole turn back. Then it exchanges word 0 from the
-//!    last name it has seen to its own (`exchange`). The cell was whole before its entry became the newest. A name
-//!    has one place and one session, so an equal name in word 0 means that exactly what the pass has seen is the
-//!    history; the exchange tests it and adds at one step.
-//! 4. Who meets splits off an empty seat, joins two seats, loads word 0 there, and splits them (`LogTable::meet`).
-//!    Each pass has seen a prefix of one history, so the longer begins with the shorter.
-//! 5. Who opens splits the seat that knows the passes not yet issued, once for each session (`LogTable::issue`).
+//! 2. To read words of a cell, a pass loads the cell's first word, the name of its entry, before and after them
+//!    (`check_name`, with `load_word` between). A session that uses a cell again stores the new name before any other
+//!    word, and no name is used twice. So if the same name is there afterwards, all that was loaded between was that
+//!    entry's. If another name is there, the history has at least as many entries from that entry's place on as there
+//!    are rows, since the cell's session had seen them all when it used the cell again.
+//! 3. To append, a pass writes its own cell, the name first (`store_name`, `store_word`). It doesn't store a word that
+//!    is there already (`find_word`). The cell has no entry that is still needed: the pass has seen all entries of its
+//!    own, and the last one in this row is a whole turn back. Then the pass exchanges word 0 from the last name that
+//!    it has seen to its own (`exchange`). So the cell is whole before its entry becomes the newest. A name has one
+//!    place and one session. So if word 0 still has that name, the history is exactly what the pass has seen. The
+//!    exchange tests this and appends at one step.
+//! 4. To let two passes meet, `LogTable::meet` splits off an empty seat, joins two seats, loads word 0 there, and
+//!    splits them. Each pass has seen a prefix of one history, so the longer begins with the shorter.
+//! 5. To open, `LogTable::issue` splits the seat that knows the passes not yet issued, once for each session.
 ghost use Rattle.std.specs.Prelude.{◌≡◌, ◌≢◌, ◌<◌, ◌≤◌, ◌+◌, ◌%◌, ℕ, List, [], ◌∷◌, length};
 ghost use Rattle.xa_words.specs.Entry.{Entry};
 ghost use Rattle.xa_words.specs.Words.{words_of};
@@ -26,7 +26,7 @@ ghost use Rattle.decision_log.specs.Observed.{HistoryIs};
 ghost use Rattle.decision_log.specs.Seats.{pass_view};
 ghost use Rattle.chain_log.specs.Cells.{newest_of};
 ghost use Rattle.ring_log.specs.Places.{cell_of};
-ghost use Rattle.ring_log.specs.RingRule.{own_name, own_cell};
+ghost use Rattle.ring_log.specs.RingRule.{own_name, own_cell, least};
 ghost use Rattle.ring_log.specs.RingTransitions.{with_look, won, lost, stored, Checks, Reads};
 ghost use Rattle.ring_log.specs.RingSeat.{IsSeat, IsStart};
 
@@ -38,7 +38,7 @@ use decision_log::SeatView;
 use xa_words::Entry;
 
 impl RingLog {
-    /// Where the cell of a place and a session begins.
+    /// Returns the word at which the cell of a place and a session begins.
     pub(crate) fn start(&self, place: u64, session: u64) -> usize
         requires first { 1 ≤ session }
         requires last { session ≤ self.now.sessions }
@@ -55,9 +55,10 @@ impl RingLog {
         ensures seen { (seen : List Entry)
             × (pass_view seat.new ≡ with_look (pass_view seat.old) seen)
             × (result ≡ newest_of (pass_view seat.old).sessions seen)
-            × HistoryIs (pass_view seat.old) seen }
+            × HistoryIs (pass_view seat.old) seen
+            × (least (pass_view seat.old) ≤ length seen) }
     {
-        // Nothing was loaded before that this load rests on.
+        // This load relies on no earlier one.
         self.table.load::<SeeAll>(seat, NEWEST)
     }
 
@@ -68,12 +69,11 @@ impl RingLog {
         ensures seat { IsSeat self.now seat.new }
         ensures checked { Checks start (pass_view seat.old) result (pass_view seat.new) }
     {
-        // Where it is the name that was found before, the words that were loaded since then are of the entry of that
-        // name.
+        // If it is the name that was found before, the words that were loaded since then are of that name's entry.
         self.table.load::<CheckName>(seat, start)
     }
 
-    /// Loads a word of a cell: its link at 1, and the entry's words behind it.
+    /// Loads a word of a cell: its link at 1, and the entry's words after it.
     pub(crate) fn load_word(
         &self,
         seat: &mut Seat<Entry, SeatView>,
@@ -87,7 +87,7 @@ impl RingLog {
         ensures read { Reads (start + index) (pass_view seat.old) result (pass_view seat.new) }
     {
         let word = start + index;
-        // The cell may be another entry's already: the name is loaded once more behind this.
+        // The cell may be another entry's already: the name is loaded once more after this.
         self.table.load::<ReadWord>(seat, word)
     }
 
@@ -104,7 +104,7 @@ impl RingLog {
         self.table.store::<DraftWord>(seat, start, name)
     }
 
-    /// Loads a word of the own cell behind its name.
+    /// Loads a word of the own cell after its name.
     fn find_word(&self, seat: &mut Seat<Entry, SeatView>, start: usize, index: usize) -> u64
         requires seat { IsSeat self.now seat.old }
         requires start { IsStart self.now start }
@@ -121,8 +121,8 @@ impl RingLog {
         self.table.load::<FindWord>(seat, word)
     }
 
-    /// Writes a word of the own cell behind its name. One that stands there already isn't stored again: a load costs
-    /// much less than a store.
+    /// Writes a word of the own cell after its name. A word that is there already isn't stored again, since a load
+    /// costs much less than a store.
     pub(crate) fn put_word(
         &self,
         seat: &mut Seat<Entry, SeatView>,
@@ -165,11 +165,11 @@ impl RingLog {
         ensures stored { pass_view seat.new ≡ stored (pass_view seat.old) index new }
     {
         let word = start + index;
-        // The own name stands in the cell, which is in no history yet, and no other pass stores in this column.
+        // The own name is in the cell, the history doesn't have it yet, and no other pass stores in this column.
         self.table.store::<DraftWord>(seat, word, new)
     }
 
-    /// Makes the own entry the newest, if the one that was seen last still is. The answer is the newest before.
+    /// Makes the own entry the newest, if the one that was seen last still is. Returns the name that was the newest.
     pub(crate) fn exchange(
         &self,
         seat: &mut Seat<Entry, SeatView>,

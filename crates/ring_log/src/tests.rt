@@ -1,10 +1,10 @@
-//! Where the words of a ring lie, that its cells are used again, and what a slow pass gets.
+//! The layout of a ring's words, cells that are used again, and slow passes.
 
 ghost use Rattle.std.specs.Prelude.{◌≡◌, IfSome};
 ghost use Rattle.ring_log.specs.RingPass.{identity_of, log_of, known_of};
 
 use crate::layout::{cell_start, count_from, count_words, entry_name};
-use crate::{RingFault, RingLog, RingPass, laws};
+use crate::{Lapping, RingFault, RingLog, RingPass, SharedLog, laws};
 use decision_log::AddFault;
 use std::thread;
 use std::thread::Threads;
@@ -53,7 +53,7 @@ fn delete(session: SessionNo, letter: u8) -> Option<Entry>
     Entry::of(session, &Statement::Del(Key::of(name)?))
 }
 
-/// Adds the entry of a letter, trying again where others were faster.
+/// Adds the entry of a letter. It tries again if others were faster.
 fn adds(log: &RingLog, pass: &mut RingPass, letter: u8) -> bool
     requires { log_of pass.old ≡ identity_of log.now }
     ensures belongs { log_of pass.new ≡ log_of pass.old }
@@ -104,7 +104,7 @@ fn misses(log: &RingLog, pass: &mut RingPass, at: u64) -> bool
     at < log.length(pass) && log.entry(pass, at) == None
 }
 
-/// Whether a pass that looks at 13 entries of one session in four rows reads the last four and no other.
+/// Whether a pass that looks at 13 entries of one session in four rows reads entries 9 and 12, and misses 0 and 8.
 fn reads_the_last(log: &RingLog, pass: &mut RingPass, one: SessionNo) -> bool
     requires { log_of pass.old ≡ identity_of log.now }
     ensures { log_of pass.new ≡ log_of pass.old }
@@ -174,7 +174,7 @@ fn looks_slowly(log: &RingLog, slow: &mut RingPass, fast: &mut RingPass, more: u
     added
 }
 
-/// Whether a pass that looks slowly has the columns from a place on, and of two places reads one alone.
+/// Whether a pass that looks slowly has the columns from a place on.
 fn looks_slowly_to(
     log: &RingLog,
     slow: &mut RingPass,
@@ -226,7 +226,7 @@ fn stops(log: &RingLog, pass: &mut RingPass, entry: &Entry)
     }
 }
 
-/// Whether a pass that stopped is held to what it has seen, and then adds.
+/// Whether a pass that stopped is overtaken when it goes on, and then adds.
 fn goes_on(log: &RingLog, pass: &mut RingPass, entry: &Entry) -> bool
     requires belongs { log_of pass.old ≡ identity_of log.now }
     requires own { entry.now.session ≡ (known_of pass.old).number }
@@ -268,6 +268,45 @@ fn a_pass_that_stops_before_its_exchange_holds_up_nobody(rt: HostRuntime) {
         panic!(rt; "no entry")
     };
     assert!(rt; holds_up_nobody(&log, &mut first, &mut second, &left));
+}
+
+/// Whether a pass looks, appends an entry of its own after all that it saw, and finds it, by a log's trait.
+fn looks_adds_and_finds<L: SharedLog<Lapping>>(log: &L, pass: &mut L::Pass, letter: u8) -> bool
+    requires { L.belongs_to pass.old ≡ L.identity log.now }
+    ensures { L.belongs_to pass.new ≡ L.belongs_to pass.old }
+{
+    let front = log.look(pass);
+    let Some(entry) = delete(log.number(pass), letter) else {
+        return false;
+    };
+    if log.try_add(pass, &entry) != Ok(()) {
+        return false;
+    }
+    log.length(pass) - front == 1 && log.find(pass, front) == Some(entry)
+}
+
+/// Whether a pass has seen a place whose entry is lost, by a log's trait.
+fn has_lost<L: SharedLog<Lapping>>(log: &L, pass: &mut L::Pass, at: u64) -> bool
+    requires { L.belongs_to pass.old ≡ L.identity log.now }
+    ensures { L.belongs_to pass.new ≡ L.belongs_to pass.old }
+{
+    at < log.length(pass) && log.find(pass, at) == None
+}
+
+#[test]
+fn a_ring_is_a_log_that_may_lose_old_entries(rt: HostRuntime) {
+    let Ok((log, mut passes)) = RingLog::open(rt.alloc(), 2, 2) else {
+        panic!(rt; "not opened")
+    };
+    let (Some(mut second), Some(mut first)) = (passes.pop(), passes.pop()) else {
+        panic!(rt; "two passes")
+    };
+    assert!(rt; looks_adds_and_finds(&log, &mut first, 1));
+    assert!(rt; looks_adds_and_finds(&log, &mut second, 2));
+    assert!(rt; !has_lost(&log, &mut second, 0));
+    assert!(rt; looks_adds_and_finds(&log, &mut first, 3));
+    assert!(rt; has_lost(&log, &mut first, 0));
+    assert!(rt; !has_lost(&log, &mut first, 1));
 }
 
 /// Two threads, each its own, add `EACH` entries each.

@@ -1,4 +1,4 @@
-//! What each step tells. These types are for the proofs alone.
+//! What each step does, and what its pass learns. Only the proofs use these types.
 ghost use Rattle.decision_log.specs.Atomic.{AtLoad, AtStore, AtExchange};
 ghost use Rattle.ring_log.specs.RingTransitions.{Sees, Checks, Reads, Finds, Drafts, Exchanges};
 ghost use Rattle.ring_log.specs.RingCounts.{see_counts, check_counts, read_counts, find_counts, draft_counts, exchange_counts};
@@ -51,7 +51,7 @@ impl LogTransition<Turning> for DraftWord {
     ghost counts = { draft_counts };
 }
 
-/// An exchange of the newest entry's name, told the entry that the own cell has.
+/// An exchange of the newest entry's name for the own one. It announces the entry of the own cell.
 pub(crate) struct Publish;
 
 impl LogTransition<Turning> for Publish {

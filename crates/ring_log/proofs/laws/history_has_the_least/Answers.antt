@@ -1,4 +1,4 @@
-use Rattle.ring_log.proofs.RingLaws.{least_low}
+use Rattle.ring_log.proofs.RingSteps.{least_low}
 use Rattle.ring_log.proofs.laws.history_has_the_least.Goals as goal
 
 pub returns : goal.returns
