@@ -195,7 +195,7 @@ impl RingLog {
         requires belongs { log_of pass.old ≡ identity_of self.now }
         requires seen { at < length (known_of pass.old).seen }
         ensures belongs { log_of pass.new ≡ log_of pass.old }
-        // Proved (log, ring-entry): If `entry` returns an entry, it is the one at that place of what the pass has seen.
+        // Proved (log, ring-entry): If a ring returns an entry, it is the one at that place of what the pass has seen.
         //   Nothing that the pass has seen or counted changes. A pass also returns its number, and how many entries
         //   it has seen.
         ensures same { known_of pass.new ≡ known_of pass.old }
