@@ -163,7 +163,7 @@ class Sessions(View):
 
     def test_a_refusal_says_its_rule_in_the_words_of_the_table(self):
         table = (ROOT / "docs/STATEMENTS.md").read_text()
-        unknown = "the statement can't mean any branch of this identifier"
+        unknown = "no branch on which this statement could act has this identifier"
         wrong_state = "the session isn't in a state that allows this statement; the message names the state"
         wanted = [
             ("1 XA COMMIT 'a'", unknown, "XA COMMIT, Free: 1397 if the branch isn't PREPARED, else OK"),
