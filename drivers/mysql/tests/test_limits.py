@@ -208,7 +208,7 @@ class Limits(Case):
         self.assertRaises((Closed, ConnectionError), client.ask, "GET 'k'")
         self.assertEqual(gateway.process.wait(20), 1)
         gateway.end()
-        self.assertTrue(gateway.logged("record can't be written: No space left"), gateway.log)
+        self.assertTrue(gateway.logged("can't be written: No space left"), gateway.log)
 
     def test_the_end(self):
         """A signal ends the gateway and its stores, with status 0; clients are cut off."""
