@@ -168,9 +168,7 @@ class Conversation:
     def _wrong(self, it: Statement, number: int) -> Refusal:
         """A refusal that the store doesn't give, and which the record has as the client saw it."""
         wrong = answers.refusal(number)
-        record = self.session.store.record
-        if record:
-            record.answered(self.session.number, it.text, [f"ERROR {wrong.number} ({wrong.sqlstate}): {wrong.text}".encode()])
+        self.session.store.record_answer(self.session.number, it.text, [f"ERROR {wrong.number} ({wrong.sqlstate}): {wrong.text}".encode()])
         return wrong
 
     async def _pause(self, seconds: float) -> None:

@@ -1,7 +1,8 @@
 """A store: a child process that is asked line by line, and answers in the order in which it was asked."""
 import asyncio
+import contextlib
 from collections import deque
-from collections.abc import Sequence
+from collections.abc import Iterator, Sequence
 from dataclasses import dataclass
 from typing import cast
 
@@ -71,10 +72,27 @@ class Store(asyncio.SubprocessProtocol):
         self._input.write(b"".join(self._unsent))
         self._unsent.clear()
 
+    # record and history
+
+    @contextlib.contextmanager
+    def _writing(self, what: str) -> Iterator[None]:
+        """Writes into the record or the history. If that fails the store ends, since whatever follows would be missing there."""
+        try:
+            yield
+        except OSError as fault:
+            raise self.fail(f"the {what} can't be written: {fault.strerror}") from fault
+
     def note(self, session: int, text: str) -> None:
         """Writes a comment into the record."""
         if self.record:
-            self.record.note(session, text)
+            with self._writing("record"):
+                self.record.note(session, text)
+
+    def record_answer(self, session: int, statement: bytes, lines: Sequence[bytes]) -> None:
+        """Writes a statement and its answer into the record."""
+        if self.record:
+            with self._writing("record"):
+                self.record.answered(session, statement, lines)
 
     # numbers of sessions
 
@@ -108,8 +126,6 @@ class Store(asyncio.SubprocessProtocol):
                 self._line(line)
         except (Gone, ValueError) as fault:
             self._end(str(fault))
-        except OSError as fault:
-            self._end(f"its record or history can't be written: {fault.strerror}")
 
     def _line(self, line: bytes) -> None:
         """A line of the store: a row of the answer that has begun, or the next answer's first line."""
@@ -126,10 +142,10 @@ class Store(asyncio.SubprocessProtocol):
             self._answer(self._questions.popleft(), self._rows)
 
     def _answer(self, question: Question, lines: list[bytes]) -> None:
-        if self.record:
-            self.record.answered(question.session, question.statement, lines)
+        self.record_answer(question.session, question.statement, lines)
         if self.history:
-            self.history.answered(question.session, question.statement, lines)
+            with self._writing("history"):
+                self.history.answered(question.session, question.statement, lines)
         if not question.answer.done():
             question.answer.set_result(lines)
 

@@ -208,7 +208,16 @@ class Limits(Case):
         self.assertRaises((Closed, ConnectionError), client.ask, "GET 'k'")
         self.assertEqual(gateway.process.wait(20), 1)
         gateway.end()
-        self.assertTrue(gateway.logged("can't be written: No space left"), gateway.log)
+        self.assertTrue(gateway.logged("and its branches and rows with it: the record can't be written: No space left on device. The gateway ends."), gateway.log)
+
+    @of_gateway
+    def test_a_history_that_cannot_be_written(self):
+        gateway = self.gateway("--history", "/dev/full")
+        client = self.client(gateway)
+        self.assertRaises((Closed, ConnectionError), client.ask, "PUT 'k','v'")
+        self.assertEqual(gateway.process.wait(20), 1)
+        gateway.end()
+        self.assertTrue(gateway.logged("and its branches and rows with it: the history can't be written: No space left on device. The gateway ends."), gateway.log)
 
     def test_the_end(self):
         """A signal ends the gateway and its stores, with status 0; clients are cut off."""
