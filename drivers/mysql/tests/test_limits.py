@@ -202,13 +202,24 @@ class Limits(Case):
                     gateway.end()
                     self.assertTrue(gateway.logged("is gone") and gateway.logged(reason), gateway.log)
 
+    @of_gateway
+    def test_a_comment_of_a_fault_that_cannot_be_written(self):
+        gateway = self.gateway("--record", "/dev/full", record=False, faults=["GET 1 error 1205"])
+        client = self.client(gateway)
+        self.assertRaises((Closed, ConnectionError), client.ask, "GET 'k'")
+        self.assertEqual(gateway.process.wait(20), 1)
+        gateway.end()
+        self.assertTrue(gateway.logged("store 1 is gone, and its branches and rows with it: the record can't be written: No space left on device. The gateway ends."), gateway.log)
+
     def test_a_record_that_cannot_be_written(self):
         gateway = self.gateway("--record", "/dev/full", record=False)
         client = self.client(gateway)
         self.assertRaises((Closed, ConnectionError), client.ask, "GET 'k'")
         self.assertEqual(gateway.process.wait(20), 1)
         gateway.end()
-        self.assertTrue(gateway.logged("and its branches and rows with it: the record can't be written: No space left on device. The gateway ends."), gateway.log)
+        said = "store 1's record can't be written: No space left on device" if SERVER else \
+            "store 1 is gone, and its branches and rows with it: the record can't be written: No space left on device. The gateway ends."
+        self.assertTrue(gateway.logged(said), gateway.log)
 
     @of_gateway
     def test_a_history_that_cannot_be_written(self):
@@ -217,7 +228,7 @@ class Limits(Case):
         self.assertRaises((Closed, ConnectionError), client.ask, "PUT 'k','v'")
         self.assertEqual(gateway.process.wait(20), 1)
         gateway.end()
-        self.assertTrue(gateway.logged("and its branches and rows with it: the history can't be written: No space left on device. The gateway ends."), gateway.log)
+        self.assertTrue(gateway.logged("store 1 is gone, and its branches and rows with it: the history can't be written: No space left on device. The gateway ends."), gateway.log)
 
     def test_the_end(self):
         """A signal ends the gateway and its stores, with status 0; clients are cut off."""
