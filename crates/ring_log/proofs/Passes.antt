@@ -30,12 +30,12 @@ same_count sessions newest xs ys x xn y yn =
     (λ some. sym (length_by_newest sessions newest xs x xn some) ∙ length_by_newest sessions newest ys y yn some)
 
 -- what a pass counts is what the name of its last entry says
-pub own_count : (log : RingLog) (pass : RingPass) → log_of pass ≡ identity_of log → CountsBy log.sessions pass.newest pass.count
+pub own_count : (log : RingLog) (pass : RingPass) → log_of pass ≡ identity_of log → CountsBy log.columns pass.newest pass.count
 own_count log pass belongs seen all same =
     let h = pass_view pass.seat in
     let sessions = ap (λ (identity : LogIdentity). identity.sessions) belongs in
     pass.state.measured
-    ∙ same_count log.sessions pass.newest h.known.seen seen (subst (λ n. AllOf n h.known.seen) sessions pass.state.among)
+    ∙ same_count log.columns pass.newest h.known.seen seen (subst (λ n. AllOf n h.known.seen) sessions pass.state.among)
     (pass.named ∙ ap (λ n. newest_of n h.known.seen) sessions) all same
 
 -- a pass's rows are the log's

@@ -6,5 +6,5 @@ pub mod RingCounts
 pub mod IsRingPass
 pub mod RingSeat
 pub mod RingPass
+pub mod RingSpare
 pub mod RingOpens
-pub mod Shared

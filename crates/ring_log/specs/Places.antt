@@ -1,4 +1,5 @@
--- The layout of a ring's words. Each row has one cell for each session, and the rows are used again and again, in turn.
+-- The layout of a ring's words. Each row has one cell for each session and each spare, whose cells are never used. The rows are used again and
+-- again, in turn. `sessions` counts the spares too: to the rule they are passes as the others are.
 --     most            how many entries a ring can have in addition to its rows
 --     rows_of         how many rows a ring has, by how many entries it can have
 --     word_count      how many words a ring has
@@ -18,7 +19,7 @@ most = 576460752303423488
 unfoldable pub rows_of : ℕ → ℕ
 rows_of capacity = capacity - most
 
--- the newest entry's name, and 23 words for each session in each row
+-- the newest entry's name, and 23 words for each cell
 abbrev pub word_count : ℕ → ℕ → ℕ
 word_count sessions rows = 1 + rows * sessions * 23
 

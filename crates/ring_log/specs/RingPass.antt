@@ -11,9 +11,9 @@ use Rattle.ring_log.specs.declared.ring.RingLog.{RingLog}
 use Rattle.ring_log.specs.declared.pass.RingPass.{RingPass}
 use Rattle.ring_log.specs.RingRule.{least}
 
--- its table and its sizes
+-- its table, how many passes it has, spares included, and how many entries it can have
 abbrev pub identity_of : RingLog → LogIdentity
-identity_of log = record { table = log.table.inner.shared.table_id; sessions = log.sessions; capacity = log.capacity }
+identity_of log = record { table = log.table.inner.shared.table_id; sessions = log.columns; capacity = log.capacity }
 
 -- the table of its seat, and the sizes that it was given
 abbrev pub log_of : RingPass → LogIdentity

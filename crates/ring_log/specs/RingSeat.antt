@@ -27,7 +27,7 @@ pub record IsStart (log : RingLog) (start : ℕ) : Type 0 where
 
 -- what is so of each of the log's passes, also within a call
 pub record IsOurs (log : RingLog) (pass_view : PassView) : Type 0 where
-  pub sessions : pass_view.sessions ≡ log.sessions
+  pub sessions : pass_view.sessions ≡ log.columns
   pub capacity : pass_view.capacity ≡ log.capacity
   pub first : 1 ≤ pass_view.known.number
   pub last : pass_view.known.number ≤ pass_view.sessions

@@ -2,14 +2,17 @@
 ghost use Rattle.std.specs.Prelude.{◌≡◌, ◌<◌, ◌≤◌, ◌+◌, false, length, slice_get, Some, IfSome, IfNone, IsTrue, MatchBool};
 ghost use Rattle.decision_log.specs.Opens.{IsCount};
 ghost use Rattle.decision_log.specs.Calls.{Looked, Adds, MeetsFirst, MeetsSecond};
+ghost use Rattle.decision_log.specs.Seats.{pass_view};
 ghost use Rattle.chain_log.specs.Tries.{TriesOnce};
 ghost use Rattle.ring_log.specs.Places.{most};
 ghost use Rattle.ring_log.specs.RingOpens.{AreRows};
 ghost use Rattle.ring_log.specs.RingPass.{identity_of, log_of, known_of, least_of};
+ghost use Rattle.ring_log.specs.RingSeat.{IsSeat};
 
 use crate::layout::{count_from, entry_name, place_count};
 use crate::{RingLog, RingPass};
-use decision_log::AddFault;
+use atomic_table::Seat;
+use decision_log::{AddFault, SeatView};
 use xa_words::Entry;
 use xa_xid::SessionNo;
 
@@ -26,12 +29,12 @@ impl RingLog {
         self.rows
     }
 
-    /// Returns how many sessions the log has, in `[1, 16]`.
+    /// Returns how many sessions the log has, in `[1, 16]`, without its spares.
     ///
     /// Takes no memory. Doesn't wait.
     /// Own rule: docs/INTERNALS.md#the-ring.
     pub fn sessions(&self) -> u64
-        ensures value { result ≡ (identity_of self.now).sessions }
+        ensures value { result ≡ self.now.sessions }
         ensures range { IsCount result }
     {
         self.sessions
@@ -89,7 +92,7 @@ impl RingLog {
     {
         let first = pass.count;
         let newest = self.load_newest(&mut pass.seat);
-        let count = count_from(self.sessions, pass.newest, first, newest);
+        let count = count_from(self.columns, pass.newest, first, newest);
         pass.low = self.fill(
             &mut pass.seat,
             &mut pass.columns,
@@ -129,13 +132,13 @@ impl RingLog {
             return Err(AddFault::Full);
         }
         let number = pass.number.get();
-        let own = entry_name(self.sessions, place, number);
+        let own = entry_name(self.columns, place, number);
         let start = self.start(place, number);
         self.write_cell(&mut pass.seat, start, own, pass.newest, entry);
         // Others may have appended since `pass.newest` was loaded: the exchange tests it.
         let found = self.exchange(&mut pass.seat, pass.newest, own, entry);
         if found != pass.newest {
-            let front = place_count(self.sessions, found);
+            let front = place_count(self.columns, found);
             pass.low = self.fill(
                 &mut pass.seat,
                 &mut pass.columns,
@@ -168,11 +171,31 @@ impl RingLog {
         // Proved (log, ring-meet)
         ensures second { MeetsSecond (known_of first.old) (known_of second.old) (known_of second.new) }
     {
-        let newest = self.table.meet(&mut first.seat, &mut second.seat);
+        self.meet_at(&mut first.seat, first.count, second);
+    }
+
+    /// Lets a pass meet what a seat knows, which has seen `front` entries.
+    ///
+    /// The pass has then seen all of these. Takes no memory. Doesn't wait.
+    pub(crate) fn meet_at(
+        &self,
+        first: &mut Seat<Entry, SeatView>,
+        front: u64,
+        second: &mut RingPass,
+    )
+        requires first { IsSeat self.now first.old }
+        requires front { front ≡ length (pass_view first.old).known.seen }
+        requires second { log_of second.old ≡ identity_of self.now }
+        ensures first { IsSeat self.now first.new }
+        ensures same { pass_view first.new ≡ pass_view first.old }
+        ensures belongs { log_of second.new ≡ log_of second.old }
+        ensures second { MeetsSecond (pass_view first.old).known (known_of second.old) (known_of second.new) }
+    {
+        let newest = self.table.meet(first, &mut second.seat);
         let unseen = second.count;
-        if unseen < first.count {
+        if unseen < front {
             // `newest` was loaded at a seat that knows both passes, so what the second has seen ends there.
-            let count = place_count(self.sessions, newest);
+            let count = place_count(self.columns, newest);
             second.low = self.fill(
                 &mut second.seat,
                 &mut second.columns,
@@ -213,7 +236,7 @@ impl RingLog {
             return None;
         }
         let session = self.column(pass, at);
-        let name = entry_name(self.sessions, at, session);
+        let name = entry_name(self.columns, at, session);
         let start = self.start(at, session);
         self.read_entry(&mut pass.seat, start, name, at)
     }
@@ -233,7 +256,7 @@ impl RingLog {
             return true;
         }
         let session = self.column(pass, low);
-        let name = entry_name(self.sessions, low, session);
+        let name = entry_name(self.columns, low, session);
         pass.low = self.walk(&mut pass.seat, &mut pass.columns, low, name, at);
         pass.low <= at
     }

@@ -24,7 +24,7 @@ impl RingLog {
         requires window { length (known_of pass.now).seen ≤ place + self.now.rows }
         ensures value { result ≡ session_at (known_of pass.now).seen place }
         ensures first { 1 ≤ result }
-        ensures last { result ≤ self.now.sessions }
+        ensures last { result ≤ self.now.columns }
     {
         u64::from(pass.columns[(place % self.rows) as usize])
     }
@@ -42,7 +42,7 @@ impl RingLog {
         requires seat { IsSeat self.now seat.old }
         requires ours { IsOurs self.now (pass_view seat.old) }
         requires top { top < length (pass_view seat.old).known.seen }
-        requires newest { newest ≡ name_at self.now.sessions top (session_at (pass_view seat.old).known.seen top) }
+        requires newest { newest ≡ name_at self.now.columns top (session_at (pass_view seat.old).known.seen top) }
         requires stop { stop ≤ top }
         requires window { length (pass_view seat.old).known.seen ≤ stop + self.now.rows }
         requires kept { HasWindow self.now.rows top (length (pass_view seat.old).known.seen) (pass_view seat.old).known.seen columns.old.items }
@@ -59,11 +59,11 @@ impl RingLog {
     {
         let mut name = newest;
         for place in (stop..top).rev() {
-            let session = u64::from(name_column(self.sessions, name));
+            let session = u64::from(name_column(self.columns, name));
             let start = self.start(place + 1, session);
             match self.read_link(seat, start, name, place + 1) {
                 Some(link) => {
-                    columns[(place % self.rows) as usize] = name_column(self.sessions, link);
+                    columns[(place % self.rows) as usize] = name_column(self.columns, link);
                     name = link;
                 }
                 None => return place + 1,
@@ -99,7 +99,7 @@ impl RingLog {
             return low;
         }
         let top = count - 1;
-        columns[(top % self.rows) as usize] = name_column(self.sessions, newest);
+        columns[(top % self.rows) as usize] = name_column(self.columns, newest);
         let stop = walk_stop(self.rows, first, count);
         let reached = self.walk(seat, columns, top, newest, stop);
         // If all places between are known, the places below them that were known still are.

@@ -13,6 +13,9 @@ pub enum RingFault {
     /// The number of sessions isn't in `[1, 16]`.
     #[error("the number of sessions is not from 1 to 16")]
     SessionsOutOfRange,
+    /// There are more than 4 spares.
+    #[error("the number of spares is not from 0 to 4")]
+    SparesOutOfRange,
     /// An allocation failed.
     #[error("out of memory")]
     NoMemory,

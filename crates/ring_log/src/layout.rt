@@ -19,67 +19,70 @@ pub(crate) const MOST: u64 = 576_460_752_303_423_488;
 /// How many rows a ring can have at most.
 pub const MOST_ROWS: u64 = 65_536;
 
-/// How many words a ring has.
-pub(crate) fn count_words(sessions: u64, rows: u64) -> usize
-    requires sessions { sessions ≤ 16 }
+/// How many spares a ring can have at most.
+pub const MOST_SPARES: u64 = 4;
+
+/// How many words a ring has. It has a column for each pass, spares included, but a spare uses no cell of its own.
+pub(crate) fn count_words(columns: u64, rows: u64) -> usize
+    requires columns { columns ≤ 20 }
     requires rows { rows ≤ 65536 }
-    ensures { result ≡ word_count sessions rows }
+    ensures { result ≡ word_count columns rows }
 {
-    1 + rows as usize * sessions as usize * CELL
+    1 + rows as usize * columns as usize * CELL
 }
 
 /// The name of the entry of a place and a session.
-pub(crate) fn entry_name(sessions: u64, place: u64, session: u64) -> u64
-    requires sessions { sessions ≤ 16 }
+pub(crate) fn entry_name(columns: u64, place: u64, session: u64) -> u64
+    requires columns { columns ≤ 20 }
     requires place { place < most + 65536 }
-    requires session { session ≤ 16 }
-    ensures { result ≡ name_at sessions place session }
+    requires session { session ≤ 20 }
+    ensures { result ≡ name_at columns place session }
 {
-    place * sessions + session
+    place * columns + session
 }
 
 /// The session of the entry of a name, in whose column its cell stands.
-pub(crate) fn name_column(sessions: u64, name: u64) -> u8
-    requires some { 1 ≤ sessions }
-    requires few { sessions ≤ 16 }
+pub(crate) fn name_column(columns: u64, name: u64) -> u8
+    requires some { 1 ≤ columns }
+    requires few { columns ≤ 20 }
     requires name { 1 ≤ name }
-    ensures { (place session : ℕ) → 1 ≤ session → session ≤ sessions → name ≡ name_at sessions place session → result ≡ session }
+    ensures { (place session : ℕ) → 1 ≤ session → session ≤ columns → name ≡ name_at columns place session → result ≡ session }
 {
-    ((name - 1) % sessions + 1) as u8
+    ((name - 1) % columns + 1) as u8
 }
 
 /// The first word of the cell of a place and a session.
-pub(crate) fn cell_start(sessions: u64, rows: u64, place: u64, session: u64) -> usize
-    requires sessions { sessions ≤ 16 }
+pub(crate) fn cell_start(columns: u64, rows: u64, place: u64, session: u64) -> usize
+    requires columns { columns ≤ 20 }
     requires some { 0 < rows }
     requires rows { rows ≤ 65536 }
     requires first { 1 ≤ session }
-    requires last { session ≤ sessions }
-    ensures { result ≡ cell_at (name_at sessions (place % rows) session) }
+    requires last { session ≤ columns }
+    ensures { result ≡ cell_at (name_at columns (place % rows) session) }
 {
-    let cell = (place % rows) as usize * sessions as usize + session as usize;
+    let cell = (place % rows) as usize * columns as usize + session as usize;
     1 + (cell - 1) * CELL
 }
 
 /// How many entries a history has if its newest entry has this name: one more than its place.
-pub(crate) fn place_count(sessions: u64, newest: u64) -> u64
-    requires { 1 ≤ sessions }
-    ensures { (seen : List Entry) → AllOf sessions seen → newest ≡ newest_of sessions seen → result ≡ length seen }
+pub(crate) fn place_count(columns: u64, newest: u64) -> u64
+    requires { 1 ≤ columns }
+    ensures { (seen : List Entry) → AllOf columns seen → newest ≡ newest_of columns seen → result ≡ length seen }
 {
     if newest == 0 {
         return 0;
     }
-    (newest - 1) / sessions + 1
+    (newest - 1) / columns + 1
 }
 
 /// Returns the same as `place_count`. The count of another name is known, which most often is the same name.
-pub(crate) fn count_from(sessions: u64, known: u64, count: u64, newest: u64) -> u64
-    requires sessions { 1 ≤ sessions }
-    requires counted { (seen : List Entry) → AllOf sessions seen → known ≡ newest_of sessions seen → count ≡ length seen }
-    ensures { (seen : List Entry) → AllOf sessions seen → newest ≡ newest_of sessions seen → result ≡ length seen }
+pub(crate) fn count_from(columns: u64, known: u64, count: u64, newest: u64) -> u64
+    requires columns { 1 ≤ columns }
+    requires counted { (seen : List Entry) → AllOf columns seen → known ≡ newest_of columns seen → count ≡ length seen }
+    ensures { (seen : List Entry) → AllOf columns seen → newest ≡ newest_of columns seen → result ≡ length seen }
 {
     if newest == known {
         return count;
     }
-    place_count(sessions, newest)
+    place_count(columns, newest)
 }

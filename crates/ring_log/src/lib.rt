@@ -16,16 +16,16 @@ mod open;
 mod pass;
 mod ring;
 mod rule;
-mod shared;
-mod shared_log;
+mod spare;
+mod spares;
 mod steps;
 #[cfg(test)]
 mod tests;
 mod transitions;
 
 pub use fault::RingFault;
-pub use layout::MOST_ROWS;
+pub use layout::{MOST_ROWS, MOST_SPARES};
 pub use pass::RingPass;
 pub use ring::RingLog;
 pub use rule::Turning;
-pub use shared_log::{Keeping, Lapping, SharedLog};
+pub use spare::RingSpare;

@@ -28,9 +28,9 @@ pub struct RingPass {
     /// A byte for each row.
     pub(crate) columns: Vec<u8>,
     ghost held: { seat.me ≡ seated (pass_view_of seat.me.0) },
-    // Proved (log, ring-pass): Between any two calls the number of a ring's pass is one of the log's sessions, and all
-    //   that it has seen is of these sessions. The entries of its number there are its own. It has seen no more
-    //   entries than the log can have.
+    // Proved (log, ring-pass): Between any two calls the number of a ring's pass is one of the log's columns, and all
+    //   that it has seen is of these. The entries of its number there are its own. It has seen no more entries than
+    //   the log can have.
     ghost state: { IsRingPass number count (pass_view_of seat.me.0) },
     ghost named: { newest ≡ newest_of (pass_view_of seat.me.0).sessions (pass_view_of seat.me.0).known.seen },
     // Proved (log, ring-table): Between any two calls a pass of a ring has a table with the session of each of the last

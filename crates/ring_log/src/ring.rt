@@ -14,14 +14,17 @@ use decision_log::LogTable;
 pub struct RingLog {
     pub(crate) table: LogTable<Turning>,
     pub(crate) sessions: u64,
+    /// How many columns the cells have: one for each pass, spares included.
+    pub(crate) columns: u64,
     /// How many rows the cells have.
     pub(crate) rows: u64,
     /// How many entries the log can have: 2^59 and as many more as it has rows.
     pub(crate) capacity: u64,
-    ghost wide: { table.inner.shared.table_id.words ≡ word_count sessions rows },
-    ghost sizes: { table.inner.shared.key ≡ record { sessions = sessions; capacity = capacity } },
+    ghost wide: { table.inner.shared.table_id.words ≡ word_count columns rows },
+    ghost sizes: { table.inner.shared.key ≡ record { sessions = columns; capacity = capacity } },
     ghost turns: { rows ≡ rows_of capacity },
     ghost room: { capacity ≡ most + rows },
     ghost low: { (1 ≤ sessions) × (1 ≤ rows) },
     ghost high: { (sessions ≤ 16) × (rows ≤ 65536) },
+    ghost spares: { (sessions ≤ columns) × (columns ≤ 20) },
 }

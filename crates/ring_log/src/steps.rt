@@ -17,7 +17,8 @@
 //!    exchange tests this and appends at one step.
 //! 4. To let two passes meet, `LogTable::meet` splits off an empty seat, joins two seats, loads word 0 there, and
 //!    splits them. Each pass has seen a prefix of one history, so the longer begins with the shorter.
-//! 5. To open, `LogTable::issue` splits the seat that knows the passes not yet issued, once for each session.
+//! 5. To open, `LogTable::issue` splits the seat that knows the passes not yet issued, once for each session and each
+//!    spare.
 ghost use Rattle.std.specs.Prelude.{◌≡◌, ◌≢◌, ◌<◌, ◌≤◌, ◌+◌, ◌%◌, ℕ, List, [], ◌∷◌, length};
 ghost use Rattle.xa_words.specs.Entry.{Entry};
 ghost use Rattle.xa_words.specs.Words.{words_of};
@@ -41,11 +42,11 @@ impl RingLog {
     /// Returns the word at which the cell of a place and a session begins.
     pub(crate) fn start(&self, place: u64, session: u64) -> usize
         requires first { 1 ≤ session }
-        requires last { session ≤ self.now.sessions }
+        requires last { session ≤ self.now.columns }
         ensures start { IsStart self.now result }
-        ensures value { result ≡ cell_of self.now.capacity self.now.sessions place session }
+        ensures value { result ≡ cell_of self.now.capacity self.now.columns place session }
     {
-        cell_start(self.sessions, self.rows, place, session)
+        cell_start(self.columns, self.rows, place, session)
     }
 
     /// Loads the newest entry's name: the pass has then seen the whole history.

@@ -2,9 +2,10 @@
 
 ghost use Rattle.std.specs.Prelude.{◌≡◌, IfSome};
 ghost use Rattle.ring_log.specs.RingPass.{identity_of, log_of, known_of};
+ghost use Rattle.ring_log.specs.RingSpare.{spare_log_of};
 
 use crate::layout::{cell_start, count_from, count_words, entry_name};
-use crate::{Lapping, RingFault, RingLog, RingPass, SharedLog, laws};
+use crate::{RingFault, RingLog, RingPass, RingSpare, laws};
 use decision_log::AddFault;
 use std::thread;
 use std::thread::Threads;
@@ -37,11 +38,14 @@ fn cells_lie_row_by_row_in_turn(rt: HostRuntime) {
 
 #[test]
 fn sizes_out_of_range_are_refused(rt: HostRuntime) {
-    let fault = |rows: u64, sessions: u64| RingLog::open(rt.alloc(), rows, sessions).err();
-    assert!(rt; fault(0, 17) == Some(RingFault::RowsOutOfRange));
-    assert!(rt; fault(65_537, 1) == Some(RingFault::RowsOutOfRange));
-    assert!(rt; fault(1, 0) == Some(RingFault::SessionsOutOfRange));
-    assert!(rt; fault(1, 17) == Some(RingFault::SessionsOutOfRange));
+    let fault = |rows: u64, sessions: u64, spares: u64| {
+        RingLog::open(rt.alloc(), rows, sessions, spares).err()
+    };
+    assert!(rt; fault(0, 17, 5) == Some(RingFault::RowsOutOfRange));
+    assert!(rt; fault(65_537, 1, 0) == Some(RingFault::RowsOutOfRange));
+    assert!(rt; fault(1, 0, 5) == Some(RingFault::SessionsOutOfRange));
+    assert!(rt; fault(1, 17, 0) == Some(RingFault::SessionsOutOfRange));
+    assert!(rt; fault(1, 16, 5) == Some(RingFault::SparesOutOfRange));
 }
 
 /// The entry of a session that deletes the row of one letter.
@@ -118,7 +122,7 @@ fn reads_the_last(log: &RingLog, pass: &mut RingPass, one: SessionNo) -> bool
 
 #[test]
 fn ring_goes_round_three_times(rt: HostRuntime) {
-    let Ok((log, mut passes)) = RingLog::open(rt.alloc(), 4, 2) else {
+    let Ok((log, mut passes, _)) = RingLog::open(rt.alloc(), 4, 2, 0) else {
         panic!(rt; "not opened")
     };
     let (Some(mut second), Some(mut first)) = (passes.pop(), passes.pop()) else {
@@ -134,7 +138,7 @@ fn ring_goes_round_three_times(rt: HostRuntime) {
 
 #[test]
 fn slow_pass_is_told_that_it_is_behind(rt: HostRuntime) {
-    let Ok((log, mut passes)) = RingLog::open(rt.alloc(), 4, 2) else {
+    let Ok((log, mut passes, _)) = RingLog::open(rt.alloc(), 4, 2, 0) else {
         panic!(rt; "not opened")
     };
     let (Some(mut slow), Some(mut fast)) = (passes.pop(), passes.pop()) else {
@@ -160,7 +164,7 @@ fn looks_slowly(log: &RingLog, slow: &mut RingPass, fast: &mut RingPass, more: u
     let first = slow.count;
     let newest = log.load_newest(&mut slow.seat);
     let added = adds_each(log, fast, 100, more);
-    let count = count_from(log.sessions, slow.newest, first, newest);
+    let count = count_from(log.columns, slow.newest, first, newest);
     slow.low = log.fill(
         &mut slow.seat,
         &mut slow.columns,
@@ -192,7 +196,7 @@ fn looks_slowly_to(
 
 #[test]
 fn links_of_cells_that_were_used_again_are_not_followed(rt: HostRuntime) {
-    let Ok((log, mut passes)) = RingLog::open(rt.alloc(), 4, 2) else {
+    let Ok((log, mut passes, _)) = RingLog::open(rt.alloc(), 4, 2, 0) else {
         panic!(rt; "not opened")
     };
     let (Some(mut slow), Some(mut fast)) = (passes.pop(), passes.pop()) else {
@@ -220,7 +224,7 @@ fn stops(log: &RingLog, pass: &mut RingPass, entry: &Entry)
     let number = pass.number.get();
     let place = pass.count;
     if place < 100 {
-        let own = entry_name(log.sessions, place, number);
+        let own = entry_name(log.columns, place, number);
         let start = log.start(place, number);
         log.write_cell(&mut pass.seat, start, own, pass.newest, entry);
     }
@@ -258,7 +262,7 @@ fn holds_up_nobody(
 
 #[test]
 fn a_pass_that_stops_before_its_exchange_holds_up_nobody(rt: HostRuntime) {
-    let Ok((log, mut passes)) = RingLog::open(rt.alloc(), 2, 2) else {
+    let Ok((log, mut passes, _)) = RingLog::open(rt.alloc(), 2, 2, 0) else {
         panic!(rt; "not opened")
     };
     let (Some(mut second), Some(mut first)) = (passes.pop(), passes.pop()) else {
@@ -270,10 +274,10 @@ fn a_pass_that_stops_before_its_exchange_holds_up_nobody(rt: HostRuntime) {
     assert!(rt; holds_up_nobody(&log, &mut first, &mut second, &left));
 }
 
-/// Whether a pass looks, appends an entry of its own after all that it saw, and finds it, by a log's trait.
-fn looks_adds_and_finds<L: SharedLog<Lapping>>(log: &L, pass: &mut L::Pass, letter: u8) -> bool
-    requires { L.belongs_to pass.old ≡ L.identity log.now }
-    ensures { L.belongs_to pass.new ≡ L.belongs_to pass.old }
+/// Whether a pass looks, appends an entry of its own after all that it saw, and finds it.
+fn looks_adds_and_finds(log: &RingLog, pass: &mut RingPass, letter: u8) -> bool
+    requires { log_of pass.old ≡ identity_of log.now }
+    ensures { log_of pass.new ≡ log_of pass.old }
 {
     let front = log.look(pass);
     let Some(entry) = delete(log.number(pass), letter) else {
@@ -282,20 +286,12 @@ fn looks_adds_and_finds<L: SharedLog<Lapping>>(log: &L, pass: &mut L::Pass, lett
     if log.try_add(pass, &entry) != Ok(()) {
         return false;
     }
-    log.length(pass) - front == 1 && log.find(pass, front) == Some(entry)
-}
-
-/// Whether a pass has seen a place whose entry is lost, by a log's trait.
-fn has_lost<L: SharedLog<Lapping>>(log: &L, pass: &mut L::Pass, at: u64) -> bool
-    requires { L.belongs_to pass.old ≡ L.identity log.now }
-    ensures { L.belongs_to pass.new ≡ L.belongs_to pass.old }
-{
-    at < log.length(pass) && log.find(pass, at) == None
+    log.length(pass) - front == 1 && log.entry(pass, front) == Some(entry)
 }
 
 #[test]
 fn a_ring_is_a_log_that_may_lose_old_entries(rt: HostRuntime) {
-    let Ok((log, mut passes)) = RingLog::open(rt.alloc(), 2, 2) else {
+    let Ok((log, mut passes, _)) = RingLog::open(rt.alloc(), 2, 2, 0) else {
         panic!(rt; "not opened")
     };
     let (Some(mut second), Some(mut first)) = (passes.pop(), passes.pop()) else {
@@ -303,10 +299,140 @@ fn a_ring_is_a_log_that_may_lose_old_entries(rt: HostRuntime) {
     };
     assert!(rt; looks_adds_and_finds(&log, &mut first, 1));
     assert!(rt; looks_adds_and_finds(&log, &mut second, 2));
-    assert!(rt; !has_lost(&log, &mut second, 0));
+    assert!(rt; !misses(&log, &mut second, 0));
     assert!(rt; looks_adds_and_finds(&log, &mut first, 3));
-    assert!(rt; has_lost(&log, &mut first, 0));
-    assert!(rt; !has_lost(&log, &mut first, 1));
+    assert!(rt; misses(&log, &mut first, 0));
+    assert!(rt; !misses(&log, &mut first, 1));
+}
+
+/// Whether a spare that a pass tells of three entries remembers three, and a pass that hears it has seen three.
+fn passes_on_three(
+    log: &RingLog,
+    fast: &mut RingPass,
+    slow: &mut RingPass,
+    spare: &mut RingSpare,
+) -> bool
+    requires fast { log_of fast.old ≡ identity_of log.now }
+    requires slow { log_of slow.old ≡ identity_of log.now }
+    requires spare { spare_log_of spare.old ≡ identity_of log.now }
+    ensures fast { log_of fast.new ≡ log_of fast.old }
+    ensures slow { log_of slow.new ≡ log_of slow.old }
+    ensures spare { spare_log_of spare.new ≡ spare_log_of spare.old }
+{
+    let added = adds_each(log, fast, 0, 3);
+    log.tell(fast, spare);
+    log.hear(spare, slow);
+    added && log.remembered(spare) == 3 && log.length(slow) == 3
+}
+
+/// Whether a pass that has seen 3 of 11 entries in four rows has seen 11 after it hears a spare that was told them. It
+/// then reads entry 7, and entry 6 is lost.
+fn hears_of_two_laps(
+    log: &RingLog,
+    fast: &mut RingPass,
+    slow: &mut RingPass,
+    spare: &mut RingSpare,
+) -> bool
+    requires fast { log_of fast.old ≡ identity_of log.now }
+    requires slow { log_of slow.old ≡ identity_of log.now }
+    requires spare { spare_log_of spare.old ≡ identity_of log.now }
+    ensures fast { log_of fast.new ≡ log_of fast.old }
+    ensures slow { log_of slow.new ≡ log_of slow.old }
+    ensures spare { spare_log_of spare.new ≡ spare_log_of spare.old }
+{
+    let one = log.number(fast);
+    let added = adds_each(log, fast, 3, 8);
+    let asleep = log.remembered(spare) == 3 && log.length(slow) == 3;
+    log.tell(fast, spare);
+    log.hear(spare, slow);
+    let heard = log.remembered(spare) == 11 && log.length(slow) == 11;
+    added && asleep && heard && misses(log, slow, 6) && reads(log, slow, 7, one, 7)
+}
+
+/// Whether a spare that has seen more than a pass keeps that when the pass tells it less. The pass appends then, after
+/// it heard the rest.
+fn keeps_the_longer(
+    log: &RingLog,
+    fast: &mut RingPass,
+    slow: &mut RingPass,
+    spare: &mut RingSpare,
+) -> bool
+    requires fast { log_of fast.old ≡ identity_of log.now }
+    requires slow { log_of slow.old ≡ identity_of log.now }
+    requires spare { spare_log_of spare.old ≡ identity_of log.now }
+{
+    let added = adds(log, fast, 11);
+    log.tell(fast, spare);
+    log.tell(slow, spare);
+    let kept = log.remembered(spare) == 12 && log.length(slow) == 11;
+    log.hear(spare, slow);
+    let Some(entry) = delete(log.number(slow), 12) else {
+        return false;
+    };
+    added
+        && kept
+        && log.length(slow) == 12
+        && log.try_add(slow, &entry) == Ok(())
+        && log.look(fast) == 13
+}
+
+#[test]
+fn a_pass_that_slept_two_laps_hears_a_spare(rt: HostRuntime) {
+    let Ok((log, mut passes, mut spares)) = RingLog::open(rt.alloc(), 4, 2, 1) else {
+        panic!(rt; "not opened")
+    };
+    let (Some(mut slow), Some(mut fast)) = (passes.pop(), passes.pop()) else {
+        panic!(rt; "two passes")
+    };
+    let Some(mut spare) = spares.pop() else {
+        panic!(rt; "a spare")
+    };
+    assert!(rt; log.sessions() == 2);
+    assert!(rt; passes_on_three(&log, &mut fast, &mut slow, &mut spare));
+    assert!(rt; hears_of_two_laps(&log, &mut fast, &mut slow, &mut spare));
+    assert!(rt; keeps_the_longer(&log, &mut fast, &mut slow, &mut spare));
+}
+
+/// Whether a spare that a pass tells of five entries remembers five, and another spare none.
+fn tells_one(log: &RingLog, pass: &mut RingPass, spare: &mut RingSpare, other: &RingSpare) -> bool
+    requires pass { log_of pass.old ≡ identity_of log.now }
+    requires spare { spare_log_of spare.old ≡ identity_of log.now }
+    requires other { spare_log_of other.now ≡ identity_of log.now }
+{
+    let added = adds_each(log, pass, 0, 5);
+    log.tell(pass, spare);
+    added && log.remembered(spare) == 5 && log.remembered(other) == 0
+}
+
+#[test]
+fn a_spare_that_is_told_nothing_remembers_nothing(rt: HostRuntime) {
+    let Ok((log, mut passes, mut spares)) = RingLog::open(rt.alloc(), 4, 1, 2) else {
+        panic!(rt; "not opened")
+    };
+    let Some(mut pass) = passes.pop() else {
+        panic!(rt; "a pass")
+    };
+    let (Some(other), Some(mut spare)) = (spares.pop(), spares.pop()) else {
+        panic!(rt; "two spares")
+    };
+    assert!(rt; tells_one(&log, &mut pass, &mut spare, &other));
+}
+
+#[test]
+fn a_ring_opens_with_the_most_sessions_and_spares(rt: HostRuntime) {
+    let Ok((log, mut passes, spares)) = RingLog::open(rt.alloc(), 2, 16, 4) else {
+        panic!(rt; "not opened")
+    };
+    assert_eq!(rt; passes.len(), 16);
+    assert_eq!(rt; spares.len(), 4);
+    assert_eq!(rt; log.start(1, 20) + 23, 921);
+    let Some(mut pass) = passes.pop() else {
+        panic!(rt; "a pass")
+    };
+    let last = log.number(&pass);
+    assert!(rt; last.get() == 16);
+    assert!(rt; adds_each(&log, &mut pass, 0, 5));
+    assert!(rt; reads(&log, &mut pass, 4, last, 4));
 }
 
 /// Two threads, each its own, add `EACH` entries each.
@@ -329,7 +455,7 @@ fn two_threads_add<R: Threads>(
 
 #[test]
 fn two_threads_go_round_a_ring_of_four_rows(rt: HostRuntime) {
-    let Ok((log, mut passes)) = RingLog::open(rt.alloc(), 4, 3) else {
+    let Ok((log, mut passes, _)) = RingLog::open(rt.alloc(), 4, 3, 0) else {
         panic!(rt; "not opened")
     };
     let (Some(mut third), Some(second), Some(first)) = (passes.pop(), passes.pop(), passes.pop())

@@ -1,4 +1,4 @@
-use Rattle.std.proofs.Common.{◌≡◌, ◌+◌, ℕ, Some, length}
+use Rattle.std.proofs.Common.{◌≡◌, ◌+◌, ◌≤◌, ℕ, Some, length}
 use Rattle.std.specs.Prelude.{slice_get}
 use Rattle.std.specs.List.{All}
 use Rattle.decision_log.specs.AtTable.{KnowsRest}
@@ -11,8 +11,9 @@ use Rattle.ring_log.proofs.open.deal_all.Given as goal
 abbrev pub invariant-loop-index : goal.invariant-loop-index
 invariant-loop-index l = record {
   rest : KnowsRest l.log.table.inner.shared.table_id l.rest;
-  next : pass_view l.rest ≡ newcomer_view l.log.sessions l.log.capacity (l.index + 1);
+  next : pass_view l.rest ≡ newcomer_view l.log.columns l.log.capacity (l.index + 1);
   count : length l.passes.items ≡ l.index;
   belongs : All (λ pass. log_of pass ≡ identity_of l.log) l.passes.items;
   numbers : (index : ℕ) (pass : RingPass) → slice_get l.passes.items index ≡ Some pass → known_of pass ≡ newcomer (index + 1);
+  low : All (λ pass. (known_of pass).number ≤ l.log.sessions) l.passes.items;
 }

@@ -1,4 +1,4 @@
-use Rattle.std.proofs.Common.{◌≡◌, ◌+◌, get_or, ap, sym, ◌∙◌, refl, arith, rules}
+use Rattle.std.proofs.Common.{◌≡◌, ◌+◌, ℕ, get_or, ap, sym, ◌∙◌, refl, arith, rules}
 use Rattle.std.proofs.lemmas.List.{get_or-replicate}
 use Rattle.decision_log.specs.declared.sizes.Sizes.{Sizes}
 use Rattle.ring_log.specs.Places.{most, rows_of, word_count}
@@ -8,10 +8,11 @@ use Rattle.ring_log.proofs.open.lay_out.Goals as goal
 
 pub of_words-requires-clause-rule : goal.of_words-requires-clause-rule
 of_words-requires-clause-rule c =
-    let sizes : Sizes = record { sessions = c.args.sessions; capacity = most + c.args.rows } in
+    let columns : ℕ = c.args.sessions + c.args.spares in
+    let sizes : Sizes = record { sessions = columns; capacity = most + c.args.rows } in
     let rows : rows_of (most + c.args.rows) ≡ c.args.rows = rows_most c.args.rows in
     (opens sizes c.count_words.result (omega (arith, rows, c.requires.rows.0))
-    (c.count_words.ensures ∙ ap (word_count c.args.sessions) (sym rows))).zeros c.deref.result.now (search rules)
+    (c.count_words.ensures ∙ ap (word_count columns) (sym rows))).zeros c.deref.result.now (search rules)
     (ap (λ items. get_or items 0 0) (c.deref.ensures.value ∙ c.in_ok-words.ensures.items_if_clones_equal (λ y same. same))
     ∙ get_or-replicate c.count_words.result 0 0 0 (omega (arith, c.count_words.ensures)))
 
@@ -23,4 +24,5 @@ invariant_of-log c = record {
   room = refl;
   low = (c.requires.sessions.0, c.requires.rows.0);
   high = (c.requires.sessions.1, c.requires.rows.1);
+  spares = (omega arith, omega (arith, c.requires.sessions.1, c.requires.spares));
 }

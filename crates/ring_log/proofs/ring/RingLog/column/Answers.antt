@@ -15,7 +15,7 @@ use Rattle.ring_log.proofs.ring.RingLog.column.Goals as goal
 column : (log : RingLog) (pass : RingPass) (place read : ℕ) → log_of pass ≡ identity_of log → pass.low ≤ place
     → place < length (pass_view pass.seat).known.seen → length (pass_view pass.seat).known.seen ≤ place + log.rows
     → read ≡ get_or pass.columns.items (place % log.rows) read
-    → (read ≡ session_at (pass_view pass.seat).known.seen place) × (1 ≤ read) × (read ≤ log.sessions)
+    → (read ≡ session_at (pass_view pass.seat).known.seen place) × (1 ≤ read) × (read ≤ log.columns)
 column log pass place read belongs low below near is =
     let h = pass_view pass.seat in
     let sessions = ap (λ (identity : LogIdentity). identity.sessions) belongs in

@@ -2,7 +2,7 @@ use Rattle.decision_log.specs.Seats.{pass_view}
 use Rattle.decision_log.specs.Observed.{met}
 use Rattle.ring_log.proofs.Passes.{kept_before}
 use Rattle.ring_log.proofs.RingSeats.{keeps_seats}
-use Rattle.ring_log.proofs.ring.RingLog.meet.Goals as goal
+use Rattle.ring_log.proofs.ring.RingLog.meet_at.Goals as goal
 
 pub meet-newest-requires-clause-rule : goal.meet-newest-requires-clause-rule
 meet-newest-requires-clause-rule c = keeps_seats

@@ -1,0 +1,20 @@
+//! A spare of a ring.
+ghost use Rattle.std.specs.Prelude.{◌≡◌, length};
+ghost use Rattle.decision_log.specs.Seats.{pass_view_of, seated};
+
+use atomic_table::Seat;
+use decision_log::SeatView;
+use xa_words::Entry;
+
+/// A handle on a ring that remembers a first part of the history, and no more.
+///
+/// It is a pass that appends nothing and reads no entry. Passes tell it what they have seen, and others hear that from
+/// it. Its number is behind those of the sessions.
+#[derive(Drop)]
+pub struct RingSpare {
+    pub(crate) seat: Seat<Entry, SeatView>,
+    /// How many entries it remembers.
+    pub(crate) count: u64,
+    ghost held: { seat.me ≡ seated (pass_view_of seat.me.0) },
+    ghost counted: { count ≡ length (pass_view_of seat.me.0).known.seen },
+}
