@@ -8,6 +8,13 @@ from browser import ELSEWHERE, the_browser
 from selenium.webdriver.common.keys import Keys
 from support import MEMORY, PAGE, PROGRAM, Page, send
 
+
+def own_addresses():
+    """This machine's IPv4 addresses in networks, as the system lists them."""
+    listed = subprocess.run(["hostname", "-I"], capture_output=True, text=True, check=True).stdout.split()
+    return [address for address in listed if re.fullmatch(r"[\d.]+", address)]
+
+
 SERVE = [PAGE / "serve", "--memory", MEMORY]
 
 
@@ -54,13 +61,13 @@ class Opened(unittest.TestCase):
         self.said = [self.process.stderr.readline() for _ in range(3)]
 
     def test_what_it_opens_is_said(self):
-        self.assertTrue(self.said[0].startswith("Other machines open it at "), self.said)
+        wanted = " ".join(f"http://{address}:{self.port}/" for address in sorted(own_addresses())) or f"port {self.port} of this machine's addresses"
+        self.assertEqual(self.said[0], f"Other machines open it at {wanted}\n")
         self.assertIn(f"port {self.port}", self.said[1])
         self.assertIn("no password", self.said[2])
 
     def test_it_answers_at_this_machines_addresses_by_number_only(self):
-        own = {it[4][0] for it in socket.getaddrinfo(socket.gethostname(), None, socket.AF_INET)} - {"127.0.1.1"}
-        for address in sorted({"127.0.0.1", *own}):
+        for address in ["127.0.0.1", *own_addresses()]:
             with socket.create_connection((address, self.port), 10) as line:
                 line.sendall(f"GET / HTTP/1.1\r\nHost: {address}:{self.port}\r\nConnection: close\r\n\r\n".encode())
                 self.assertIn(b" 200 ", line.recv(64))
@@ -69,7 +76,7 @@ class Opened(unittest.TestCase):
 
     def test_the_page_works_there(self):
         """A browser of another machine has no crypto.randomUUID and no clipboard."""
-        own = sorted({it[4][0] for it in socket.getaddrinfo(socket.gethostname(), None, socket.AF_INET)} - {"127.0.0.1", "127.0.1.1"})
+        own = own_addresses()
         if not own:
             self.skipTest("this machine has no address in a network")
         browser = the_browser()

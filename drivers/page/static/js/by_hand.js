@@ -5,6 +5,7 @@ import { lineItem, widestSession } from "./columns.js";
 import { byId, el, fill, sessionClass, shown } from "./dom.js";
 import { readShown } from "./listing.js";
 import { readPossible } from "./possible.js";
+import { isTyping } from "./projector.js";
 import { placesIn } from "./script_parts.js";
 
 const TALK = `${NAME} hand`;
@@ -17,6 +18,16 @@ export class ByHand {
     Object.assign(this, { app, kept, parts: null, order: [], possible: null, explored: null, asks: 0, lines: [], answers: [] });
     byId("hand-back").addEventListener("click", () => this.back());
     byId("hand-again").addEventListener("click", () => this.show([]));
+    addEventListener("keydown", (event) => this.digit(event));
+  }
+
+  // A digit lets that session go next.
+  digit(event) {
+    if (!this.parts || byId("race").hidden || event.altKey || event.ctrlKey || event.metaKey || isTyping(event)) return;
+    const session = Number(event.key);
+    if (!this.next().some((line) => line.session === session)) return;
+    event.preventDefault();
+    this.step(session);
   }
 
   // `hand` is 0, or the sessions in the order in which they have gone, with points between them.

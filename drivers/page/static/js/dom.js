@@ -1,6 +1,8 @@
 // Elements are made of text nodes alone: nothing that comes from the program is ever read as HTML.
 import { pieces } from "./bytes.js";
 
+const ASIDE = 8; // so much beside what was moved into sight
+
 export const byId = (id) => document.getElementById(id);
 
 // An element: "tag.class.class", its properties (on.. for listeners, others as attributes), and what stands in it.
@@ -54,6 +56,13 @@ export function bringIntoView(room, element, below) {
   } else element.scrollIntoView({ block: "nearest" });
 }
 
+// Moves a room sidewards so that all of an element is seen, where it has room for it.
+export function bringAcross(room, element) {
+  const [inner, outer] = [element.getBoundingClientRect(), room.getBoundingClientRect()];
+  if (inner.right > outer.right) room.scrollLeft += inner.right - outer.right + ASIDE;
+  else if (inner.left < outer.left) room.scrollLeft -= outer.left - inner.left + ASIDE;
+}
+
 // Draws a room anew; a button in it that had the focus has it afterwards, or else the number of its line.
 export function keepingFocus(room, redraw) {
   const focused = room.contains(document.activeElement) ? document.activeElement : null;
@@ -64,5 +73,8 @@ export function keepingFocus(room, redraw) {
   const same = label ? room.querySelector(`[aria-label="${CSS.escape(label)}"]`) : null;
   (same ?? room.querySelector(`[data-line="${line}"] .here`))?.focus({ preventScroll: true });
 }
+
+// How often something came.
+export const cameText = (count) => (count === 0 ? "didn't come" : count === 1 ? "came once" : `came ${count} times`);
 
 export const sessionClass = (session) => `s${session}`;

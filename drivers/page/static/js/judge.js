@@ -5,12 +5,14 @@ import { fromText, linesOf, readable, toText } from "./bytes.js";
 import { byId, el, fill, options, printedInto, sessionClass, shown, shownLines } from "./dom.js";
 import { endingText } from "./ending.js";
 import { drawInto, save } from "./picture.js";
+import { clicked } from "./projector.js";
 import { follow, titleOf } from "./titles.js";
 import { readVerdict } from "./verdict.js";
 
 // The statuses of a verdict and of a faulty record; the others are faults of the program's.
 const JUDGED = [0, 4, 5, 6, 7];
 const MISUSED = 2;
+const PART = 0.7; // of what is seen of the picture is passed by a clicker's step
 
 const WORDS = {
   LEGAL: () => "LEGAL: an order of the statements explains all that was seen.",
@@ -35,6 +37,16 @@ export class Judge {
     byId("record-example").addEventListener("change", (event) => this.openExample(event.target.value));
     byId("play-order").addEventListener("click", () => this.app.visit("sessions", { script: fromText(readable(this.verdict.order.join("\n"))) }));
     byId("save-picture").addEventListener("click", () => save(this.picture));
+    addEventListener("keydown", (event) => this.clickerKey(event));
+  }
+
+  // A clicker moves along the picture.
+  clickerKey(event) {
+    const wanted = byId("judge").hidden || byId("verdict-room").hidden ? null : clicked(event);
+    if (!wanted) return;
+    event.preventDefault();
+    const room = byId("picture");
+    room.scrollBy({ top: (wanted === "step" ? PART : -PART) * room.clientHeight });
   }
 
   offer({ records, judged }) {

@@ -1,6 +1,6 @@
 // All that a script's lines can be answered, whatever the order of its sessions, as `xa_script explore` lists it, and which of it came.
 import { readableValue } from "./bytes.js";
-import { el, sessionClass, shown, shownLines } from "./dom.js";
+import { cameText, el, sessionClass, shown, shownLines } from "./dom.js";
 import { endOfReply } from "./listing.js";
 import { linesInOrder } from "./script_parts.js";
 
@@ -79,7 +79,7 @@ function answeredLine({ session, statement }, { reply, rows }) {
 function itemOf({ answers, order }, number, count, parts, openLines) {
   const label = `Open outcome ${number} in Sessions`;
   return el(count ? "li.came" : "li", { value: number, "data-came": count },
-    el("span.count", {}, count ? `came ${count} times` : "didn't come"),
+    el("span.count", {}, cameText(count)),
     el("button", { type: "button", title: label, "aria-label": label, onclick: () => openLines(linesInOrder(parts, order)) }, "Open in Sessions"),
     el("ul.answered", {}, parts.lines.map((line, at) => answeredLine(line, answers[at]))));
 }

@@ -2,7 +2,7 @@
 import { whole } from "./address.js";
 import { ask, Failure } from "./api.js";
 import { fromText, linesOf, toText } from "./bytes.js";
-import { byId, el, fill, keepingFocus, options, printedInto, sessionClass, shown } from "./dom.js";
+import { byId, cameText, el, fill, keepingFocus, options, printedInto, sessionClass, shown } from "./dom.js";
 import { isCaption } from "./columns.js";
 import { endingText } from "./ending.js";
 import { orderOf, readOutcome, tie } from "./outcome.js";
@@ -265,7 +265,7 @@ export class Race {
     const bar = el("span.bar");
     bar.style.setProperty("--part", found.count / most);
     return el("button.history", { type: "button", "aria-pressed": String(found.key === this.picked), "data-count": found.count,
-      "aria-label": `History of ${found.history.length} entries, by sessions ${found.history.map((it) => it.session).join(" ")}: came ${found.count} times`,
+      "aria-label": `History of ${found.history.length} entries, by sessions ${found.history.map((it) => it.session).join(" ")}: ${cameText(found.count)}`,
       onclick: () => this.choose(found) },
     el("span.count", {}, String(found.count)), bar,
     el("span.strip", {}, strip, found.history.length > STRIP ? "…" : null, found.history.length === 0 ? "no entries" : null));
@@ -295,7 +295,7 @@ export class Race {
     if (!found) return;
     const outcomes = [...found.outcomes].sort(([a, m], [b, n]) => n - m || (a < b ? -1 : 1));
     this.outcomes = outcomes.map(([text]) => text);
-    fill(byId("outcome"), outcomes.map(([, count], at) => el("option", { value: at }, `${at + 1} of ${outcomes.length}: came ${count} times`)));
+    fill(byId("outcome"), outcomes.map(([, count], at) => el("option", { value: at }, `${at + 1} of ${outcomes.length}: ${cameText(count)}`)));
     byId("outcome-choice").hidden = outcomes.length < 2;
     if (this.drawn === null) this.drawOutcome(0);
     else byId("outcome").value = this.outcomes.indexOf(this.text);

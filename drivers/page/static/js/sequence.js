@@ -111,11 +111,11 @@ export class Sequence {
     const whole = read((await ask("sequence", { ...question, width: PAGE[0], size: 14 })).svg);
     const [width, height] = ["width", "height"].map((side) => Number(whole.getAttribute(side)));
     const heads = whole.querySelector(".heads");
-    const ends = [...whole.querySelectorAll(".call")].map((call) => Number(call.dataset.bottom));
+    const ends = [...whole.querySelectorAll(".call:not(.remark, .blank)")].map((call) => Number(call.dataset.bottom)); // a remark stays with what follows it
     const made = [];
     for (let top = HEADS; top < height;) {
       const end = ends.findLast((at) => at <= top + PAGE[1]) ?? height;
-      const bottom = end <= top || height - top <= PAGE[1] ? Math.min(height, top + PAGE[1]) : end + 4;
+      const bottom = end <= top || height - top <= PAGE[1] ? Math.min(height, top + PAGE[1]) : end;
       const page = whole.cloneNode(true);
       page.querySelector(".heads").remove();
       const above = whole.cloneNode(false);

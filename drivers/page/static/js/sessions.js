@@ -4,7 +4,7 @@ import { fromText, linesOf, readableValue } from "./bytes.js";
 import { card, rowLine, rowsOf, xidText } from "./cards.js";
 import { cut, isCaption, lineItem, widestSession } from "./columns.js";
 import { enable, wire } from "./controls.js";
-import { bringIntoView, byId, el, fill, keepingFocus, options, printedInto, remarkOf, sessionClass, shown } from "./dom.js";
+import { bringAcross, bringIntoView, byId, el, fill, keepingFocus, options, printedInto, remarkOf, sessionClass, shown } from "./dom.js";
 import { readShown } from "./listing.js";
 import { Patch } from "./patch.js";
 import { Quiz } from "./quiz.js";
@@ -14,6 +14,7 @@ import { follow, titleOf } from "./titles.js";
 const FEWEST = 2;
 const MOST = 16;
 const PEEK = 70; // so much of the lines that wait is seen
+const BELOW = 12; // so much below a line that is asked about
 const FIRST_STORIES = ["two_phase_commit", "lock_conflict", "rolled_back_on_disconnect"];
 const SAMPLE = "PUT 'alice','90'";
 
@@ -184,6 +185,10 @@ export class Sessions {
       room.scrollTop = 0;
       if (lines.length) this.view.querySelector(".tools").scrollIntoView({ block: "nearest" });
     }
+    const asked = this.view.querySelector(".line.asked");
+    if (asked) bringIntoView(room, asked, BELOW);
+    const spoken = (asked ?? this.view.querySelector(".line.current"))?.querySelector(".cell");
+    if (spoken) bringAcross(room, spoken);
   }
 
   // Marks the line that was answered last, and the one that the quiz asks about.
