@@ -140,7 +140,7 @@ class Commit(View):
         cut = '#sequence .call[data-line="7"] .fail[data-store="1"]'
         self.browser.focus(cut)
         self.assertEqual(self.browser.text("#cut-says"), self.browser.one(cut).get_attribute("aria-label"))
-        self.assertIn("XA COMMIT doesn't reach store 1", self.browser.text("#cut-says"))
+        self.assertEqual(self.browser.text("#cut-says"), "Cut here: XA COMMIT doesn't reach store 1, nor does a later call of this session (FAIL 1 AFTER 0 before line 7)")
         self.browser.press(Keys.ENTER)
         self.until(lambda: self.given() == 8, "the call fails")
         self.assertEqual(self.answers()[-2:], ["OK", "UNFINISHED 1: out of memory"])
@@ -148,6 +148,8 @@ class Commit(View):
         self.assertIn("UNFINISHED 1: stopped", self.browser.text('#sequence .call[data-line="8"]'), "it is said what happened")
         self.assertEqual(self.browser.run("return document.activeElement.dataset.line"), "7", "the focus stays at the line")
         self.assertEqual(len(self.doubt()), 2)
+        self.browser.focus('#sequence .call[data-line="8"] .stop')
+        self.assertEqual(self.browser.text("#cut-says"), "Cut here: the coordinator crashes after line 8 (STOP)")
         self.browser.push('#sequence .call[data-line="8"] .stop')
         self.until(lambda: self.given() == 9, "the coordinator is stopped")
         self.assertEqual(len(self.browser.all("#sequence .cross.crash")), 1)

@@ -2,7 +2,7 @@
 import unittest
 
 from selenium.webdriver.common.keys import Keys
-from support import PAGE, ROOT
+from support import PAGE, ROOT, says
 from views import View
 
 STORY = (ROOT / "cases/show/two_phase_commit.script").read_text()
@@ -96,9 +96,25 @@ class Hall(View):
             self.at(view, **state)
             self.until(lambda state=state: self.given() == state["at"], "it is answered")
             self.until(lambda needs=needs: self.browser.run(IN_SIGHT, needs) == [True] * len(needs), f"all of {needs}")
-            rows = self.browser.run(CONTROLS, view)
-            self.assertLess(max(rows) - min(rows), 12, f"{view} has one row of tools")
+            self.assert_one_row(view)
             self.assertEqual(self.browser.run(WIDE), 0)
+
+    def assert_one_row(self, view):
+        rows = self.browser.run(CONTROLS, view)
+        self.assertLess(max(rows) - min(rows), 12, f"{view} has one row of tools")
+
+    def test_the_tools_of_each_scenario_are_one_row_at_1280(self):
+        """Also where its stops are offered."""
+        self.sized(1280, 800)
+        offered = 0
+        for path in sorted((PAGE / "scenarios").glob("*.calls")):
+            self.at("commit", calls=path.read_text(), at=2)
+            self.until(lambda: self.given() == 2, "it is answered")
+            stops = says("stops", path.read_bytes())[0].count(b"\nSTOP ")
+            offered += stops > 0
+            self.until(lambda stops=stops: len(self.browser.all("#stops option")) > stops, "its stops are offered")
+            self.assert_one_row("commit")
+        self.assertGreaterEqual(offered, 3)
 
     def test_a_telephone(self):
         self.sized(390, 844)
@@ -110,8 +126,11 @@ class Hall(View):
                 self.until(lambda: self.given() == 9, "it is answered")
                 self.browser.press(Keys.PAGE_DOWN)
                 self.until(lambda: self.given() > 9, "a step")
-                current = ".line.current" if view == "sessions" else f'#sequence .call[data-line="{self.given()}"]'
-                self.until(lambda current=current: self.browser.run(IN_SIGHT, [current]) == [True] or view == "sessions", "the step is in sight")
+                current = ".line.current .cell" if view == "sessions" else f'#sequence .call[data-line="{self.given()}"]'
+                seen = [current, f'#{view} [data-do="step"]']
+                self.until(lambda seen=seen: self.browser.run(IN_SIGHT, seen) == [True, True], "what was answered is in sight, and Step")
+                self.assertLessEqual(*self.browser.run("""return [document.querySelector(arguments[0]).getBoundingClientRect().bottom,
+                    document.querySelector(arguments[1]).closest('.tape').getBoundingClientRect().top + 1]""", *seen), "the tools aren't over it")
 
     def test_a_quiz_in_sessions(self):
         self.open(script="1 PUT 'k','v'\n2 GET 'k'\n# It is locked.\n2 PUT 'j','1'\n1 XA END 'a'", at=0)
@@ -132,6 +151,79 @@ class Hall(View):
             else:
                 self.browser.type("#sessions .quiz input", guess + Keys.ENTER)
             self.until(lambda said=said: self.browser.text("#sessions .quiz-said").startswith(said), said)
+
+    def test_what_a_quiz_asks_about_is_in_sight(self):
+        self.sized(1280, 800)
+        self.open(script=STORY, at=6)
+        self.until(lambda: self.given() == 6, "six lines")
+        self.browser.push('#sessions [data-do="quiz"]')
+        self.browser.press(Keys.PAGE_DOWN)
+        self.until(lambda: self.browser.all("#sessions .line.asked"), "it asks")
+        bottoms = "return ['#sessions .line.asked .cell', '#sessions .columns'].map((css) => document.querySelector(css).getBoundingClientRect().bottom)"
+        self.until(lambda: self.browser.run(bottoms)[0] < self.browser.run(bottoms)[1], "all of the line")
+
+    def test_the_hint_in_the_box_of_guesses_is_read_to_its_end(self):
+        self.sized(1280, 800)
+        for view, state in [("sessions", {"script": STORY, "at": 6}), ("commit", {"calls": CALLS, "at": 4})]:
+            self.at(view, **state)
+            self.until(lambda state=state: self.given() == state["at"], "it is answered")
+            self.browser.push(f'#{view} [data-do="quiz"]')
+            self.browser.press(Keys.PAGE_DOWN)
+            self.until(lambda view=view: self.browser.one(f"#{view} .quiz").is_displayed(), "it asks")
+            needs, has = self.browser.run("""const box = document.querySelector(`#${arguments[0]} .quiz input`), style = getComputedStyle(box);
+                const pen = document.createElement('canvas').getContext('2d');
+                pen.font = `${style.fontSize} ${style.fontFamily}`;
+                return [pen.measureText(box.placeholder).width, box.clientWidth - parseFloat(style.paddingLeft) - parseFloat(style.paddingRight)];""", view)
+            self.assertGreater(needs, 100)
+            self.assertLessEqual(needs, has, view)
+
+    def test_a_guess_of_an_answers_name_is_right(self):
+        """The numbers behind it needn't be guessed; a name that isn't the answer's is wrong."""
+        self.at("commit", calls="BEGIN\nDECIDE 1\nRECOVER\nBEGIN", at=0)
+        self.until(lambda: self.browser.all("#sequence .call"), "it is drawn")
+        self.browser.push('#commit [data-do="quiz"]')
+        for guess, said in [("transaction", "Right. Line 1: TRANSACTION 1 (1 of 1)"), ("wrong stage", "Right. Line 2: WRONG STAGE 1"), ("recovered", "Right. Line 3: RECOVERED"), ("ready", "No. Line 4: TRANSACTION 2 (3 of 4)")]:
+            self.browser.press(Keys.PAGE_DOWN)
+            self.until(lambda: self.browser.one("#commit .quiz").is_displayed(), "it asks")
+            self.browser.type("#commit .quiz input", guess + Keys.ENTER)
+            self.until(lambda said=said: self.browser.text("#commit .quiz-said").startswith(said), said)
+            self.browser.focus('#commit [data-do="quiz"]')
+
+    def test_a_race_by_hand_on_a_projector(self):
+        """Who goes next is asked there too, and a digit answers; a clicker steps where one session alone is left, and back."""
+        self.sized(1920, 1080)
+        self.at("race", script="1 PUT 'k','1'\n2 GET 'k'\n2 GET 'k'", hand="0")
+        self.until(lambda: len(self.browser.all("#hand-next .go-next")) == 2, "two sessions can go")
+        self.browser.press("f")
+        self.until(lambda: not self.browser.one("header").is_displayed(), "no tools")
+        self.until(lambda: self.browser.run(IN_SIGHT, ["#hand-next .go-next"]) == [True], "it is asked")
+        self.assertFalse(self.browser.one("#race .left").is_displayed())
+        self.assertEqual([it for it in self.browser.run(FONTS) if it[0] < LEAST], [])
+        self.browser.press("9")
+        self.browser.press("2")
+        self.until(lambda: self.as_printed("#hand-lines .reply") == ["NONE"], "session 2")
+        self.browser.press("1")
+        self.until(lambda: self.as_printed("#hand-lines .reply") == ["NONE", "OK"], "session 1")
+        self.browser.press(Keys.PAGE_DOWN)
+        self.until(lambda: self.as_printed("#hand-lines .reply") == ["NONE", "OK", "VALUE 0x31"], "what is left")
+        self.browser.press(Keys.PAGE_UP)
+        self.until(lambda: self.as_printed("#hand-lines .reply") == ["NONE", "OK"], "one back")
+
+    def test_a_clicker_goes_through_histories_and_along_a_record(self):
+        self.at("race", script="1 XA START 'a'\n2 XA START 'a'", runs=20, seed=1, go=1)
+        self.until(lambda: len(self.browser.all("#histories .history")) == 2 and self.browser.text("#race-progress") == "20 of 20 runs", "two histories")
+        pressed = "return [...document.querySelectorAll('#histories .history')].map((it) => it.getAttribute('aria-pressed'))"
+        for key, wanted in [(Keys.PAGE_DOWN, ["false", "true"]), (Keys.PAGE_UP, ["true", "false"])]:
+            self.browser.press(key)
+            self.until(lambda wanted=wanted: self.browser.run(pressed) == wanted, "the next one, and back")
+        self.sized(1280, 800)
+        self.at("judge", record=RECORD + "1 > GET 'k'\n1 < NONE\n" * 30, go=1)
+        self.until(lambda: self.browser.all("#picture svg"), "it is drawn")
+        down = "return document.querySelector('#picture').scrollTop"
+        self.browser.press(Keys.PAGE_DOWN)
+        self.until(lambda: self.browser.run(down) > 100, "further down")
+        self.browser.press(Keys.PAGE_UP)
+        self.until(lambda: self.browser.run(down) == 0, "and up")
 
     def test_a_quiz_of_two_phase_commit(self):
         self.at("commit", calls=CALLS, at=4)
@@ -159,6 +251,30 @@ class Hall(View):
         self.assertFalse(self.browser.one("#commit .tools").is_displayed())
         self.assertTrue(self.browser.one("#sequence-pages svg").is_displayed())
         self.assertFalse(self.browser.one("#calls-form").is_displayed())
+        style = "return getComputedStyle(document.querySelector(arguments[0]))[arguments[1]]"
+        self.assertEqual(self.browser.run(style, "#sequence-pages .paper", "fill"), "rgb(255, 255, 255)", "no ink for paper")
+        self.assertIn("hatching", self.browser.run(style, "#sequence-pages .band", "fill"), "what is in doubt is hatched")
+        self.assertGreater(self.browser.run("return document.querySelector('#hatching').getBoundingClientRect !== undefined && document.querySelectorAll('#sequence #hatching .doubt-stripe').length"), 0)
+        self.at("sessions", script=STORY)
+        self.until(lambda: self.given() == len(STORY.splitlines()), "all is answered")
+        self.assertTrue(self.browser.one("#given .here").is_displayed(), "a hand-out has the lines' numbers")
+        self.assertFalse(self.browser.one("#story-remark").is_displayed(), "the remark is among the lines")
+
+    def test_no_page_of_a_hand_out_cuts_what_is_drawn(self):
+        self.at("commit", calls=(PAGE / "scenarios/09_two_transactions_at_once.calls").read_text(), at=3, stores=5)
+        self.until(lambda: self.given() == 3, "three lines")
+        self.browser.run("""window.print = () => {
+            const pages = [...document.querySelectorAll('#sequence-pages svg > svg')].map((it) => it.getAttribute('viewBox').split(' ').map(Number));
+            window.ends = pages.slice(0, -1).map(([, top, , height]) => top + height);
+            window.boxes = [...document.querySelector('#sequence-pages svg > svg').querySelectorAll('.note-box, .label')].map((it) => { const box = it.getBBox(); return [box.y, box.y + box.height]; });
+            window.remarks = [...document.querySelector('#sequence-pages svg > svg').querySelectorAll('.call.remark')].map((it) => Number(it.dataset.bottom)); };""")
+        self.browser.push("#commit .more summary")
+        self.browser.push('#commit [data-do="print"]')
+        self.until(lambda: self.browser.run("return window.boxes?.length ?? 0") > 20, "it is printed")
+        ends, boxes, remarks = self.browser.run("return [window.ends, window.boxes, window.remarks]")
+        self.assertEqual(len(ends), 1, "two pages")
+        self.assertEqual([(end, box) for end in ends for box in boxes if box[0] + 0.5 < end < box[1] - 0.5], [])
+        self.assertEqual([end for end in ends if end in remarks], [], "a remark stays with what follows it")
 
 
 if __name__ == "__main__":

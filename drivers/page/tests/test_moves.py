@@ -54,6 +54,24 @@ class Moves(View):
         self.browser.run("history.forward()")
         self.until(lambda: self.given() == there, "forward to the other's")
 
+    def test_a_button_copies_the_link(self):
+        """Also that to a transfer of one's own, whose calls it has."""
+        self.view = "commit"
+        self.addCleanup(setattr, self, "view", "sessions")
+        self.open()
+        self.browser.push("#own-transfer summary")
+        self.browser.replace("#amount", "30")
+        self.browser.push('#transfer-form button[type="submit"]')
+        self.until(lambda: self.browser.all("#sequence .call.waiting"), "its calls wait")
+        self.browser.push("#copy-link")
+        self.until(lambda: self.browser.text("#copy-link") == "Copied", "it is copied")
+        self.browser.replace("#any-call", "")
+        self.browser.chord(Keys.CONTROL, "v")
+        link = self.browser.one("#any-call").get_property("value")
+        self.assertEqual(link, self.browser.run("return location.href"))
+        self.browser.go(link)
+        self.until(lambda: "WORK 1 0 PUT 'alice','70'" in self.browser.text("#sequence"), "who gets the link sees the calls")
+
     def test_the_focus_goes_to_step_once_a_story_is_chosen(self):
         self.open()
         self.browser.choose("#story", "lock")
@@ -71,6 +89,10 @@ class Moves(View):
         self.addCleanup(setattr, self, "view", "sessions")
         self.open(calls=CALLS, at=5)
         self.until(lambda: self.browser.text("#commit-said[aria-live=polite]") == "Line 5: PREPARE 1: READY. Branches in doubt: 2", "the answer, and what is in doubt")
+        self.browser.go(f"{self.page.address}#race?script=1+PUT+'k','v'%0a2+GET+'k'&hand=1")
+        self.until(lambda: self.browser.text("#hand-left[aria-live=polite]").startswith("Session 1: OK. "), "the answer of a race by hand")
+        self.browser.go(f"{self.page.address}#judge?record=1+>+GET+'k'%0a1+<+VALUE+'v'&go=1")
+        self.until(lambda: self.browser.text("#verdict[role=status]").startswith("ILLEGAL at line 2"), "the verdict")
 
 
 if __name__ == "__main__":

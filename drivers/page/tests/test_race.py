@@ -187,6 +187,9 @@ class Race(View):
         self.until(lambda: self.browser.text("#race-progress") == "20 of 20 runs" and self.browser.all("#possible li.came"), "all runs came back")
         came = [int(count) for count in self.browser.run("return [...document.querySelectorAll('#possible li.came')].map((it) => it.dataset.came)")]
         self.assertEqual(sum(came), 20)
+        lefts = self.browser.run("return ['#race-form', '#all-outcomes'].map((css) => document.querySelector(css).getBoundingClientRect()).map((it) => [it.left, it.right, it.top])")
+        if self.browser.run("return innerWidth") > 960:
+            self.assertLessEqual(lefts[0][1], lefts[1][0] + 1, "the outcomes stand beside the form")
         listed = self.browser.run("return [...document.querySelectorAll('#possible > li')].map((it) => [...it.querySelectorAll('.answered li')].map((line) => line.textContent))")
         explored = says("explore", script.encode(), "--text")[0].decode()
         self.assertEqual(["\n".join(f"{line.split(' ')[0]} {line.rsplit(' ', 2 if 'VALUE' in line else 1)[1]}" for line in lines).split("\n")[0] for lines in listed], ["1 OK"] * len(listed))
@@ -196,6 +199,12 @@ class Race(View):
         self.browser.push("#possible li.came button")
         self.until(lambda: self.opened() and len(self.opened()) == 4, "its lines are opened in one order")
         self.assertEqual((self.opened()[0], self.opened()[-1]), ("1 PUT 'k','1'", "3 GET 'k'"))
+
+    def test_what_came_once_is_said_so(self):
+        self.open(script="1 GET 'k'", runs=1, go=1)
+        self.until(lambda: self.browser.all("#possible li.came"), "the outcome")
+        self.assertEqual(self.browser.texts("#possible .count"), ["came once"])
+        self.assertRegex(self.browser.one("#histories .history").get_attribute("aria-label"), ": came once$")
 
     def test_a_faulty_line_behind_a_remark_has_its_own_number(self):
         self.open(script="# Two lines.\n1 PUT 'k','1'\n1 PUTT 'k'", go=1)
@@ -230,6 +239,7 @@ class Race(View):
     def test_a_blank_view_says_what_to_do(self):
         self.open()
         self.assertTrue(self.browser.one("#race-welcome").is_displayed())
+        self.assertFalse(self.browser.one("#histories-title").is_displayed(), "no heading over nothing")
         self.browser.go(f"{self.page.address}#judge")
         self.assertTrue(self.browser.one("#judge-welcome").is_displayed())
         self.browser.go(f"{self.page.address}#commit")

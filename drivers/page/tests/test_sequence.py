@@ -1,9 +1,13 @@
 """The sequence diagram: what it says of each scenario, and that nothing lies over anything else, as a file and in the page."""
 import base64
+import os
 import re
 import subprocess
+import sys
+import tempfile
 import unittest
 import xml.etree.ElementTree as ET
+from pathlib import Path
 
 from support import PAGE, PROGRAM, ask, room, says
 from views import View
@@ -106,6 +110,21 @@ class Files(unittest.TestCase):
         for words in (["--stores", "17", SCENARIOS[0]], ["--width", "9", SCENARIOS[0]], []):
             self.assertEqual(subprocess.run([PAGE / "sequence", *words], capture_output=True).returncode, 2)
 
+    def test_png_without_a_browser(self):
+        with tempfile.TemporaryDirectory() as folder:
+            file = Path(folder) / "drawn.png"
+            ran = subprocess.run([PAGE / "sequence", "--program", PROGRAM, "--png", file, SCENARIOS[0]], capture_output=True, text=True, timeout=240)
+            self.assertEqual((ran.returncode, ran.stdout, ran.stderr), (0, "", ""))
+            picture = file.read_bytes()
+            self.assertEqual(picture[:8], b"\x89PNG\r\n\x1a\n")
+            wide, high = (int.from_bytes(picture[at:at + 4], "big") for at in (16, 20))
+            svg = drawn(SCENARIOS[0])
+            self.assertEqual((wide, high), (2 * int(svg.get("width")), 2 * int(svg.get("height"))))
+            self.assertGreater(len(picture), 30_000, "it isn't blank")
+            os.symlink(sys.executable, Path(folder) / "python3")
+            without = subprocess.run([PAGE / "sequence", "--program", PROGRAM, "--png", file, SCENARIOS[0]], capture_output=True, text=True, timeout=240, env={"PATH": folder})
+            self.assertEqual((without.returncode, without.stderr), (1, "sequence: there is no rsvg-convert: install librsvg2-bin, or leave out --png and save PNG in the page\n"))
+
     def test_a_page_that_has_little_time_asks_again(self):
         lines = SCENARIOS[0].read_text().splitlines()
         with room(probe_seconds=0) as served:
@@ -149,13 +168,13 @@ class Drawn(View):
         self.assertEqual(self.browser.run("return document.documentElement.scrollWidth > innerWidth"), False, where)
 
     def test_no_label_lies_over_another(self):
-        for width, height in ((1280, 800), (1920, 1080), (390, 844)):
+        for width, height, stores in ((1280, 800, 2), (1280, 800, 5), (1920, 1080, 5), (390, 844, 5)):
             self.sized(width, height)
             for path in SCENARIOS:
-                self.open(calls=path.read_text(), stores=5)
+                self.open(calls=path.read_text(), stores=stores)
                 lines = len(path.read_text().splitlines())
                 self.until(lambda lines=lines: self.given() == lines, "all is answered")
-                self.assert_apart((width, path.stem))
+                self.assert_apart((width, stores, path.stem))
 
     def test_the_words_stand_beside_it(self):
         self.open()

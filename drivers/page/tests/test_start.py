@@ -86,7 +86,10 @@ class Opened(unittest.TestCase):
         browser.type('#entry input[name="1"]', "GET 'k'" + Keys.ENTER)
         browser.until(lambda: browser.texts("#given .reply") == ["NONE"], "it is answered")
         browser.push("#copy-link")
-        browser.until(lambda: browser.text("#copy-link") in ("Copied", "Copy the address bar"), "the link is copied")
+        browser.until(lambda: browser.text("#copy-link") == "Copied", "the link is copied")
+        browser.focus('#entry input[name="1"]')
+        browser.chord(Keys.CONTROL, "v")
+        self.assertEqual(browser.one('#entry input[name="1"]').get_property("value"), browser.run("return location.href"))
 
 
 if __name__ == "__main__":
