@@ -1,39 +1,11 @@
 """Histories of operations as records: what becomes of each operation, what the judge says of it, and which lines are refused."""
 import json
-import subprocess
-import sys
 import unittest
 
-from support import ROOT, says
-
-COMMAND = [sys.executable, ROOT / "drivers/record/from_history.py"]
+from support import NO_SESSION, Converted, converted, history, says
 
 
-def converted(text, *words):
-    ran = subprocess.run([*COMMAND, *words], input=text.encode("utf-8", "surrogateescape"), capture_output=True, timeout=60)
-    return ran.stdout.decode(), ran.stderr.decode(), ran.returncode
-
-
-def history(*operations):
-    """Lines of JSON: process, type, f, value and, maybe, what else they have."""
-    lines = []
-    for process, kind, name, value, *more in operations:
-        lines.append(json.dumps({"process": process, "type": kind, "f": name, "value": value, "time": len(lines), **(more[0] if more else {})}))
-    return "\n".join(lines) + "\n"
-
-
-class FromHistory(unittest.TestCase):
-    def record(self, text, *words):
-        """The record, without its comments."""
-        record, said, status = converted(text, *words)
-        self.assertEqual((said, status), ("", 0))
-        return [line for line in record.splitlines() if not line.startswith("#")]
-
-    def refused(self, text, cause):
-        record, said, status = converted(text)
-        self.assertEqual((record, status), ("", 2))
-        self.assertEqual(said, f"from_history: {cause}\n")
-
+class FromHistory(Converted):
     def call(self, name, value, returned=None):
         return self.record(history((0, "invoke", name, value), (0, "ok", name, value if returned is None else returned)))
 
@@ -91,16 +63,17 @@ class FromHistory(unittest.TestCase):
         self.assertEqual(self.record(text), ["1 > PUT '5',X'613b2262'", "1 < OK", "2 > GET '5'", "2 < VALUE 'on'"])
 
     def test_sixteen_sessions_and_no_more(self):
-        calls = [(process, "invoke", "read", None) for process in range(17)]
-        self.assertEqual(len(self.record(history(*calls[:16]))), 32)
-        self.refused(history(*calls), "line 17: process 16 would be session 17, and a record has 16 at most; a process after info is a new one")
+        begins, ends = ([(process, kind, "read", None) for process in range(17)] for kind in ("invoke", "ok"))
+        self.assertEqual(len(self.record(history(*begins[:16], *ends[:16]))), 32)
+        self.refused(history(*begins, *ends), f"line 17: process 16 would be session 17{NO_SESSION}")
 
     def test_lines_that_are_refused(self):
         begun = history((0, "invoke", "read", None))
         for line, cause in [
                 ("what", "not a map"), ("{", "neither JSON nor EDN"), ('{"process": 0', "neither JSON nor EDN"), ("\udcff", "neither JSON nor EDN"), ("[1]", "not a map"), ("[" * 9999, "neither JSON nor EDN"),
                 ('{"type": "ok"}', "process is a whole number or a text"), ('{"process": 1, "type": "done", "f": "read"}', "type is invoke, ok, fail or info"),
-                ('{"process": 1, "type": "invoke", "f": "txn"}', "f is 'txn', which is no statement"),
+                ('{"process": 1, "type": "invoke", "f": "txn"}', "a txn has a list of steps"),
+                ('{"process": 1, "type": "invoke", "f": "add"}', "f is 'add', and no statement does that: log it as reads and writes of rows, or judge the history by a checker that knows it"),
                 ('{"process": 0, "type": "invoke", "f": "read"}', "process 0 has an open call"), ('{"process": 1, "type": "ok", "f": "read"}', "process 1 has no open call"),
                 ('{"process": 0, "type": "ok", "f": "write"}', "f is 'write', and process 0 called 'read'"),
                 ('{"process": 0, "type": "ok", "f": "read", "value": ["k", 1]}', "the row isn't that of the call"),

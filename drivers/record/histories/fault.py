@@ -1,0 +1,5 @@
+"""Why there is no record."""
+
+
+class Fault(Exception):
+    """Why there is no record."""
