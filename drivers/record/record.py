@@ -16,6 +16,8 @@ import sys
 import threading
 import time
 
+from written import write_out
+
 try:
     import pymysql
     from pymysql.constants import COMMAND
@@ -443,7 +445,10 @@ def main():
         lines = record_of(options)
     except Fault as fault:
         sys.exit(f"record: {fault}")
-    sys.stdout.buffer.write(b"".join(line + b"\n" for line in lines))
+    try:
+        write_out(b"".join(line + b"\n" for line in lines))
+    except OSError as fault:
+        sys.exit(f"record: the record can't be written: {fault.strerror}")
 
 
 if __name__ == "__main__":

@@ -1,4 +1,5 @@
 """Who is let in, how many, how much, and what becomes of who does it wrong, while others go on."""
+import contextlib
 import os
 import signal
 import stat
@@ -229,6 +230,28 @@ class Limits(Case):
         self.assertEqual(gateway.process.wait(20), 1)
         gateway.end()
         self.assertTrue(gateway.logged("store 1 is gone, and its branches and rows with it: the history can't be written: No space left on device. The gateway ends."), gateway.log)
+
+    def assert_unwritten(self, gateway, why):
+        """The gateway ends by itself, with one line on its standard error behind those of its ports, and status 1."""
+        self.assertEqual(gateway.process.wait(20), 1)
+        gateway.end()
+        said = [line for line in gateway.log if "listens on" not in line and "connection" not in line]
+        self.assertEqual(len(said), 1, gateway.log)
+        self.assertRegex(said[0], f"can't be written: {why}")
+
+    def test_a_record_that_nobody_reads_any_more(self):
+        with tempfile.TemporaryDirectory() as folder:
+            pipe = Path(folder) / "pipe"
+            os.mkfifo(pipe)
+            reader = os.open(pipe, os.O_RDONLY | os.O_NONBLOCK)
+            try:
+                gateway = self.gateway("--record", pipe, record=False)
+            finally:
+                os.close(reader)
+            client = self.client(gateway)
+            with contextlib.suppress(Closed, ConnectionError):
+                client.ask("PUT 'k','v'")
+            self.assert_unwritten(gateway, "Broken pipe")
 
     def test_the_end(self):
         """A signal ends the gateway and its stores, with status 0; clients are cut off."""
