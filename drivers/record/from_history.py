@@ -3,9 +3,10 @@
 
     from_history.py [--key KEY] [HISTORY] > RECORD
 
-A history has an operation's begin or end on each line, with process, type (invoke, ok, fail or info), f and value: an object of JSON, or a map of EDN as
-Jepsen writes it. docs/HISTORIES.md#jepsen-histories, says what becomes of each. Where HISTORY isn't given it is the standard input. The status is 0 where a
-record was written; else 2, with the cause on the standard error. It needs Python 3.9. Nothing of it is proved.
+A history has an operation's begin or end on each line, with process, type (invoke, ok, fail or info), f and value: an
+object of JSON, or a map of EDN as Jepsen writes it. docs/HISTORIES.md#jepsen-histories, says what becomes of each. If
+HISTORY isn't given it is the standard input. The status is 0 if a record was written; else 2, with the cause on the
+standard error. It needs Python 3.9. Nothing of it is proved.
 """
 import argparse
 import sys
@@ -27,7 +28,9 @@ def read(path):
 
 def main():
     parser = argparse.ArgumentParser(prog="from_history.py", description=__doc__.split("\n", maxsplit=1)[0])
-    parser.add_argument("--key", default="x", help="the key of the one row that a history without keys is about; x where it isn't given")
+    parser.add_argument(
+        "--key", default="x", help="the key of the one row that a history without keys is about; x where it isn't given"
+    )
     parser.add_argument("history", nargs="?", metavar="HISTORY", help="the standard input where it isn't given")
     found = parser.parse_args()
     try:

@@ -1,10 +1,26 @@
 """What a process did: a call, and how it ended."""
 from .fault import Fault
-from .operation import CAS, ONE_PHASE, ROWS, TXN, WORDS, get_of, literal, put_of, read_row, shown, text_of, value_of, xid_of, xid_text
-from .transaction import READ, Transaction
+from .operation import (
+    CAS,
+    ONE_PHASE,
+    ROWS,
+    TXN,
+    WORDS,
+    get_of,
+    literal,
+    put_of,
+    read_row,
+    shown,
+    text_of,
+    value_of,
+    xid_of,
+    xid_text,
+)
+from .transaction import Transaction
 
 OK, REFUSED, NOTHING, UNKNOWN = "ok", "refused", "nothing", "unknown"  # the ends: the last but one did nothing
-GONE = (2006, 2013, 1927)  # the connection was closed by the server: CR_SERVER_GONE_ERROR, CR_SERVER_LOST, ER_CONNECTION_KILLED
+# the connection was closed by the server: CR_SERVER_GONE_ERROR, CR_SERVER_LOST, ER_CONNECTION_KILLED
+GONE = (2006, 2013, 1927)
 
 
 class Call:
@@ -12,12 +28,12 @@ class Call:
 
     def __init__(self, operation, key, branch):
         self.process, self.name, self.line = operation.process, operation.name, operation.line
-        self.key = key              # of the one row that the history is about
-        self.branch = branch        # the identifier of the branch that its session may have
-        self.end, self.end_line, self.number, self.is_gone = UNKNOWN, None, None, False
-        self.is_last = False        # of its process, before that goes on as a new session
+        self.key = key  # of the one row that the history is about
+        self.branch = branch  # the identifier of the branch that its session may have
+        self.end, self.number, self.is_gone = UNKNOWN, None, False
+        self.is_last = False  # of its process, before that goes on as a new session
         self.statement, self.answer = None, []
-        self.about = None           # the identifier, or the key
+        self.about = None  # the identifier, or the key
         self.transaction, self.is_branch = None, False
         if self.name in (CAS, TXN):
             self.transaction = Transaction(self.name, operation.value, key)
@@ -41,7 +57,6 @@ class Call:
 
     def complete(self, operation):
         """How it ended."""
-        self.end_line = operation.line
         if operation.kind == "ok":
             self.end = OK
             self.take(operation.value)
@@ -74,17 +89,20 @@ class Call:
         if not isinstance(value, list):
             raise Fault("recover returns a list of identifiers")
         rows = [xid_of(it) for it in value]
-        return [b"ROWS %d" % len(rows)] + [b"%d %d %d 0x%s" % (form, len(gtrid), len(bqual), (gtrid + bqual).hex().encode()) for gtrid, bqual, form in rows]
+        return [b"ROWS %d" % len(rows)] + [
+            b"%d %d %d 0x%s" % (form, len(gtrid), len(bqual), (gtrid + bqual).hex().encode())
+            for gtrid, bqual, form in rows
+        ]
 
     def settle(self):
         """Says which statement a transaction is, where one does and shows the same; else it is a branch, or nothing."""
         if not self.transaction:
             return
-        step = self.transaction.as_step(self.end == OK)
-        if step and self.end in (OK, UNKNOWN, REFUSED):
+        step, count = self.transaction.as_step(self.end == OK), len(self.transaction.steps)
+        if step and (self.end in (OK, UNKNOWN) or self.end == REFUSED and count == 1):
             self.statement, self.about = step.statement(), step.key
             self.answer = [step.answer()]
-        elif self.end == REFUSED or not self.transaction.steps:
+        elif self.end == REFUSED or self.end == OK and count == 0:
             self.end = NOTHING  # it is known that none of it was done
         else:
             self.is_branch = self.end != NOTHING
@@ -95,7 +113,9 @@ class Call:
             return self.branch
         if self.name in ("start", "begin"):
             return self.about
-        is_left = self.name == "disconnect" or self.name in ("prepare", ONE_PHASE, "rollback") and self.about == self.branch
+        is_left = (
+            self.name == "disconnect" or self.name in ("prepare", ONE_PHASE, "rollback") and self.about == self.branch
+        )
         return None if is_left else self.branch
 
     # rows
@@ -119,9 +139,11 @@ class Call:
 
     def is_unseen(self):
         """Whether it changes nothing, and nobody saw what it was answered."""
-        return self.end == UNKNOWN and self.branch is None and (self.is_read() or self.name in ("recover", "disconnect"))
+        return (
+            self.end == UNKNOWN and self.branch is None and (self.is_read() or self.name in ("recover", "disconnect"))
+        )
 
     def meets(self, other):
-        """Whether the order of the two may be seen: one writes a row that the other is about. What a call without an answer read isn't seen."""
+        """Whether the order of the two may be seen: one writes a row that the other is about, or saw."""
         mine, theirs = (it.changes() if it.end == UNKNOWN else it.keys() for it in (self, other))
         return bool(self.changes() & theirs or mine & other.changes())

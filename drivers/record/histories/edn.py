@@ -4,13 +4,17 @@ import re
 
 from .fault import Fault
 
-TOKEN = re.compile(r"""[\s,]+ | ;.* | (?P<open>\#\{|[\[({]) | (?P<close>[\])}]) | (?P<text>"(?:[^"\\]|\\.)*") | \#(?P<tag>[A-Za-z][\w./*+!?<>=-]*)
-    | (?P<atom>[^\s,;\[\](){}"]+)""", re.X | re.S)
+TOKEN = re.compile(
+    r"""[\s,]+ | ;.* | (?P<open>\#\{|[\[({]) | (?P<close>[\])}]) | (?P<text>"(?:[^"\\]|\\.)*")
+    | \#(?P<tag>[A-Za-z][\w./*+!?<>=-]*)
+    | (?P<atom>[^\s,;\[\](){}"]+)""",
+    re.X | re.S,
+)
 CLOSES = {"[": "]", "(": ")", "{": "}", "#{": "}"}
 
 
 class Edn:
-    """A value of EDN: keywords, symbols and texts are texts, lists, vectors and sets are lists, and tags are left out."""
+    """A value of EDN: keywords and symbols are texts, vectors and sets are lists, and tags are left out."""
 
     def __init__(self, text):
         self.text, self.at = text, 0

@@ -8,13 +8,13 @@ KNOWS = {CAS: "Knossos", "txn": "Elle"}  # a checker that knows what several sta
 
 
 class History:
-    """`events` are the begins and the ends of calls, in the order of their lines: pairs of a call, and whether it begins."""
+    """`events` are the begins and the ends of calls, by their lines: pairs of a call, and whether it begins."""
 
     def __init__(self, text, key):
         self.key = key
         self.events = []
-        self.open, self.branches = {}, {}   # of each process its open call, and the branch that it may have
-        self.last = {}                      # its last call
+        self.open, self.branches = {}, {}  # of each process its open call, and the branch that it may have
+        self.last = {}  # its last call
         for line, operation in enumerate(text.split(b"\n"), 1):
             try:
                 if operation.strip():
@@ -49,8 +49,8 @@ class History:
     # transactions
 
     def check(self):
-        """Each branch of ours is done at one moment: no other call of its time is about its rows, or there is no record."""
-        branches, others = {}, {}   # the calls that are open, or that may still take effect, by their lines
+        """Each branch of ours is done at one moment: no other call of its time may be about its rows."""
+        branches, others = {}, {}  # the calls that are open, or that may still take effect, by their lines
         for call, begins in self.events:
             if call.end == NOTHING:
                 continue
@@ -59,7 +59,10 @@ class History:
                 for other in (*branches.values(), *(others.values() if call.is_branch else ())):
                     self.check_pair(other, call)
                 if call.is_branch and call.branch is not None:
-                    raise Fault(f"line {call.line}: the {call.name} of process {call.process} stands in a branch: log its steps as operations of their own")
+                    raise Fault(
+                        f"line {call.line}: the {call.name} of process {call.process} stands in a branch: "
+                        f"log its steps as operations of their own"
+                    )
                 room[call.line] = call
             elif call.end != UNKNOWN:
                 del room[call.line]
@@ -77,8 +80,10 @@ class History:
             why = f"{what} is about the same row as line {other.line}, and nobody knows whether that was done"
         else:
             why = f"{what} overlaps line {other.line}, which is about the same row"
-        raise Fault(f"line {one.line}: {why}, so no statements stand for it; let one process at a time use a row, "
-                    f"or judge the history by a checker that knows {one.name}, such as {KNOWS[one.name]}")
+        raise Fault(
+            f"line {one.line}: {why}, so no statements stand for it; let one process at a time use a row, "
+            f"or judge the history by a checker that knows {one.name}, such as {KNOWS[one.name]}"
+        )
 
     def identifier(self, call):
         """One for the branch that stands for a call, which the history doesn't have."""
@@ -126,7 +131,10 @@ class History:
         """A transaction as a branch, all at its end. One without a known end is left out: nobody uses what it wrote."""
         if call.end == UNKNOWN:
             if begins:
-                self.lines.append(b"# The %s of line %d is left out: nobody can see whether it was done." % (call.name.encode(), call.line))
+                self.lines.append(
+                    b"# The %s of line %d is left out: nobody can see whether it was done."
+                    % (call.name.encode(), call.line)
+                )
                 self.seats.let_go(call)
         elif not begins:
             session = self.seats.take(call, at)

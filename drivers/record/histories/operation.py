@@ -8,9 +8,25 @@ from .fault import Fault
 NEMESIS = "nemesis"  # who disturbs the servers, and is no client
 TYPES = ("invoke", "ok", "fail", "info")
 # What f is called, and the statement of which it is the word; those of ROWS are about a row.
-WORDS = {"read": "GET", "get": "GET", "r": "GET", "write": "PUT", "put": "PUT", "w": "PUT", "delete": "DEL", "del": "DEL",
-         "start": "XA START", "begin": "XA START", "end": "XA END", "prepare": "XA PREPARE", "commit": "XA COMMIT",
-         "commit-one-phase": "XA COMMIT", "rollback": "XA ROLLBACK", "recover": "XA RECOVER", "disconnect": "DISCONNECT"}
+WORDS = {
+    "read": "GET",
+    "get": "GET",
+    "r": "GET",
+    "write": "PUT",
+    "put": "PUT",
+    "w": "PUT",
+    "delete": "DEL",
+    "del": "DEL",
+    "start": "XA START",
+    "begin": "XA START",
+    "end": "XA END",
+    "prepare": "XA PREPARE",
+    "commit": "XA COMMIT",
+    "commit-one-phase": "XA COMMIT",
+    "rollback": "XA ROLLBACK",
+    "recover": "XA RECOVER",
+    "disconnect": "DISCONNECT",
+}
 ONE_PHASE = "commit-one-phase"
 ROWS = ("GET", "PUT", "DEL")
 CAS, TXN = "cas", "txn"  # what several statements stand for
@@ -32,10 +48,13 @@ class Operation:
         name = str(found.get("f")).lower().replace("_", "-")
         self.name = name[3:] if name[:3] in ("xa-", "xa/") else name
         if self.name not in WORDS and self.name not in (CAS, TXN):
-            raise Fault(f"f is {self.name!r}, and no statement does that: log it as reads and writes of rows, or judge the history by a checker that knows it")
+            raise Fault(
+                f"f is {self.name!r}, and no statement does that: log it as reads and writes of rows, "
+                f"or judge the history by a checker that knows it"
+            )
 
     def number(self):
-        """The number of a refusal: `error` itself, or the number with which it or an element of it begins; None where it has none."""
+        """The number of a refusal, with which `error` or an element of it begins, or None."""
         error = self.error
         for one in error if isinstance(error, list) else [error.get("code")] if isinstance(error, dict) else [error]:
             found = NUMBER.match(str(one)) if isinstance(one, (int, str)) and not isinstance(one, bool) else None
@@ -91,7 +110,7 @@ def xid_of(value):
     if not 1 <= len(parts) <= 3:
         raise Fault("an identifier is a gtrid, or a list of gtrid, bqual and formatID")
     form = parts[2] if len(parts) == 3 else 1
-    if isinstance(form, bool) or not isinstance(form, int) or not 0 <= form < 2 ** 64:
+    if isinstance(form, bool) or not isinstance(form, int) or not 0 <= form < 2**64:
         raise Fault("a formatID is a whole number from 0 to 2^64-1")
     return text_of(parts[0], 0, "a gtrid"), text_of(parts[1], 0, "a bqual") if len(parts) > 1 else b"", form
 

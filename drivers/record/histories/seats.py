@@ -1,21 +1,20 @@
 """The sessions of a record, of which it has 16, and who has each."""
 import json
 
-from .call import OK
 from .fault import Fault
 
 MOST = 16
 
 
 class Seats:
-    """`lines` are those of the record, None for one that was taken away. `seen` has for each row the last event at which somebody may have seen it."""
+    """`lines` are those of the record, None for one taken away; `seen` has the last event that sees a row."""
 
     def __init__(self, lines, seen):
         self.lines, self.seen = lines, seen
-        self.of = {}        # each process's session
+        self.of = {}  # each process's session
         self.count = 0
-        self.free = []      # the sessions of processes that have ended, and have no branch
-        self.lost = []      # (session, call, place of its line LOST or GONE) of those whose call may be over before the end
+        self.free = []  # the sessions of processes that have ended, and have no branch
+        self.lost = []  # (session, call, place of its line LOST or GONE) of those whose call may be over before the end
 
     def take(self, call, now):
         """The process's session; it gets one where it has none."""
@@ -32,8 +31,11 @@ class Seats:
             return self.free.pop(0)
         over = next((it for it in self.lost if self.is_over(it[1], now)), None)
         if over is None:
-            raise Fault(f"line {call.line}: process {call.process} would be session {MOST + 1}, and a record has {MOST}: here each is of a process that goes on, that may have a branch, "
-                        f"or whose call is unknown and may still be seen; run fewer processes at a time, or split the history")
+            raise Fault(
+                f"line {call.line}: process {call.process} would be session {MOST + 1}, and a record has {MOST}: "
+                f"here each is of a process that goes on, that may have a branch, "
+                f"or whose call is unknown and may still be seen; run fewer processes at a time, or split the history"
+            )
         self.lost.remove(over)
         session, _, place = over
         self.lines[place] = None
@@ -41,8 +43,10 @@ class Seats:
         return session
 
     def is_over(self, call, now):
-        """Whether from now on nobody can see what became of a call without an answer: it changes nothing, or no row that is still looked at."""
-        return call.is_unseen() or (call.branch is None and bool(call.keys()) and all(self.seen.get(key, -1) < now for key in call.keys()))
+        """Whether nobody can see any more what became of a call without an answer: no call is about its row."""
+        return call.is_unseen() or (
+            call.branch is None and bool(call.keys()) and all(self.seen.get(key, -1) < now for key in call.keys())
+        )
 
     def lose(self, call, place):
         """Its process goes on as a new session."""

@@ -29,11 +29,15 @@ class Transaction:
 
     def is_same(self, other):
         """Whether the other one has these steps, whatever it read; an end with ok has to."""
-        return [(step.kind, step.key, step.value if step.kind == WRITE or self.name == CAS else None) for step in self.steps] == \
-            [(step.kind, step.key, step.value if step.kind == WRITE or self.name == CAS else None) for step in other.steps]
+        return [
+            (step.kind, step.key, step.value if step.kind == WRITE or self.name == CAS else None) for step in self.steps
+        ] == [
+            (step.kind, step.key, step.value if step.kind == WRITE or self.name == CAS else None)
+            for step in other.steps
+        ]
 
     def as_step(self, is_known):
-        """The one statement, with its answer, that does and shows the same, or None where there is none. `is_known` says whether it is known what was read."""
+        """The one step that does and shows the same, or None. `is_known` says whether it is known what was read."""
         if len(self.keys) != 1:
             return None
         first = next((step.value for step in self.steps if step.kind == READ), None)
@@ -60,8 +64,12 @@ class Transaction:
     def branch(self, xid):
         """Pairs of a statement and its answer: the steps as a branch of this identifier."""
         name = xid_text(xid)
-        return [(b"XA START " + name, b"OK"), *((step.statement(), step.answer()) for step in self.steps),
-                (b"XA END " + name, b"OK"), (b"XA COMMIT " + name + b" ONE PHASE", b"OK")]
+        return [
+            (b"XA START " + name, b"OK"),
+            *((step.statement(), step.answer()) for step in self.steps),
+            (b"XA END " + name, b"OK"),
+            (b"XA COMMIT " + name + b" ONE PHASE", b"OK"),
+        ]
 
 
 def cas_steps(value, key):
@@ -82,6 +90,9 @@ def txn_steps(value):
             raise Fault("a step of a txn is a list of f, key and value")
         kind = WORDS.get(str(step[0]).lower())
         if kind not in (READ, WRITE):
-            raise Fault(f"a step of a txn is {step[0]!r}, and statements read and write rows only: judge the history by a checker that knows it, such as Elle")
+            raise Fault(
+                f"a step of a txn is {step[0]!r}, and statements read and write rows only: "
+                f"judge the history by a checker that knows it, such as Elle"
+            )
         found.append(Step(kind, key_of(step[1]), value_of(step[2]) if kind == READ else text_of(step[2], 0, "a value")))
     return found

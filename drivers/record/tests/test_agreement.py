@@ -1,4 +1,4 @@
-"""Small histories by a generator: the judge's verdict on the record is that of trying every order of the operations themselves."""
+"""Small histories by a generator: the verdict on the record is that of trying every order of the operations."""
 import random
 import sys
 import unittest
@@ -23,7 +23,10 @@ def value_of(draw, name):
         return [draw.choice(ROWS), draw.choice(VALUES)]
     if name == "cas":
         return [draw.choice(ROWS), [draw.choice((None, *VALUES)), draw.choice(VALUES)]]
-    steps = [("r", row, None) if draw.random() < 0.5 else ("w", row, draw.choice(VALUES)) for row in draw.choices(ROWS, k=draw.randint(1, 3))]
+    steps = [
+        ("r", row, None) if draw.random() < 0.5 else ("w", row, draw.choice(VALUES))
+        for row in draw.choices(ROWS, k=draw.randint(1, 3))
+    ]
     return [list(step) for step in steps]
 
 
@@ -52,7 +55,10 @@ def other(draw, name, seen):
     if name == "read":
         return [seen[0], draw.choice((None, *VALUES)) if draw.random() < 0.2 else seen[1]]
     if name == "txn":
-        return [[kind, key, draw.choice((None, *VALUES)) if kind == "r" and draw.random() < 0.1 else said] for kind, key, said in seen]
+        return [
+            [kind, key, draw.choice((None, *VALUES)) if kind == "r" and draw.random() < 0.1 else said]
+            for kind, key, said in seen
+        ]
     return seen
 
 
@@ -85,7 +91,10 @@ def operations_of(draw, processes, count):
 
 
 def is_explained(lines):
-    """Whether the operations have an order, each between its begin and its end, in which they return what they did. One with info may take effect later, or never."""
+    """Whether the operations have an order, each between its begin and its end, in which they return what they did.
+
+    One with info may take effect later, or never.
+    """
     calls, open_calls = [], {}
     for at, (process, kind, name, value) in enumerate(lines):
         if kind == "invoke":
@@ -130,7 +139,11 @@ class Agreement(unittest.TestCase):
                 self.assertRegex(str(fault), "no statements stand for it|would be session")
                 found["refused"] += 1
                 continue
-            verdict = says("judge", record)[0].decode().split()[0] if record.strip() and not all(it.startswith(b"#") for it in record.splitlines()) else "LEGAL"
+            verdict = (
+                says("judge", record)[0].decode().split()[0]
+                if record.strip() and not all(it.startswith(b"#") for it in record.splitlines())
+                else "LEGAL"
+            )
             self.assertEqual(verdict, "LEGAL" if is_explained(lines) else "ILLEGAL", "\n".join(map(str, lines)))
             found[verdict] += 1
         return found

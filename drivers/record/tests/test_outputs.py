@@ -1,4 +1,4 @@
-"""A full disk, or a pipe that nobody reads, ends what writes records with one line on the standard error and a status that isn't 0."""
+"""A full disk, or a pipe that nobody reads, ends what writes records with one line and a status that isn't 0."""
 import os
 import subprocess
 import sys
@@ -27,18 +27,28 @@ class Outputs(unittest.TestCase):
         try:
             with open("/dev/full", "wb") as full:
                 for target, why in ((full, "No space left on device"), (writer, "Broken pipe")):
-                    ran = subprocess.run(command, input=given, stdout=target, stderr=subprocess.PIPE, text=True, timeout=60)
-                    self.assertEqual((ran.returncode, ran.stderr), (status, f"{name}: the record can't be written: {why}\n"))
+                    ran = subprocess.run(
+                        command, input=given, stdout=target, stderr=subprocess.PIPE, text=True, timeout=60
+                    )
+                    self.assertEqual(
+                        (ran.returncode, ran.stderr), (status, f"{name}: the record can't be written: {why}\n")
+                    )
         finally:
             os.close(writer)
-        ran = subprocess.run(["sh", "-c", 'exec "$@" >&-', "sh", *command], input=given, stderr=subprocess.PIPE, text=True, timeout=60)
-        self.assertEqual((ran.returncode, ran.stderr), (status, f"{name}: the record can't be written: Bad file descriptor\n"))
+        ran = subprocess.run(
+            ["sh", "-c", 'exec "$@" >&-', "sh", *command], input=given, stderr=subprocess.PIPE, text=True, timeout=60
+        )
+        self.assertEqual(
+            (ran.returncode, ran.stderr), (status, f"{name}: the record can't be written: Bad file descriptor\n")
+        )
 
     def test_from_history(self):
         self.assert_one_line(COMMAND, 2, "from_history", READS)
 
     def test_the_recorder(self):
-        self.assert_one_line([sys.executable, "-c", RECORDER, ROOT / "drivers/record", "--socket", "x", "y"], 1, "record")
+        self.assert_one_line(
+            [sys.executable, "-c", RECORDER, ROOT / "drivers/record", "--socket", "x", "y"], 1, "record"
+        )
 
     def test_serve_record(self):
         self.assert_one_line([ROOT / "scripts/serve_record", "1", "20", "2", PROGRAM], 1, "serve_record")
@@ -47,12 +57,19 @@ class Outputs(unittest.TestCase):
         with tempfile.TemporaryDirectory() as folder:
             script, race = Path(folder) / "script", Path(folder) / "race"
             script.write_text("1 PUT 'k','v'\n2 GET 'k'\n")
-            race.write_bytes(subprocess.run([PROGRAM, "race"], input=script.read_bytes(), stdout=subprocess.PIPE, check=True).stdout)
+            race.write_bytes(
+                subprocess.run([PROGRAM, "race"], input=script.read_bytes(), stdout=subprocess.PIPE, check=True).stdout
+            )
             self.assert_one_line([ROOT / "scripts/race_record", script, race], 1, "race_record")
 
     def test_a_server_that_is_not_there_or_ends(self):
-        for program, why in (("/nowhere", "/nowhere: No such file or directory"), ("/bin/true", "the server gave up before all were answered")):
-            ran = subprocess.run([ROOT / "scripts/serve_record", "1", "20", "2", program], capture_output=True, text=True, timeout=60)
+        for program, why in (
+            ("/nowhere", "/nowhere: No such file or directory"),
+            ("/bin/true", "the server gave up before all were answered"),
+        ):
+            ran = subprocess.run(
+                [ROOT / "scripts/serve_record", "1", "20", "2", program], capture_output=True, text=True, timeout=60
+            )
             self.assertEqual((ran.returncode, ran.stdout, ran.stderr), (1, "", f"serve_record: {why}\n"))
 
 

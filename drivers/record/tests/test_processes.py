@@ -1,4 +1,4 @@
-"""More than sixteen processes: a session is another's once its process has ended, or once nobody can see any more what its lost call did."""
+"""More than sixteen processes: a session is another's once nobody needs it any more."""
 import unittest
 
 from support import NO_SESSION, Converted, converted, history
@@ -32,34 +32,57 @@ class Processes(Converted):
     def test_sixteen_that_go_on_and_no_more(self):
         begun = [it for process in range(16) for it in whole(process, "read", ["k"], ["k", None])]
         again = [it for process in range(16) for it in whole(process, "read", ["k"], ["k", None])]
-        self.refused(history(*begun, *whole(16, "read", ["k"], ["k", None]), *again), f"line 33: process 16 would be session 17{NO_SESSION}")
+        self.refused(
+            history(*begun, *whole(16, "read", ["k"], ["k", None]), *again),
+            f"line 33: process 16 would be session 17{NO_SESSION}",
+        )
 
     def test_a_session_with_a_branch_is_kept(self):
-        """A branch that was prepared is nobody's, and one that was ended is none; one that is begun stays with its session."""
+        """A branch that was prepared is nobody's, and one that was ended is none; others stay with their sessions."""
         started = [it for process in range(16) for it in whole(process, "start", process)]
-        self.refused(history(*started, *whole(16, "read", None)), f"line 33: process 16 would be session 17{NO_SESSION}")
+        self.refused(
+            history(*started, *whole(16, "read", None)), f"line 33: process 16 would be session 17{NO_SESSION}"
+        )
         for ends in (("end", "prepare"), ("end", "rollback"), ("end", "commit-one-phase")):
             ended = [it for name in ends for it in whole(3, name, 3)]
             got = self.record(history(*started, *ended, *whole(16, "read", None)))
             self.assertEqual(got[-2:], ["4 > GET 'x'", "4 < NONE"], "session 4 was process 3")
             self.judged(got, "LEGAL")
-        self.assertEqual(self.record(history(*started, *whole(5, "disconnect", None), *whole(16, "read", None)))[-2:], ["6 > GET 'x'", "6 < NONE"])
-        self.refused(history(*started, *whole(3, "end", 3), *whole(3, "commit", 4), *whole(16, "read", None)), f"line 37: process 16 would be session 17{NO_SESSION}")
+        self.assertEqual(
+            self.record(history(*started, *whole(5, "disconnect", None), *whole(16, "read", None)))[-2:],
+            ["6 > GET 'x'", "6 < NONE"],
+        )
+        self.refused(
+            history(*started, *whole(3, "end", 3), *whole(3, "commit", 4), *whole(16, "read", None)),
+            f"line 37: process 16 would be session 17{NO_SESSION}",
+        )
 
     def lost(self, name, value, row="k"):
         """Sixteen processes of which the third is lost in a call, and another one that reads."""
         others = [it for process in range(16) if process != 2 for it in whole(process, "start", process)]
-        return history(*others[:4], (2, "invoke", name, value), (2, "info", name, value), *others[4:], *whole(16, "read", [row], [row, None]))
+        return history(
+            *others[:4],
+            (2, "invoke", name, value),
+            (2, "info", name, value),
+            *others[4:],
+            *whole(16, "read", [row], [row, None]),
+        )
 
     def test_a_lost_read_leaves_its_session_at_once(self):
         for name, value in (("read", ["k"]), ("recover", None), ("disconnect", None), ("txn", [["r", "k", None]])):
             got = self.record(self.lost(name, value))
-            self.assertEqual([line for line in got if line.startswith("3 ")][1:], ["3 ? ERROR nobody sees any more whether it was done", "3 > GET 'k'", "3 < NONE"])
+            self.assertEqual(
+                [line for line in got if line.startswith("3 ")][1:],
+                ["3 ? ERROR nobody sees any more whether it was done", "3 > GET 'k'", "3 < NONE"],
+            )
             self.judged(got, "LEGAL")
 
     def test_a_lost_write_leaves_its_session_once_its_row_is_looked_at_no_more(self):
         got = self.record(self.lost("write", ["j", 1]))
-        self.assertEqual([line for line in got if line.startswith("3 ")], ["3 > PUT 'j','1'", "3 ? ERROR nobody sees any more whether it was done", "3 > GET 'k'", "3 < NONE"])
+        self.assertEqual(
+            [line for line in got if line.startswith("3 ")],
+            ["3 > PUT 'j','1'", "3 ? ERROR nobody sees any more whether it was done", "3 > GET 'k'", "3 < NONE"],
+        )
         self.judged(got, "LEGAL")
         self.refused(self.lost("write", ["k", 1]), f"line 33: process 16 would be session 17{NO_SESSION}")
 
@@ -67,26 +90,57 @@ class Processes(Converted):
         """Its row is read before its session is another's: 1 and nothing may be seen, and 2 may not."""
         others = [it for process in range(14) for it in whole(process, "start", process)]
         for seen, verdict in (1, "LEGAL"), (None, "LEGAL"), (2, "ILLEGAL line 31"):
-            lost, sees = ((20, "invoke", "write", ["k", 1]), (20, "info", "write", ["k", 1])), whole(21, "read", ["k"], ["k", seen])
-            got = self.record(history(*lost, *others, *sees, *whole(22, "read", ["j"], ["j", None]), *whole(21, "read", ["i"], ["i", None])))
+            lost, sees = ((20, "invoke", "write", ["k", 1]), (20, "info", "write", ["k", 1])), whole(
+                21, "read", ["k"], ["k", seen]
+            )
+            got = self.record(
+                history(
+                    *lost,
+                    *others,
+                    *sees,
+                    *whole(22, "read", ["j"], ["j", None]),
+                    *whole(21, "read", ["i"], ["i", None]),
+                )
+            )
             self.assertEqual(got[0], "1 > PUT 'k','1'")
-            self.assertEqual(got[-5:-2], ["1 ? ERROR nobody sees any more whether it was done", "1 > GET 'j'", "1 < NONE"])
+            self.assertEqual(
+                got[-5:-2], ["1 ? ERROR nobody sees any more whether it was done", "1 > GET 'j'", "1 < NONE"]
+            )
             self.judged(got, verdict)
 
     def test_a_lost_call_of_a_session_with_a_branch_keeps_it(self):
         others = [it for process in range(15) for it in whole(process, "start", process)]
-        self.refused(history(*whole(20, "start", "a"), (20, "invoke", "read", ["k"]), (20, "info", "read", ["k"]), *others, *whole(21, "read", ["j"], ["j", None])),
-                     f"line 35: process 21 would be session 17{NO_SESSION}")
+        self.refused(
+            history(
+                *whole(20, "start", "a"),
+                (20, "invoke", "read", ["k"]),
+                (20, "info", "read", ["k"]),
+                *others,
+                *whole(21, "read", ["j"], ["j", None]),
+            ),
+            f"line 35: process 21 would be session 17{NO_SESSION}",
+        )
 
     def test_a_connection_that_the_server_closed_is_gone(self):
-        """Its branch may be rolled back already before the call: another session has its row, which is LEGAL only so."""
+        """Its branch may be rolled back before the call: another session has its row, which is LEGAL only so."""
         for number, word in ((2006, "GONE"), (2013, "GONE"), (1927, "GONE"), (1205, "LOST"), (70000, "LOST")):
-            text = history(*whole(0, "start", "a"), *whole(0, "write", ["k", 1]), (0, "invoke", "read", ["k"]), *whole(1, "write", ["k", 2]), (0, "info", "read", None, {"error": number}))
+            text = history(
+                *whole(0, "start", "a"),
+                *whole(0, "write", ["k", 1]),
+                (0, "invoke", "read", ["k"]),
+                *whole(1, "write", ["k", 2]),
+                (0, "info", "read", None, {"error": number}),
+            )
             got = self.record(text)
             self.assertEqual(got[4:], ["1 > GET 'k'", f"1 ! {word}", "2 > PUT 'k','2'", "2 < OK"])
         begun = [*whole(0, "start", "a"), *whole(0, "write", ["k", 1]), *whole(1, "write", ["k", 2])]
         for number, verdict in ((2013, "LEGAL"), (1205, "ILLEGAL line 6")):
-            self.judged(self.record(history(*begun, (0, "invoke", "read", ["k"]), (0, "info", "read", None, {"error": number}))), verdict)
+            self.judged(
+                self.record(
+                    history(*begun, (0, "invoke", "read", ["k"]), (0, "info", "read", None, {"error": number}))
+                ),
+                verdict,
+            )
 
 
 if __name__ == "__main__":
