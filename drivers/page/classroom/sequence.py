@@ -315,8 +315,9 @@ class Sequence:
         asks, answers = self.terms(it, said)
         runs = [Run("term", asks)] if asks else []
         for one in said:
-            cut = Button("fail", f"Cut here: {one.text.decode('latin-1')} doesn't reach store {store}, nor does a later call of this session"
-                         f" (FAIL {store} AFTER {one.call} before line {line})", line=line, store=store, call=one.call)
+            says = (f"Cut here: {one.text.decode('latin-1')} doesn't reach store {store}, nor does a later call of this session"
+                    f" (FAIL {store} AFTER {one.call} before line {line})")
+            cut = Button("fail", says, line=line, store=store, call=one.call)
             runs += [*([] if self.is_file else [Run("cut-sign", "✂", cut)]), Run("statement" if one.is_answered else "statement stopped", one.text + (b"," if one is not said[-1] else b""))]
             if len(said) > 1 and one is not said[-1] and one.is_answered and one.answer not in (b"", b"OK"):
                 runs.append(Run("reply", one.answer))
@@ -366,7 +367,8 @@ class Sequence:
         elif it.kind == STRANGER and it.first.startswith(b"ERROR 3572") and any(map(transaction_of, it.behind.prepared.get(it.store, []))):
             runs.append(Run("reason", "a branch is in doubt here, and keeps its locks"))
         if it.kind != STRANGER and not self.is_file:
-            runs.append(Run("cut-sign", "✂", Button("stop", f"Cut here: the coordinator crashes after line {line} (STOP)", line=line)))
+            says = f"Cut here: the coordinator crashes after line {line} (STOP)"
+            runs.append(Run("cut-sign", "✂", Button("stop", says, line=line)))
         for more in lines[1:]:
             self.row([Run("reply", readable_row(more))], self.gutter + self.step)
         self.message(sender, receiver, runs, "answer fails" if it.is_bad() else "answer")

@@ -140,7 +140,8 @@ class Commit(View):
         cut = '#sequence .call[data-line="7"] .fail[data-store="1"]'
         self.browser.focus(cut)
         self.assertEqual(self.browser.text("#cut-says"), self.browser.one(cut).get_attribute("aria-label"))
-        self.assertEqual(self.browser.text("#cut-says"), "Cut here: XA COMMIT doesn't reach store 1, nor does a later call of this session (FAIL 1 AFTER 0 before line 7)")
+        self.assertEqual(self.browser.text("#cut-says"), "Cut here: XA COMMIT doesn't reach store 1, nor does a later call of this session "
+                         "(FAIL 1 AFTER 0 before line 7)")
         self.browser.press(Keys.ENTER)
         self.until(lambda: self.given() == 8, "the call fails")
         self.assertEqual(self.answers()[-2:], ["OK", "UNFINISHED 1: out of memory"])

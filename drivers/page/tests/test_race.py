@@ -187,9 +187,9 @@ class Race(View):
         self.until(lambda: self.browser.text("#race-progress") == "20 of 20 runs" and self.browser.all("#possible li.came"), "all runs came back")
         came = [int(count) for count in self.browser.run("return [...document.querySelectorAll('#possible li.came')].map((it) => it.dataset.came)")]
         self.assertEqual(sum(came), 20)
-        lefts = self.browser.run("return ['#race-form', '#all-outcomes'].map((css) => document.querySelector(css).getBoundingClientRect()).map((it) => [it.left, it.right, it.top])")
-        if self.browser.run("return innerWidth") > 960:
-            self.assertLessEqual(lefts[0][1], lefts[1][0] + 1, "the outcomes stand beside the form")
+        form, outcomes = self.browser.run("""const box = (css) => document.querySelector(css).getBoundingClientRect();
+            return [box('#race-form').right, box('#all-outcomes').left]""")
+        self.assertLessEqual(form, outcomes + 1, "the outcomes stand beside the form")
         listed = self.browser.run("return [...document.querySelectorAll('#possible > li')].map((it) => [...it.querySelectorAll('.answered li')].map((line) => line.textContent))")
         explored = says("explore", script.encode(), "--text")[0].decode()
         self.assertEqual(["\n".join(f"{line.split(' ')[0]} {line.rsplit(' ', 2 if 'VALUE' in line else 1)[1]}" for line in lines).split("\n")[0] for lines in listed], ["1 OK"] * len(listed))

@@ -113,7 +113,8 @@ class Files(unittest.TestCase):
     def test_png_without_a_browser(self):
         with tempfile.TemporaryDirectory() as folder:
             file = Path(folder) / "drawn.png"
-            ran = subprocess.run([PAGE / "sequence", "--program", PROGRAM, "--png", file, SCENARIOS[0]], capture_output=True, text=True, timeout=240)
+            command = [PAGE / "sequence", "--program", PROGRAM, "--png", file, SCENARIOS[0]]
+            ran = subprocess.run(command, capture_output=True, text=True, timeout=240)
             self.assertEqual((ran.returncode, ran.stdout, ran.stderr), (0, "", ""))
             picture = file.read_bytes()
             self.assertEqual(picture[:8], b"\x89PNG\r\n\x1a\n")
@@ -122,8 +123,9 @@ class Files(unittest.TestCase):
             self.assertEqual((wide, high), (2 * int(svg.get("width")), 2 * int(svg.get("height"))))
             self.assertGreater(len(picture), 30_000, "it isn't blank")
             os.symlink(sys.executable, Path(folder) / "python3")
-            without = subprocess.run([PAGE / "sequence", "--program", PROGRAM, "--png", file, SCENARIOS[0]], capture_output=True, text=True, timeout=240, env={"PATH": folder})
-            self.assertEqual((without.returncode, without.stderr), (1, "sequence: there is no rsvg-convert: install librsvg2-bin, or leave out --png and save PNG in the page\n"))
+            without = subprocess.run(command, capture_output=True, text=True, timeout=240, env={"PATH": folder})
+            advice = "sequence: there is no rsvg-convert: install librsvg2-bin, or leave out --png and save PNG in the page\n"
+            self.assertEqual((without.returncode, without.stderr), (1, advice))
 
     def test_a_page_that_has_little_time_asks_again(self):
         lines = SCENARIOS[0].read_text().splitlines()

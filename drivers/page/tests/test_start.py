@@ -61,7 +61,8 @@ class Opened(unittest.TestCase):
         self.said = [self.process.stderr.readline() for _ in range(3)]
 
     def test_what_it_opens_is_said(self):
-        wanted = " ".join(f"http://{address}:{self.port}/" for address in sorted(own_addresses())) or f"port {self.port} of this machine's addresses"
+        own = " ".join(f"http://{address}:{self.port}/" for address in sorted(own_addresses()))
+        wanted = own or f"port {self.port} of this machine's addresses"
         self.assertEqual(self.said[0], f"Other machines open it at {wanted}\n")
         self.assertIn(f"port {self.port}", self.said[1])
         self.assertIn("no password", self.said[2])

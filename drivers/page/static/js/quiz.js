@@ -3,18 +3,18 @@ import { el, fill, shown } from "./dom.js";
 
 const plain = (text) => text.trim().replace(/;$/, "").replace(/\s+/g, " ").toUpperCase();
 
-// The words that a coordinator's answer begins with, of which the numbers behind them needn't be guessed: WRONG STAGE, UNFINISHED, RECOVERED.
+// The words that a coordinator's answer begins with, as WRONG STAGE or RECOVERED: the numbers behind them needn't be guessed.
 const NAMED = /^(?!VALUE|ROWS)[A-Z]+(?: [A-Z]+)*(?=:| [\da-z]|$)/;
 
-// Whether a guess is this answer: as it is printed or as it is shown, by its number where it is an error, or by the words that name it.
+// Whether a guess is this answer: as it is printed or as it is shown, by an error's number, or by the words that name it.
 export function isRight(guess, printed, read) {
   const said = plain(guess);
   if (said === "") return false;
   const error = /^ERROR (\d+)/.exec(printed);
   if (error) return said === "ERROR" || said === "REFUSED" || (/\d+/.exec(said) ?? [""])[0] === error[1];
   const value = /^VALUE (.*)$/s.exec(read);
-  const named = NAMED.exec(printed);
-  return [printed, read, ...(value ? [value[1], value[1].replace(/^'|'$/g, "")] : []), ...(named ? [named[0]] : [])].some((answer) => plain(answer) === said);
+  const values = value ? [value[1], value[1].replace(/^'|'$/g, "")] : [];
+  return [printed, read, ...values, ...(NAMED.exec(printed) ?? [])].some((answer) => plain(answer) === said);
 }
 
 export class Quiz {
@@ -23,7 +23,8 @@ export class Quiz {
     Object.assign(this, { tape, answerAt, changed, isOn: false, asked: null, right: 0, count: 0 });
     this.toggler = view.querySelector('[data-do="quiz"]');
     this.line = el("span.asked");
-    this.input = el("input", { type: "text", spellcheck: "false", autocapitalize: "off", "aria-label": "Your guess", placeholder: view.dataset.guess });
+    this.input = el("input", { type: "text", spellcheck: "false", autocapitalize: "off", "aria-label": "Your guess",
+      placeholder: view.dataset.guess });
     this.form = el("form.quiz", { hidden: true, autocomplete: "off" }, el("label", {}, this.line, this.input),
       el("button.main", { type: "submit" }, "Guess"), el("button.reveal", { type: "button", onclick: () => this.reveal(null) }, "Show the answer"));
     this.said = el("p.quiz-said", { role: "status", "aria-live": "polite" });

@@ -111,7 +111,8 @@ export class Sequence {
     const whole = read((await ask("sequence", { ...question, width: PAGE[0], size: 14 })).svg);
     const [width, height] = ["width", "height"].map((side) => Number(whole.getAttribute(side)));
     const heads = whole.querySelector(".heads");
-    const ends = [...whole.querySelectorAll(".call:not(.remark, .blank)")].map((call) => Number(call.dataset.bottom)); // a remark stays with what follows it
+    // a remark stays with what follows it
+    const ends = [...whole.querySelectorAll(".call:not(.remark, .blank)")].map((call) => Number(call.dataset.bottom));
     const made = [];
     for (let top = HEADS; top < height;) {
       const end = ends.findLast((at) => at <= top + PAGE[1]) ?? height;
