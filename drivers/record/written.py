@@ -1,4 +1,4 @@
-"""Writes a record to the standard output, whole or with a word of what is in the way."""
+"""Writes to the standard output."""
 import os
 
 

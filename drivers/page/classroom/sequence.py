@@ -212,7 +212,7 @@ class Sequence:
             (self.draw_crash if it.kind == CRASH else self.draw_call)(it)
         self.follow_doubt(it)
         number = self.number(it, top) if it.kind not in CAPTIONS else []
-        if it.kind not in CAPTIONS and it.place == self.at - 1 - self.captions_behind():
+        if not self.is_file and it.kind not in CAPTIONS and it.place == self.at - 1 - self.captions_behind():
             self.current = element("rect", {"class_": "current", "x": 0, "y": top, "width": self.width, "height": self.y - top})
         kind = " waiting" if it.answer is None and not (self.asked and it.place == self.next()) else ""
         made, self.marks = self.marks[before:], self.marks[:before]

@@ -55,6 +55,7 @@ class Files(unittest.TestCase):
                 answers = [it.get("data-answer") for it in svg.iter(f"{SVG}g") if it.get("data-answer") is not None]
                 self.assertEqual("\n".join(answers) + "\n", says("coordinate", path.read_bytes(), "--text")[0].decode())
                 self.assertFalse([it for it in svg.iter() if it.get("role") == "button"], "a file has no buttons")
+                self.assertFalse([it for it in svg.iter() if it.get("class") == "current"], "nor a current line")
                 for word in WORDS:
                     self.assertIn(word, said(svg))
 

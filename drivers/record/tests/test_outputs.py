@@ -1,4 +1,4 @@
-"""A full disk, or a pipe that nobody reads, ends what writes records with one line and a status that isn't 0."""
+"""A full disk, or a pipe that nobody reads, ends what writes records or draws with one line and a status."""
 import os
 import subprocess
 import sys
@@ -20,7 +20,7 @@ record.main()
 
 
 class Outputs(unittest.TestCase):
-    def assert_one_line(self, command, status, name, given=None):
+    def assert_one_line(self, command, status, name, given=None, what="record"):
         """Also where the standard output is closed."""
         reader, writer = os.pipe()
         os.close(reader)
@@ -31,7 +31,7 @@ class Outputs(unittest.TestCase):
                         command, input=given, stdout=target, stderr=subprocess.PIPE, text=True, timeout=60
                     )
                     self.assertEqual(
-                        (ran.returncode, ran.stderr), (status, f"{name}: the record can't be written: {why}\n")
+                        (ran.returncode, ran.stderr), (status, f"{name}: the {what} can't be written: {why}\n")
                     )
         finally:
             os.close(writer)
@@ -39,7 +39,7 @@ class Outputs(unittest.TestCase):
             ["sh", "-c", 'exec "$@" >&-', "sh", *command], input=given, stderr=subprocess.PIPE, text=True, timeout=60
         )
         self.assertEqual(
-            (ran.returncode, ran.stderr), (status, f"{name}: the record can't be written: Bad file descriptor\n")
+            (ran.returncode, ran.stderr), (status, f"{name}: the {what} can't be written: Bad file descriptor\n")
         )
 
     def test_from_history(self):
@@ -61,6 +61,14 @@ class Outputs(unittest.TestCase):
                 subprocess.run([PROGRAM, "race"], input=script.read_bytes(), stdout=subprocess.PIPE, check=True).stdout
             )
             self.assert_one_line([ROOT / "scripts/race_record", script, race], 1, "race_record")
+
+    def test_drawings(self):
+        page = ROOT / "drivers/page"
+        for name, what, file in (
+            ("picture", "picture", "records/dirty_read.record"),
+            ("sequence", "diagram", "scenarios/01_all_yes.calls"),
+        ):
+            self.assert_one_line([page / name, "--program", PROGRAM, page / file], 1, name, what=what)
 
     def test_a_server_that_is_not_there_or_ends(self):
         for program, why in (
