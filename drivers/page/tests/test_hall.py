@@ -132,6 +132,17 @@ class Hall(View):
                 self.assertLessEqual(*self.browser.run("""return [document.querySelector(arguments[0]).getBoundingClientRect().bottom,
                     document.querySelector(arguments[1]).closest('.tape').getBoundingClientRect().top + 1]""", *seen), "the tools aren't over it")
 
+    def test_a_race_by_hand_on_a_telephone(self):
+        self.sized(390, 844)
+        self.at("race", script="1 PUT 'k','1'\n2 GET 'k'\n3 GET 'k'", hand="0")
+        self.until(lambda: len(self.browser.all("#hand-next .go-next")) == 3, "three sessions can go")
+        for session in ("3", "1"):
+            before = len(self.browser.all("#hand-lines .reply"))
+            self.browser.push(f'#hand-next [data-session="{session}"]')
+            self.until(lambda before=before: len(self.browser.all("#hand-lines .reply")) == before + 1, "it is answered")
+            self.until(lambda: self.browser.run(IN_SIGHT, ["#hand-lines .line.current .cell"]) == [True], "the answer is in sight")
+            self.assertEqual(self.browser.run(WIDE), 0)
+
     def test_a_quiz_in_sessions(self):
         self.open(script="1 PUT 'k','v'\n2 GET 'k'\n# It is locked.\n2 PUT 'j','1'\n1 XA END 'a'", at=0)
         self.browser.push('#sessions [data-do="quiz"]')

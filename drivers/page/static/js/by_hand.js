@@ -2,7 +2,7 @@
 import { ask, Failure, NAME } from "./api.js";
 import { readableValue } from "./bytes.js";
 import { lineItem, widestSession } from "./columns.js";
-import { byId, el, fill, sessionClass, shown } from "./dom.js";
+import { bringAcross, byId, el, fill, sessionClass, shown } from "./dom.js";
 import { readShown } from "./listing.js";
 import { readPossible } from "./possible.js";
 import { isTyping } from "./projector.js";
@@ -114,7 +114,9 @@ export class ByHand {
         el("strong", {}, String(session)), " ", shown(statement, "bdi.statement"))));
     byId("hand-back").disabled = byId("hand-again").disabled = this.order.length === 0;
     fill(byId("hand-left"), this.says(places, answers, isDone));
-    byId("hand-lines").lastElementChild?.scrollIntoView({ block: "nearest" });
+    const last = byId("hand-lines").lastElementChild;
+    last?.scrollIntoView({ block: "nearest" });
+    if (last?.querySelector(".cell")) bringAcross(byId("hand-lines").parentElement, last.querySelector(".cell"));
   }
 
   async step(session) {
