@@ -1,4 +1,6 @@
 """A history of operations, and the record that it becomes."""
+from collections import defaultdict
+
 from .call import NOTHING, OK, UNKNOWN, Call
 from .fault import Fault
 from .operation import CAS, operation_of
@@ -50,22 +52,22 @@ class History:
 
     def check(self):
         """Each branch of ours is done at one moment: no other call of its time may be about its rows."""
-        branches, others = {}, {}  # the calls that are open, or that may still take effect, by their lines
+        # of each row the calls about it that are open, or that may still take effect: our branches, and the others
+        now = defaultdict(lambda: ({}, {}))
         for call, begins in self.events:
-            if call.end == NOTHING:
-                continue
-            room = branches if call.is_branch else others
-            if begins:
-                for other in (*branches.values(), *(others.values() if call.is_branch else ())):
-                    self.check_pair(other, call)
-                if call.is_branch and call.branch is not None:
-                    raise Fault(
-                        f"line {call.line}: the {call.name} of process {call.process} stands in a branch: "
-                        f"log its steps as operations of their own"
-                    )
-                room[call.line] = call
-            elif call.end != UNKNOWN:
-                del room[call.line]
+            if begins and call.is_branch and call.branch is not None:
+                raise Fault(
+                    f"line {call.line}: the {call.name} of process {call.process} stands in a branch: "
+                    f"log its steps as operations of their own"
+                )
+            for key in call.keys():
+                branches, others = now[key]
+                if begins:
+                    for other in (*branches.values(), *(others.values() if call.is_branch else ())):
+                        self.check_pair(other, call)
+                    (branches if call.is_branch else others)[call.line] = call
+                elif call.end != UNKNOWN:
+                    del (branches if call.is_branch else others)[call.line]
 
     @staticmethod
     def check_pair(earlier, later):
