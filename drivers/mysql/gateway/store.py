@@ -17,10 +17,6 @@ class Gone(Exception):
     """The store's process has ended, or says what no store says."""
 
 
-def unwritten(fault: OSError) -> str:
-    return f"its record or history can't be written: {fault.strerror}"
-
-
 @dataclass(slots=True)
 class Question:
     """A line that isn't answered yet."""
