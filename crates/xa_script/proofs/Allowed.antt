@@ -1,5 +1,5 @@
 -- What all that a reader gives allows.
-use Rattle.std.proofs.Common.{◌≡◌, ◌++◌, ◌∙◌, ℕ, Option, Some, None, List, IfSome, ap, sym, subst, append-nil}
+use Rattle.std.proofs.Common.{◌++◌, ◌∙◌, ℕ, Option, Some, None, List, IfSome, ap, sym, subst, append-nil}
 use Rattle.std.specs.Io.KnownBytes.{Consumes, IsAtEnd}
 
 -- what holds of the bytes that were read up to the end holds of all that the reader had

@@ -1,6 +1,8 @@
 pub mod Allowed
+pub mod Audited
 pub mod CommandFaults
 pub mod MannerFound
+pub mod NamedAudits
 pub mod NamedCalls
 pub mod NamedJobs
 pub mod NamedLimits

@@ -1,5 +1,5 @@
 -- When the matches of a command line name calls, or the stops of their coordinator.
-use Rattle.std.proofs.Common.{◌≡◌, ◌∙◌, ℕ, refl, sym, ap, subst, List, Option, Some, None, codes, length, arith}
+use Rattle.std.proofs.Common.{◌≡◌, ◌∙◌, refl, sym, ap, subst, List, Option, Some, None, codes, length, arith}
 use Rattle.std.specs.Prelude.{IfSome}
 use Rattle.std.specs.Option.{IsSomeAnd}
 use Rattle.clap.specs.Words.{Text, Row, one_of, one_text, found_of, rows_of, subcommand_rows_of}
@@ -7,7 +7,7 @@ use Rattle.clap.specs.declared.parser.matches.ArgMatches.{ArgMatches}
 use Rattle.clap.proofs.WalkLemmas.{one_text-rows}
 use Rattle.xa_script.specs.CommandLine.{IsCoordinateOf, IsStopsOf, IsJob}
 use Rattle.xa_script.specs.declared.command.Job.{Job}
-use Rattle.xa_script.specs.declared.command.Job.TheVariants.{Run, Race, Coordinate, Serve, Show, Judge, Explore, Stops}
+use Rattle.xa_script.specs.declared.command.Job.TheVariants.{Run, Race, Coordinate, Serve, Show, Judge, Explore, Stops, Audit}
 use Rattle.xa_script.proofs.NamedJobs.{at_found, same_byte}
 
 -- the calls over as many stores, with as much room, as two values' texts say
@@ -16,6 +16,7 @@ coordinates : (m found : ArgMatches) (name : Text) (job : Job) → subcommand_ro
 coordinates m found name Run is named of = absurd of
 coordinates m found name Serve is named of = absurd of
 coordinates m found name Show is named of = absurd of
+coordinates m found name (Audit object) is named of = absurd of
 coordinates m found name (Race capacity schedule renews runs) is named of = absurd of
 coordinates m found name (Judge limit explain json) is named of = absurd of
 coordinates m found name (Explore limit) is named of = absurd of
@@ -44,6 +45,9 @@ no_coordinates m found name is named none Run h =
     absurd (omega (arith, ap length e))
 no_coordinates m found name is named none Serve h =
     let e : codes "coordinate" ≡ codes "serve" = sym named ∙ at_found m name (rows_of (found_of found)) Serve is h in
+    absurd (omega (arith, ap length e))
+no_coordinates m found name is named none (Audit object) h =
+    let e : codes "coordinate" ≡ codes "audit" = sym named ∙ (at_found m name (rows_of (found_of found)) (Audit object) is h).0 in
     absurd (omega (arith, ap length e))
 no_coordinates m found name is named none Show h =
     let e : codes "coordinate" ≡ codes "show" = sym named ∙ at_found m name (rows_of (found_of found)) Show is h in
@@ -76,6 +80,7 @@ stops : (m found : ArgMatches) (name : Text) (job : Job) → subcommand_rows_of 
 stops m found name Run is named of = absurd of
 stops m found name Serve is named of = absurd of
 stops m found name Show is named of = absurd of
+stops m found name (Audit object) is named of = absurd of
 stops m found name (Race capacity schedule renews runs) is named of = absurd of
 stops m found name (Coordinate stores capacity fixed) is named of = absurd of
 stops m found name (Judge limit explain json) is named of = absurd of
@@ -103,6 +108,9 @@ no_stops m found name is named none Run h =
 no_stops m found name is named none Serve h =
     let e : codes "stops" ≡ codes "serve" = sym named ∙ at_found m name (rows_of (found_of found)) Serve is h in
     absurd (omega (arith, same_byte 1 (codes "stops") (codes "serve") 116 101 e refl refl))
+no_stops m found name is named none (Audit object) h =
+    let e : codes "stops" ≡ codes "audit" = sym named ∙ (at_found m name (rows_of (found_of found)) (Audit object) is h).0 in
+    absurd (omega (arith, same_byte 0 (codes "stops") (codes "audit") 115 97 e refl refl))
 no_stops m found name is named none Show h =
     let e : codes "stops" ≡ codes "show" = sym named ∙ at_found m name (rows_of (found_of found)) Show is h in
     absurd (omega (arith, ap length e))

@@ -7,7 +7,7 @@ use Rattle.clap.specs.declared.parser.matches.ArgMatches.{ArgMatches}
 use Rattle.clap.proofs.WalkLemmas.{one_text-rows}
 use Rattle.xa_script.specs.CommandLine.{IsLimitText, IsJudgeOf, IsExploreOf, IsJob}
 use Rattle.xa_script.specs.declared.command.Job.{Job}
-use Rattle.xa_script.specs.declared.command.Job.TheVariants.{Run, Race, Coordinate, Serve, Show, Judge, Explore, Stops}
+use Rattle.xa_script.specs.declared.command.Job.TheVariants.{Run, Race, Coordinate, Serve, Show, Judge, Explore, Stops, Audit}
 use Rattle.xa_script.proofs.NamedJobs.{at_found, same_byte}
 
 -- judging with the limit that a value's text says, and as two others say
@@ -16,6 +16,7 @@ judges : (m found : ArgMatches) (name : Text) (job : Job) → subcommand_rows_of
 judges m found name Run is named of = absurd of
 judges m found name Serve is named of = absurd of
 judges m found name Show is named of = absurd of
+judges m found name (Audit object) is named of = absurd of
 judges m found name (Race capacity schedule renews runs) is named of = absurd of
 judges m found name (Coordinate stores capacity fixed) is named of = absurd of
 judges m found name (Explore limit) is named of = absurd of
@@ -45,6 +46,9 @@ no_judge m found name is named none Run h =
 no_judge m found name is named none Serve h =
     let e : codes "judge" ≡ codes "serve" = sym named ∙ at_found m name (rows_of (found_of found)) Serve is h in
     absurd (omega (arith, same_byte 0 (codes "judge") (codes "serve") 106 115 e refl refl))
+no_judge m found name is named none (Audit object) h =
+    let e : codes "judge" ≡ codes "audit" = sym named ∙ (at_found m name (rows_of (found_of found)) (Audit object) is h).0 in
+    absurd (omega (arith, same_byte 0 (codes "judge") (codes "audit") 106 97 e refl refl))
 no_judge m found name is named none Show h =
     let e : codes "judge" ≡ codes "show" = sym named ∙ at_found m name (rows_of (found_of found)) Show is h in
     absurd (omega (arith, ap length e))
@@ -70,6 +74,7 @@ explores : (m found : ArgMatches) (name : Text) (job : Job) → subcommand_rows_
 explores m found name Run is named of = absurd of
 explores m found name Serve is named of = absurd of
 explores m found name Show is named of = absurd of
+explores m found name (Audit object) is named of = absurd of
 explores m found name (Race capacity schedule renews runs) is named of = absurd of
 explores m found name (Coordinate stores capacity fixed) is named of = absurd of
 explores m found name (Judge limit explain json) is named of = absurd of
@@ -94,6 +99,9 @@ no_explore m found name is named none Run h =
     absurd (omega (arith, ap length e))
 no_explore m found name is named none Serve h =
     let e : codes "explore" ≡ codes "serve" = sym named ∙ at_found m name (rows_of (found_of found)) Serve is h in
+    absurd (omega (arith, ap length e))
+no_explore m found name is named none (Audit object) h =
+    let e : codes "explore" ≡ codes "audit" = sym named ∙ (at_found m name (rows_of (found_of found)) (Audit object) is h).0 in
     absurd (omega (arith, ap length e))
 no_explore m found name is named none Show h =
     let e : codes "explore" ≡ codes "show" = sym named ∙ at_found m name (rows_of (found_of found)) Show is h in

@@ -7,7 +7,7 @@ use Rattle.clap.specs.declared.parser.matches.ArgMatches.{ArgMatches}
 use Rattle.clap.proofs.WalkLemmas.{one_text-rows}
 use Rattle.xa_script.specs.CommandLine.{IsCapacityText, IsRaceOf, IsJob}
 use Rattle.xa_script.specs.declared.command.Job.{Job}
-use Rattle.xa_script.specs.declared.command.Job.TheVariants.{Run, Race, Coordinate, Serve, Show, Judge, Explore, Stops}
+use Rattle.xa_script.specs.declared.command.Job.TheVariants.{Run, Race, Coordinate, Serve, Show, Judge, Explore, Stops, Audit}
 use Rattle.xa_script.proofs.NamedJobs.{at_found, same_byte}
 
 -- the race of the values that were found
@@ -16,6 +16,7 @@ races : (m found : ArgMatches) (name : Text) (job : Job) → subcommand_rows_of 
 races m found name Run is named of = absurd of
 races m found name Serve is named of = absurd of
 races m found name Show is named of = absurd of
+races m found name (Audit object) is named of = absurd of
 races m found name (Coordinate stores capacity fixed) is named of = absurd of
 races m found name (Judge limit explain json) is named of = absurd of
 races m found name (Explore limit) is named of = absurd of
@@ -48,6 +49,9 @@ no_race m found name is named none Run h =
     absurd (omega (arith, ap length e))
 no_race m found name is named none Serve h =
     let e : codes "race" ≡ codes "serve" = sym named ∙ at_found m name (rows_of (found_of found)) Serve is h in
+    absurd (omega (arith, ap length e))
+no_race m found name is named none (Audit object) h =
+    let e : codes "race" ≡ codes "audit" = sym named ∙ (at_found m name (rows_of (found_of found)) (Audit object) is h).0 in
     absurd (omega (arith, ap length e))
 no_race m found name is named none Show h =
     let e : codes "race" ≡ codes "show" = sym named ∙ at_found m name (rows_of (found_of found)) Show is h in

@@ -9,6 +9,7 @@ use Rattle.std.specs.Option.{IsSomeAnd}
 use Rattle.std.specs.Str.Parse.{IsNumeral, digits_value, without_leading_plus}
 use Rattle.clap.specs.Words.{App, Text, Row, Rule, new_app, new_rule, one_of, subcommand_of, with_rule, with_subcommand, fault_of, HasKind}
 use Rattle.clap.specs.Simple.{on_top}
+use Rattle.clap.specs.Lexer.{usize_max}
 use Rattle.clap.specs.declared.builder.value_parser.ValueParser.{ValueParser}
 use Rattle.clap.specs.declared.builder.value_parser.ValueParser.TheVariants as parser
 use Rattle.clap.specs.declared.builder.action.ArgAction.TheVariants.{SetTrue}
@@ -19,7 +20,7 @@ use Rattle.decision_log.specs.Opens.{IsCapacity}
 use Rattle.xa_script.specs.declared.schedule.Schedule.{Schedule}
 use Rattle.xa_script.specs.declared.schedule.Schedule.TheVariants.{Freely, Together, Shuffled}
 use Rattle.xa_script.specs.declared.command.Job.{Job}
-use Rattle.xa_script.specs.declared.command.Job.TheVariants.{Run, Race, Coordinate, Serve, Show, Judge, Explore, Stops}
+use Rattle.xa_script.specs.declared.command.Job.TheVariants.{Run, Race, Coordinate, Serve, Show, Judge, Explore, Stops, Audit}
 
 -- `--NAME N`, which this parser reads, with a default
 abbrev pub number_rule : Text → ValueParser → Text → Rule
@@ -37,10 +38,17 @@ named_file_rule name = record (new_rule name) { long = Some name; value_names = 
 abbrev pub file_rule : Rule
 file_rule = named_file_rule (codes "file")
 
+-- `--verbose`, which has no value
+abbrev pub verbose_rule : Rule
+verbose_rule = flag_rule (codes "verbose")
+
+-- `--text`, which has no value
+abbrev pub text_rule : Rule
+text_rule = flag_rule (codes "text")
+
 -- `[--file FILE] [--verbose] [--strict] [--text]`, behind a subcommand's own options
 abbrev pub common_app : App → App
-common_app app =
-    with_rule (with_rule (with_rule (with_rule app file_rule) (flag_rule (codes "verbose"))) (flag_rule (codes "strict"))) (flag_rule (codes "text"))
+common_app app = with_rule (with_rule (with_rule (with_rule app file_rule) verbose_rule) (flag_rule (codes "strict"))) text_rule
 
 -- a subcommand that has these alone
 abbrev pub plain_app : Text → App
@@ -100,6 +108,16 @@ judge_app =
 abbrev pub explore_app : App
 explore_app = with_rule (new_app (codes "explore")) limit_rule
 
+-- `HISTORY..`, one text or more
+abbrev pub history_rule : Rule
+history_rule = record (new_rule (codes "history")) { value_names = 1; range = Some (record { start_inclusive = 1; end_inclusive = usize_max }); required = true }
+
+-- `audit HISTORY.. [--json] [--quiet] [--verbose] [--text]`
+abbrev pub audit_app : App
+audit_app =
+    with_rule (with_rule (with_rule (with_rule (with_rule (new_app (codes "audit")) history_rule) (flag_rule (codes "json"))) (flag_rule (codes "quiet")))
+    verbose_rule) text_rule
+
 -- no option of the command is one of its subcommands too
 abbrev pub IsLocal : Command → Type 0
 IsLocal command = (out-Command command).has_globals ≡ false
@@ -108,13 +126,14 @@ IsLocal command = (out-Command command).has_globals ≡ false
 abbrev pub bare_app : App
 bare_app = on_top (λ shape. record shape { subcommand_required = true; has_version = true }) (new_app (codes "xa_script"))
 
--- `xa_script run`, `race`, `coordinate`, `stops`, `serve`, `show`, `judge` and `explore`
+-- `xa_script run`, `race`, `coordinate`, `stops`, `serve`, `show`, `judge`, `explore` and `audit`
 abbrev pub script_app : App
 script_app =
-    with_subcommand (with_subcommand (with_subcommand
+    with_subcommand (with_subcommand (with_subcommand (with_subcommand
     (with_subcommand (with_subcommand (with_subcommand
     (with_subcommand (with_subcommand bare_app (plain_app (codes "run")).top) (common_app race_app).top) (common_app coordinate_app).top)
-    (common_app stops_app).top) (plain_app (codes "serve")).top) (plain_app (codes "show")).top) (common_app judge_app).top) (common_app explore_app).top
+    (common_app stops_app).top) (plain_app (codes "serve")).top) (plain_app (codes "show")).top) (common_app judge_app).top) (common_app explore_app).top)
+    audit_app.top
 
 -- the text of a value is this number, which a log can have as its capacity
 abbrev pub IsCapacityText : ℕ → Text → Type 0
@@ -171,6 +190,7 @@ IsRaceOf capacity together shuffle renew runs Show = ⊥
 IsRaceOf capacity together shuffle renew runs (Judge limit explain json) = ⊥
 IsRaceOf capacity together shuffle renew runs (Explore limit) = ⊥
 IsRaceOf capacity together shuffle renew runs (Stops stores room) = ⊥
+IsRaceOf capacity together shuffle renew runs (Audit json) = ⊥
 
 -- the job is of calls over as many stores, with as much room in each, as two values' texts are, and with histories that end there where a third says so
 abbrev pub IsCoordinateOf : (stores capacity fixed : Option Text) → Job → Type 0
@@ -181,6 +201,7 @@ IsCoordinateOf stores capacity fixed (Race room schedule renews count) = ⊥
 IsCoordinateOf stores capacity fixed (Judge limit explain json) = ⊥
 IsCoordinateOf stores capacity fixed (Explore limit) = ⊥
 IsCoordinateOf stores capacity fixed (Stops count room) = ⊥
+IsCoordinateOf stores capacity fixed (Audit json) = ⊥
 IsCoordinateOf stores capacity fixed (Coordinate count room ends) =
     IsSomeAnd stores (IsStoresText count) × IsSomeAnd capacity (IsCapacityText room) × IsFlagOf fixed ends
 
@@ -192,6 +213,7 @@ IsStopsOf stores capacity Show = ⊥
 IsStopsOf stores capacity (Race room schedule renews count) = ⊥
 IsStopsOf stores capacity (Judge limit explain json) = ⊥
 IsStopsOf stores capacity (Explore limit) = ⊥
+IsStopsOf stores capacity (Audit json) = ⊥
 IsStopsOf stores capacity (Coordinate count room ends) = ⊥
 IsStopsOf stores capacity (Stops count room) = IsSomeAnd stores (IsStoresText count) × IsSomeAnd capacity (IsCapacityText room)
 
@@ -205,6 +227,7 @@ IsJudgeOf limit explain json (Coordinate count room fixed) = ⊥
 IsJudgeOf limit explain json (Judge kept explains writes) = IsSomeAnd limit (IsLimitText kept) × IsFlagOf explain explains × IsFlagOf json writes
 IsJudgeOf limit explain json (Explore kept) = ⊥
 IsJudgeOf limit explain json (Stops count room) = ⊥
+IsJudgeOf limit explain json (Audit object) = ⊥
 
 -- the job is to explore, with the limit that a value's text is
 abbrev pub IsExploreOf : (limit : Option Text) → Job → Type 0
@@ -216,6 +239,19 @@ IsExploreOf limit (Coordinate count room fixed) = ⊥
 IsExploreOf limit (Judge kept explain json) = ⊥
 IsExploreOf limit (Explore kept) = IsSomeAnd limit (IsLimitText kept)
 IsExploreOf limit (Stops count room) = ⊥
+IsExploreOf limit (Audit json) = ⊥
+
+-- the job is to audit, as an object of JSON where a value says so
+abbrev pub IsAuditOf : (json : Option Text) → Job → Type 0
+IsAuditOf json Run = ⊥
+IsAuditOf json Serve = ⊥
+IsAuditOf json Show = ⊥
+IsAuditOf json (Race room schedule renews count) = ⊥
+IsAuditOf json (Coordinate count room fixed) = ⊥
+IsAuditOf json (Judge kept explain object) = ⊥
+IsAuditOf json (Explore kept) = ⊥
+IsAuditOf json (Stops count room) = ⊥
+IsAuditOf json (Audit writes) = IsFlagOf json writes
 
 -- the job of a subcommand, with what `clap` found for its arguments
 abbrev pub IsJob : Job → Text × List Row → Type 0
@@ -235,6 +271,7 @@ IsJob (Judge limit explain json) found =
 IsJob (Explore limit) found = (found.0 ≡ codes "explore") × IsExploreOf (one_of (codes "limit") found.1) (Explore limit)
 IsJob (Stops stores capacity) found =
     (found.0 ≡ codes "stops") × IsStopsOf (one_of (codes "stores") found.1) (one_of (codes "capacity") found.1) (Stops stores capacity)
+IsJob (Audit json) found = (found.0 ≡ codes "audit") × IsAuditOf (one_of (codes "json") found.1) (Audit json)
 
 -- the words name this job, as `clap` matches them
 abbrev pub Names : List Text → Job → Type 0
@@ -256,3 +293,20 @@ CanBeDone Show = Unit {0}
 CanBeDone (Judge limit explain json) = IsLimit limit
 CanBeDone (Explore limit) = IsLimit limit
 CanBeDone (Stops stores capacity) = IsStoreCount stores × IsCapacity capacity
+CanBeDone (Audit json) = Unit {0}
+
+-- whether an audit is written as an object of JSON, if the job is to audit
+abbrev pub audit_asked : Job → Option Bool
+audit_asked Run = None
+audit_asked (Race capacity schedule renews runs) = None
+audit_asked (Coordinate stores capacity fixed) = None
+audit_asked Serve = None
+audit_asked Show = None
+audit_asked (Judge limit explain json) = None
+audit_asked (Explore limit) = None
+audit_asked (Stops stores capacity) = None
+audit_asked (Audit json) = Some json
+
+-- the job reads one input: it isn't to audit
+abbrev pub ReadsInput : Job → Type 0
+ReadsInput job = audit_asked job ≡ None

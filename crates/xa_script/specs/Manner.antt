@@ -1,10 +1,12 @@
 -- How a job is to be done.
 --     IsManner     the manner that the values of the options give
 --     HasManner    the manner that the words name
-use Rattle.std.specs.Prelude.{◌≡◌, Option, List, codes}
+--     HasHistories the histories that the words name
+use Rattle.std.specs.Prelude.{◌≡◌, Option, List, [], codes, map, unwrap_or}
 use Rattle.std.specs.Option.{IsSomeAnd, option_map}
-use Rattle.clap.specs.Words.{Text, first_of, one_of, subcommand_of}
+use Rattle.clap.specs.Words.{Text, all_of, first_of, one_of, subcommand_of}
 use Rattle.xa_script.specs.CommandLine.{IsFlagOf, script_app}
+use Rattle.xa_script.specs.declared.histories.Histories.{Histories}
 use Rattle.xa_script.specs.declared.manner.Manner.{Manner}
 
 -- each file is the value of its option, and each flag is as its option says
@@ -19,3 +21,8 @@ HasManner words manner =
     IsSomeAnd (subcommand_of script_app words)
     (λ found. IsManner (first_of (codes "file") found.1) (first_of (codes "allow") found.1) (one_of (codes "verbose") found.1) (one_of (codes "strict") found.1)
     (one_of (codes "text") found.1) (one_of (codes "quiet") found.1) manner)
+
+-- the names are all values of `HISTORY..`, in their order, as `clap` matches the words; none, for a job that has no such argument
+abbrev pub HasHistories : List Text → Histories → Type 0
+HasHistories words histories =
+    IsSomeAnd (subcommand_of script_app words) (λ found. map (λ name. name.now) histories.names.items ≡ unwrap_or (all_of (codes "history") found.1) [])

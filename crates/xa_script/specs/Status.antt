@@ -8,9 +8,19 @@
 --     AppendsCame      the writer got which outcomes of a script came, and the status is for how its races ended
 --     status_of_stops  the exit status for how stopping a coordinator ended
 --     AppendsStopped   the writer got what is written for each stop, and the status is for how that ended
+--     status_of_audit  the exit status for how an audit ended
+--     AppendsAuditBy   the writer got what is written for histories, and the status is for how their audit ended
+--     AfterAuditing    what a fault leaves in the writer
+--     audit_form       the form of an audit
 --     form_of          the form of a verdict
 --     IsAllowedBy      what a text allows
 use Rattle.std.specs.Prelude.{◌≡◌, ℕ, Bool, true, false, Option, Some, None, Ok, Err, List, IfSome}
+use Rattle.std.specs.Io.KnownBytes.{Keeps}
+use Rattle.xa_audit.specs.Audits.{AppendsAudit, AppendsAuditPrefix}
+use Rattle.xa_audit.specs.declared.ended.Ended.{Ended as AuditEnded}
+use Rattle.xa_audit.specs.declared.ended.Ended.TheVariants.{AllAtomic, SomeNotAtomic, Unread}
+use Rattle.xa_audit.specs.declared.form.Form.{Form as AuditForm}
+use Rattle.xa_audit.specs.declared.form.Form.TheVariants.{Lines, LastLine, Json as AuditJson}
 use Rattle.xa_races.specs.Outcome.{AppendsRace}
 use Rattle.xa_lines.specs.declared.script_fault.ScriptFault.{ScriptFault}
 use Rattle.xa_lines.specs.declared.script_fault.ScriptFault.TheVariants.{Read, TooLong, Write, NoMemory, Full, GateShut, ThreadRefused}
@@ -92,3 +102,29 @@ status_of_stops FaultyCalls = 6
 abbrev pub AppendsStopped : (stores status : ℕ) → Option (List ℕ) → Option (List ℕ) → Option (List ℕ) → Type 0
 AppendsStopped stores status input old new =
     (ended : StopsEnded) × (status ≡ status_of_stops ended) × IfSome input (λ script. AppendsStops stores ended script old new)
+
+-- 0 where each global transaction is ATOMIC, 9 where some is not, 6 where a line isn't read (own rule)
+abbrev pub status_of_audit : AuditEnded → ℕ
+status_of_audit AllAtomic = 0
+status_of_audit SomeNotAtomic = 9
+status_of_audit Unread = 6
+
+-- the writer got what is written for these histories, and the status is for how their audit ended
+abbrev pub AppendsAuditBy : List (List ℕ) → AuditForm → (status : ℕ) → Option (List ℕ) → Option (List ℕ) → Type 0
+AppendsAuditBy histories form status old new = (ended : AuditEnded) × (status ≡ status_of_audit ended) × AppendsAudit histories form ended old new
+
+-- a prefix of that where a write failed, and nothing after another fault
+abbrev pub AfterAuditing : List (List ℕ) → AuditForm → ScriptFault → Option (List ℕ) → Option (List ℕ) → Type 0
+AfterAuditing histories form Read old new = Keeps old new
+AfterAuditing histories form TooLong old new = Keeps old new
+AfterAuditing histories form Write old new = AppendsAuditPrefix histories form old new
+AfterAuditing histories form NoMemory old new = Keeps old new
+AfterAuditing histories form Full old new = ⊥
+AfterAuditing histories form GateShut old new = ⊥
+AfterAuditing histories form ThreadRefused old new = ⊥
+
+-- an object of JSON where that is asked, else the last line alone where that is
+abbrev pub audit_form : (json quiet : Bool) → AuditForm
+audit_form true quiet = AuditJson
+audit_form false true = LastLine
+audit_form false false = Lines

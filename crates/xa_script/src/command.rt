@@ -3,7 +3,7 @@ ghost use Rattle.std.specs.Prelude.{◌≡◌, ◌≢◌, ℕ, Some, None, IfOk,
 ghost use Rattle.std.specs.Option.{IsSomeAnd};
 ghost use Rattle.clap.specs.Words.{app_of, found_of, one_text, subcommand_rows_of};
 ghost use Rattle.xa_script.specs.CommandLine.{IsCapacityText, IsSeedText, IsStoresText, IsLimitText, HasNoSeed, IsScheduleOf, IsRunsOf, IsRaceOf};
-ghost use Rattle.xa_script.specs.CommandLine.{IsCoordinateOf, IsStopsOf, IsJudgeOf, IsExploreOf, IsJob, Names, CanBeDone, ReadsCommand, script_app};
+ghost use Rattle.xa_script.specs.CommandLine.{IsCoordinateOf, IsStopsOf, IsJudgeOf, IsExploreOf, IsAuditOf, IsJob, Names, CanBeDone, ReadsCommand, script_app};
 
 use crate::Schedule;
 use crate::manner::flag_in;
@@ -62,6 +62,11 @@ pub enum Job {
         stores: u64,
         /// How many entries each store has room for, in `[1, 1024]`. It has no effect.
         capacity: u64,
+    },
+    /// Audits the histories that the command line names.
+    Audit {
+        /// Whether the audit is a JSON object.
+        json: bool,
     },
 }
 
@@ -219,6 +224,15 @@ fn explore_in(found: &ArgMatches<'_>) -> Option<Job>
     }
 }
 
+/// The auditing that was found.
+fn audit_in(found: &ArgMatches<'_>) -> Job
+    ensures { IsAuditOf (one_text (found_of found.now) (codes "json")) result }
+{
+    Job::Audit {
+        json: flag_in(found, "json"),
+    }
+}
+
 /// The job of the subcommand that was found.
 fn job_in(matches: &ArgMatches<'_>) -> Option<Job>
     ensures some { IfSome result (λ job. IsSomeAnd (subcommand_rows_of matches.now) (IsJob job)) }
@@ -243,6 +257,8 @@ fn job_in(matches: &ArgMatches<'_>) -> Option<Job>
         explore_in(found)
     } else if name == "stops" {
         stops_in(found)
+    } else if name == "audit" {
+        Some(audit_in(found))
     } else {
         None
     }

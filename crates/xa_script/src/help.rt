@@ -4,7 +4,8 @@
 pub const VERSION: &str = "0.1.0";
 
 /// What the program's own help shows: how a job is called, and where to read more.
-pub const START: &str = "A job reads the standard input, unless --file names a file. For example,
+pub const START: &str =
+    "A job reads the standard input, unless --file names a file; audit reads files. For example,
   echo \"1 PUT 'k','v'\" | xa_script run
 prints
   1 OK
@@ -186,3 +187,30 @@ With --explain an order that explains the lines before follows ILLEGAL, and then
     ROW 0x6b VALUE 0x76
 The object of --json has the keys verdict, line, could_be, order, state and faulty.
 More: docs/COMMANDS.md#judge and docs/HISTORIES.md.";
+
+/// What `audit` reads and prints, as its help shows it.
+pub const AUDITED: &str =
+    "Each file is the history of one store: a script, as run reads it, that a store of its own carries out. Blank
+lines, and lines that begin with #, say nothing. The first file is store 1, the next one store 2:
+  1 XA START 'transfer','debit'
+  1 PUT 'alice','90'
+  1 XA END 'transfer','debit'
+  1 XA PREPARE 'transfer','debit'
+  2 XA COMMIT 'transfer','debit'
+Each global transaction is printed, with the store and the bqual of each of its branches, how each life of that
+branch ended, and the verdict:
+  GLOBAL 1 0x7472616e73666572
+  STORE 1 0x6465626974 COMMITTED
+  STORE 2 0x637265646974 ROLLED BACK
+  MIXED
+  GLOBALS 1 ATOMIC 0 MIXED 1 IN DOUBT 0 OPEN 0
+A life ends COMMITTED, ROLLED BACK, EMPTY (rolled back, and it hadn't written), IN DOUBT (it is still prepared)
+or OPEN (it isn't even that). The verdicts are
+  MIXED                    one branch committed, and another one's writes were dropped
+  IN DOUBT                 it isn't mixed, and a branch is in doubt
+  OPEN                     it is neither, and a branch is open
+  ATOMIC                   none of these
+If all are ATOMIC, the status is 0, else 9. If some line isn't read, only such lines are named, and the status
+is 6:
+  STORE 2 LINE 7 ERROR 1064 (42000): syntax fault at byte 3
+More: docs/COMMANDS.md#audit and docs/HISTORIES.md#audits.";

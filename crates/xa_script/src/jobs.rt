@@ -1,8 +1,10 @@
 //! The jobs, from a reader to a writer. Each returns the exit status, or the fault that ended it.
+ghost use Rattle.std.specs.Prelude.{◌≤◌, length};
 ghost use Rattle.decision_log.specs.Opens.{IsCapacity};
 ghost use Rattle.xa_script.specs.CommandLine.{IsLimit, IsStoreCount};
 
 use crate::advised::Advised;
+use crate::auditing::audit_within;
 use crate::exploring::explore_within;
 use crate::judging::judge_within;
 use crate::line_form::LineForm;
@@ -20,6 +22,7 @@ use std::io::{BufWriter, Printer, Read, Write};
 use std::rt::Clock;
 use std::sync::Wait;
 use std::thread::Threads;
+use xa_audit::Form;
 use xa_lines::{ScriptFault, Transport, run_script, serve_statements, show_statements};
 use xa_manager::{
     BesideServer, CallServer, converse, converse_lasting, lasting_manager, manager_over,
@@ -141,6 +144,19 @@ pub fn judge<I: Read + Drop, W: Write + Drop, R: Clock + Eprint + Alloc<A = Glob
         asked,
         &mut telling,
     );
+    flushed(&mut output, done)
+}
+
+/// Audits the histories.
+pub fn audit<I: Read + Drop, W: Write + Drop, R: Eprint + Alloc<A = Global>>(
+    rt: &R,
+    inputs: Vec<Watch<'_, I, R>>,
+    mut output: BufWriter<W>,
+    form: Form,
+) -> Result<u8, ScriptFault>
+    requires { length inputs.items ≤ 64 }
+{
+    let done = audit_within(rt, inputs, &mut output, form);
     flushed(&mut output, done)
 }
 

@@ -1,24 +1,26 @@
 //! The program: its command line, the standard streams, the exit status, and what it writes to the standard
 //! error. docs/COMMANDS.md describes each job. Libraries do the work: `xa_lines` runs, serves and shows,
-//! `xa_races` and `xa_runs` race, `xa_manager` coordinates, `xa_stops` stops, `xa_orders` explores, and
-//! `xa_record` judges.
+//! `xa_races` and `xa_runs` race, `xa_manager` coordinates, `xa_stops` stops, `xa_orders` explores,
+//! `xa_record` judges, and `xa_audit` audits.
 //!
 //! Functions that use the process or its streams promise nothing, since no contract can name these; tests of
 //! the built program show what they do. Read `src/jobs.rt` next, then `src/command.rt`, `src/subcommands.rt`
 //! and `src/help.rt`.
 #![tactic(auto)]
 
-ghost use Rattle.std.specs.Prelude.{◌≡◌};
-ghost use Rattle.xa_script.specs.CommandLine.{CanBeDone};
+ghost use Rattle.std.specs.Prelude.{◌≡◌, ◌≤◌, IfOk, length};
+ghost use Rattle.xa_script.specs.CommandLine.{CanBeDone, ReadsInput, audit_asked};
 ghost use Rattle.xa_script.specs.Status.{status_after};
 
 mod advised;
 mod allowing;
+mod auditing;
 mod command;
 mod exploring;
 mod files;
 mod help;
 mod hint;
+mod histories;
 mod jobs;
 mod judging;
 mod laws;
@@ -42,10 +44,12 @@ mod wanted;
 mod watch;
 
 use allowing::allowed;
+use auditing::form_asked;
 use clap::Error;
 use clap::error::ErrorKind;
 pub use command::{Job, read_command};
 use files::opened;
+pub use histories::{Histories, read_histories};
 use judging::asked;
 pub use laws::texts_are_read_back;
 use line_form::LineForm;
@@ -61,6 +65,7 @@ use std::sync::Wait;
 use std::thread::Threads;
 use std::{env, io};
 use watch::Watch;
+use xa_audit::Form;
 use xa_lines::LINE_BYTES;
 pub use xa_lines::{CutReader, CutWriter, ScriptFault, run_script};
 pub use xa_races::{race_script, race_script_in_rounds};
@@ -97,10 +102,14 @@ fn status<
     match (
         read_command(rt.alloc(), words),
         read_manner(rt.alloc(), words),
+        read_histories(rt.alloc(), words),
     ) {
-        (Ok(job), Ok(manner)) => ended(rt, &manner, carry_out(rt, job, &manner)),
-        (Err(error), _) => refuse(rt, &error),
-        (_, Err(error)) => refuse(rt, &error),
+        (Ok(job), Ok(manner), Ok(histories)) => {
+            ended(rt, &manner, carry_out(rt, job, &manner, &histories))
+        }
+        (Err(error), _, _) => refuse(rt, &error),
+        (_, Err(error), _) => refuse(rt, &error),
+        (_, _, Err(error)) => refuse(rt, &error),
     }
 }
 
@@ -135,14 +144,30 @@ fn refuse_words<R: Eprint>(rt: &R, error: &io::Error) -> u8 {
     COMMAND_FAULT
 }
 
-/// Does a job, and returns the exit status.
+/// Returns whether an audit is written as an object of JSON, if the job is to audit.
+fn audit_in(job: Job) -> Option<bool>
+    ensures { result ≡ audit_asked job }
+{
+    match job {
+        Job::Audit { json } => Some(json),
+        Job::Run | Job::Race { .. } | Job::Coordinate { .. } | Job::Serve | Job::Show => None,
+        Job::Judge { .. } | Job::Explore { .. } | Job::Stops { .. } => None,
+    }
+}
+
+/// Does a job, and returns the exit status. Only `audit` reads the histories.
 fn carry_out<R: Files + Clock + Input + Print + Eprint + Alloc<A = Global> + Threads + Wait + Sync>(
     rt: &R,
     job: Job,
     manner: &Manner<'_>,
+    histories: &Histories<'_>,
 ) -> Result<u8, ScriptFault>
-    requires { CanBeDone job }
+    requires done { CanBeDone job }
+    requires histories { length histories.now.names.items ≤ 64 }
 {
+    if let Some(json) = audit_in(job) {
+        return carry_out_audit(rt, job, form_asked(json, manner.quiet), manner, histories);
+    }
     let Some(allowances) = allowed(rt, manner)? else {
         return Ok(COMMAND_FAULT);
     };
@@ -156,6 +181,43 @@ fn carry_out<R: Files + Clock + Input + Print + Eprint + Alloc<A = Global> + Thr
     }
 }
 
+/// Opens each history, the first store's first.
+///
+/// Errors: `Read` if one can't be opened; the standard error then names it. `NoMemory`.
+fn opened_each<'r, R: Files + Eprint + Alloc<A = Global>>(
+    rt: &'r R,
+    names: &'r [&'r str],
+    speaks: bool,
+) -> Result<Vec<Watch<'r, R::File, R>>, ScriptFault>
+    ensures { IfOk result (λ inputs. length inputs.items ≡ length names.now) }
+{
+    let mut inputs = Vec::new(rt.alloc());
+    for name in names {
+        let file = opened(rt, name, speaks)?;
+        inputs.push(Watch::of_history(rt, file, name, speaks))?;
+    }
+    Ok(inputs)
+}
+
+/// Audits the histories, and returns the exit status.
+fn carry_out_audit<R: Files + Print + Eprint + Alloc<A = Global>>(
+    rt: &R,
+    job: Job,
+    form: Form,
+    manner: &Manner<'_>,
+    histories: &Histories<'_>,
+) -> Result<u8, ScriptFault>
+    requires { length histories.now.names.items ≤ 64 }
+{
+    let inputs = opened_each(rt, histories.names.as_slice(), manner.verbose)?;
+    if manner.text {
+        let output = jobs::text_output(rt, manner.verbose, form_of(job))?;
+        jobs::audit(rt, inputs, output, form)
+    } else {
+        jobs::audit(rt, inputs, jobs::output(rt, manner.verbose)?, form)
+    }
+}
+
 /// Returns how a job reads its lines, and how many bytes a line may have.
 fn lines_of(job: Job) -> (LineKind, usize) {
     match job {
@@ -164,6 +226,7 @@ fn lines_of(job: Job) -> (LineKind, usize) {
         Job::Stops { .. } => (LineKind::Stopped, usize::MAX),
         Job::Serve => (LineKind::Statement, LINE_BYTES),
         Job::Show => (LineKind::Shown, LINE_BYTES),
+        Job::Audit { .. } => (LineKind::Shown, usize::MAX),
         Job::Judge { .. } => (LineKind::Record, usize::MAX),
         Job::Explore { .. } | Job::Race { runs: Some(_), .. } => (LineKind::Explored, usize::MAX),
     }
@@ -177,6 +240,8 @@ fn form_of(job: Job) -> LineForm {
         Job::Show => LineForm::Shown,
         Job::Judge { json: true, .. } => LineForm::Object,
         Job::Judge { json: false, .. } => LineForm::Verdict,
+        Job::Audit { json: true } => LineForm::Object,
+        Job::Audit { json: false } => LineForm::Answers,
     }
 }
 
@@ -191,7 +256,8 @@ fn carry_out_on<
     manner: &Manner<'_>,
     allowances: &[Allowance],
 ) -> Result<u8, ScriptFault>
-    requires { CanBeDone job }
+    requires done { CanBeDone job }
+    requires input { ReadsInput job }
 {
     let (kind, most) = lines_of(job);
     let mut watch = Watch::new(rt, input, kind, most, manner.verbose, manner.strict);
@@ -221,7 +287,8 @@ fn carry_out_job<
     manner: &Manner<'_>,
     allowances: &[Allowance],
 ) -> Result<u8, ScriptFault>
-    requires { CanBeDone job }
+    requires done { CanBeDone job }
+    requires input { ReadsInput job }
 {
     match job {
         Job::Run => jobs::run(rt, input, output),
@@ -259,6 +326,7 @@ fn carry_out_job<
         }
         Job::Explore { limit } => jobs::explore(rt, input, output, limit),
         Job::Stops { stores, .. } => jobs::stops(rt, input, output, stores),
+        Job::Audit { .. } => unreachable!(),
     }
 }
 

@@ -10,7 +10,7 @@ use clap::{ArgMatches, Command, Error};
 use std::alloc::Global;
 use std::convert::AsStr;
 
-/// How a job is done: the options of every job, and two of `judge`.
+/// How a job is done: the options of every job, and two of `judge`. `audit` has one of these too.
 #[derive(Clone, Copy, Debug, PartialEq, Eq)]
 pub struct Manner<'a> {
     /// The file that is read instead of the standard input.
@@ -23,7 +23,7 @@ pub struct Manner<'a> {
     pub strict: bool,
     /// Whether literals of printable bytes are written as `'text'`.
     pub text: bool,
-    /// Whether the progress of judging isn't reported.
+    /// Whether the progress of judging isn't reported, or only the last line of an audit is written.
     pub quiet: bool,
 }
 

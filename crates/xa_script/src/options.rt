@@ -2,7 +2,7 @@
 ghost use Rattle.std.specs.Prelude.{◌≡◌, false};
 ghost use Rattle.clap.specs.Words.{rule_of};
 ghost use Rattle.xa_script.specs.CommandLine.{capacity_rule, together_rule, shuffle_rule, renew_rule, runs_rule, fixed_rule, stores_rule, limit_rule};
-ghost use Rattle.xa_script.specs.CommandLine.{number_rule, flag_rule, named_file_rule};
+ghost use Rattle.xa_script.specs.CommandLine.{number_rule, flag_rule, named_file_rule, verbose_rule, text_rule, history_rule};
 
 use clap::builder::ValueParser;
 use clap::{Arg, ArgAction, value_parser};
@@ -131,4 +131,35 @@ pub fn file_option<'a>(alloc: Global, name: &'a str, help: &'a str) -> Arg<'a>
         .long(name)
         .value_name("FILE")
         .help(help)
+}
+
+/// Returns the option `--verbose`: faults are explained.
+pub fn verbose_option<'a>(alloc: Global) -> Arg<'a>
+    ensures rule { rule_of result ≡ verbose_rule }
+    ensures global { result.global ≡ false }
+{
+    let help = "For each fault, says on the standard error where it is and what to do";
+    flag_option(alloc, "verbose", help)
+}
+
+/// Returns the option `--text`: literals of printable bytes are written as texts.
+pub fn text_option<'a>(alloc: Global) -> Arg<'a>
+    ensures rule { rule_of result ≡ text_rule }
+    ensures global { result.global ≡ false }
+{
+    let help =
+        "Prints keys, values and identifiers as 'text' if all their bytes are printable ASCII";
+    flag_option(alloc, "text", help)
+}
+
+/// Returns the argument `HISTORY..`: the files that are audited, at least one.
+pub fn history_argument<'a>(alloc: Global) -> Arg<'a>
+    ensures rule { rule_of result ≡ history_rule }
+    ensures global { result.global ≡ false }
+{
+    Arg::new(alloc, "history")
+        .value_name("HISTORY")
+        .help("The files that are audited, from 1 to 64: each is the history of one store")
+        .num_args(1..)
+        .required(true)
 }

@@ -1,32 +1,32 @@
 //! The command and its subcommands, as `clap` sees them.
 ghost use Rattle.std.specs.Prelude.{◌≡◌, IfOk, codes};
 ghost use Rattle.clap.specs.Words.{app_of, new_app, with_subcommand};
-ghost use Rattle.xa_script.specs.CommandLine.{bare_app, plain_app, race_app, coordinate_app, stops_app, judge_app, explore_app, IsLocal, common_app, script_app};
+ghost use Rattle.xa_script.specs.CommandLine.{bare_app, plain_app, race_app, coordinate_app, stops_app, judge_app, explore_app, audit_app, IsLocal, common_app, script_app};
 
-use crate::help::{CALLS, EXPLORED, LINES, RACED, RECORDS, SERVED, SHOWN, START, STOPPED, VERSION};
+use crate::help::{
+    AUDITED, CALLS, EXPLORED, LINES, RACED, RECORDS, SERVED, SHOWN, START, STOPPED, VERSION,
+};
 use crate::options::{
-    capacity_option, file_option, fixed_option, flag_option, limit_option, renew_option,
-    runs_option, shuffle_option, stores_option, together_option,
+    capacity_option, file_option, fixed_option, flag_option, history_argument, limit_option,
+    renew_option, runs_option, shuffle_option, stores_option, text_option, together_option,
+    verbose_option,
 };
 use clap::Command;
 use std::alloc::{AllocError, Global};
 
-/// Adds the options that every job has.
+/// Adds the options of every job that reads one input.
 fn with_common<'a>(alloc: Global, command: Command<'a>) -> Result<Command<'a>, AllocError>
     requires { IsLocal command }
     ensures app { IfOk result (λ more. app_of more ≡ common_app (app_of command.entry)) }
     ensures local { IfOk result IsLocal }
 {
-    let verbose = "For each fault, says on the standard error where it is and what to do";
-    let text =
-        "Prints keys, values and identifiers as 'text' if all their bytes are printable ASCII";
     let strict = "Ends with status 8 instead of 0 if a line has a syntax fault";
     let file = "Reads FILE instead of the standard input";
     command
         .arg(file_option(alloc, "file", file))?
-        .arg(flag_option(alloc, "verbose", verbose))?
+        .arg(verbose_option(alloc))?
         .arg(flag_option(alloc, "strict", strict))?
-        .arg(flag_option(alloc, "text", text))
+        .arg(text_option(alloc))
 }
 
 /// Returns a subcommand without options, with the text that its help shows after these.
@@ -102,6 +102,22 @@ fn explore_command<'a>(alloc: Global) -> Result<Command<'a>, AllocError>
     let about = "Runs a script in every order of its sessions, and lists each outcome once";
     let help = "How many ways may be kept at once before the outcome is UNDECIDED";
     plain_command(alloc, "explore", about, EXPLORED).arg(limit_option(alloc, help))
+}
+
+/// Returns the subcommand that audits histories.
+fn audit_command<'a>(alloc: Global) -> Result<Command<'a>, AllocError>
+    ensures app { IfOk result (λ command. app_of command ≡ audit_app) }
+    ensures local { IfOk result IsLocal }
+{
+    let about = "Audits the histories of several stores: which global transactions stayed atomic";
+    let json = "Prints the audit as one JSON object, in one line";
+    let quiet = "Prints the last line alone";
+    plain_command(alloc, "audit", about, AUDITED)
+        .arg(history_argument(alloc))?
+        .arg(flag_option(alloc, "json", json))?
+        .arg(flag_option(alloc, "quiet", quiet))?
+        .arg(verbose_option(alloc))?
+        .arg(text_option(alloc))
 }
 
 /// Returns the command without its subcommands. One of these is required, unless the version is asked for.
@@ -188,6 +204,13 @@ fn with_explore<'a>(alloc: Global, command: Command<'a>) -> Result<Command<'a>, 
     command.subcommand(with_common(alloc, explore_command(alloc)?)?)
 }
 
+/// Adds the subcommand that audits histories.
+fn with_audit<'a>(alloc: Global, command: Command<'a>) -> Result<Command<'a>, AllocError>
+    ensures { IfOk result (λ more. app_of more ≡ with_subcommand (app_of command.entry) audit_app.top) }
+{
+    command.subcommand(audit_command(alloc)?)
+}
+
 /// Returns the command with its subcommands.
 pub fn script_command<'a>(alloc: Global) -> Result<Command<'a>, AllocError>
     ensures { IfOk result (λ command. app_of command ≡ script_app) }
@@ -199,5 +222,6 @@ pub fn script_command<'a>(alloc: Global) -> Result<Command<'a>, AllocError>
     let command = with_serve(alloc, command)?;
     let command = with_show(alloc, command)?;
     let command = with_judge(alloc, command)?;
-    with_explore(alloc, command)
+    let command = with_explore(alloc, command)?;
+    with_audit(alloc, command)
 }

@@ -19,6 +19,8 @@ pub struct Watch<'r, I: Read + Drop, R> {
     inner: I,
     /// The runtime whose standard error is written to.
     rt: &'r R,
+    /// The file's name, if there are several: it is reported before what is reported first.
+    name: Option<&'r str>,
     /// The kind of lines that the job reads.
     kind: LineKind,
     /// How long a line may be.
@@ -58,6 +60,7 @@ impl<'r, I: Read + Drop, R: Eprint + Alloc<A = Global>> Watch<'r, I, R> {
         Watch {
             inner,
             rt,
+            name: None,
             kind,
             most,
             looks: speaks || counts,
@@ -68,6 +71,17 @@ impl<'r, I: Read + Drop, R: Eprint + Alloc<A = Global>> Watch<'r, I, R> {
             faulty: false,
             refused: false,
         }
+    }
+
+    /// Returns a reader of a history, one of several, that looks at its lines if `speaks`.
+    ///
+    /// Takes no memory. Doesn't wait.
+    pub fn of_history(rt: &'r R, inner: I, name: &'r str, speaks: bool) -> Watch<'r, I, R>
+        ensures reader { result.inner ≡ inner }
+    {
+        let mut watch = Watch::new(rt, inner, LineKind::Shown, usize::MAX, speaks, false);
+        watch.name = Some(name);
+        watch
     }
 
     /// Returns whether a line had a syntax fault.
@@ -81,9 +95,22 @@ impl<'r, I: Read + Drop, R: Eprint + Alloc<A = Global>> Watch<'r, I, R> {
         Ok(self.faulty)
     }
 
+    /// Reports that the file can't be read as it has to be, if it has a name.
+    ///
+    /// Doesn't wait, unless the standard error does.
+    pub fn tell_unread(&self) {
+        if let Some(name) = self.name {
+            let _ = eprintln!(self.rt; "xa_script: can't read {name}");
+        }
+    }
+
     /// Reports what the line that has been read lacks.
     fn blame(&self, fault: LineFault<'_>) -> Result<(), NoMemory> {
         if self.speaks {
+            // Of several files the name is reported once.
+            if let (Some(name), false) = (self.name, self.faulty) {
+                let _ = eprintln!(self.rt; "xa_script: in {name}");
+            }
             tell_line(self.rt, self.number, fault)?;
         }
         Ok(())

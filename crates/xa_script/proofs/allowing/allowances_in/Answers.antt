@@ -1,4 +1,4 @@
-use Rattle.std.proofs.Common.{List, ℕ, subst}
+use Rattle.std.proofs.Common.{subst}
 use Rattle.std.specs.Option.{option_map}
 use Rattle.xa_script.specs.Status.{IsAllowedBy}
 use Rattle.xa_script.proofs.Allowed.{read_whole}

@@ -1,6 +1,7 @@
 use Rattle.std.proofs.Common.{sym, codes}
 use Rattle.std.proofs.lemmas.Slice.Eq.{bytes_eq-Decides}
 use Rattle.clap.specs.Words.{found_of, rows_of}
+use Rattle.xa_script.proofs.NamedAudits.{audits}
 use Rattle.xa_script.proofs.NamedCalls.{coordinates_if, no_coordinates, stops_if, no_stops}
 use Rattle.xa_script.proofs.NamedJobs.{rows_are}
 use Rattle.xa_script.proofs.NamedLimits.{judges_if, no_judge, explores_if, no_explore}
@@ -66,3 +67,9 @@ returns-then-eq-8-clause-none c none =
     let named = (bytes_eq-Decides c.in-Some.name.now (codes "stops")).0 (sym c.if-eq-8.ensures) in
     let rows = rows_are c.args.matches.now c.in-Some.name.now (rows_of (found_of c.in-Some.found.now)) c.in-Some.ensures.name c.in-Some.ensures.rows in
     no_stops c.args.matches.now c.in-Some.found.now c.in-Some.name.now rows named (c.stops_in.ensures.none none)
+
+pub returns-then-eq-9-clause-some : goal.returns-then-eq-9-clause-some
+returns-then-eq-9-clause-some c =
+    let named = (bytes_eq-Decides c.in-Some.name.now (codes "audit")).0 (sym c.if-eq-9.ensures) in
+    let rows = rows_are c.args.matches.now c.in-Some.name.now (rows_of (found_of c.in-Some.found.now)) c.in-Some.ensures.name c.in-Some.ensures.rows in
+    audits c.args.matches.now c.in-Some.found.now c.in-Some.name.now c.audit_in.result rows named c.audit_in.ensures

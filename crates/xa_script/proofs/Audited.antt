@@ -1,0 +1,79 @@
+-- Histories that readers hold, one after another, and what a fault of their audit leaves.
+use Rattle.std.proofs.Common.{◌≡◌, ◌∙◌, ◌++◌, ◌∷◌, [], ℕ, List, Option, Some, None, map, refl, sym, ap, subst, inl, inr}
+use Rattle.std.specs.Prelude.{IfSome}
+use Rattle.std.specs.Io.KnownBytes.{Keeps}
+use Rattle.std.proofs.lemmas.List.{map_push, map-id}
+use Rattle.xa_lines.specs.declared.script_fault.ScriptFault.{ScriptFault}
+use Rattle.xa_lines.specs.declared.script_fault.ScriptFault.TheVariants.{Read, TooLong, Write, NoMemory, Full, GateShut, ThreadRefused}
+use Rattle.xa_lines.specs.Transcript.{IsOfReading}
+use Rattle.xa_audit.specs.Audits.{AfterAuditFault}
+use Rattle.xa_audit.specs.declared.form.Form.{Form}
+use Rattle.xa_script.specs.Status.{AfterAuditing}
+
+-- the last of texts that are all known, and those before it
+pub last_known : {A : Type 0} (all : List (Option A)) (last : Option A) (texts : List A) → all ++ last ∷ [] ≡ map Some texts
+    → (front : List A) × (text : A) × (texts ≡ front ++ text ∷ []) × (all ≡ map Some front) × (last ≡ Some text)
+last_known [] last [] e = cc
+last_known [] last (text ∷ []) e = ([], text, refl, refl, cc)
+last_known [] last (text ∷ next ∷ texts) e = cc
+last_known (first ∷ all) last [] e = cc
+last_known (first ∷ all) last (text ∷ texts) e =
+    let same : first ≡ Some text = cc in
+    let rest : all ++ last ∷ [] ≡ map Some texts = cc in
+    let more = last_known all last texts rest in
+    (text ∷ more.0, more.1, ap (λ xs. text ∷ xs) more.2, rw (same, more.3) refl, more.4)
+
+-- where there is no source there is no text
+pub none_known : (P : List (List ℕ) → Type 0) (texts : List (List ℕ)) → P [] → [] ≡ map Some texts → P texts
+none_known P [] holds e = holds
+none_known P (text ∷ texts) holds e = cc
+
+-- what holds of the texts of some sources holds of those with one more
+pub taken_more : {S : Type 0} (sources : List S) (source : S) (remaining : S → Option (List ℕ)) (P Q : List (List ℕ) → Type 0)
+    → ((texts : List (List ℕ)) → map remaining sources ≡ map Some texts → P texts)
+    → IfSome (remaining source) (λ text. (texts : List (List ℕ)) → P texts → Q (texts ++ text ∷ []))
+    → (texts : List (List ℕ)) → map remaining (sources ++ source ∷ []) ≡ map Some texts → Q texts
+taken_more sources source remaining P Q before next texts e =
+    let k = last_known (map remaining sources) (remaining source) texts (sym (map_push remaining sources source) ∙ e) in
+    let at : Option (List ℕ) → Type 0 = λ o. IfSome o (λ text. (front : List (List ℕ)) → P front → Q (front ++ text ∷ [])) in
+    subst Q (sym k.2) (subst at k.4 next k.0 (before k.0 k.3))
+
+-- the sources that were taken are all of them
+pub taken_all : {S : Type 0} (taken all : List S) (remaining : S → Option (List ℕ)) (P : List (List ℕ) → Type 0) → map (λ source. source) taken ≡ all
+    → ((texts : List (List ℕ)) → map remaining taken ≡ map Some texts → P texts)
+    → (texts : List (List ℕ)) → map remaining all ≡ map Some texts → P texts
+taken_all taken all remaining P same holds texts e = holds texts (ap (map remaining) (sym (map-id taken) ∙ same) ∙ e)
+
+pub kept_all : (o : Option (List ℕ)) → Keeps o o
+kept_all None = tt
+kept_all (Some xs) = refl
+
+-- a fault of reading leaves the writer as it was
+pub after_reading : (histories : List (List ℕ)) (form : Form) (fault : ScriptFault) (contents : Option (List ℕ)) → IsOfReading fault
+    → AfterAuditing histories form fault contents contents
+after_reading histories form Read contents of = kept_all contents
+after_reading histories form TooLong contents of = kept_all contents
+after_reading histories form NoMemory contents of = kept_all contents
+after_reading histories form Write contents (inl e) = cc
+after_reading histories form Write contents (inr (inl e)) = cc
+after_reading histories form Write contents (inr (inr e)) = cc
+after_reading histories form Full contents (inl e) = cc
+after_reading histories form Full contents (inr (inl e)) = cc
+after_reading histories form Full contents (inr (inr e)) = cc
+after_reading histories form GateShut contents (inl e) = cc
+after_reading histories form GateShut contents (inr (inl e)) = cc
+after_reading histories form GateShut contents (inr (inr e)) = cc
+after_reading histories form ThreadRefused contents (inl e) = cc
+after_reading histories form ThreadRefused contents (inr (inl e)) = cc
+after_reading histories form ThreadRefused contents (inr (inr e)) = cc
+
+-- and so does want of memory; a fault of writing leaves a prefix
+pub after_writing : (histories : List (List ℕ)) (form : Form) (fault : ScriptFault) (old new : Option (List ℕ))
+    → AfterAuditFault histories form fault old new → AfterAuditing histories form fault old new
+after_writing histories form Read old new left = absurd left
+after_writing histories form TooLong old new left = absurd left
+after_writing histories form Write old new left = left
+after_writing histories form NoMemory old new left = left
+after_writing histories form Full old new left = absurd left
+after_writing histories form GateShut old new left = absurd left
+after_writing histories form ThreadRefused old new left = absurd left
