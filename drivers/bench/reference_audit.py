@@ -3,7 +3,7 @@
 
     reference_audit.py [--json | --quiet] [--text] HISTORY..
 
-Tests compare it with the program, and the bench uses it where a program hasn't that job. docs/STATEMENTS.md has the rules of the server, docs/BENCH.md those of the verdict.
+Tests compare it with the program, and the bench uses it where a program hasn't that job. docs/STATEMENTS.md has the rules of the server, docs/HISTORIES.md#audits those of the verdict.
 """
 import json
 import re
@@ -132,10 +132,10 @@ def read_line(line):
     text = line.lstrip(BLANKS)
     if not text or text.startswith(b"#"):
         return None
-    found = re.match(rb"([1-9]|1[0-6]) ", text)
+    found = re.match(rb"([1-9]|1[0-6])[ \t\r]", text)
     if not found:
         raise Fault(0)
-    return int(found[1]), Reader(text[found.end():]).statement()
+    return int(found[1]), Reader(text[found.end():].lstrip(BLANKS)).statement()
 
 
 # the server
@@ -216,7 +216,7 @@ def verdict_of(branches):
 
 
 def literal(data, is_text=False):
-    if is_text and data and PLAIN.fullmatch(data):
+    if is_text and PLAIN.fullmatch(data):
         return "'" + data.decode().replace("\\", "\\\\").replace("'", "''") + "'"
     return "0x" + data.hex() if data else "X''"
 
@@ -261,8 +261,8 @@ def last_line(found):
     return f"GLOBALS {len(found)} " + " ".join(f"{word} {counts[word]}" for word in COUNTED) + "\n"
 
 
-def json_of(found, is_text=False):
-    transactions = [{"format": format_id, "gtrid": literal(gtrid, is_text), "branches": [{"store": store, "bqual": literal(bqual, is_text), "ends": ends} for store, bqual, ends in branches], "verdict": verdict}
+def json_of(found):
+    transactions = [{"format": format_id, "gtrid": literal(gtrid), "branches": [{"store": store, "bqual": literal(bqual), "ends": ends} for store, bqual, ends in branches], "verdict": verdict}
                     for format_id, gtrid, branches, verdict in found]
     counts = {word.lower().replace(" ", "_"): sum(verdict == word for *_, verdict in found) for word in COUNTED}
     return json.dumps({"globals": transactions, **counts}, separators=(",", ":")) + "\n"
@@ -276,7 +276,7 @@ def main(words):
         return 6
     is_text = "--text" in options
     if "--json" in options:
-        sys.stdout.write(json_of(found, is_text))
+        sys.stdout.write(json_of(found))  # as it is with --text too, and with --quiet
     else:
         sys.stdout.write(("" if "--quiet" in options else text_of(found, is_text)) + last_line(found))
     return 0 if all(verdict == "ATOMIC" for *_, verdict in found) else 9

@@ -12,7 +12,7 @@ import reference_audit
 HAS_JOB = subprocess.run([PROGRAM, "audit", "--quiet", "/dev/null"], stdout=subprocess.PIPE, stderr=subprocess.DEVNULL).stdout.startswith(b"GLOBALS 0 ")
 NAMES = ["'a'", "'a','b'", "'a','c'", "0x61,'b',7", "'',''", "'z',X'00ff',18446744073709551615"]
 KEYS = ["'k'", "'l'", "0x6b"]
-RUBBISH = ["17 GET 'k'", "1 GET k", "x", "1 XA START 'a',", "1  XA START 'a' now", "01 GET 'k'", "1 PUT 'k'", "1 GET ''", "\x00"]
+RUBBISH = ["17 GET 'k'", "1GET 'k'", "1 GET k", "x", "1 XA START 'a',", "1  XA START 'a' now", "01 GET 'k'", "1 PUT 'k'", "1 GET ''", "\x00"]
 
 
 def drawn(draw, lines, rubbish=0.0):
@@ -22,7 +22,7 @@ def drawn(draw, lines, rubbish=0.0):
         session, name, key = draw.randint(1, 3), draw.choice(NAMES), draw.choice(KEYS)
         statement = draw.choice([f"XA START {name}"] * 3 + [f"XA END {name}"] * 3 + [f"XA PREPARE {name}"] * 2 + [f"XA COMMIT {name}"] * 2 + [f"XA COMMIT {name} ONE PHASE", f"XA ROLLBACK {name}", "DISCONNECT"]
                                 + [f"PUT {key},'v'"] * 2 + [f"GET {key}", f"DEL {key}", "XA RECOVER", f"XA START {name} JOIN", f"XA END {name} SUSPEND", "", "# nothing", "  # nothing"])
-        line = f"{session} {statement}" if statement and "#" not in statement else statement
+        line = f"{session}{draw.choice([' '] * 9 + [chr(9)])}{statement}" if statement and "#" not in statement else statement
         text.append(draw.choice(RUBBISH) if draw.random() < rubbish else line)
     return "\n".join(text).encode() + draw.choice([b"", b"\n"])
 
@@ -88,15 +88,15 @@ class Audit(unittest.TestCase):
 
     @unittest.skipUnless(HAS_JOB, "the program has no job audit")
     def test_it_agrees_with_the_program(self):
-        """300 sets of histories, some with lines that aren't read: the same text to the byte, in each form."""
+        """400 sets of histories, some with lines that aren't read: the same text to the byte, in each form."""
         with tempfile.TemporaryDirectory() as folder:
-            for seed in range(300):
+            for seed in range(400):
                 draw = random.Random(seed)
                 paths = []
                 for number in range(draw.randint(1, 4)):
                     paths.append(Path(folder) / f"history.{number + 1}")
                     paths[-1].write_bytes(drawn(draw, draw.randint(0, 60), draw.choice([0, 0, 0.05])))
-                for options in ([], ["--json"], ["--quiet"], ["--text"]):
+                for options in ([], ["--json"], ["--quiet"], ["--text"], ["--json", "--text"], ["--json", "--quiet"]):
                     ran = subprocess.run([PROGRAM, "audit", *options, *paths], stdout=subprocess.PIPE)
                     mine = subprocess.run([reference_audit.__file__, *options, *paths], stdout=subprocess.PIPE)
                     self.assertEqual((ran.stdout, ran.returncode), (mine.stdout, mine.returncode), f"seed {seed} {options}")
