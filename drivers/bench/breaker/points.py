@@ -22,6 +22,7 @@ KILLS = (KILLED_BEFORE, KILLED_AFTER)
 REFUSALS = {"XA START": (1399,), "XA END": (1399, 1402), "XA PREPARE": (1397, 1399, 1402), "XA COMMIT": (1397, 1399, 1402), "ONE PHASE": (1397, 1399, 1402),
             "XA ROLLBACK": (1397, 1399, 1402), "XA RECOVER": (1399,), "GET": (3572,), "PUT": (3572,), "DEL": (3572,)}
 
+ALL_ACTIONS = (*FAULTS, *sorted({f"refused {number}" for numbers in REFUSALS.values() for number in numbers}))
 RUN, REDO, UNDO = "", "redo ", "undo "  # where a point is: in the run, or in the recovery of a run that was killed after or before its decision
 
 MARKED = "0x" + b"the bench looks".hex()  # the key that the bench reads when it looks, so that the log shows where a recovery begins
@@ -68,10 +69,11 @@ def actions(kind: str) -> list[str]:
     return [*found, *([ROLLED_BACK] if kind == "XA COMMIT" else []), RESTARTED]
 
 
-def counting(stores: int, base: Point | None) -> list[str]:
-    """Lines that have the server tell each statement that reaches it, with its number: each is held for no time."""
+def counting(stores: int, points: Iterable[Point]) -> list[str]:
+    """Lines that have the server tell each statement that reaches it, with its number: each is held for no time. Those of the points have lines of their own."""
+    taken = {(point.site.store, point.site.kind, point.site.fault) for point in points}
     return [f"STORE {store} {kind} {number} stall 0" for store in range(1, stores + 1) for kind in REFUSALS for number in range(1, MOST + 1)
-            if not base or (store, kind, number) != (base.site.store, base.site.kind, base.site.fault)]
+            if (store, kind, number) not in taken]
 
 
 def sites(log: Iterable[str], phase: str) -> list[Site]:

@@ -7,11 +7,13 @@ from collections.abc import Sequence
 from pathlib import Path
 from xml.sax.saxutils import quoteattr
 
-from .trial import ATOMIC, IN_DOUBT, MIXED, OPEN, PARTIAL, RIGHT, TOLD, TOUCHED, UNREACHED, UNTRUE, Outcome
+from . import story
+from .names import WITHOUT
+from .trial import ATOMIC, IN_DOUBT, LOST_WORK, MIXED, OPEN, PARTIAL, RIGHT, TOLD, TOUCHED, UNREACHED, UNTRUE, Outcome
 
 HEAD = ("point", "action", "in between", "after recovery", "time", "")
 WIDTHS = (29, 22, 12, 15, 8)
-COUNTED = {ATOMIC: "atomic", TOLD: "heuristic and told", MIXED: "mixed", PARTIAL: "partial", IN_DOUBT: "left in doubt", OPEN: "left open", UNTRUE: "untrue", TOUCHED: "foreign branches touched",
+COUNTED = {ATOMIC: "atomic", TOLD: "heuristic and told", MIXED: "mixed", PARTIAL: "partial", LOST_WORK: "with lost work", IN_DOUBT: "left in doubt", OPEN: "left open", UNTRUE: "untrue", TOUCHED: "foreign branches touched",
            UNREACHED: "not reached"}
 
 
@@ -24,7 +26,7 @@ def columns(words: Sequence[str]) -> str:
 
 
 def name_of(outcome: Outcome) -> str:
-    return str(outcome.point) if outcome.point else "without a fault"
+    return str(outcome.point) if outcome.point else WITHOUT
 
 
 def row(outcome: Outcome) -> str:
@@ -32,7 +34,7 @@ def row(outcome: Outcome) -> str:
     result = "ok" if outcome.verdict == ATOMIC else f"{outcome.verdict}: {outcome.why}" if outcome.verdict not in (MIXED,) else outcome.why
     in_between = f"{outcome.in_between} in doubt" if outcome.in_between else "-"
     after = outcome.after if outcome.verdict != MIXED else MIXED
-    return columns((str(point.site) if point else "without a fault", point.action if point else "-", in_between, after, f"{outcome.seconds:.1f} s", result))
+    return columns((str(point.site) if point else WITHOUT, point.action if point else "-", in_between, after, f"{outcome.seconds:.1f} s", result))
 
 
 def summary(outcomes: Sequence[Outcome], seconds: float) -> str:
@@ -60,12 +62,12 @@ def failures(outcomes: Sequence[Outcome], words: Sequence[str]) -> list[str]:
         if not outcome.is_right():
             lines += [f"{name_of(outcome)}: {outcome.verdict}, {outcome.why}", f"    {command(words, outcome)}"]
             if outcome.folder:
-                lines.append(f"    its records are in {outcome.folder}")
+                lines.append(f"    its records are in {outcome.folder}, and {story.PAGE} there opens it in the classroom")
     return lines
 
 
 def as_dictionary(outcome: Outcome) -> dict[str, object]:
-    return {"point": str(outcome.point.site) if outcome.point else "without a fault", "action": outcome.point.action if outcome.point else "-", "in_between": outcome.in_between, "after": outcome.after,
+    return {"point": str(outcome.point.site) if outcome.point else WITHOUT, "action": outcome.point.action if outcome.point else "-", "in_between": outcome.in_between, "after": outcome.after,
             "verdict": outcome.verdict, "why": outcome.why, "statuses": outcome.statuses, "seconds": round(outcome.seconds, 3)}
 
 

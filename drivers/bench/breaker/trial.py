@@ -11,16 +11,18 @@ from collections.abc import Iterable, Sequence
 from dataclasses import dataclass, field
 from pathlib import Path
 
+from . import story
 from .audit import Auditor, Global
 from .client import Client, Refused
 from .points import KILLS, MARKED, ROLLED_BACK, RUN, Point, Site, counting, sites
+from .rows import Rows, lost, rows_of
 from .server import Server
 
 FOREIGN = b"\0another manager's "  # how the gtrid of a planted branch begins: before any other in a list
 OWN = b"local "  # how the server names branches of its own, for local transactions
 
-ATOMIC, TOLD, MIXED, PARTIAL, IN_DOUBT, OPEN, UNTRUE, TOUCHED, UNREACHED = (
-    "atomic", "heuristic, told", "MIXED", "PARTIAL", "IN DOUBT", "OPEN", "UNTRUE", "FOREIGN", "not reached")
+ATOMIC, TOLD, MIXED, PARTIAL, LOST_WORK, IN_DOUBT, OPEN, UNTRUE, TOUCHED, UNREACHED = (
+    "atomic", "heuristic, told", "MIXED", "PARTIAL", "LOST WORK", "IN DOUBT", "OPEN", "UNTRUE", "FOREIGN", "not reached")
 RIGHT = (ATOMIC, TOLD, UNREACHED)
 
 
@@ -39,6 +41,7 @@ class Setup:
     foreign: int  # branches of another manager that are planted in each store
     names: frozenset[tuple[int, int, bytes]] = frozenset()  # the manager's branches by store, formatID and bqual, in a run without faults
     base: frozenset[int] = frozenset()  # the stores that a run without faults commits in
+    rows: Sequence[Rows] = ()  # what a run without faults leaves in each store
 
 
 @dataclass
@@ -52,6 +55,8 @@ class Outcome:
     seconds: float = 0.0
     committed: frozenset[int] = frozenset()
     names: frozenset[tuple[int, int, bytes]] = frozenset()
+    rows: Sequence[Rows] = ()  # what the manager's transactions left in each store
+    wanted: Sequence[Rows] = ()  # and what they leave without a fault
     asked: Sequence[Site] = ()  # the statements of the run, or of the recovery if a run was killed for it
     folder: Path | None = None
 
@@ -114,6 +119,7 @@ class Trial:
         try:
             outcome = self._in(folder)
             if self.setup.keep:
+                story.write(folder, self.setup.stores, outcome, self.server.log, [path.read_text() for path in self.server.records()])
                 outcome.folder = self.setup.keep / re.sub(r"[^A-Za-z0-9]+", "-", str(self.point or "without a fault"))
                 shutil.rmtree(outcome.folder, ignore_errors=True)
                 shutil.copytree(folder, outcome.folder, symlinks=True)
@@ -129,9 +135,10 @@ class Trial:
             shutil.copytree(self.setup.folder, work, symlinks=True)
         else:
             work.mkdir()
-        lines = [point.line() for point in (self.base, self.point) if point]
-        if not self.point:
-            lines += counting(self.setup.stores, self.base)
+        points = [point for point in (self.base, self.point) if point]
+        lines = [point.line() for point in points]
+        if not self.point or self.setup.keep:  # the statements are wanted in their order, for the points or for the story
+            lines += counting(self.setup.stores, points)
         self.server = Server(self.setup.server, self.setup.stores, self.setup.port, folder, lines)
         try:
             ports = self.server.ports
@@ -244,8 +251,11 @@ class Trial:
         """Says what became of the manager's transactions, by the histories and by what is left."""
         it = self.outcome
         all_found = self.setup.auditor.globals(self.server.histories())
-        found = [one for one in all_found if not one.gtrid.startswith((FOREIGN, OWN))]
+        found = [one for one in all_found if is_own(one.gtrid)]
         it.committed = frozenset(store for one in found for store in one.committed())
+        it.rows = [rows_of(path.read_bytes(), is_own) for path in self.server.histories()]
+        it.wanted = self.setup.rows or it.rows
+        missing = lost(it.wanted, it.rows)
         it.names = frozenset((branch.store, one.format_id, branch.bqual) for one in found for branch in one.branches)
         recoveries = len(it.statuses) - 1
         it.after = "committed" if it.committed else "rolled back"
@@ -266,10 +276,22 @@ class Trial:
             it.verdict, it.why = OPEN, ends_of(next(one for one in found if one.verdict != "ATOMIC"))
         elif it.committed and not it.committed >= self.setup.base:
             it.verdict, it.why = PARTIAL, f"only {stores_of(it.committed)} committed, where {stores_of(self.setup.base)} had to"
+        elif it.committed and missing:
+            it.verdict, it.why = LOST_WORK, f"store {missing[0][0]} committed, and its row {readable(missing[0][1])} isn't as a run without faults leaves it"
         elif it.statuses[0] == 0 and not it.committed:
             it.verdict, it.why = UNTRUE, "the run ended with status 0, and nothing is committed"
-        if it.verdict in (MIXED, PARTIAL, IN_DOUBT, OPEN, TOLD):
+        if it.verdict in (MIXED, PARTIAL, LOST_WORK, IN_DOUBT, OPEN, TOLD):
             it.after = it.verdict.split(",")[0].lower()
+
+
+def is_own(gtrid: bytes) -> bool:
+    """Whether a transaction is the manager's: not one of another manager, nor of the server."""
+    return not gtrid.startswith((FOREIGN, OWN))
+
+
+def readable(text: bytes) -> str:
+    """A key as a person wrote it, if it can be read."""
+    return story.readable(text.decode())
 
 
 def literal(data: bytes) -> str:

@@ -1,0 +1,194 @@
+"""A point's story for the classroom: what each store was asked, one call a line, as the job `coordinate` takes calls.
+
+The records have what each store was asked and replied. The server's log has the order between the stores.
+"""
+from __future__ import annotations
+
+import re
+from collections import Counter
+from collections.abc import Iterator, Sequence
+from dataclasses import dataclass
+from pathlib import Path
+from typing import TYPE_CHECKING
+from urllib.parse import quote_plus
+
+from .points import HOLD, MARKED, PAUSE
+
+if TYPE_CHECKING:
+    from .trial import Outcome
+
+CALLS, PAGE = "story.calls", "story.html"
+CLASSROOM = "http://127.0.0.1:8400/"
+MOST = 15  # stores that a story can have: the classroom's are 0 to 15, and 0 isn't used
+LOGGED = re.compile(r"store (\d+), .*the fault .*, at .*: ")  # a statement with a fault, in the server's log
+FAULT = re.compile(r"# session (\d+): the fault [A-Z ]+ \d+ (?P<what>[a-z-]+)(?: (?P<number>[\d.]+))?, at (?P<text>.*): ")
+CALL = re.compile(r"(\d+) > (.*)")
+RETURN = re.compile(r"(\d+) < (.*)")
+HEX = re.compile(r"0x([0-9a-f]+)")
+LOOK = f"GET {MARKED}"
+SHOWS_PLANTED = ("FOREIGN", "IN DOUBT")  # verdicts that another manager's branches may be the cause of
+
+# What is said of a fault, and whether it stands before the statement that the store gets. None: nothing is disturbed.
+SAID = {
+    "close-before": "Lost on its way, and the connection is cut: {}",
+    "close-after": "The answer is lost: the connection is cut.",
+    "stall": "While this is on its way, somebody else rolls the branch back: {}",
+    "stall-after": "The manager is killed before it gets the answer.",
+    "error": "The manager is told {number}, and the store never gets {}",
+    "outage": "The store is restarted. All connections are cut, and it never gets {}",
+}
+KILLED = "The manager is killed. The store never gets {}"
+
+
+@dataclass
+class Step:
+    """What a store got, or a fault at it."""
+    session: str
+    text: str
+    reply: str = ""
+    what: str = ""  # of a fault; empty for a statement
+    number: str = "0"
+
+    def is_disturbing(self) -> bool:
+        return self.what != "" and (self.what, float(self.number)) != ("stall", 0)
+
+    def passes(self) -> bool:
+        """Whether the store gets the statement of this fault after it."""
+        return self.what == "stall" and float(self.number) in (0, PAUSE)
+
+    def said(self) -> str:
+        form = KILLED if (self.what, float(self.number)) == ("stall", HOLD) else SAID[self.what]
+        return form.format(readable(self.text), number=self.number)
+
+
+def steps_of(record: str) -> list[Step]:
+    """The statements and faults of a store's record. A statement that a fault refused is left out, since the store never got it."""
+    steps: list[Step] = []
+    calls: dict[str, Step] = {}
+    for line in record.splitlines():
+        if found := FAULT.match(line):
+            steps.append(Step(found[1], found["text"], what=found["what"], number=found["number"] or "0"))
+        elif found := CALL.fullmatch(line):
+            calls[found[1]] = Step(found[1], found[2])
+            steps.append(calls[found[1]])
+        elif (found := RETURN.fullmatch(line)) and found[1] in calls:
+            calls[found[1]].reply = found[2]
+    refused = {(it.session, it.text, it.number) for it in steps if it.what == "error"}
+    return [it for it in steps if it.what or (it.session, it.text, it.reply.partition(" (")[0].removeprefix("ERROR ")) not in refused]
+
+
+def merged(log: Sequence[str], stores: Sequence[list[Step]]) -> Iterator[tuple[int, Step]]:
+    """The steps of all stores, each with its store, in the order in which the log tells of statements."""
+    at, told, seen = Counter[int](), Counter[int](), Counter[int]()
+
+    def until(store: int, holds) -> Iterator[tuple[int, Step]]:
+        """The next steps of a store, as far as one that is wanted."""
+        while at[store] < len(stores[store - 1]):
+            step = stores[store - 1][at[store]]
+            at[store] += 1
+            told[store] += step.what != ""
+            yield store, step
+            if holds(step):
+                return
+
+    for line in log:
+        found = LOGGED.match(line)
+        if not found:
+            continue
+        store = int(found[1])
+        seen[store] += 1
+        while told[store] < seen[store] and at[store] < len(stores[store - 1]):
+            taken = list(until(store, lambda step: step.what != ""))
+            yield from taken
+            fault = taken[-1][1]
+            if fault.passes():
+                yield from until(store, lambda it, fault=fault: (it.session, it.text, it.what) == (fault.session, fault.text, ""))
+    for store in range(1, len(stores) + 1):
+        yield from until(store, lambda _: False)
+
+
+class Teller:
+    """Writes the lines of a story, step by step."""
+
+    def __init__(self, recoveries: int, in_between: int, shows_planted: bool) -> None:
+        self.lines: list[str] = []
+        self._recoveries, self._in_between, self._shows_planted = recoveries, in_between, shows_planted
+        self._looks: Counter[int] = Counter()  # marks of the bench in each store
+        self._looking: set[tuple[int, str]] = set()  # sessions of the bench
+        self._open: set[tuple[int, str]] = set()  # sessions that have a branch that isn't prepared
+
+    def tell(self, store: int, step: Step) -> None:
+        key = (store, step.session)
+        if step.what:
+            if step.is_disturbing():
+                self.lines.append(f"# {step.said()}")
+        elif step.text == LOOK:
+            self._look(store)
+            self._looking.add(key)
+        elif step.text == "DISCONNECT":
+            if key in self._open:
+                self.lines.append(f"AT {store} DISCONNECT")
+            self._open.discard(key)
+            self._looking.discard(key)
+        elif key not in self._looking and (self._looks[store] or self._shows_planted):
+            self._statement(store, step)
+
+    def _statement(self, store: int, step: Step) -> None:
+        self.lines.append(f"AT {store} {readable(step.text)}")
+        if step.reply == "OK" and step.text.startswith("XA START"):
+            self._open.add((store, step.session))
+        elif step.reply == "OK" and step.text.startswith(("XA PREPARE", "XA COMMIT", "XA ROLLBACK")):
+            self._open.discard((store, step.session))
+
+    def _look(self, store: int) -> None:
+        """A mark of the bench: the first ends what it planted, and two stand around each look."""
+        is_first = self._looks[store] == max(self._looks.values(), default=0)
+        self._looks[store] += 1
+        number = self._looks[store] // 2
+        if not is_first or self._looks[store] % 2 or number > self._recoveries:
+            return
+        ended = f"The run has ended. In doubt: {self._in_between}." if number == 1 else f"Recovery {number - 1} has ended."
+        self.lines.append(f"# {ended} Recovery {number} begins.")
+
+
+def lines_of(outcome: Outcome, log: Sequence[str], records: Sequence[str]) -> list[str]:
+    """The story of a point as lines."""
+    shows_planted = outcome.verdict in SHOWS_PLANTED
+    teller = Teller(len(outcome.statuses) - 1, outcome.in_between, shows_planted)
+    verdict = outcome.verdict + (f", {outcome.why}" if outcome.why else "")
+    teller.lines += [f"# {outcome.point or 'without a fault'}: {verdict}",
+                     "# The manager under test is the other client here. The coordinator and store 0 aren't used."]
+    if shows_planted:
+        teller.lines.append("# First another manager prepares its branches, which the manager has to leave alone.")
+    for store, step in merged(log, [steps_of(record) for record in records]):
+        teller.tell(store, step)
+    teller.lines.append("# The rows in the end")
+    teller.lines += [f"AT {store} GET {readable(key.decode())}" for store, rows in enumerate(outcome.wanted, 1) for key in rows]
+    return teller.lines
+
+
+def readable(text: str) -> str:
+    """A statement with its literals in quotes, if they can be read."""
+    return HEX.sub(lambda it: quoted(bytes.fromhex(it[1])) if len(it[1]) % 2 == 0 else it[0], text)
+
+
+def quoted(data: bytes) -> str:
+    is_plain = all(0x20 <= byte < 0x7f and byte not in b"'\\" for byte in data)
+    return f"'{data.decode()}'" if is_plain else f"0x{data.hex()}"
+
+
+def address(lines: Sequence[str], stores: int) -> str:
+    """The classroom's address of a story."""
+    calls = quote_plus("\n".join(lines), safe="-._~'(),;:@/!*")
+    return f"{CLASSROOM}#commit?calls={calls}&stores={stores + 1}"
+
+
+def write(folder: Path, stores: int, outcome: Outcome, log: Sequence[str], records: Sequence[str]) -> None:
+    """Writes the calls, and a page that opens them in the classroom."""
+    if stores > MOST:
+        return
+    lines = lines_of(outcome, log, records)
+    (folder / CALLS).write_text("".join(f"{line}\n" for line in lines))
+    link = address(lines, stores).replace("&", "&amp;").replace('"', "%22")
+    (folder / PAGE).write_text(f'<!doctype html>\n<meta charset="utf-8">\n<title>A point of the bench</title>\n'
+                               f'<p><a href="{link}">The story in the classroom</a>, once drivers/page/serve runs.</p>\n')
