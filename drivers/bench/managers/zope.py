@@ -1,10 +1,9 @@
 #!/usr/bin/env python3
 """Zope's transaction manager over the Python driver's data manager, with a file of decisions.
 
-    zope.py [plain] run VALUE | recover
+    zope.py run VALUE | recover
 
-It writes a row into each store of 127.0.0.1 whose port is in $PORTS, in one transaction, and keeps its decisions in the current folder. Status 0: all is committed, or recovered. With `plain` the
-driver's data manager is used as it is.
+It writes a row into each store of 127.0.0.1 whose port is in $PORTS, in one transaction, and keeps its decisions in the current folder. Status 0: all is committed, or recovered.
 """
 import os
 import sys
@@ -18,17 +17,6 @@ from nigbaru import Branch, Error, Remote  # noqa: E402
 MANAGER = b"zope "  # its gtrids begin so
 STORES = [Remote(int(port), timeout=30) for port in os.environ["PORTS"].split()]
 DECISIONS = Path("decisions")
-
-
-class Lasting(Branch):
-    """A branch whose commit never fails: once all have voted, `transaction` would roll back the others. A branch that isn't reached is left to recovery."""
-    left = 0
-
-    def tpc_finish(self, transaction):
-        try:
-            super().tpc_finish(transaction)
-        except Error:
-            Lasting.left += 1
 
 
 class Decision:
@@ -52,14 +40,15 @@ class Decision:
     abort = tpc_begin = commit = tpc_finish = tpc_abort = nothing
 
 
-def run(value, kind):
+def run(value):
     gtrid = MANAGER + os.urandom(8)
     manager = transaction.TransactionManager()
     manager.begin()
+    branches = []
     try:
         for number, store in enumerate(STORES, 1):
             connection = store.connect()
-            kind(manager, connection, gtrid, f"store {number}")
+            branches.append(Branch(manager, connection, gtrid, f"store {number}"))
             connection.put("row", value)
         manager.get().join(Decision(gtrid))
         manager.commit()
@@ -67,7 +56,7 @@ def run(value, kind):
         print(fault)
         manager.abort()
         return False
-    return not Lasting.left
+    return not any(branch.unfinished for branch in branches)
 
 
 def recover():
@@ -83,6 +72,4 @@ def recover():
 
 
 words = sys.argv[1:]
-kind = Branch if words[0] == "plain" else Lasting
-words = words[words[0] == "plain":]
-sys.exit(not (run(words[1], kind) if words[0] == "run" else recover()))
+sys.exit(not (run(words[1]) if words[0] == "run" else recover()))

@@ -98,6 +98,15 @@ class Connection:
             self._server.give_back(session)
 
     @property
+    def is_gone(self) -> bool:
+        """Whether nothing can be asked by it any more: it was closed, or its store or its socket is gone."""
+        return self._session is None or self._server.is_gone
+
+    def another(self) -> "Connection":
+        """Another connection to the same store; OperationalError if there is none to be had."""
+        return self._server.connect()
+
+    @property
     def in_transaction(self) -> bool:
         """Whether a transaction is open, prepared or not."""
         return self._stage != NONE

@@ -2,11 +2,16 @@
 from __future__ import annotations
 
 import contextlib
-from typing import Any
+import logging
+import time
+from typing import Any, Optional
 
 from .connection import Connection
-from .errors import Error
+from .errors import Error, means_no_branch
 from .xid import Text
+
+PAUSES = (0.0, 0.1, 0.5)  # seconds before each further try of a commit
+LOG = logging.getLogger("nigbaru")
 
 
 class Branch:
@@ -22,6 +27,8 @@ class Branch:
         self.xid = connection.xid(format_id, global_id, name)
         connection.tpc_begin(self.xid)
         self.open = True
+        self.unfinished: Optional[Error] = None  # why the second phase isn't known to have ended
+        self._is_lost = False  # whether a connection went before it had the answer to a commit
         try:
             manager.get().join(self)
         except BaseException:
@@ -44,11 +51,39 @@ class Branch:
         self.connection.tpc_prepare()
 
     def tpc_finish(self, transaction: Any) -> None:
-        """The second phase."""
+        """The second phase. It raises no Error, since `transaction` would then roll back the other branches, of which some may have committed.
+
+        A commit that fails is tried again, over another connection if this one is gone. If it still fails, `unfinished` has the error, which is logged as critical,
+        and the branch is left to recovery.
+        """
+        self.open = False  # it is decided: what aborts from now on may not roll back
+        self.unfinished = self._commit()
+        for pause in PAUSES:
+            if self.unfinished is None or means_no_branch(self.unfinished):
+                break
+            time.sleep(pause)
+            self.unfinished = self._commit()
+        if self.unfinished is not None:
+            LOG.critical("%r isn't known to be committed, though that is decided: recovery has to commit it, if it is still prepared", self.xid, exc_info=self.unfinished)
+
+    def _commit(self) -> Optional[Error]:
+        """Asks for the commit; the error of a try that isn't known to have committed."""
         try:
-            self.connection.tpc_commit()
+            connection = self.connection.another() if self.connection.is_gone else self.connection
+        except Error as error:
+            return error
+        was_lost = self._is_lost
+        try:
+            connection.tpc_commit(self.xid if connection is not self.connection else None)
+        except Error as error:
+            self._is_lost = was_lost or connection.is_gone
+            # Once an answer was lost, a store without this branch has committed it: the answer that was lost said so.
+            return None if was_lost and means_no_branch(error) else error
         finally:
-            self.open = self.connection.in_transaction
+            if connection is not self.connection:
+                with contextlib.suppress(Error):
+                    connection.close()
+        return None
 
     def abort(self, transaction: Any) -> None:
         """Rolls back, once."""

@@ -37,6 +37,7 @@ class Line:
     """A socket to a store, asked as a Server is: by a statement, for the lines of its answer."""
 
     def __init__(self, remote: Remote, timeout: Optional[float]) -> None:
+        self._remote = remote
         self._left = b""
         self._cause: Optional[str] = None
         try:
@@ -78,6 +79,10 @@ class Line:
         if error:
             raise error
         return answer
+
+    def connect(self) -> Connection:
+        """Another connection to the same store, over a socket of its own."""
+        return self._remote.connect()
 
     def give_back(self, session: int) -> None:
         """Closes the socket, since the connection is."""
