@@ -1,9 +1,10 @@
 #!/usr/bin/env python3
-"""Ten transaction managers that are wrong on purpose: each is the reference with one line changed or moved.
+"""Transaction managers that are wrong on purpose: each is the reference with one line changed or moved.
 
     wrong.py NAME run VALUE | recover
 """
 import sys
+from contextlib import suppress  # noqa: F401  (a line of these managers uses it)
 from pathlib import Path
 
 VOTES = "        votes = [vote(connections[number], gtrid, number) for number in STORES]\n"
@@ -24,6 +25,8 @@ WRONG = {
     "one-phase": ("commits two branches in one phase each", '        ask(connection, "XA PREPARE %s,%s", gtrid, number)\n',
                   '        ask(connection, "XA COMMIT %s,%s ONE PHASE", gtrid, number); ASKED.add((gtrid, number))\n'),
     "first-page": ("recovers only the first two branches that a store lists", 'in ask(connect(number), "XA RECOVER"):', 'in ask(connect(number), "XA RECOVER")[:2]:'),
+    "drops-a-refused-row": ("commits without a row that was refused", """            ask(connections[number], "PUT 'row',%s", value)\n""",
+                            """            with suppress(pymysql.Error): ask(connections[number], "PUT 'row',%s", value)\n"""),
     "foreign": ("recovers branches of other managers", "            if gtrid.startswith(MANAGER):\n", "            if gtrid:\n"),
 }
 

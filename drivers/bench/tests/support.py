@@ -38,6 +38,10 @@ def name_of(point):
     return f"{point['point']}, {point['action']}" if point["action"] != "-" else point["point"]
 
 
+def verdicts(points):
+    return {name_of(point): point["verdict"] for point in points}
+
+
 def found(points):
     """The points that aren't right, with their verdicts."""
     return [f"{name_of(point)}: {point['verdict']}" for point in points if point["verdict"] not in ("atomic", "heuristic, told", "not reached")]

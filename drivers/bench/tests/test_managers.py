@@ -1,6 +1,6 @@
-"""Managers that are right at all points, and those that are wrong: at which points each is found, and at no other.
+"""Managers that are right at all points, and those that are wrong: each is found at the points of its rule, and at no other.
 
-found.txt has the points of each. Without --long those statements are left out at which none of them is wrong for a reason of its own.
+With --long these are whole tables; without it a part of each, as rules.py chooses it.
 """
 import shutil
 import subprocess
@@ -9,84 +9,102 @@ import tempfile
 import unittest
 from pathlib import Path
 
-from support import FOLDER, HERE, IS_LONG, bench, found, manager, name_of
+from rules import RULES, TOLD, Rule, told
+from support import FOLDER, HERE, IS_LONG, bench, found, manager, name_of, verdicts
 
 sys.path.insert(0, str(FOLDER / "managers"))
 from wrong import WRONG  # noqa: E402
 
-STORES = (1, 2)
-CHOSEN = [] if IS_LONG else [word for site in (*(f"store {store} XA {verb} 1" for store in STORES for verb in ("PREPARE", "COMMIT")), "store 1 ONE PHASE 1", "store 2 ONE PHASE 1", "redo", "undo") for word in ("--only", site)]
+WITHOUT = "without a fault"
+RIGHT = Rule("It is atomic at each point, and says so where somebody else ends a branch.", lambda _: False)
+PART = [word for site in (f"store {store} XA {verb} 1" for store in (1, 2) for verb in ("PREPARE", "COMMIT")) for word in ("--only", site)]
 JARS = ":".join(f"/usr/share/java/{jar}.jar" for jar in ("btm", "mariadb-java-client", "geronimo-jta-1.2-spec", "geronimo-jms_1.1_spec"))
 
 
-def expected():
-    """The lines of found.txt below each name."""
-    table, name = {}, ""
-    for line in (HERE / "found.txt").read_text().splitlines():
-        if line.startswith("    "):
-            table[name].append(line.strip())
-        elif line and not line.startswith("#"):
-            name = line
-            table[name] = []
-    return table
-
-
 class Right(unittest.TestCase):
+    def check(self, words, is_whole):
+        """All of its points, or some, are atomic, but those at which it has to tell."""
+        said, points = bench(*words, *([] if is_whole else PART), status=0)
+        seen = verdicts(points)
+        self.assertEqual(seen.pop(WITHOUT), "atomic")
+        wanted = {str(point): TOLD if str(point) in told(RIGHT.points()) else "atomic" for point in RIGHT.points()}
+        if is_whole:
+            self.assertEqual(seen, wanted, said)
+        else:
+            self.assertEqual(seen, {name: wanted[name] for name in seen}, said)
+            self.assertEqual(len(seen), 2 * (8 + 9))
+
     def test_the_reference(self):
-        said, points = bench(*manager("reference.py"), status=0)
-        self.assertEqual(found(points), [], said)
-        self.assertEqual(len({name_of(point) for point in points}), 131)
-        self.assertEqual([name_of(point) for point in points if point["verdict"] == "not reached"], [])
+        self.check(manager("reference.py"), True)
 
     def test_three_stores(self):
         said, points = bench(*manager("reference.py"), "--stores", "3", "--only", "store 2 XA COMMIT 1", "--only", "store 3 XA PREPARE 1", status=0)
         self.assertEqual(found(points), [], said)
+        self.assertEqual(len(points), 1 + 9 + 8)
 
     def test_zope(self):
-        said, points = bench(*manager("zope.py"), *CHOSEN, status=0)
-        self.assertEqual(found(points), [], said)
+        self.check(manager("zope.py"), IS_LONG)
+
+    def test_the_monitor_in_c(self):
+        with tempfile.TemporaryDirectory() as folder:
+            program = f"{folder}/monitor"
+            subprocess.run([FOLDER / "managers/monitor/build", program], check=True)
+            self.check(["--run", f"{program} run 90", "--recover", f"{program} recover"], IS_LONG)
 
 
 class Wrong(unittest.TestCase):
-    def test_each_is_found(self):
-        self.assertEqual(set(WRONG) | {"zope.py plain"}, set(expected()) - {"bitronix"})
+    def test_each_has_a_rule(self):
+        self.assertEqual(set(WRONG), set(RULES))
 
     def test_what_each_changes(self):
         """One line of the reference, or one that is moved."""
         reference = (FOLDER / "managers/reference.py").read_text().splitlines()
         for name in WRONG:
-            text = subprocess.run([sys.executable, "-c", f"import wrong; print(wrong.text_of({name!r}), end='')"], cwd=FOLDER / "managers", stdout=subprocess.PIPE, text=True, check=True).stdout.splitlines()
+            words = [sys.executable, "-c", f"import wrong; print(wrong.text_of({name!r}), end='')"]
+            text = subprocess.run(words, cwd=FOLDER / "managers", stdout=subprocess.PIPE, text=True, check=True).stdout.splitlines()
             self.assertNotEqual(text, reference, name)
             self.assertLessEqual(len(set(text) - set(reference)), 1, name)
 
+    def test_rules_differ(self):
+        """Two managers that are found at the same points do the same harm: a rule that a table can't tell from another's says so."""
+        same = [{one, other} for one in RULES for other in RULES if one < other and RULES[one].found() == RULES[other].found()]
+        self.assertEqual(same, [{"never-decides", "recovery-rolls-back-all"}])
 
-def test_of(name, words):
+
+def test_of(name):
+    rule = RULES[name]
+
     def test(self):
-        said, points = bench(*manager(*words), *CHOSEN, status=1)
-        lines = expected()[name]
-        if lines == ["every point: FOREIGN"]:
-            lines = [f"{name_of(point)}: FOREIGN" for point in points]
-        self.assertEqual(sorted(found(points)), sorted(lines), said)
+        chosen = [] if IS_LONG else [word for point in rule.part() for word in ("--only", point)]
+        said, points = bench(*manager("wrong.py", name), *chosen, status=1)
+        self.assertEqual([line for line in found(points) if line.startswith(WITHOUT)], [f"{WITHOUT}: FOREIGN"] if name == "foreign" else [], said)
+        names = {name_of(point) for point in points} - {WITHOUT}
+        self.assertEqual(names, set(map(str, rule.points())) if IS_LONG else set(rule.part()), said)
+        wanted = [f"{point}: {verdict}" for point, verdict in rule.found().items() if point in names]
+        self.assertEqual(sorted(line for line in found(points) if not line.startswith(WITHOUT)), sorted(wanted), said)
+        self.assertEqual([name_of(point) for point in points if point["verdict"] == "not reached"], [])
     return test
 
 
-for one in WRONG:
-    setattr(Wrong, f"test_{one.replace('-', '_')}", test_of(one, ("wrong.py", one)))
-Wrong.test_zope_plain = test_of("zope.py plain", ("zope.py", "plain"))
+for one in RULES:
+    setattr(Wrong, f"test_{one.replace('-', '_')}", test_of(one))
 
 
 class Bitronix(unittest.TestCase):
-    """Some points of the page's table; all with --long."""
+    """What the page's table says of it, which was seen and follows from no rule; all points with --long."""
 
     def test_what_the_page_says(self):
         with tempfile.TemporaryDirectory() as folder:
             for path in (FOLDER / "managers/bitronix").iterdir():
                 shutil.copy(path, folder)
             subprocess.run(["javac", "-cp", JARS, "Transfer.java"], cwd=folder, check=True)
-            lines = expected()["bitronix"]
-            chosen = [] if IS_LONG else [word for line in lines for word in ("--only", line.rpartition(": ")[0])] + ["--only", "store 1 XA COMMIT 1, manager killed before", "--only", "store 2 XA PREPARE 1, answer lost"]
+            lines = (HERE / "bitronix.txt").read_text().splitlines()[1:]
+            some = [*(line.rpartition(": ")[0] for line in lines[:1]), "store 1 XA COMMIT 1, manager killed before", "store 2 XA PREPARE 1, answer lost"]
+            chosen = [] if IS_LONG else [word for name in some for word in ("--only", name)]
             said, points = bench("--run", "sh run.sh 90", "--recover", "sh run.sh", "--folder", folder, *chosen, status=1)
-            self.assertEqual(sorted(found(points)), sorted(lines), said)
+            names = {name_of(point) for point in points}
+            self.assertEqual(sorted(found(points)), sorted(line for line in lines if line.rpartition(": ")[0] in names), said)
+            self.assertGreaterEqual(len(names), len(some))
 
 
 if __name__ == "__main__":
