@@ -1,5 +1,7 @@
 """The bench itself: its options, its reports, and managers that misbehave."""
 import contextlib
+import html
+import re
 import shlex
 import signal
 import socket
@@ -9,6 +11,7 @@ import time
 import unittest
 import xml.etree.ElementTree
 from pathlib import Path
+from urllib.parse import unquote_plus
 
 from support import BENCH, FOLDER, PROGRAM, PYTHON, bench, found, manager, name_of
 
@@ -22,6 +25,20 @@ def running(words):
         with contextlib.suppress(OSError):  # it may have ended
             if path.read_bytes().replace(b"\0", b" ").decode(errors="replace").startswith(words):
                 found.append(path.parent.name)
+    return found
+
+
+def of_manager(record):
+    """What a store was asked by the manager, or about its branches, and replied: neither the bench's looks and plants, nor lists, nor what the store never got."""
+    found, calls, refused = [], {}, set()
+    for line in record.read_text().splitlines():
+        session, sign, text = (line.split(" ", 2) + ["", ""])[:3]
+        if line.startswith("# session") and " error " in line:
+            refused.add(line.split(", at ")[1].rpartition(": ")[0])
+        elif sign == ">":
+            calls[session] = text
+        elif sign == "<" and not re.match(r"GET|XA RECOVER|DISCONNECT", calls[session]) and f"0x{b'another manager'.hex()}"[2:] not in calls[session] and calls[session] not in refused:
+            found.append((calls[session], text))
     return found
 
 
@@ -44,8 +61,9 @@ class Reports(unittest.TestCase):
             self.assertEqual(tap[:2], ["TAP version 13", f"1..{len(points)}"])
             self.assertEqual(sum(line.startswith("not ok ") for line in tap), len(wrong))
             kept = Path(folder) / "kept" / "store-2-XA-COMMIT-1-manager-killed-before"
-            self.assertLessEqual({"faults", "record.1", "record.2", "history.1", "history.2", "server.log", "run.out", "recovery1.out", "work"}, {path.name for path in kept.iterdir()})
+            self.assertLessEqual({"faults", "record.1", "record.2", "history.1", "history.2", "server.log", "run.out", "recovery1.out", "work", "story.calls", "story.html"}, {path.name for path in kept.iterdir()})
             self.assertIn("STORE 2 XA COMMIT 1 stall 600\n", (kept / "faults").read_text())
+            self.assertIn(f"    its records are in {kept}, and story.html there opens it in the classroom", said)
             (again,) = [line.strip() for line in said.splitlines() if line.startswith("    ") and "'store 2 XA COMMIT 1, manager killed before'" in line]
             words = shlex.split(again)
             ran = subprocess.run([PYTHON, *words], stdout=subprocess.PIPE, text=True)
@@ -66,6 +84,44 @@ class Reports(unittest.TestCase):
             names = [name_of(point) for point in points[1:]]
             self.assertEqual(names[:len(names) // 2], names[len(names) // 2:])
             self.assertIn("redo store 1 XA RECOVER 1, answer lost", names)
+
+    def test_a_name_that_no_point_has(self):
+        """It is told in one line, before anything else, with names that are near to it. What can be no name is told before the manager is run."""
+        false = ["--run", "false", "--recover", "false"]
+        for words, name, nearest in ((false, "store 1 XA COMIT 1", "store 1 XA COMMIT 1"), (false, "store 3 XA COMMIT 1", "store 1 XA COMMIT 1"),
+                                     (false, "store 1 XA COMMIT 1, answers lost", "store 1 XA COMMIT 1, answer lost"), (false, "branch roled back", "branch rolled back"),
+                                     (manager("reference.py"), "store 1 XA COMMIT 2", "store 1 XA COMMIT 1"), (manager("reference.py"), "redo store 2 XA ROLLBACK 1", "redo store 2 XA")):
+            said, points = bench(*words, "--only", name, "--only", "answer lost", status=2)
+            self.assertEqual(len(said.splitlines()), 1, said)
+            self.assertTrue(said.startswith(f"bench: no point is named '{name}'; the nearest: "), said)
+            self.assertIn(f"'{nearest}", said)
+            self.assertEqual(points, [])
+
+    def test_the_story_of_a_point(self):
+        """What it says of each store is what the store's record says, and the job `coordinate` gives the same replies. The page has it as a link."""
+        points = ["store 2 XA COMMIT 1, manager killed before", "store 1 XA COMMIT 1, branch rolled back", "store 2 PUT 1, answer lost", "store 2 XA PREPARE 1, refused 1402",
+                  "store 1 XA PREPARE 1, store restarted", "redo store 1 XA COMMIT 1, answer lost"]
+        with tempfile.TemporaryDirectory() as folder:
+            bench(*manager("wrong.py", "never-decides"), *(word for point in points[:-1] for word in ("--only", point)), "--keep", folder, status=1)
+            bench(*manager("reference.py"), "--only", points[-1], "--keep", folder, status=0)
+            for point in points:
+                with self.subTest(point=point):
+                    self.check_story(Path(folder) / point.replace(",", "").replace(" ", "-"), point)
+
+    def check_story(self, kept, point):
+        calls = (kept / "story.calls").read_text().splitlines()
+        self.assertTrue(calls[0].startswith(f"# {point}: "), calls)
+        ran = subprocess.run([PROGRAM, "coordinate", "--stores", "3", "--file", kept / "story.calls"], stdout=subprocess.PIPE, text=True, check=True)
+        replies = [line for line in ran.stdout.splitlines() if line.startswith(("OK", "NONE", "VALUE", "ROWS", "ERROR"))]
+        asked = [line for line in calls if line.startswith("AT ")]
+        self.assertEqual(len(replies), len(asked))
+        for store in (1, 2):
+            told = [(line.split(" ", 2)[2].split(" 'ref")[0], reply) for line, reply in zip(asked, replies) if line.startswith(f"AT {store} ") and "DISCONNECT" not in line]
+            seen = [(text.split(" 0x")[0].replace("PUT", "PUT 'row','90'"), reply) for text, reply in of_manager(kept / f"record.{store}")]
+            self.assertEqual([it for it in told[:-1] if "RECOVER" not in it[0]], seen, calls)
+            self.assertEqual(told[-1][0], "GET 'row'")
+        page = (kept / "story.html").read_text()
+        self.assertEqual(unquote_plus(html.unescape(page.partition('calls=')[2].partition("&amp;stores=3")[0])).split("\n"), calls)
 
     def test_one_store(self):
         """With one store nothing can be mixed, and all else is the same."""
@@ -141,8 +197,6 @@ class Managers(unittest.TestCase):
         ran = subprocess.run([PYTHON, BENCH, "--program", "/nowhere", "--run", "true", "--recover", "true"], stderr=subprocess.PIPE, text=True)
         self.assertEqual(ran.returncode, 2)
         self.assertIn("no program at /nowhere", ran.stderr)
-        said, _ = bench(*manager("reference.py"), "--only", "store 3 XA COMMIT 1", status=2)
-        self.assertIn("no point is named store 3 XA COMMIT 1", said)
         ran = subprocess.run([PYTHON, BENCH, "--program", PROGRAM, "--server", "true", "--run", "true", "--recover", "true"], stderr=subprocess.PIPE, text=True)
         self.assertEqual(ran.returncode, 2)
         self.assertIn("the server doesn't start", ran.stderr)
