@@ -1,6 +1,8 @@
 """The bench itself: its options, its reports, and managers that misbehave."""
 import contextlib
 import html
+import importlib.machinery
+import importlib.util
 import re
 import shlex
 import signal
@@ -127,6 +129,23 @@ class Reports(unittest.TestCase):
         """With one store nothing can be mixed, and all else is the same."""
         _, points = bench(*manager("wrong.py", "one-phase"), "--stores", "1", "--only", "store 1 ONE PHASE 1", "--only", "store 1 XA COMMIT 1", status=0)
         self.assertIn("store 1 ONE PHASE 1, answer lost", [name_of(point) for point in points])
+
+
+class Servers(unittest.TestCase):
+    def test_which_is_taken(self):
+        """The one that is named; else the server in Rust if it is built, and the gateway if it isn't. The help says so."""
+        loader = importlib.machinery.SourceFileLoader("bench", str(BENCH))
+        module = importlib.util.module_from_spec(importlib.util.spec_from_loader("bench", loader))
+        loader.exec_module(module)
+        words = ["--run", "true", "--recover", "true", "--program", PROGRAM]
+        with tempfile.NamedTemporaryFile() as built:
+            Path(built.name).chmod(0o755)
+            for path, wanted in ((Path(built.name), [built.name]), (Path("/nowhere"), [str(module.GATEWAY), PROGRAM])):
+                module.RUST_SERVER = path
+                self.assertEqual(module.server_of(module.parser_of().parse_args(words)), wanted)
+                self.assertEqual(module.server_of(module.parser_of().parse_args([*words, "--server", "a 'b c'"])), ["a", "b c"])
+        said = subprocess.run([PYTHON, BENCH, "--help"], stdout=subprocess.PIPE, text=True, check=True).stdout
+        self.assertRegex(re.sub(r"\s+", " ", said), "by default server/target/release/nigbaru- ?server, and drivers/mysql/serve if that isn't built")
 
 
 class Managers(unittest.TestCase):
