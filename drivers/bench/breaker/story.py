@@ -21,11 +21,12 @@ CALLS, PAGE = "story.calls", "story.html"
 CLASSROOM = "http://127.0.0.1:8400/"
 MOST = 15  # stores that a story can have: the classroom's are 0 to 15, and 0 isn't used
 LOGGED = re.compile(r"store (\d+), .*the fault .*, at .*: ")  # a statement with a fault, in the server's log
-FAULT = re.compile(r"# session (\d+): the fault [A-Z ]+ \d+ (?P<what>[a-z-]+)(?: (?P<number>[\d.]+))?, at (?P<text>.*): ")
+FAULT = re.compile(r"# (?:session|connection) (\d+): the fault [A-Z ]+ \d+ (?P<what>[a-z-]+)(?: (?P<number>[\d.]+))?, at (?P<text>.*): ")
 CALL = re.compile(r"(\d+) > (.*)")
 RETURN = re.compile(r"(\d+) < (.*)")
 HEX = re.compile(r"0x([0-9a-f]+)")
 LOOK = f"GET {MARKED}"
+CONVERT = " CONVERT XID"
 SHOWS_PLANTED = ("FOREIGN", "IN DOUBT")  # verdicts that another manager's branches may be the cause of
 
 # What is said of a fault, and whether it stands before the statement that the store gets. None: nothing is disturbed.
@@ -42,7 +43,7 @@ KILLED = "The manager is killed. The store never gets {}"
 
 @dataclass
 class Step:
-    """What a store got, or a fault at it."""
+    """What a store got, or a fault at it. The session of a fault may be the number of a connection, so its statement is known by the text."""
     session: str
     text: str
     reply: str = ""
@@ -55,6 +56,10 @@ class Step:
     def passes(self) -> bool:
         """Whether the store gets the statement of this fault after it."""
         return self.what == "stall" and float(self.number) in (0, PAUSE)
+
+    def is_of(self, statement: Step) -> bool:
+        """Whether this fault is at that statement. A server may ask its store for a list in another form than its client did."""
+        return not statement.what and statement.text.removesuffix(CONVERT) == self.text.removesuffix(CONVERT)
 
     def said(self) -> str:
         form = KILLED if (self.what, float(self.number)) == ("stall", HOLD) else SAID[self.what]
@@ -73,8 +78,8 @@ def steps_of(record: str) -> list[Step]:
             steps.append(calls[found[1]])
         elif (found := RETURN.fullmatch(line)) and found[1] in calls:
             calls[found[1]].reply = found[2]
-    refused = {(it.session, it.text, it.number) for it in steps if it.what == "error"}
-    return [it for it in steps if it.what or (it.session, it.text, it.reply.partition(" (")[0].removeprefix("ERROR ")) not in refused]
+    refused = {(it.text, f"ERROR {it.number}") for it in steps if it.what == "error"}
+    return [it for it in steps if it.what or (it.text, it.reply.partition(" (")[0]) not in refused]
 
 
 def merged(log: Sequence[str], stores: Sequence[list[Step]]) -> Iterator[tuple[int, Step]]:
@@ -102,7 +107,7 @@ def merged(log: Sequence[str], stores: Sequence[list[Step]]) -> Iterator[tuple[i
             yield from taken
             fault = taken[-1][1]
             if fault.passes():
-                yield from until(store, lambda it, fault=fault: (it.session, it.text, it.what) == (fault.session, fault.text, ""))
+                yield from until(store, fault.is_of)
     for store in range(1, len(stores) + 1):
         yield from until(store, lambda _: False)
 
@@ -114,7 +119,6 @@ class Teller:
         self.lines: list[str] = []
         self._recoveries, self._in_between, self._shows_planted = recoveries, in_between, shows_planted
         self._looks: Counter[int] = Counter()  # marks of the bench in each store
-        self._looking: set[tuple[int, str]] = set()  # sessions of the bench
         self._open: set[tuple[int, str]] = set()  # sessions that have a branch that isn't prepared
 
     def tell(self, store: int, step: Step) -> None:
@@ -124,14 +128,19 @@ class Teller:
                 self.lines.append(f"# {step.said()}")
         elif step.text == LOOK:
             self._look(store)
-            self._looking.add(key)
         elif step.text == "DISCONNECT":
             if key in self._open:
                 self.lines.append(f"AT {store} DISCONNECT")
             self._open.discard(key)
-            self._looking.discard(key)
-        elif key not in self._looking and (self._looks[store] or self._shows_planted):
+        elif self._is_shown(store, step):
             self._statement(store, step)
+
+    def _is_shown(self, store: int, step: Step) -> bool:
+        """Not what the bench plants before its first mark, nor the list that it asks for between two others."""
+        looks = self._looks[store]
+        if looks == 0:
+            return self._shows_planted
+        return looks % 2 == 1 or not step.text.startswith("XA RECOVER")
 
     def _statement(self, store: int, step: Step) -> None:
         self.lines.append(f"AT {store} {readable(step.text)}")
