@@ -63,6 +63,8 @@ def failures(outcomes: Sequence[Outcome], words: Sequence[str]) -> list[str]:
             lines += [f"{name_of(outcome)}: {outcome.verdict}, {outcome.why}", f"    {command(words, outcome)}"]
             if outcome.folder:
                 lines.append(f"    its records are in {outcome.folder}, and {story.PAGE} there opens it in the classroom")
+    if lines and not any(outcome.folder for outcome in outcomes):
+        lines.append(f"With --keep DIR such a command leaves the records in DIR, and {story.PAGE}, which opens the point in the classroom.")
     return lines
 
 
