@@ -7,7 +7,8 @@ ANY = b""  # what stands for a value that isn't the same in each run
 
 
 def rows_of(history: bytes, is_own: Callable[[bytes], bool]) -> Rows:
-    """What the committed branches wrote whose gtrid is the manager's. A history has only what a store accepted, in canonical form."""
+    """What the committed branches wrote whose gtrid is the manager's. A history has only what a store accepted, in
+    canonical form."""
     rows: dict[bytes, bytes] = {}
     own: dict[bytes, bytes] = {}  # the branch of each session
     written: dict[bytes, dict[bytes, bytes]] = {}  # what each branch wrote that hasn't ended
@@ -42,8 +43,10 @@ def gtrid_of(xid: bytes) -> bytes:
 
 
 def expected(one: Sequence[Rows], other: Sequence[Rows]) -> list[Rows]:
-    """What each run has to leave if it commits, by two runs without faults: keys that both wrote, each with its value if that is the same in both."""
-    return [{key: value if value == there[key] else ANY for key, value in here.items() if key in there} for here, there in zip(one, other)]
+    """What each run has to leave if it commits, by two runs without faults: keys that both wrote, each with its value
+    if that is the same in both."""
+    return [{key: value if value == there[key] else ANY for key, value in here.items() if key in there}
+            for here, there in zip(one, other)]
 
 
 def lost(wanted: Sequence[Rows], found: Sequence[Rows]) -> list[tuple[int, bytes]]:

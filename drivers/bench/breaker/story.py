@@ -21,7 +21,8 @@ CALLS, PAGE = "story.calls", "story.html"
 CLASSROOM = "http://127.0.0.1:8400/"
 MOST = 15  # stores that a story can have: the classroom's are 0 to 15, and 0 isn't used
 LOGGED = re.compile(r"store (\d+), .*the fault .*, at .*: ")  # a statement with a fault, in the server's log
-FAULT = re.compile(r"# (?:session|connection) (\d+): the fault [A-Z ]+ \d+ (?P<what>[a-z-]+)(?: (?P<number>[\d.]+))?, at (?P<text>.*): ")
+FAULT = re.compile(r"# (?:session|connection) (\d+): the fault [A-Z ]+ \d+ "
+                   r"(?P<what>[a-z-]+)(?: (?P<number>[\d.]+))?, at (?P<text>.*): ")
 CALL = re.compile(r"(\d+) > (.*)")
 RETURN = re.compile(r"(\d+) < (.*)")
 HEX = re.compile(r"0x([0-9a-f]+)")
@@ -43,7 +44,8 @@ KILLED = "The manager is killed. The store never gets {}"
 
 @dataclass
 class Step:
-    """What a store got, or a fault at it. The session of a fault may be the number of a connection, so its statement is known by the text."""
+    """What a store got, or a fault at it. The session of a fault may be the number of a connection, so its statement is
+    known by the text."""
     session: str
     text: str
     reply: str = ""
@@ -58,7 +60,8 @@ class Step:
         return self.what == "stall" and float(self.number) in (0, PAUSE)
 
     def is_of(self, statement: Step) -> bool:
-        """Whether this fault is at that statement. A server may ask its store for a list in another form than its client did."""
+        """Whether this fault is at that statement. A server may ask its store for a list in another form than its
+        client did."""
         return not statement.what and statement.text.removesuffix(CONVERT) == self.text.removesuffix(CONVERT)
 
     def said(self) -> str:
@@ -67,7 +70,8 @@ class Step:
 
 
 def steps_of(record: str) -> list[Step]:
-    """The statements and faults of a store's record. A statement that a fault refused is left out, since the store never got it."""
+    """The statements and faults of a store's record. A statement that a fault refused is left out, since the store
+    never got it."""
     steps: list[Step] = []
     calls: dict[str, Step] = {}
     for line in record.splitlines():
@@ -156,7 +160,8 @@ class Teller:
         number = self._looks[store] // 2
         if not is_first or self._looks[store] % 2 or number > self._recoveries:
             return
-        ended = f"The run has ended. In doubt: {self._in_between}." if number == 1 else f"Recovery {number - 1} has ended."
+        run = f"The run has ended. In doubt: {self._in_between}."
+        ended = run if number == 1 else f"Recovery {number - 1} has ended."
         self.lines.append(f"# {ended} Recovery {number} begins.")
 
 
@@ -172,7 +177,8 @@ def lines_of(outcome: Outcome, log: Sequence[str], records: Sequence[str]) -> li
     for store, step in merged(log, [steps_of(record) for record in records]):
         teller.tell(store, step)
     teller.lines.append("# The rows in the end")
-    teller.lines += [f"AT {store} GET {readable(key.decode())}" for store, rows in enumerate(outcome.wanted, 1) for key in rows]
+    teller.lines += [f"AT {store} GET {readable(key.decode())}"
+                     for store, rows in enumerate(outcome.wanted, 1) for key in rows]
     return teller.lines
 
 
@@ -199,5 +205,6 @@ def write(folder: Path, stores: int, outcome: Outcome, log: Sequence[str], recor
     lines = lines_of(outcome, log, records)
     (folder / CALLS).write_text("".join(f"{line}\n" for line in lines))
     link = address(lines, stores).replace("&", "&amp;").replace('"', "%22")
-    (folder / PAGE).write_text(f'<!doctype html>\n<meta charset="utf-8">\n<title>A point of the bench</title>\n'
-                               f'<p><a href="{link}">The story in the classroom</a>, once drivers/page/serve runs.</p>\n')
+    (folder / PAGE).write_text(
+        f'<!doctype html>\n<meta charset="utf-8">\n<title>A point of the bench</title>\n'
+        f'<p><a href="{link}">The story in the classroom</a>, once drivers/page/serve runs.</p>\n')

@@ -1,4 +1,4 @@
-"""Managers that are right at all points, and those that are wrong: each is found at the points of its rule, and at no other.
+"""Managers that are right at all points, and those that are wrong, each found at the points of its rule, and at no other.
 
 With --long these are whole tables; without it a part of each, as rules.py chooses it.
 """
@@ -17,8 +17,10 @@ from wrong import WRONG  # noqa: E402
 
 WITHOUT = "without a fault"
 RIGHT = Rule("It is atomic at each point, and says so where somebody else ends a branch.", lambda _: False)
-PART = [word for site in (f"store {store} XA {verb} 1" for store in (1, 2) for verb in ("PREPARE", "COMMIT")) for word in ("--only", site)]
-JARS = ":".join(f"/usr/share/java/{jar}.jar" for jar in ("btm", "mariadb-java-client", "geronimo-jta-1.2-spec", "geronimo-jms_1.1_spec"))
+SITES = [f"store {store} XA {verb} 1" for store in (1, 2) for verb in ("PREPARE", "COMMIT")]
+PART = [word for site in SITES for word in ("--only", site)]
+JARS = ":".join(f"/usr/share/java/{jar}.jar"
+                for jar in ("btm", "mariadb-java-client", "geronimo-jta-1.2-spec", "geronimo-jms_1.1_spec"))
 
 
 class Right(unittest.TestCase):
@@ -38,7 +40,8 @@ class Right(unittest.TestCase):
         self.check(manager("reference.py"), True)
 
     def test_three_stores(self):
-        said, points = bench(*manager("reference.py"), "--stores", "3", "--only", "store 2 XA COMMIT 1", "--only", "store 3 XA PREPARE 1", status=0)
+        only = ["--only", "store 2 XA COMMIT 1", "--only", "store 3 XA PREPARE 1"]
+        said, points = bench(*manager("reference.py"), "--stores", "3", *only, status=0)
         self.assertEqual(found(points), [], said)
         self.assertEqual(len(points), 1 + 9 + 8)
 
@@ -61,13 +64,16 @@ class Wrong(unittest.TestCase):
         reference = (FOLDER / "managers/reference.py").read_text().splitlines()
         for name in WRONG:
             words = [sys.executable, "-c", f"import wrong; print(wrong.text_of({name!r}), end='')"]
-            text = subprocess.run(words, cwd=FOLDER / "managers", stdout=subprocess.PIPE, text=True, check=True).stdout.splitlines()
+            ran = subprocess.run(words, cwd=FOLDER / "managers", stdout=subprocess.PIPE, text=True, check=True)
+            text = ran.stdout.splitlines()
             self.assertNotEqual(text, reference, name)
             self.assertLessEqual(len(set(text) - set(reference)), 1, name)
 
     def test_rules_differ(self):
-        """Two managers that are found at the same points do the same harm: a rule that a table can't tell from another's says so."""
-        same = [{one, other} for one in RULES for other in RULES if one < other and RULES[one].found() == RULES[other].found()]
+        """Two managers that are found at the same points do the same harm: a rule that a table can't tell from
+        another's says so."""
+        same = [{one, other} for one in RULES for other in RULES
+                if one < other and RULES[one].found() == RULES[other].found()]
         self.assertEqual(same, [{"never-decides", "recovery-rolls-back-all"}])
 
 
@@ -77,7 +83,7 @@ def test_of(name):
     def test(self):
         chosen = [] if IS_LONG else [word for point in rule.part() for word in ("--only", point)]
         said, points = bench(*manager("wrong.py", name), *chosen, status=1)
-        self.assertEqual([line for line in found(points) if line.startswith(WITHOUT)], [f"{WITHOUT}: FOREIGN"] if name == "foreign" else [], said)
+        self.assertEqual(verdicts(points)[WITHOUT], "FOREIGN" if name == "foreign" else "atomic", said)
         names = {name_of(point) for point in points} - {WITHOUT}
         self.assertEqual(names, set(map(str, rule.points())) if IS_LONG else set(rule.part()), said)
         wanted = [f"{point}: {verdict}" for point, verdict in rule.found().items() if point in names]
@@ -99,11 +105,13 @@ class Bitronix(unittest.TestCase):
                 shutil.copy(path, folder)
             subprocess.run(["javac", "-cp", JARS, "Transfer.java"], cwd=folder, check=True)
             lines = (HERE / "bitronix.txt").read_text().splitlines()[1:]
-            some = [*(line.rpartition(": ")[0] for line in lines[:1]), "store 1 XA COMMIT 1, manager killed before", "store 2 XA PREPARE 1, answer lost"]
+            some = [lines[0].rpartition(": ")[0], "store 1 XA COMMIT 1, manager killed before", "store 2 XA PREPARE 1, answer lost"]
             chosen = [] if IS_LONG else [word for name in some for word in ("--only", name)]
-            said, points = bench("--run", "sh run.sh 90", "--recover", "sh run.sh", "--folder", folder, *chosen, status=1)
+            words = ["--run", "sh run.sh 90", "--recover", "sh run.sh", "--folder", folder]
+            said, points = bench(*words, *chosen, status=1)
             names = {name_of(point) for point in points}
-            self.assertEqual(sorted(found(points)), sorted(line for line in lines if line.rpartition(": ")[0] in names), said)
+            wanted = [line for line in lines if line.rpartition(": ")[0] in names]
+            self.assertEqual(sorted(found(points)), sorted(wanted), said)
             self.assertGreaterEqual(len(names), len(some))
 
 

@@ -33,7 +33,8 @@ class Left(unittest.TestCase):
         self.assertEqual(rows(*lines), {b"0x63": b"X''"})
 
     def test_the_last_value_counts(self):
-        """Within a branch, and of the branch that commits last. An identifier that is used again has written nothing yet."""
+        """Within a branch, and of the branch that commits last. An identifier that is used again has written nothing
+        yet."""
         one = [*branch(1, OWN, "PUT 0x6b,0x31", "PUT 0x6b,0x32", "DEL 0x6c"), f"1 XA COMMIT {OWN},0x31,1 ONE PHASE"]
         self.assertEqual(rows(*one), {b"0x6b": b"0x32", b"0x6c": DELETED})
         self.assertEqual(rows(*one, *branch(1, OWN, "PUT 0x6c,0x33"), f"1 XA COMMIT {OWN},0x31,1 ONE PHASE"), {b"0x6b": b"0x32", b"0x6c": b"0x33"})

@@ -1,4 +1,5 @@
-"""The second phase over a network: a commit that fails is tried again, and what still fails is told and left to recovery, while the other store commits."""
+"""The second phase over a network: a commit that fails is tried again, and what still fails is told and left to
+recovery, while the other store commits."""
 import os
 import subprocess
 import tempfile
