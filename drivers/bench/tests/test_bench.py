@@ -8,6 +8,7 @@ import shlex
 import signal
 import socket
 import subprocess
+import sys
 import tempfile
 import time
 import unittest
@@ -140,7 +141,7 @@ class Servers(unittest.TestCase):
         words = ["--run", "true", "--recover", "true", "--program", PROGRAM]
         with tempfile.NamedTemporaryFile() as built:
             Path(built.name).chmod(0o755)
-            for path, wanted in ((Path(built.name), [built.name]), (Path("/nowhere"), [str(module.GATEWAY), PROGRAM])):
+            for path, wanted in ((Path(built.name), [built.name]), (Path("/nowhere"), [sys.executable, str(module.GATEWAY), PROGRAM])):
                 module.RUST_SERVER = path
                 self.assertEqual(module.server_of(module.parser_of().parse_args(words)), wanted)
                 self.assertEqual(module.server_of(module.parser_of().parse_args([*words, "--server", "a 'b c'"])), ["a", "b c"])
