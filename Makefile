@@ -13,8 +13,9 @@ build: rt ## prove and build the program: needs rt
 test: rt ## run the whole gate, proofs and tests: needs rt, a C compiler, Python, apt-get
 	.ci/run
 
-server: $(PROGRAM) ## serve MySQL's protocol on 127.0.0.1:3306: builds the program if it is missing
-	drivers/mysql/serve $(PROGRAM)
+server: ## serve MySQL's protocol on 127.0.0.1:3306: builds the server, and the library if it is missing; needs cargo, gcc
+	server/build
+	server/target/release/nigbaru-server
 
 page: $(PROGRAM) ## serve the classroom on http://127.0.0.1:8400/: builds the program if it is missing
 	drivers/page/serve

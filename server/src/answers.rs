@@ -71,6 +71,7 @@ fn known(number: u16) -> (&'static str, &'static str) {
         1401 => ("XAE03", "XAER_RMERR"),
         1402 => ("XA100", "XA_RBROLLBACK"),
         1440 => ("XAE08", "XAER_DUPID xid already exists"),
+        1568 => ("25001", "the access of a transaction that has begun can't be changed"),
         1613 => ("XA106", "XA_RBTIMEOUT"),
         1614 => ("XA102", "XA_RBDEADLOCK"),
         1792 => ("25006", "the transaction is READ ONLY"),

@@ -1,5 +1,7 @@
 //! A client's connection: whole packets in, packets out. What comes in is bounded, and half a packet is waited for only so long.
 use crate::packets::{length_in, Malformed, Out, HEADER};
+use crate::system;
+use crate::tls::{Keys, Tls};
 use std::io::{self, ErrorKind, Read, Write};
 use std::net::{Shutdown, TcpStream};
 use std::os::unix::net::UnixStream;
@@ -43,7 +45,10 @@ impl Stream {
     /// Without delay, and with a limit to how long is waited for a client that takes no answers.
     pub fn prepare(&self, patience: Duration) -> io::Result<()> {
         match self {
-            Stream::Tcp(it) => it.set_nodelay(true).and(it.set_write_timeout(Some(patience))),
+            Stream::Tcp(it) => {
+                system::keep_alive(it);
+                it.set_nodelay(true).and(it.set_write_timeout(Some(patience)))
+            }
             Stream::Unix(it) => it.set_write_timeout(Some(patience)),
         }
     }
@@ -63,10 +68,18 @@ impl Stream {
         }
     }
 
-    fn read(&self, to: &mut [u8]) -> io::Result<usize> {
+    pub fn read(&self, to: &mut [u8]) -> io::Result<usize> {
         match self {
             Stream::Tcp(it) => (&*it).read(to),
             Stream::Unix(it) => (&*it).read(to),
+        }
+    }
+
+    #[cfg_attr(not(feature = "tls"), allow(dead_code))]
+    pub fn write(&self, bytes: &[u8]) -> io::Result<usize> {
+        match self {
+            Stream::Tcp(it) => (&*it).write(bytes),
+            Stream::Unix(it) => (&*it).write(bytes),
         }
     }
 
@@ -90,6 +103,8 @@ pub struct Limits {
 
 pub struct Channel {
     stream: Arc<Stream>,
+    /// Once the client has asked for it.
+    tls: Option<Tls>,
     limits: Limits,
     /// What was read, and how much of it was taken.
     held: Vec<u8>,
@@ -111,12 +126,33 @@ enum Came {
 impl Channel {
     pub fn new(stream: Arc<Stream>, limits: Limits) -> Channel {
         let login = Some(Instant::now() + limits.patience);
-        Channel { stream, limits, held: Vec::new(), taken: 0, piece: vec![0; PIECE], waits: None, login, out: Out::new() }
+        Channel { stream, tls: None, limits, held: Vec::new(), taken: 0, piece: vec![0; PIECE], waits: None, login, out: Out::new() }
     }
 
     /// From now on the client has all the time it wants for its next command.
     pub fn has_logged_in(&mut self) {
         self.login = None;
+    }
+
+    /// From now on all is TLS's. What is held came behind the client's request for it.
+    pub fn start_tls(&mut self, keys: &Keys) -> Result<(), End> {
+        let early = self.held.split_off(self.taken);
+        self.held.clear();
+        self.taken = 0;
+        self.tls = Some(Tls::new(keys, early).map_err(End::Wrong)?);
+        Ok(())
+    }
+
+    /// Version and cipher of TLS, if the client has asked for it.
+    pub fn agreed(&self) -> Option<(String, String)> {
+        self.tls.as_ref()?.agreed()
+    }
+
+    fn read(&mut self) -> io::Result<usize> {
+        match &mut self.tls {
+            Some(tls) => tls.read(&self.stream, &mut self.piece),
+            None => self.stream.read(&mut self.piece),
+        }
     }
 
     fn left(&self) -> End {
@@ -186,7 +222,7 @@ impl Channel {
                 self.stream.set_read_timeout(wait).map_err(|_| self.left())?;
                 self.waits = wait;
             }
-            match self.stream.read(&mut self.piece) {
+            match self.read() {
                 Ok(0) => return Err(self.left()),
                 Ok(length) => {
                     self.held.drain(..self.taken);
@@ -195,6 +231,7 @@ impl Channel {
                     return Ok(Came::Bytes);
                 }
                 Err(fault) if matches!(fault.kind(), ErrorKind::WouldBlock | ErrorKind::TimedOut | ErrorKind::Interrupted) => (),
+                Err(fault) if fault.kind() == ErrorKind::InvalidData => return Err(End::Wrong(format!("no TLS: {}", fault))),
                 Err(_) => return Err(self.left()),
             }
         }
@@ -202,7 +239,10 @@ impl Channel {
 
     /// Sends the packets that were written, numbered after the last one that came.
     pub fn send(&mut self) -> Result<(), End> {
-        let sent = self.stream.write_all(self.out.bytes());
+        let sent = match &mut self.tls {
+            Some(tls) => tls.write_all(&self.stream, self.out.bytes()),
+            None => self.stream.write_all(self.out.bytes()),
+        };
         self.out.clear();
         match sent {
             Ok(()) => Ok(()),

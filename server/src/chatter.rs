@@ -1,7 +1,7 @@
 //! What clients say beside statements of the store: of themselves, of their settings, and of transactions that aren't XA.
 //!
-//! Settings are answered OK without effect, except autocommit: whatever character set is named the bytes stay as they are, and whatever level is asked for
-//! is had, since every transaction is as isolated as SERIALIZABLE asks. A name that isn't known is no statement, so that a client learns of it.
+//! Settings are answered OK without effect, except autocommit and READ ONLY: whatever character set is named the bytes stay as they are, and whatever level
+//! is asked for is had, since every transaction is as isolated as SERIALIZABLE asks. A name that isn't known is no statement, so that a client learns of it.
 use crate::answers::{Table, MOST};
 use crate::packets::{Column, Value, VERSION};
 use crate::tokens::{words, Placed, Word};
@@ -9,13 +9,11 @@ use crate::tokens::{words, Placed, Word};
 /// A text that is read.
 #[derive(Clone, Debug, PartialEq, Eq)]
 pub enum Other {
-    Begin {
-        is_read_only: bool,
-    },
+    /// Of a transaction, and whether it is to read alone, if that is said.
+    Begin(Option<bool>),
     Commit,
     RollBack,
-    /// Settings: autocommit's new value, if it is among them.
-    Set(Option<bool>),
+    Set(Settings),
     Table(Table),
     /// `SHOW NIGBARU STATUS`.
     Status,
@@ -23,11 +21,26 @@ pub enum Other {
     Nothing,
 }
 
+/// The settings that have an effect, with their new values.
+#[derive(Clone, Copy, Debug, Default, PartialEq, Eq)]
+pub struct Settings {
+    pub autocommit: Option<bool>,
+    /// Whether transactions read alone from now on.
+    pub usual: Option<bool>,
+    /// Whether the next transaction does.
+    pub next: Option<bool>,
+}
+
 /// What a text may ask for.
 pub struct Facts {
     pub connection: u64,
     pub autocommit: bool,
+    /// Whether transactions read alone.
+    pub is_read_only: bool,
     pub longest: usize,
+    /// Whether TLS may be asked for, and the version and cipher that this connection has agreed on.
+    pub has_tls: bool,
+    pub agreed: Option<(String, String)>,
 }
 
 /// Variables that may be asked for, and whether each is a number.
@@ -155,23 +168,26 @@ impl<'a> Words<'a> {
 
     fn begin(&mut self) -> Option<Other> {
         self.sees("work");
-        Some(Other::Begin { is_read_only: false })
+        Some(Other::Begin(None))
     }
 
     fn start(&mut self) -> Option<Other> {
-        let mut is_read_only = false;
+        let mut is_read_only = None;
         while !self.words.is_empty() {
             if self.sees("read") {
-                is_read_only = self.sees("only");
-                if !is_read_only && !self.sees("write") {
-                    return None;
-                }
+                is_read_only = Some(self.access()?);
             } else if !(self.sees("with") && self.sees("consistent") && self.sees("snapshot")) {
                 return None;
             }
             self.sees_sign(b',');
         }
-        Some(Other::Begin { is_read_only })
+        Some(Other::Begin(is_read_only))
+    }
+
+    /// What stands behind READ; whether it is ONLY.
+    fn access(&mut self) -> Option<bool> {
+        let is_read_only = self.sees("only");
+        Some(is_read_only).filter(|it| *it || self.sees("write"))
     }
 
     /// What may stand behind COMMIT and ROLLBACK. Chains aren't had.
@@ -195,17 +211,15 @@ impl<'a> Words<'a> {
         if self.sees("charset") || self.words.len() > 1 && self.sees("character") && self.sees("set") {
             return self.names();
         }
-        let mut autocommit = None;
+        let mut settings = Settings::default();
         loop {
             let is_session = self.sees("session") || self.sees("local");
             if self.sees("transaction") {
-                return self.characteristics();
+                return self.characteristics(is_session);
             }
-            if let Some(value) = self.assignment(is_session)? {
-                autocommit = Some(value);
-            }
+            self.assignment(is_session, &mut settings)?;
             if !self.sees_sign(b',') {
-                return Some(Other::Set(autocommit));
+                return Some(Other::Set(settings));
             }
         }
     }
@@ -217,7 +231,7 @@ impl<'a> Words<'a> {
         if self.sees("collate") {
             self.name()?;
         }
-        Some(Other::Set(None))
+        Some(Other::Set(Settings::default()))
     }
 
     fn name(&mut self) -> Option<()> {
@@ -227,8 +241,9 @@ impl<'a> Words<'a> {
         }
     }
 
-    /// What may stand behind SET TRANSACTION.
-    fn characteristics(&mut self) -> Option<Other> {
+    /// What may stand behind SET TRANSACTION, which is about the next one, or SET SESSION TRANSACTION.
+    fn characteristics(&mut self, is_session: bool) -> Option<Other> {
+        let mut settings = Settings::default();
         loop {
             if self.sees("isolation") && self.sees("level") {
                 let is_level = match self.run()? {
@@ -238,21 +253,25 @@ impl<'a> Words<'a> {
                     _ => false,
                 };
                 Some(()).filter(|()| is_level)?;
-            } else if !(self.sees("read") && (self.sees("only") || self.sees("write"))) {
+            } else if self.sees("read") {
+                let access = Some(self.access()?);
+                *(if is_session { &mut settings.usual } else { &mut settings.next }) = access;
+            } else {
                 return None;
             }
             if !self.sees_sign(b',') {
-                return Some(Other::Set(None));
+                return Some(Other::Set(settings));
             }
         }
     }
 
-    /// `name = value`. Gives autocommit's value, if it is that one's.
-    fn assignment(&mut self, is_session: bool) -> Option<Option<bool>> {
-        let mut is_users = false;
+    /// `name = value`. What is `@@transaction_read_only` without SESSION is the next transaction's.
+    fn assignment(&mut self, is_session: bool, settings: &mut Settings) -> Option<()> {
+        let (mut is_users, mut is_next) = (false, false);
         if !is_session && self.sees_sign(b'@') {
             is_users = !self.sees_sign(b'@');
-            if !is_users && (self.sees("session") || self.sees("local")) && !self.sees_sign(b'.') {
+            is_next = !self.sees("session") && !self.sees("local");
+            if !is_users && !is_next && !self.sees_sign(b'.') {
                 return None;
             }
         }
@@ -261,15 +280,26 @@ impl<'a> Words<'a> {
         if !self.sees_sign(b'=') {
             return None;
         }
-        if !is_users && name == "autocommit" {
-            return match self.run()? {
-                "1" | "on" | "true" => Some(Some(true)),
-                "0" | "off" | "false" => Some(Some(false)),
-                _ => None,
-            };
+        match name {
+            _ if is_users => self.expression(),
+            "autocommit" => self.switch(true).map(|it| settings.autocommit = Some(it)),
+            "transaction_read_only" | "tx_read_only" => {
+                let access = Some(self.switch(false)?);
+                *(if is_next { &mut settings.next } else { &mut settings.usual }) = access;
+                Some(())
+            }
+            _ => self.expression().filter(|()| name == "names" || VARIABLES.iter().any(|(it, _, _)| *it == name)),
         }
-        let is_known = is_users || name == "names" || VARIABLES.iter().any(|(it, _, _)| *it == name);
-        self.expression().filter(|()| is_known).map(|()| None)
+    }
+
+    /// A value that is on or off; `usual` stands for DEFAULT.
+    fn switch(&mut self, usual: bool) -> Option<bool> {
+        match self.run()? {
+            "1" | "on" | "true" => Some(true),
+            "0" | "off" | "false" => Some(false),
+            "default" => Some(usual),
+            _ => None,
+        }
     }
 
     /// Passes over a value: all up to a comma that no bracket holds.
@@ -385,7 +415,10 @@ impl<'a> Words<'a> {
             "warnings" | "errors" => &["Level", "Code", "Message"],
             "engines" => &["Engine", "Support", "Comment"],
             "collation" => &["Collation", "Charset", "Id", "Default"],
-            "status" => &["Variable_name", "Value"],
+            "status" => {
+                let agreed = |of: fn(&(String, String)) -> &String| facts.agreed.as_ref().map_or(Value::from(""), |it| Value::from(of(it).as_str()));
+                return self.listed(&[("Ssl_cipher", agreed(|it| &it.1)), ("Ssl_version", agreed(|it| &it.0))]);
+            }
             "variables" => return self.variables(facts),
             _ => return None,
         };
@@ -393,20 +426,24 @@ impl<'a> Words<'a> {
         Some(self.rest(Other::Table(Table { columns, rows: Vec::new() })))
     }
 
-    /// The variables, or those like a pattern. With WHERE all are shown that it names in quotes.
     fn variables(&mut self, facts: &Facts) -> Option<Other> {
-        let patterns: Vec<&[u8]> = self.words.iter().filter_map(|it| if let Word::Quoted(data) = &it.word { Some(&data[..]) } else { None }).collect();
-        let is_shown = |name: &str| patterns.is_empty() || patterns.iter().any(|pattern| is_like(name.as_bytes(), &pattern.to_ascii_lowercase()));
         let names = VARIABLES.iter().map(|(name, _, _)| *name).chain(["autocommit", "max_allowed_packet"]);
-        let row = |name: &str| {
-            let value = match value_of(name, facts) {
-                Some((Value::Number(number), _)) => Value::from(number.to_string().as_str()),
-                Some((value, _)) => value,
-                None => Value::Null,
-            };
-            vec![Value::from(name), value]
+        let value = |name: &str| match value_of(name, facts) {
+            Some((Value::Number(number), _)) => Value::from(number.to_string().as_str()),
+            Some((value, _)) => value,
+            None => Value::Null,
         };
-        let rows = names.filter(|name| is_shown(name)).map(row).collect();
+        self.listed(&names.map(|name| (name, value(name))).collect::<Vec<_>>())
+    }
+
+    /// Names and values, or those like a pattern. With WHERE all are shown that it names in quotes.
+    fn listed(&mut self, all: &[(&str, Value)]) -> Option<Other> {
+        let patterns: Vec<&[u8]> = self.words.iter().filter_map(|it| if let Word::Quoted(data) = &it.word { Some(&data[..]) } else { None }).collect();
+        let is_shown = |name: &str| {
+            let name = name.to_ascii_lowercase();
+            patterns.is_empty() || patterns.iter().any(|pattern| is_like(name.as_bytes(), &pattern.to_ascii_lowercase()))
+        };
+        let rows = all.iter().filter(|(name, _)| is_shown(name)).map(|(name, value)| vec![Value::from(*name), value.clone()]).collect();
         let columns = vec![Column::text("Variable_name", MOST), Column::text("Value", MOST)];
         Some(self.rest(Other::Table(Table { columns, rows })))
     }
@@ -429,6 +466,8 @@ fn function(name: &str, has_brackets: bool, facts: &Facts) -> Option<(Value, boo
 fn value_of(name: &str, facts: &Facts) -> Option<(Value, bool)> {
     match name {
         "autocommit" => Some((Value::Number(i64::from(facts.autocommit)), true)),
+        "have_ssl" if facts.has_tls => Some((Value::from("YES"), false)),
+        "transaction_read_only" | "tx_read_only" => Some((Value::Number(i64::from(facts.is_read_only)), true)),
         "max_allowed_packet" => Some((Value::Number(facts.longest as i64), true)),
         _ => {
             let (_, value, is_number) = VARIABLES.iter().find(|(it, _, _)| *it == name)?;
@@ -468,7 +507,8 @@ fn is_like(name: &[u8], pattern: &[u8]) -> bool {
 mod tests {
     use super::*;
 
-    const FACTS: Facts = Facts { connection: 7, autocommit: true, longest: 65_536 };
+    const FACTS: Facts = Facts { connection: 7, autocommit: true, is_read_only: false, longest: 65_536, has_tls: false, agreed: None };
+    const NOTHING: Settings = Settings { autocommit: None, usual: None, next: None };
 
     fn said(text: &str) -> Option<Other> {
         read(text.as_bytes(), &FACTS)
@@ -494,8 +534,7 @@ mod tests {
             "SET CHARSET x",
             "SET TRANSACTION ISOLATION LEVEL READ COMMITTED",
             "SET SESSION TRANSACTION ISOLATION LEVEL REPEATABLE READ",
-            "set session transaction read only",
-            "SET TRANSACTION READ WRITE, ISOLATION LEVEL SERIALIZABLE",
+            "SET NAMES `utf8`",
             "SET character_set_results = NULL",
             "SET sql_mode='STRICT_TRANS_TABLES', time_zone = '+00:00'",
             "SET @@session.wait_timeout=28800",
@@ -503,13 +542,33 @@ mod tests {
             "SET SQL_AUTO_IS_NULL = 0",
             "SET SESSION sql_mode=(SELECT CONCAT(@@sql_mode,',x'))",
         ] {
-            assert_eq!(said(text), Some(Other::Set(None)), "{}", text);
+            assert_eq!(said(text), Some(Other::Set(NOTHING)), "{}", text);
+        }
+    }
+
+    #[test]
+    fn who_reads_alone() {
+        for (text, usual, next) in [
+            ("set session transaction read only", Some(true), None),
+            ("SET LOCAL TRANSACTION READ WRITE", Some(false), None),
+            ("SET TRANSACTION READ WRITE, ISOLATION LEVEL SERIALIZABLE", None, Some(false)),
+            ("SET TRANSACTION ISOLATION LEVEL READ COMMITTED, READ ONLY", None, Some(true)),
+            ("SET tx_read_only = 1", Some(true), None),
+            ("SET SESSION transaction_read_only=ON", Some(true), None),
+            ("SET @@session.transaction_read_only=DEFAULT", Some(false), None),
+            ("SET @@transaction_read_only = 1", None, Some(true)),
+            ("SET @transaction_read_only = 1", None, None),
+        ] {
+            assert_eq!(said(text), Some(Other::Set(Settings { usual, next, ..NOTHING })), "{}", text);
+        }
+        for text in ["SET TRANSACTION READ", "SET tx_read_only = 2", "SET GLOBAL TRANSACTION READ ONLY", "SET SESSION TRANSACTION READ ONLY,"] {
+            assert_eq!(said(text), None, "{}", text);
         }
     }
 
     #[test]
     fn autocommit_in_every_form() {
-        for (word, value) in [("1", true), ("ON", true), ("true", true), ("0", false), ("off", false), ("FALSE", false)] {
+        for (word, value) in [("1", true), ("ON", true), ("true", true), ("default", true), ("0", false), ("off", false), ("FALSE", false)] {
             for form in [
                 "SET autocommit={}",
                 "set SESSION autocommit = {}",
@@ -518,7 +577,8 @@ mod tests {
                 "SET autocommit={}, sql_mode = concat(@@sql_mode,',STRICT_TRANS_TABLES')",
                 "SET sql_mode='', autocommit={}",
             ] {
-                assert_eq!(said(&form.replace("{}", word)), Some(Other::Set(Some(value))), "{}", form);
+                let settings = Settings { autocommit: Some(value), ..NOTHING };
+                assert_eq!(said(&form.replace("{}", word)), Some(Other::Set(settings)), "{}", form);
             }
         }
         for text in [
@@ -540,14 +600,14 @@ mod tests {
     #[test]
     fn transactions() {
         for (text, is_read_only) in [
-            ("BEGIN", false),
-            ("begin work", false),
-            ("START TRANSACTION", false),
-            ("START TRANSACTION READ ONLY", true),
-            ("START TRANSACTION READ WRITE", false),
-            ("start transaction with consistent snapshot, read only", true),
+            ("BEGIN", None),
+            ("begin work", None),
+            ("START TRANSACTION", None),
+            ("START TRANSACTION READ ONLY", Some(true)),
+            ("START TRANSACTION READ WRITE", Some(false)),
+            ("start transaction with consistent snapshot, read only", Some(true)),
         ] {
-            assert_eq!(said(text), Some(Other::Begin { is_read_only }), "{}", text);
+            assert_eq!(said(text), Some(Other::Begin(is_read_only)), "{}", text);
         }
         for (text, other) in [
             ("COMMIT", Other::Commit),

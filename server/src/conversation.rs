@@ -9,6 +9,7 @@ use crate::options::Options;
 use crate::packets::{self, command, Column, Kind as Type, Malformed};
 use crate::statements::{self, Kind, Statement};
 use crate::store::{Connection, Store};
+use crate::tls::Keys;
 use crate::tokens;
 use std::collections::HashMap;
 use std::sync::atomic::Ordering;
@@ -37,6 +38,7 @@ pub struct Conversation {
     account: Option<Account>,
     longest: usize,
     scramble: [u8; 20],
+    tls: Option<Keys>,
     /// What the client said at its login that it can do.
     can: u32,
     prepared: HashMap<u32, Prepared>,
@@ -83,6 +85,7 @@ impl Conversation {
             account: options.account.clone(),
             longest: options.limits.longest,
             scramble,
+            tls: options.tls.clone(),
             can: 0,
             prepared: HashMap::new(),
             last: 0,
@@ -100,11 +103,16 @@ impl Conversation {
         let before = self.store.fault_at(Point::Connect);
         self.before(before, "the greeting")?;
         let (number, scramble) = (self.connection.number as u32, self.scramble);
-        self.channel.out.packet(|it| packets::greeting(it, number, &scramble, auth));
+        let has_tls = self.tls.is_some();
+        self.channel.out.packet(|it| packets::greeting(it, number, &scramble, auth, has_tls));
         self.channel.send()?;
         self.after(before, "the greeting")?;
         let mut packet = Vec::new();
         self.channel.receive(&mut packet)?;
+        if let Some(keys) = self.tls.as_ref().filter(|_| packets::asks_for_tls(&packet)) {
+            self.channel.start_tls(keys)?;
+            self.channel.receive(&mut packet)?;
+        }
         let login = packets::read_login(&packet)?;
         self.can = login.can;
         self.prove(&login)
@@ -217,7 +225,14 @@ impl Conversation {
     // texts
 
     fn facts(&self) -> Facts {
-        Facts { connection: self.connection.number, autocommit: self.guest.autocommit, longest: self.longest }
+        Facts {
+            connection: self.connection.number,
+            autocommit: self.guest.autocommit,
+            is_read_only: self.guest.is_read_only,
+            longest: self.longest,
+            has_tls: self.tls.is_some(),
+            agreed: self.channel.agreed(),
+        }
     }
 
     /// A text: a statement of the store, or one of the others that are known.
@@ -253,7 +268,7 @@ impl Conversation {
     fn other(&mut self, it: Other) -> Result<Answer, End> {
         self.connection.counts.count(None);
         let (point, at) = match &it {
-            Other::Begin { .. } => (Point::Begin, "BEGIN"),
+            Other::Begin(_) => (Point::Begin, "BEGIN"),
             Other::Commit => (Point::LocalCommit, "COMMIT"),
             Other::RollBack => (Point::LocalRollback, "ROLLBACK"),
             _ => return self.guest.other(it),

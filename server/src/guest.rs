@@ -3,11 +3,10 @@
 //! A local transaction is a branch of the server's own, which begins with its first row statement and is committed in one phase.
 use crate::answers::{self, refusal, refusal_with, wrong_state, Answer, Refusal, OK};
 use crate::channel::End;
-use crate::chatter::Other;
+use crate::chatter::{Other, Settings};
 use crate::login;
 use crate::packets::status;
 use crate::pool::Lent;
-use crate::record::Record;
 use crate::statements::{write_literal, Kind, Statement};
 use crate::status::table_of;
 use crate::store::{lock, Connection, Prepared, Rows, Store};
@@ -37,22 +36,6 @@ impl State {
     }
 }
 
-/// A local transaction that was asked for.
-#[derive(Clone, Copy)]
-struct Begun {
-    is_read_only: bool,
-}
-
-/// Asks the store, and writes call and return into the record.
-fn recorded(record: &Record, lent: &mut Lent, text: &[u8], state: &str) -> Result<Reply, Error> {
-    // While a history is renewed nobody is answered. Sixteen calls that are open all that time take `judge` long, and say nothing.
-    lent.catch_up()?;
-    record.call(lent.number(), text);
-    let reply = lent.execute(text);
-    record.returned(lent.number(), &reply, state);
-    reply
-}
-
 pub struct Guest {
     store: Arc<Store>,
     connection: Arc<Connection>,
@@ -62,14 +45,32 @@ pub struct Guest {
     place: usize,
     state: State,
     pub autocommit: bool,
-    begun: Option<Begun>,
+    /// Whether transactions read alone, and whether the next one does, if that was said.
+    pub is_read_only: bool,
+    next: Option<bool>,
+    /// Of a transaction that has begun, whether it reads alone.
+    access: Option<bool>,
+    /// Whether a local transaction was asked for.
+    has_begun: bool,
     /// The identifier of the local transaction's branch.
     own: Option<Vec<u8>>,
 }
 
 impl Guest {
     pub fn new(store: Arc<Store>, connection: Arc<Connection>) -> Guest {
-        Guest { store, connection, lent: None, place: 0, state: State::Free, autocommit: true, begun: None, own: None }
+        Guest {
+            store,
+            connection,
+            lent: None,
+            place: 0,
+            state: State::Free,
+            autocommit: true,
+            is_read_only: false,
+            next: None,
+            access: None,
+            has_begun: false,
+            own: None,
+        }
     }
 
     /// The flags of an answer that is given now.
@@ -80,7 +81,17 @@ impl Guest {
     }
 
     fn is_local(&self) -> bool {
-        self.begun.is_some() || self.own.is_some()
+        self.has_begun || self.own.is_some()
+    }
+
+    fn is_free(&self) -> bool {
+        self.state == State::Free && !self.is_local()
+    }
+
+    /// A transaction begins, and has the access that was asked for: of itself, of the next one, or of all.
+    fn set_access(&mut self, asked: Option<bool>) {
+        let next = self.next.take();
+        self.access = asked.or(next).or(Some(self.is_read_only));
     }
 
     // the store
@@ -118,7 +129,7 @@ impl Guest {
         let state = if kind == Some(Kind::OnePhase) && self.state == State::Free { "PREPARED" } else { self.state.name() };
         let reply = match &self.store.record {
             None => lent.execute(text),
-            Some(record) => recorded(record, &mut lent, text, state),
+            Some(record) => record.ask(&mut lent, text, state),
         };
         self.lent = Some(lent);
         if self.store.stop.is_over() && self.store.stop.why().is_some() {
@@ -161,6 +172,9 @@ impl Guest {
 
     /// Gives the session back where no branch needs it.
     fn settle(&mut self) {
+        if self.is_free() {
+            self.access = None;
+        }
         if self.state == State::Free && self.own.is_none() && self.lent.take().is_some() {
             let mut look = lock(&self.connection.look);
             if look.branch.is_some() {
@@ -191,8 +205,11 @@ impl Guest {
     }
 
     fn row(&mut self, it: &Statement) -> Result<Answer, End> {
-        let is_read_only = self.begun.map_or(false, |begun| begun.is_read_only);
-        if is_read_only && it.kind != Kind::Get {
+        if self.access.is_none() {
+            self.set_access(None);
+        }
+        // (an IDLE branch takes no rows anyhow, and the store says so)
+        if self.access == Some(true) && it.kind != Kind::Get && self.state != State::Idle {
             return Ok(refusal(1792).into());
         }
         if let Some(refused) = self.begin_own()? {
@@ -240,6 +257,9 @@ impl Guest {
             Kind::End => State::Idle,
             _ => State::Free,
         };
+        if it.kind == Kind::Start {
+            self.set_access(None);
+        }
         if self.state != State::Free {
             self.show(it.subject(), self.state.name(), it.kind == Kind::Start);
         }
@@ -259,7 +279,7 @@ impl Guest {
 
     /// Starts the local transaction's branch where the next row statement belongs to one. The store's refusal, if it gives one.
     fn begin_own(&mut self) -> Result<Option<Answer>, End> {
-        if self.state != State::Free || self.own.is_some() || self.autocommit && self.begun.is_none() {
+        if self.state != State::Free || self.own.is_some() || self.autocommit && !self.has_begun {
             return Ok(None);
         }
         let random = login::scramble().map_err(|fault| End::Wrong(format!("no random name: {}", fault)))?;
@@ -277,7 +297,7 @@ impl Guest {
 
     /// Commits the local transaction, if there is one. Where that is refused, it is rolled back.
     fn commit(&mut self) -> Result<Answer, End> {
-        self.begun = None;
+        self.has_begun = false;
         let own = match self.own.take() {
             Some(own) => own,
             None => return Ok(OK),
@@ -294,7 +314,7 @@ impl Guest {
 
     /// Rolls the local transaction back: no more of the session's is open than its branch.
     fn roll_back(&mut self) -> Result<Answer, End> {
-        self.begun = None;
+        self.has_begun = false;
         match self.own.take() {
             Some(_) => self.disconnect(),
             None => Ok(OK),
@@ -302,10 +322,26 @@ impl Guest {
     }
 
     /// Begins a local transaction, and commits the one before it.
-    fn begin(&mut self, is_read_only: bool) -> Result<Answer, End> {
+    fn begin(&mut self, asked: Option<bool>) -> Result<Answer, End> {
         let answer = self.commit()?;
         if answer.is_ok() {
-            self.begun = Some(Begun { is_read_only });
+            self.has_begun = true;
+            self.set_access(asked);
+        }
+        Ok(answer)
+    }
+
+    fn set(&mut self, settings: Settings) -> Result<Answer, End> {
+        if settings.next.is_some() && !self.is_free() {
+            return Ok(refusal(1568).into());
+        }
+        let answer = match settings.autocommit {
+            Some(value) => self.set_autocommit(value)?,
+            None => OK,
+        };
+        if answer.is_ok() {
+            self.next = settings.next.or(self.next);
+            self.is_read_only = settings.usual.unwrap_or(self.is_read_only);
         }
         Ok(answer)
     }
@@ -324,16 +360,16 @@ impl Guest {
     // other texts
 
     pub fn other(&mut self, it: Other) -> Result<Answer, End> {
-        let is_transaction = matches!(it, Other::Begin { .. } | Other::Commit | Other::RollBack);
+        let is_transaction = matches!(it, Other::Begin(_) | Other::Commit | Other::RollBack);
         if is_transaction && self.state != State::Free {
             return Ok(wrong_state(self.state.name()).into());
         }
         let answer = match it {
-            Other::Begin { is_read_only } => self.begin(is_read_only),
+            Other::Begin(asked) => self.begin(asked),
             Other::Commit => self.commit(),
             Other::RollBack => self.roll_back(),
-            Other::Set(Some(value)) => self.set_autocommit(value),
-            Other::Set(None) | Other::Nothing => Ok(OK),
+            Other::Set(settings) => self.set(settings),
+            Other::Nothing => Ok(OK),
             Other::Table(table) => Ok(Answer::Table(table)),
             Other::Status => Ok(Answer::Table(table_of(&self.store))),
         };
@@ -345,8 +381,10 @@ impl Guest {
     pub fn reset(&mut self) -> Result<Answer, End> {
         self.state = State::Free;
         self.autocommit = true;
+        self.is_read_only = false;
+        self.next = None;
         self.own = None;
-        self.begun = None;
+        self.has_begun = false;
         let answer = if self.lent.is_some() { self.disconnect() } else { Ok(OK) };
         self.settle();
         answer

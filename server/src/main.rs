@@ -9,6 +9,7 @@ mod faults;
 mod guest;
 mod hash;
 mod login;
+mod mirror;
 mod options;
 mod packets;
 mod pool;
@@ -20,6 +21,11 @@ mod stop;
 mod store;
 #[allow(unsafe_code)]
 mod system;
+#[cfg(feature = "tls")]
+mod tls;
+#[cfg(not(feature = "tls"))]
+#[path = "no_tls.rs"]
+mod tls;
 mod tokens;
 
 use options::{Options, Wanted};
@@ -42,7 +48,7 @@ const WRITES: Duration = Duration::from_secs(1);
 const LAST: Duration = Duration::from_secs(10);
 
 fn main() -> ExitCode {
-    let options = match options::read(std::env::args().skip(1)) {
+    let options = match words().and_then(|words| options::read(words.into_iter())) {
         Ok(Wanted::Serve(options)) => Arc::new(*options),
         Ok(Wanted::Help) => {
             print!("{}", options::HELP);
@@ -64,6 +70,12 @@ fn main() -> ExitCode {
         Ok(server) => server.run(),
         Err(why) => give_up(1, &format!("it doesn't start: {}", why)),
     }
+}
+
+/// The words of the command line.
+fn words() -> Result<Vec<String>, String> {
+    let text = |word: std::ffi::OsString| word.into_string().map_err(|word| format!("{} isn't UTF-8", word.to_string_lossy()));
+    std::env::args_os().skip(1).map(text).collect()
 }
 
 fn give_up(status: u8, why: &str) -> ExitCode {
@@ -188,6 +200,7 @@ impl<'a> Server<'a> {
     /// Accepts nobody further, lets statements end, and writes what is to be written.
     fn end(mut self) -> ExitCode {
         self.stop.end();
+        self.stores.iter().for_each(|store| store.pool.close());
         self.ports.iter().for_each(|port| port.wake());
         for thread in self.threads.drain(..) {
             let _ = thread.join();

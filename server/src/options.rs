@@ -1,8 +1,9 @@
 //! The command line.
 use crate::channel::Limits;
 use crate::login::{Account, NATIVE, SHA2};
+use crate::tls::Keys;
 use std::net::IpAddr;
-use std::path::{Path, PathBuf};
+use std::path::{Component, Path, PathBuf};
 use std::time::Duration;
 
 pub const HELP: &str = "\
@@ -17,8 +18,11 @@ Usage: nigbaru-server [OPTIONS]
   --user U               the one user that is let in
   --password-file F      its first line is the user's password
   --auth PLUGIN          the plugin that the greeting names: mysql_native_password or caching_sha2_password [mysql_native_password]
+  --tls-cert FILE        the server's certificate in PEM, for clients that ask for TLS
+  --tls-key FILE         its private key in PEM
   --fault FILE           faults on purpose; the file is read again when it changes
   --record FILE          a record for `xa_script judge`; with several stores FILE.1, FILE.2 and so on
+  --record-size BYTES    the record goes on in FILE.1, FILE.2 and so on, each after about so many bytes, 4096 to 16000000
   --history FILE         what was logged, for `xa_script run`; with several stores FILE.1, FILE.2 and so on
   --status FILE          what the stores do, in JSON, written anew each second
   --max-connections N    connections of a store that have logged in [1000]
@@ -39,8 +43,10 @@ pub struct Options {
     pub socket: Option<PathBuf>,
     pub account: Option<Account>,
     pub auth: &'static str,
+    pub tls: Option<Keys>,
     pub fault: Option<PathBuf>,
     pub record: Option<PathBuf>,
+    pub record_size: Option<u64>,
     pub history: Option<PathBuf>,
     pub status: Option<PathBuf>,
     pub connections: usize,
@@ -61,7 +67,7 @@ struct Words {
     given: Vec<(String, String)>,
 }
 
-const NAMES: [&str; 18] = [
+const NAMES: [&str; 21] = [
     "stores",
     "port",
     "host",
@@ -69,8 +75,11 @@ const NAMES: [&str; 18] = [
     "user",
     "password-file",
     "auth",
+    "tls-cert",
+    "tls-key",
     "fault",
     "record",
+    "record-size",
     "history",
     "status",
     "max-connections",
@@ -94,7 +103,8 @@ impl Words {
             if !NAMES.contains(&name.as_str()) {
                 return Err(format!("--{} isn't an option", name));
             }
-            let value = value.or_else(|| words.next()).ok_or_else(|| format!("--{} takes a value", name))?;
+            // (a word that looks like an option isn't the value of the one before it)
+            let value = value.or_else(|| words.next().filter(|it| !it.starts_with("--"))).ok_or_else(|| format!("--{} takes a value", name))?;
             given.push((name, value));
         }
         Ok(Words { given })
@@ -103,6 +113,19 @@ impl Words {
     /// The last value that an option was given.
     fn text(&self, name: &str) -> Option<&str> {
         self.given.iter().rev().find(|(it, _)| it == name).map(|(_, value)| value.as_str())
+    }
+
+    /// No file is named twice, since one would be written over the other.
+    fn hold_files_apart(&self) -> Result<(), String> {
+        let names = ["fault", "record", "history", "status", "socket", "password-file"];
+        let plain = |path: &str| Path::new(path).components().filter(|it| *it != Component::CurDir).collect::<PathBuf>();
+        let given: Vec<(&str, PathBuf)> = names.iter().filter_map(|name| Some((*name, plain(self.text(name)?)))).collect();
+        for (index, (name, path)) in given.iter().enumerate() {
+            if let Some((other, _)) = given[..index].iter().find(|(_, it)| it == path) {
+                return Err(format!("--{} and --{} name the same file", other, name));
+            }
+        }
+        Ok(())
     }
 
     fn path(&self, name: &str) -> Option<PathBuf> {
@@ -139,6 +162,7 @@ pub fn read(words: impl Iterator<Item = String>) -> Result<Wanted, String> {
         return Ok(Wanted::Version);
     }
     let words = Words::read(words.into_iter())?;
+    words.hold_files_apart()?;
     let host = words.text("host").unwrap_or("127.0.0.1").to_string();
     let (stores, port) = (words.number("stores", 1, 64, 1)?, words.number("port", 0, 65_535, 3306)?);
     if port > 0 && port + stores - 1 > 65_535 {
@@ -151,9 +175,11 @@ pub fn read(words: impl Iterator<Item = String>) -> Result<Wanted, String> {
         account: account_of(&words, &host)?,
         host,
         auth: auth_of(&words)?,
+        tls: tls_of(&words)?,
         socket: words.path("socket"),
         fault: words.path("fault"),
         record: words.path("record"),
+        record_size: record_size_of(&words)?,
         history: words.path("history"),
         status: words.path("status"),
         connections: connections as usize,
@@ -176,6 +202,23 @@ fn auth_of(words: &Words) -> Result<&'static str, String> {
     match words.text("auth") {
         None => Ok(NATIVE),
         Some(name) => [NATIVE, SHA2].into_iter().find(|it| *it == name).ok_or_else(|| format!("--auth takes {} or {}", NATIVE, SHA2)),
+    }
+}
+
+/// Pieces are a little longer than their size, and `judge` reads 16 MiB.
+fn record_size_of(words: &Words) -> Result<Option<u64>, String> {
+    match words.text("record-size") {
+        None => Ok(None),
+        Some(_) if words.text("record").is_none() => Err("--record-size goes with --record".to_string()),
+        Some(_) => words.number("record-size", 4_096, 16_000_000, 0).map(Some),
+    }
+}
+
+fn tls_of(words: &Words) -> Result<Option<Keys>, String> {
+    match (words.path("tls-cert"), words.path("tls-key")) {
+        (Some(certificate), Some(key)) => Keys::read(&certificate, &key).map(Some),
+        (None, None) => Ok(None),
+        _ => Err("--tls-cert and --tls-key go together".to_string()),
     }
 }
 
@@ -237,12 +280,18 @@ mod tests {
             ("--port 65535 --stores 2", "no ports"),
             ("--host 0.0.0.0", "needs --user"),
             ("--user u", "go together"),
+            ("--tls-cert c", "go together"),
+            ("--record-size 5000", "goes with --record"),
+            ("--record r --record-size 16000001", "4096 to 16000000"),
             ("--wait -1", "seconds"),
             ("--wait nan", "seconds"),
             ("--port", "takes a value"),
             ("--shout", "isn't an option"),
             ("program", "isn't an option"),
             ("--auth x", "--auth takes"),
+            ("--record --history h", "takes a value"),
+            ("--record r --history ./r", "same file"),
+            ("--fault f --status f", "same file"),
             ("--", "isn't an option"),
             ("--=1", "isn't an option"),
         ] {

@@ -17,6 +17,7 @@ pub mod status {
 pub mod can {
     pub const CONNECT_WITH_DB: u32 = 8;
     pub const PROTOCOL_41: u32 = 0x200;
+    pub const TLS: u32 = 0x800;
     pub const SECURE_CONNECTION: u32 = 0x8000;
     pub const PLUGIN_AUTH: u32 = 0x8_0000;
     pub const CONNECT_ATTRS: u32 = 0x10_0000;
@@ -327,23 +328,29 @@ pub fn length_in(header: &[u8]) -> usize {
 // login
 
 /// What the server says first.
-pub fn greeting(it: &mut Vec<u8>, connection: u32, scramble: &[u8; 20], plugin: &str) {
+pub fn greeting(it: &mut Vec<u8>, connection: u32, scramble: &[u8; 20], plugin: &str, has_tls: bool) {
+    let can = can::ALL | if has_tls { can::TLS } else { 0 };
     it.push(10);
     it.extend(VERSION.as_bytes());
     it.push(0);
     it.extend(connection.to_le_bytes());
     it.extend(&scramble[..8]);
     it.push(0);
-    it.extend((can::ALL as u16).to_le_bytes());
+    it.extend((can as u16).to_le_bytes());
     it.push(UTF8MB4);
     it.extend(status::AUTOCOMMIT.to_le_bytes());
-    it.extend(((can::ALL >> 16) as u16).to_le_bytes());
+    it.extend(((can >> 16) as u16).to_le_bytes());
     it.push(scramble.len() as u8 + 1);
     it.extend([0; 10]);
     it.extend(&scramble[8..]);
     it.push(0);
     it.extend(plugin.as_bytes());
     it.push(0);
+}
+
+/// Whether a client asks for TLS before it says who it is: by the first part of a login.
+pub fn asks_for_tls(packet: &[u8]) -> bool {
+    packet.len() == 32 && Bytes::new(packet).number(4).map_or(false, |can| can as u32 & can::TLS != 0)
 }
 
 /// Who a client says it is, and its proof.

@@ -6,7 +6,7 @@
 //! where few are needed.
 use nigbaru::{Error, Session, Store};
 use std::ops::{Deref, DerefMut};
-use std::sync::atomic::{fence, AtomicUsize, Ordering};
+use std::sync::atomic::{fence, AtomicBool, AtomicUsize, Ordering};
 use std::sync::{Arc, Condvar, Mutex, MutexGuard};
 use std::time::{Duration, Instant};
 
@@ -25,6 +25,8 @@ struct Shared {
     places: Vec<Mutex<Place>>,
     /// How many threads wait for a session, which who gives one back looks at.
     waiting: AtomicUsize,
+    /// Whether nobody waits any more.
+    is_closed: AtomicBool,
     gate: Mutex<()>,
     given_back: Condvar,
 }
@@ -42,7 +44,8 @@ fn lock<T>(mutex: &Mutex<T>) -> MutexGuard<'_, T> {
 impl Pool {
     pub fn new(store: Store, sessions: usize) -> Pool {
         let places = (0..sessions).map(|_| Mutex::new(Place::New)).collect();
-        Pool { shared: Arc::new(Shared { store, places, waiting: AtomicUsize::new(0), gate: Mutex::new(()), given_back: Condvar::new() }) }
+        let (waiting, is_closed) = (AtomicUsize::new(0), AtomicBool::new(false));
+        Pool { shared: Arc::new(Shared { store, places, waiting, is_closed, gate: Mutex::new(()), given_back: Condvar::new() }) }
     }
 
     /// A session, that of a place if it is free; none if all are lent for so long.
@@ -88,7 +91,7 @@ impl Pool {
                 found => break found,
             }
             let left = deadline.saturating_duration_since(Instant::now());
-            if left.is_zero() {
+            if left.is_zero() || self.shared.is_closed.load(Ordering::SeqCst) {
                 break Ok(None);
             }
             gate = self.shared.given_back.wait_timeout(gate, left).unwrap_or_else(|poisoned| poisoned.into_inner()).0;
@@ -105,6 +108,13 @@ impl Pool {
             let _gate = lock(&self.shared.gate);
             self.shared.given_back.notify_one();
         }
+    }
+
+    /// From now on nobody waits: who finds all lent is told so at once.
+    pub fn close(&self) {
+        self.shared.is_closed.store(true, Ordering::SeqCst);
+        let _gate = lock(&self.shared.gate);
+        self.shared.given_back.notify_all();
     }
 
     /// How many are lent, and how many threads wait for one.
@@ -196,6 +206,22 @@ mod tests {
         drop(held);
         assert!(waiting.join().unwrap());
         assert_eq!(pool.lent(), (0, 0));
+    }
+
+    #[test]
+    fn whoever_waits_is_sent_away_at_the_end() {
+        let pool = pool(1);
+        let _held = take(&pool, 0).unwrap();
+        let waiting = {
+            let pool = pool.clone();
+            thread::spawn(move || pool.take(0, Duration::from_secs(600)).unwrap().is_none())
+        };
+        while pool.lent().1 == 0 {
+            thread::yield_now();
+        }
+        pool.close();
+        assert!(waiting.join().unwrap());
+        assert!(pool.take(0, Duration::from_secs(600)).unwrap().is_none());
     }
 
     #[test]

@@ -4,6 +4,7 @@ use crate::channel::{Channel, End, Stream};
 use crate::conversation::{refuse, too_long, Conversation};
 use crate::options::Options;
 use crate::store::{say, Connection, Store};
+use crate::system;
 use std::fs;
 use std::io::{self, ErrorKind};
 use std::net::{Shutdown, SocketAddr, TcpListener, TcpStream};
@@ -13,12 +14,14 @@ use std::path::PathBuf;
 use std::sync::atomic::{AtomicBool, AtomicUsize, Ordering};
 use std::sync::Arc;
 use std::thread;
-use std::time::Duration;
+use std::time::{Duration, Instant};
 
 /// Of a connection's thread; what isn't touched of it takes no memory.
 const STACK: usize = 512 * 1024;
 /// How long is slept before something is tried again or looked at again.
 const NAP: Duration = Duration::from_millis(20);
+/// How long one connection too many waits for a place.
+const GRACE: Duration = Duration::from_secs(1);
 
 /// Where clients come.
 #[derive(Clone)]
@@ -44,6 +47,7 @@ pub enum Listener {
 impl Listener {
     pub fn tcp(host: &str, port: u16) -> io::Result<(Listener, Address)> {
         let listener = TcpListener::bind((host, port))?;
+        system::lengthen_queue(&listener);
         let address = Address::Tcp(listener.local_addr()?);
         Ok((Listener::Tcp(listener), address))
     }
@@ -57,13 +61,14 @@ impl Listener {
             }
             other => other?,
         };
+        system::lengthen_queue(&listener);
         Ok((Listener::Unix(listener), Address::Unix(path)))
     }
 
     fn again(address: &Address) -> io::Result<Listener> {
         match address {
-            Address::Tcp(it) => TcpListener::bind(it).map(Listener::Tcp),
-            Address::Unix(it) => UnixListener::bind(it).map(Listener::Unix),
+            Address::Tcp(it) => Listener::tcp(&it.ip().to_string(), it.port()).map(|(listener, _)| listener),
+            Address::Unix(it) => Listener::unix(it.clone()).map(|(listener, _)| listener),
         }
     }
 
@@ -220,7 +225,7 @@ impl Port {
             return end;
         }
         drop(place);
-        let _place = match Count::of(&self.store, |it| &it.logged_in, self.options.connections) {
+        let _place = match Count::soon(&self.store, |it| &it.logged_in, self.options.connections) {
             Some(place) => place,
             None => {
                 let text = format!("Too many connections: {} are let in (--max-connections)", self.options.connections);
@@ -244,6 +249,18 @@ impl Count {
         let next = |count: usize| Some(count + 1).filter(|it| *it <= most);
         of(store).fetch_update(Ordering::Relaxed, Ordering::Relaxed, next).ok()?;
         Some(Count { store: Arc::clone(store), of })
+    }
+
+    /// The same, and waits a little: a client that has closed one connection and opens the next may be heard before the first one's end.
+    fn soon(store: &Arc<Store>, of: fn(&Store) -> &AtomicUsize, most: usize) -> Option<Count> {
+        let deadline = Instant::now() + GRACE;
+        loop {
+            let found = Count::of(store, of, most);
+            if found.is_some() || Instant::now() >= deadline || store.stop.is_over() {
+                return found;
+            }
+            thread::sleep(NAP);
+        }
     }
 }
 

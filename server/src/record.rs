@@ -1,31 +1,123 @@
 //! What clients saw, as a record for `judge` (docs/HISTORIES.md), and what was logged, as a script for `run`.
 use crate::answers::digits;
+use crate::mirror::Mirror;
 use crate::statements::write_literal;
 use crate::stop::Stop;
-use nigbaru::{Error, Keeper, Reply};
-use std::fs::File;
+use nigbaru::{Error, Keeper, Reply, Session};
+use std::fs::{self, File};
 use std::io::{self, BufWriter, Write};
-use std::path::Path;
-use std::sync::{Arc, Mutex};
+use std::path::{Path, PathBuf};
+use std::sync::atomic::{AtomicBool, Ordering};
+use std::sync::{Arc, Mutex, MutexGuard, RwLock};
+
+/// How a record goes on in pieces.
+struct Pieces {
+    /// How many bytes a piece has before the next one begins.
+    size: u64,
+    mirror: Arc<Mutex<Mirror>>,
+}
+
+/// The file that is written, as which piece of the record, and how many bytes it has.
+struct Piece {
+    file: File,
+    number: u64,
+    length: u64,
+}
 
 /// Calls and returns in the order in which they happened: each is written under the lock, a call before the store is asked, a return after it has answered.
 /// So two calls overlap in the record if and only if they did, as the threads saw it.
 pub struct Record {
-    file: Mutex<File>,
+    path: PathBuf,
+    piece: Mutex<Piece>,
+    pieces: Option<Pieces>,
+    is_full: AtomicBool,
+    /// Shared by all whose call is open, and taken alone to begin a piece: so no call is open then.
+    gate: RwLock<()>,
     stop: Arc<Stop>,
     store: usize,
 }
 
+/// A path with something behind it.
+fn behind(path: &Path, more: &str) -> PathBuf {
+    let mut name = path.as_os_str().to_os_string();
+    name.push(more);
+    PathBuf::from(name)
+}
+
+fn locked<T>(mutex: &Mutex<T>) -> MutexGuard<'_, T> {
+    mutex.lock().unwrap_or_else(|poisoned| poisoned.into_inner())
+}
+
 impl Record {
-    pub fn create(path: &Path, store: usize, stop: Arc<Stop>) -> io::Result<Record> {
-        Ok(Record { file: Mutex::new(File::create(path)?), stop, store })
+    /// Begins a record. With a size it goes on in pieces; those of an earlier record aren't written over, since the last ones would be left among the new.
+    pub fn create(path: &Path, size: Option<u64>, store: usize, stop: Arc<Stop>) -> io::Result<Record> {
+        let first = behind(path, ".1");
+        if size.is_some() && first.exists() {
+            let why = format!("{} is there already: move the pieces of the earlier record away", first.display());
+            return Err(io::Error::new(io::ErrorKind::AlreadyExists, why));
+        }
+        Ok(Record {
+            path: path.to_path_buf(),
+            piece: Mutex::new(Piece { file: File::create(path)?, number: 0, length: 0 }),
+            pieces: size.map(|size| Pieces { size, mirror: Arc::default() }),
+            is_full: AtomicBool::new(false),
+            gate: RwLock::new(()),
+            stop,
+            store,
+        })
     }
 
-    pub fn call(&self, session: u64, text: &[u8]) {
+    /// What the store has to give its entries to, if the record goes on in pieces.
+    pub fn keeper(&self) -> Option<Keeper> {
+        let mirror = Arc::clone(&self.pieces.as_ref()?.mirror);
+        Some(Box::new(move |session, text| locked(&mirror).apply(session, text)))
+    }
+
+    /// Asks the store, and writes call and return.
+    pub fn ask(&self, session: &mut Session, text: &[u8], state: &str) -> Result<Reply, Error> {
+        // While a history is renewed nobody is answered. Sixteen calls that are open all that time take `judge` long, and say nothing.
+        session.catch_up()?;
+        if self.is_full.load(Ordering::Relaxed) {
+            self.go_on(session);
+        }
+        let _open = self.gate.read().unwrap_or_else(|poisoned| poisoned.into_inner());
+        self.call(session.number(), text);
+        let reply = session.execute(text);
+        self.returned(session.number(), &reply, state);
+        reply
+    }
+
+    /// Begins the next piece, unless somebody else has: its state is what all entries of the history until now lead to.
+    fn go_on(&self, session: &mut Session) {
+        let _alone = self.gate.write().unwrap_or_else(|poisoned| poisoned.into_inner());
+        let pieces = match &self.pieces {
+            Some(pieces) if self.is_full.load(Ordering::Relaxed) => pieces,
+            _ => return,
+        };
+        // Without memory the piece gets longer, and the next statement tries again.
+        if session.hand_over().is_ok() {
+            let state = locked(&pieces.mirror).text();
+            if let Err(fault) = self.begin_piece(&state) {
+                self.fail(&fault);
+            }
+        }
+    }
+
+    fn begin_piece(&self, state: &[u8]) -> io::Result<()> {
+        let mut piece = locked(&self.piece);
+        let number = piece.number + 1;
+        let path = behind(&self.path, &format!(".{}", number));
+        fs::write(behind(&path, ".state"), state)?;
+        *piece = Piece { file: File::create(path)?, number, length: 0 };
+        self.is_full.store(false, Ordering::Relaxed);
+        Ok(())
+    }
+
+    fn call(&self, session: u64, text: &[u8]) {
         self.write(&[session.to_string().as_bytes(), b" > ", text, b"\n"].concat());
     }
 
-    pub fn returned(&self, session: u64, reply: &Result<Reply, Error>, state: &str) {
+    fn returned(&self, session: u64, reply: &Result<Reply, Error>, state: &str) {
         let mut text = session.to_string().into_bytes();
         write_reply(&mut text, reply, state);
         self.write(&text);
@@ -33,8 +125,8 @@ impl Record {
 
     /// An answer that the store didn't give.
     pub fn wrong(&self, session: u64, text: &[u8], number: u16, sqlstate: &str, why: &str) {
-        self.call(session, text);
-        self.write(format!("{} < ERROR {} ({}): {}\n", session, number, sqlstate, why).as_bytes());
+        let call = [session.to_string().as_bytes(), b" > ", text, b"\n"].concat();
+        self.write(&[&call, format!("{} < ERROR {} ({}): {}\n", session, number, sqlstate, why).as_bytes()].concat());
     }
 
     /// A comment.
@@ -43,10 +135,18 @@ impl Record {
     }
 
     fn write(&self, text: &[u8]) {
-        let written = self.file.lock().unwrap_or_else(|poisoned| poisoned.into_inner()).write_all(text);
-        if let Err(fault) = written {
-            self.stop.fail(format!("store {}'s record can't be written: {}", self.store, fault));
+        let mut piece = locked(&self.piece);
+        if let Err(fault) = piece.file.write_all(text) {
+            self.fail(&fault);
         }
+        piece.length += text.len() as u64;
+        if self.pieces.as_ref().map_or(false, |it| piece.length >= it.size) {
+            self.is_full.store(true, Ordering::Relaxed);
+        }
+    }
+
+    fn fail(&self, fault: &io::Error) {
+        self.stop.fail(format!("store {}'s record can't be written: {}", self.store, fault));
     }
 }
 
@@ -97,7 +197,7 @@ impl History {
     }
 
     fn with(&self, write: impl FnOnce(&mut BufWriter<File>) -> io::Result<()>) {
-        let mut file = self.file.lock().unwrap_or_else(|poisoned| poisoned.into_inner());
+        let mut file = locked(&self.file);
         if let Err(fault) = write(&mut file) {
             self.stop.fail(format!("store {}'s history can't be written: {}", self.store, fault));
         }

@@ -54,6 +54,15 @@ impl Statement {
     pub fn subject(&self) -> &[u8] {
         &self.text[self.subject.0..self.subject.1]
     }
+
+    /// Of a PUT the value, in canonical form; of others nothing.
+    pub fn value(&self) -> &[u8] {
+        if self.kind == Kind::Put {
+            &self.text[self.subject.1 + 1..]
+        } else {
+            b""
+        }
+    }
 }
 
 // tokens

@@ -6,6 +6,7 @@ use crate::pool::{Pool, SESSIONS};
 use crate::record::{History, Record};
 use crate::statements::Kind;
 use crate::stop::Stop;
+use nigbaru::Keeper;
 use std::collections::{BTreeMap, HashMap};
 use std::io::Write;
 use std::net::Shutdown;
@@ -110,21 +111,32 @@ pub struct Store {
     outage: Mutex<Option<Instant>>,
 }
 
+/// Who has to be given the store's entries, if anybody has.
+fn keeper(history: Option<&History>, record: Option<&Record>) -> Option<Keeper> {
+    match (history.map(History::keeper), record.and_then(Record::keeper)) {
+        (Some(mut one), Some(mut other)) => Some(Box::new(move |session, text| {
+            one(session, text);
+            other(session, text);
+        })),
+        (one, other) => one.or(other),
+    }
+}
+
 impl Store {
     /// Opens a store, with the files that the options name.
     pub fn open(number: usize, options: &Options, stop: &Arc<Stop>) -> Result<Store, String> {
         let path = |it: &std::path::PathBuf| path_of(it, number, options.stores);
         let told = |path: &std::path::Path, fault: std::io::Error| format!("{}: {}", path.display(), fault);
         let record = match options.record.as_ref().map(path) {
-            Some(path) => Some(Record::create(&path, number, Arc::clone(stop)).map_err(|fault| told(&path, fault))?),
+            Some(path) => Some(Record::create(&path, options.record_size, number, Arc::clone(stop)).map_err(|fault| told(&path, fault))?),
             None => None,
         };
         let history = match options.history.as_ref().map(path) {
             Some(path) => Some(History::create(&path, number, Arc::clone(stop)).map_err(|fault| told(&path, fault))?),
             None => None,
         };
-        let store = match &history {
-            Some(history) => nigbaru::Store::open_kept(options.capacity, SESSIONS as u64, history.keeper()),
+        let store = match keeper(history.as_ref(), record.as_ref()) {
+            Some(keeper) => nigbaru::Store::open_kept(options.capacity, SESSIONS as u64, keeper),
             None => nigbaru::Store::open(options.capacity, SESSIONS as u64),
         };
         Ok(Store {

@@ -4,14 +4,14 @@ import shutil
 import subprocess
 import tempfile
 import threading
-import unittest
 from pathlib import Path
 
 import pymysql
 from support import PYTHON, Case
 
 HERE = Path(__file__).resolve().parent
-# What each program prints for a cycle: XA RECOVER's first row, the value's bytes, the refusals' numbers, and the value of a local transaction.
+# What each program prints for a cycle: XA RECOVER's first row, the value's bytes, the refusals' numbers, the value of a local transaction, that of a prepared statement, and of thirty connections how
+# many branches XA RECOVER lists, which all of them have prepared and none has committed.
 CYCLE = """\
 listed 7 2 1 670062
 value 000a27ff5c
@@ -19,7 +19,9 @@ refused 1399
 refused 1064
 local 6c6f63616c
 prepared 700a27
+thirty 30
 """
+UNPREPARED = CYCLE.replace("prepared 700a27\n", "")
 
 
 class Clients(Case):
@@ -35,7 +37,13 @@ class Clients(Case):
 
     def test_mysqlclient(self):
         """Python's over MariaDB's library in C. It has no prepared statements."""
-        self.cycle(PYTHON, HERE / "clients" / "mysqlclient.py", expected=CYCLE.rpartition("prepared")[0])
+        self.cycle(PYTHON, HERE / "clients" / "mysqlclient.py", expected=UNPREPARED)
+
+    def test_c(self):
+        """MariaDB's library itself."""
+        flags = subprocess.run(["mariadb_config", "--cflags", "--libs"], stdout=subprocess.PIPE, text=True, check=True).stdout.split()
+        subprocess.run(["gcc", "-Wall", "-Werror", "-o", self.folder / "cycle", HERE / "clients" / "cycle.c", *flags], check=True)
+        self.cycle(self.folder / "cycle")
 
     def test_dbd_mysql(self):
         self.cycle("perl", HERE / "clients" / "cycle.pl", "mysql")
@@ -50,31 +58,27 @@ class Clients(Case):
         self.cycle("php", HERE / "clients" / "pdo.php")
 
     def test_node_mysql(self):
-        self.cycle("node", HERE / "clients" / "cycle.js", env={**os.environ, "NODE_PATH": "/usr/share/nodejs:/usr/lib/nodejs"}, expected=CYCLE.rpartition("prepared")[0] + "pool 30\n")
+        """It has no prepared statements; the thirty connections are its pool's."""
+        self.cycle("node", HERE / "clients" / "cycle.js", env={**os.environ, "NODE_PATH": "/usr/share/nodejs:/usr/lib/nodejs"}, expected=UNPREPARED.replace("thirty", "pool"))
 
     def test_ruby_mysql2(self):
         self.cycle("ruby", HERE / "clients" / "cycle.rb")
 
-    @unittest.skipUnless(shutil.which("go"), "there is no go")
     def test_go(self):
+        """Also transactions with each level; the thirty connections are its pool's."""
         shutil.copy(HERE / "clients" / "cycle.go", self.folder)
         env = {**os.environ, "GOPATH": "/usr/share/gocode", "GO111MODULE": "off", "GOCACHE": str(self.folder / "cache"), "GOFLAGS": "-p=1"}
         subprocess.run(["go", "build", "-o", "cycle", "cycle.go"], cwd=self.folder, env=env, check=True, timeout=600)
-        self.cycle(self.folder / "cycle", expected=CYCLE + "levels 4\npool 30\n")
+        self.cycle(self.folder / "cycle", expected=CYCLE.replace("thirty 30", "levels 4\npool 30"))
 
     def test_odbc(self):
-        """MariaDB's driver, by isql. It shows rows of SELECT alone, also of a MariaDB, so what was done is asked otherwise."""
-        settings = f"DRIVER=/usr/lib/x86_64-linux-gnu/odbc/libmaodbc.so;SERVER=127.0.0.1;PORT={self.gate.port};UID=root;PWD=;DATABASE=db"
-        asked = "SELECT CONNECTION_ID()\nXA START 'o'\nPUT 'k','v'\nXA END 'o'\nXA PREPARE 'o'\n"
-        ran = subprocess.run(["isql", "-b", "-k", "-v", settings], input=asked, stdout=subprocess.PIPE, stderr=subprocess.STDOUT, text=True, timeout=60)
-        self.assertEqual(ran.returncode, 0, ran.stdout + "\n".join(self.gate.log))
-        self.assertRegex(ran.stdout, r"CONNECTION_ID\(\)(?s:.*)\| 1 ")
-        self.assertIn("SQLRowCount returns 1", ran.stdout)
-        other = self.client(self.gate)
-        self.assertEqual(other.ask("XA RECOVER").rows, [(b"1", b"1", b"0", b"o")])
-        self.ok(other, "XA COMMIT 'o'")
-        self.assertEqual(self.value(other, "k"), b"v")
-        self.assertEqual(self.gate.verdicts(), ["LEGAL"])
+        """MariaDB's driver. It shows no rows of XA RECOVER, also of a MariaDB."""
+        self.cycle(PYTHON, HERE / "clients" / "odbc.py", expected=CYCLE.partition("\n")[2])
+
+    def test_r(self):
+        """RMySQL, since Debian 12 has no RMariaDB. It has no prepared statements, and its texts can't hold a zero byte or one that is no UTF-8."""
+        expected = UNPREPARED.replace("7 2 1 670062", "7 1 1 6762").replace("000a27ff5c", "0a275c")
+        self.cycle("Rscript", HERE / "clients" / "cycle.R", expected=expected)
 
     def test_a_pool_of_thirty_by_pymysql(self):
         """Thirty threads with a connection each, in branches at once."""

@@ -2,6 +2,7 @@
 import json
 import signal
 import tempfile
+import time
 from pathlib import Path
 
 from support import Case, wait_for
@@ -41,11 +42,41 @@ class End(Case):
         self.assertEqual(gateway.verdicts(), ["LEGAL"])
         self.assertNotIn("XA PREPARE 0x61,X'',1\n", gateway.record.read_text())
 
+    def test_a_signal_while_a_branch_waits_for_a_session(self):
+        gateway = self.gateway("--wait", "600")
+        clients = [self.client(gateway) for _ in range(17)]
+        for number, client in enumerate(clients[:16]):
+            self.ok(client, f"XA START '{number}'")
+        clients[16].send(b"\x03XA START 'late'")
+        time.sleep(0.3)
+        began = time.monotonic()
+        self.assertEqual(gateway.end(), 0)
+        self.assertLess(time.monotonic() - began, 5)
+        self.assertEqual(gateway.verdicts(), ["LEGAL"])
+
     def test_a_signal_during_an_outage(self):
         gateway = self.gateway(faults=["NOW outage 600"])
         wait_for(lambda: gateway.logged("is out for 600 seconds"), "it is out")
         gateway.process.terminate()
         self.assertEqual(gateway.process.wait(20), 0)
+
+
+class Files(Case):
+    def ends_with(self, gateway, said):
+        self.assertEqual(gateway.process.wait(20), 1)
+        gateway.end()
+        self.assertTrue(gateway.logged(said), gateway.log)
+
+    def test_a_history_that_cant_be_written(self):
+        gateway = self.gateway("--history", "/dev/full")
+        self.ok(self.client(gateway), "PUT 'k','v'")
+        self.ends_with(gateway, "store 1's history can't be written: No space left on device")
+
+    def test_a_comment_of_a_fault_that_cant_be_written(self):
+        gateway = self.gateway("--record", "/dev/full", record=False, faults=["GET 1 stall 0.1"])
+        with self.assertRaises((Closed, ConnectionError)):
+            self.client(gateway).ask("GET 'k'")
+        self.ends_with(gateway, "store 1's record can't be written: No space left on device")
 
 
 class Status(Case):

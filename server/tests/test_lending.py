@@ -1,5 +1,6 @@
 """Many connections over few sessions: pools, who waits and how long, and two hundred at once."""
 import random
+import socket
 import subprocess
 import tempfile
 import threading
@@ -7,9 +8,16 @@ import time
 from pathlib import Path
 
 from support import PROGRAM, Case, wait_for
+from wire import Client
 
 CONNECTIONS, CYCLES = 30, 60
 HELD = "each of the store's 16 sessions has a branch"
+
+
+def memory(gateway):
+    """Kilobytes that are resident."""
+    with open(f"/proc/{gateway.process.pid}/status") as status:
+        return next(int(line.split()[1]) for line in status if line.startswith("VmRSS"))
 
 
 class Worker(threading.Thread):
@@ -136,21 +144,45 @@ class Lending(Case):
         clients[0].quit()
         wait_for(lambda: self.client(gateway).welcome.kind == "ok", "a place is free")
 
+    def test_a_thousand_that_come_at_once(self):
+        """All of them ask to connect before one is heard, and each is let in and answered."""
+        gateway = self.gateway("--patience", "60", record=False)
+        sockets = [self.ends.enter_context(socket.socket()) for _ in range(1000)]
+        began = time.monotonic()
+        for each in sockets:
+            each.setblocking(False)
+            each.connect_ex(("127.0.0.1", gateway.port))
+        for each in sockets:
+            each.settimeout(60)
+            self.assertEqual(self.packet(each)[0], 10)
+        for each in sockets:
+            each.sendall(self.framed(Client.login_packet(b"root", b"", b"mysql_native_password"), 1))
+        for number, each in enumerate(sockets):
+            self.assertEqual(self.packet(each)[0], 0)
+            each.sendall(self.framed(b"\x03PUT 'row %d','v'" % number, 0))
+        self.assertEqual({self.packet(each)[:2] for each in sockets}, {b"\0\1"})
+        self.assertLess(time.monotonic() - began, 30)
+
+    @staticmethod
+    def framed(payload, number):
+        return len(payload).to_bytes(3, "little") + bytes((number,)) + payload
+
+    @staticmethod
+    def packet(each):
+        header = each.recv(4, socket.MSG_WAITALL)
+        return each.recv(int.from_bytes(header[:3], "little"), socket.MSG_WAITALL)
+
     def test_a_thousand_that_idle(self):
         """They cost less than 100 MB, and another is answered as before."""
         gateway = self.gateway("--max-connections", "1100", record=False)
-        before = self.memory(gateway)
+        before = memory(gateway)
         idle = [self.client(gateway) for _ in range(1000)]
         self.assertEqual({client.welcome.kind for client in idle}, {"ok"})
         for client in idle[::50]:
             self.ok(client, "PUT 'k','v'")
-        self.assertLess(self.memory(gateway) - before, 100_000)
-
-    @staticmethod
-    def memory(gateway):
-        """Kilobytes that are resident."""
-        with open(f"/proc/{gateway.process.pid}/status") as status:
-            return next(int(line.split()[1]) for line in status if line.startswith("VmRSS"))
+        took = memory(gateway) - before
+        print(f"\n1,000 idle connections: {took} kB")
+        self.assertLess(took, 100_000)
 
 
 class History(Case):

@@ -1,20 +1,16 @@
 """What the server answers beside the gateway's tests: counts, quoted faults, other users, and texts of clients."""
 import hashlib
 import random
+import re
 import struct
 import subprocess
-import sys
 import tempfile
 import time
 from pathlib import Path
 
-from support import HERE, PROGRAM, SERVER, Case, wait_for
+from support import PROGRAM, SERVER, Case, wait_for
 from test_statements import any_text
 from wire import CAN, Client, proof_of
-
-sys.path.insert(0, str(HERE.parent))
-
-from gateway.statements import Fault, read  # noqa: E402
 
 SHA2 = b"caching_sha2_password"
 
@@ -56,6 +52,32 @@ class Protocol(Case):
         self.ok(self.one, "COMMIT", "PUT 'k','w'")
         self.assertEqual(self.gate.verdicts(), ["LEGAL"])
 
+    def test_sessions_that_only_read(self):
+        """SET SESSION is for each transaction from then on, of each kind; SET for the next one alone, which is refused within one."""
+        self.ok(self.one, "PUT 'k','v'", "SET SESSION TRANSACTION READ ONLY")
+        self.assertEqual(self.one.ask("SELECT @@transaction_read_only").rows, [(b"1",)])
+        self.refused(self.one, "DEL 'k'", 1792, "25006")
+        self.assertEqual(self.value(self.one, "k"), b"v")
+        self.ok(self.one, "XA START 'a'")
+        self.refused(self.one, "PUT 'k','w'", 1792, "25006")
+        self.ok(self.one, "XA END 'a'")
+        self.refused(self.one, "PUT 'k','w'", 1399, "XAE07")
+        self.ok(self.one, "XA ROLLBACK 'a'", "BEGIN")
+        self.refused(self.one, "PUT 'k','w'", 1792, "25006")
+        self.ok(self.one, "COMMIT", "SET autocommit=0")
+        self.refused(self.one, "PUT 'k','w'", 1792, "25006")
+        self.ok(self.one, "SET autocommit=1", "START TRANSACTION READ WRITE", "PUT 'k','w'", "COMMIT")
+        self.ok(self.one, "SET TRANSACTION READ WRITE", "XA START 'b'", "PUT 'k','x'")
+        self.refused(self.one, "SET TRANSACTION READ ONLY", 1568, "25001")
+        self.ok(self.one, "XA END 'b'", "XA COMMIT 'b' ONE PHASE")
+        self.refused(self.one, "PUT 'k','y'", 1792, "25006")
+        self.ok(self.one, "SET SESSION TRANSACTION READ WRITE", "SET TRANSACTION READ ONLY")
+        self.refused(self.one, "PUT 'k','y'", 1792, "25006")
+        self.ok(self.one, "PUT 'k','z'", "SET tx_read_only=1")
+        self.assertEqual(self.one.command(b"\x1f").kind, "ok")
+        self.ok(self.one, "PUT 'k','reset'")
+        self.assertEqual(self.gate.verdicts(), ["LEGAL"])
+
     def test_prepared_texts_of_clients(self):
         for text, columns in (("SELECT 1", 1), ("SELECT @@version, CONNECTION_ID()", 2), ("BEGIN", 0), ("SET NAMES utf8", 0)):
             number, parameters, count = self.one.prepare(text)
@@ -75,32 +97,34 @@ class Protocol(Case):
             self.assertEqual(self.one.command(command).number, 1047)
 
     def test_the_same_reading_as_the_program(self):
-        """30,000 texts, each in a connection without a branch: the fault's place is the program's, and what is recorded is the text that the gateway's reader gives."""
+        """30,000 texts, each in a connection without a branch: the faults and their places are the program's, and what the store is asked is answered by the program as the text itself."""
         draw = random.Random(62)
         texts = [any_text(draw) for _ in range(30_000)]
-        asked = b"".join(b"1 %s\n1 DISCONNECT\n" % text for text in texts)
-        answers = subprocess.run([PROGRAM, "serve"], input=asked, stdout=subprocess.PIPE, timeout=120).stdout.split(b"\n")[::2]
-        begun = 0
-        expected = []
-        for text, raw in zip(texts, answers):
+        raw = self.program_answers(texts)
+        begun, expected = 0, []
+        for text, said in zip(texts, raw):
             answer = self.one.ask(text)
-            try:
-                it = read(text)
-            except Fault as fault:
-                self.assertEqual(answer.number, 1064, text)
-                self.assertEqual(raw, b"1 ERROR 1064 (42000): syntax fault at byte %d" % fault.place, text)
-                self.assertTrue(answer.text.startswith(f"syntax fault at byte {fault.place}"), (text, answer))
+            fault = re.fullmatch(rb"1 ERROR 1064 \(42000\): (syntax fault at byte \d+)", said)
+            self.assertEqual(answer.number == 1064, fault is not None, (text, answer, said))
+            if fault:
+                self.assertTrue(answer.text.startswith(fault[1].decode() + ("," if len(text) == int(fault[1].split()[-1]) else " near ")), (text, answer, said))
                 continue
-            expected.append(it.text)
-            self.assertNotEqual(answer.number, 1064, text)
-            if it.kind == "XA START" and answer.kind == "ok":
+            expected.append(said)
+            if said == b"1 OK" and answer.kind == "ok" and re.match(rb"(?i)xa\s*(start|begin)", text):
                 begun += 1
                 self.one.command(b"\x1f")
-                expected.append(b"DISCONNECT")
-        self.assertGreater(begun, 200)
-        record = self.gate.record.read_bytes()
-        called = [line.split(b" > ", 1)[1] for line in record.split(b"\n") if b" > " in line]
-        self.assertEqual(called, expected)
+        self.assertGreater(min(begun, 100 * len(expected) // len(texts)), 20)
+        called = [line.split(b" > ", 1)[1] for line in self.gate.record.read_bytes().split(b"\n") if b" > " in line]
+        asked = [text for text in called if text != b"DISCONNECT"]
+        for text in asked:
+            self.assertRegex(text, rb"\A[A-Za-z0-9', ]+\Z")
+        self.assertEqual(self.program_answers(asked), expected)
+
+    @staticmethod
+    def program_answers(texts):
+        """The program's answer to each text, of a session that is free, in a store to which nothing is added but what single rows are."""
+        asked = b"".join(b"1 %s\n1 DISCONNECT\n" % text for text in texts)
+        return subprocess.run([PROGRAM, "serve"], input=asked, stdout=subprocess.PIPE, timeout=300).stdout.split(b"\n")[:-1:2]
 
     def test_change_user(self):
         self.ok(self.one, "SET autocommit=0", "XA START 'a'", "PUT 'k','v'")
@@ -174,6 +198,17 @@ class Patience(Case):
         self.ok(asks, "PUT 'k','w'")
         self.assertEqual(gateway.verdicts(), ["LEGAL"])
 
+    def test_a_client_whose_machine_may_be_gone_is_asked(self):
+        """The system's timer of the server's side is that of keepalive (2 in the table's fourth column)."""
+        gateway = self.gateway()
+        client = self.client(gateway)
+        ends = ["%08X:%04X" % (0x0100007F, port) for port in (gateway.port, client.socket.getsockname()[1])]
+
+        def timers():
+            return [line.split()[5].split(":")[0] for line in Path("/proc/net/tcp").read_text().splitlines()[1:] if line.split()[1:3] == ends]
+
+        wait_for(lambda: timers() == ["02"], "the timer is that of keepalive")
+
     def test_longer_packets(self):
         gateway = self.gateway("--max-packet", "16777214")
         client = self.client(gateway)
@@ -193,7 +228,7 @@ class CommandLine(Case):
         (folder / "empty").write_text("\n")
         (folder / "faults").write_text("XA PREPARE 1 explode\n")
         for words, said in ((["--host", "0.0.0.0"], "needs --user"), (["--user", "u"], "go together"), (["--user", "u", "--password-file", folder / "empty"], "no password"), (["--fault", folder / "faults"], "line 1"),
-                            (["--fault", folder / "none"], "No such file"), (["--stores", "0"], "1 to 64"), (["--port", "65535", "--stores", "2"], "no ports"), (["--nothing"], "isn't an option")):
+                            (["--fault", folder / "none"], "No such file"), (["--record", "r", "--history", "./r"], "same file"), (["--record", b"\xff"], "isn't UTF-8"), (["--stores", "0"], "1 to 64"), (["--port", "65535", "--stores", "2"], "no ports"), (["--nothing"], "isn't an option")):
             status, text = self.said(*words)
             self.assertEqual(status, 2, text)
             self.assertIn(said, text)

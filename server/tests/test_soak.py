@@ -1,15 +1,15 @@
-"""A transaction manager that is killed over and over amid its work over two stores: nothing is lost or done twice, and what the stores did is LEGAL."""
-import os
+"""A transaction manager that is killed over and over amid its work over two stores: nothing is lost or done twice, and what the stores did is LEGAL, piece by piece."""
 import random
 import subprocess
 import tempfile
 import time
 
-from support import Case
+from pieces import pieces_of, verdicts
+from support import LONG, Case
 from test_clients import HERE
 
-KILLS = int(os.environ.get("SOAK_KILLS", "10"))
-SECONDS = float(os.environ.get("SOAK_SECONDS", "2"))
+SIZE = 50_000
+KILLS, SECONDS = (10, 22) if LONG else (3, 1)
 JARS = ":".join(f"/usr/share/java/{jar}.jar" for jar in ["mariadb-java-client", "btm", "geronimo-jta-1.2-spec", "geronimo-jms_1.1_spec", "slf4j-api", "slf4j-nop"])
 
 
@@ -26,7 +26,7 @@ class Soak(Case):
 
     def test_a_manager_that_is_killed(self):
         draw = random.Random(62)
-        gateway = self.gateway("--wait", "60", stores=2)
+        gateway = self.gateway("--wait", "60", "--record-size", str(SIZE), stores=2)
         moved = 0
         for _ in range(KILLS):
             before = self.size(gateway)
@@ -34,7 +34,7 @@ class Soak(Case):
             deadline = time.monotonic() + 60
             while self.size(gateway) < before + 20_000 and time.monotonic() < deadline:
                 time.sleep(0.02)
-            time.sleep(draw.uniform(0.1, SECONDS))
+            time.sleep(draw.uniform(SECONDS / 4, SECONDS))
             process.kill()
             process.wait(30)
             moved += self.size(gateway) > before
@@ -46,9 +46,12 @@ class Soak(Case):
         sums = [sum(int(self.value(client, str(account)) or b"0") for account in range(10)) for client in clients]
         self.assertLess(sums[0], 0)
         self.assertEqual(sum(sums), 0)
-        self.assertEqual(gateway.verdicts(), ["LEGAL", "LEGAL"])
+        for record in gateway.records():
+            found = verdicts(record)
+            self.assertGreater(len(found), 2)
+            self.assertEqual(set(found), {"LEGAL"})
 
     @staticmethod
     def size(gateway):
         """Bytes of the records: how much was done."""
-        return sum(path.stat().st_size for path in gateway.records())
+        return sum(path.stat().st_size for record in gateway.records() for path in [record, *pieces_of(record)])

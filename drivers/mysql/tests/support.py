@@ -15,6 +15,7 @@ HERE = Path(__file__).resolve().parent
 SERVE = HERE.parent / "serve"
 PROGRAM = os.environ["XA_SCRIPT"]
 SERVER = os.environ.get("NIGBARU_SERVER")
+LONG = bool(os.environ.get("NIGBARU_LONG"))
 PYTHON = "/usr/bin/python3"
 LISTENS = re.compile(r"store (\d+) listens on [^ ]*:(\d+)")
 of_gateway = unittest.skipIf(SERVER, "it tests the gateway's own parts")
@@ -97,7 +98,7 @@ def children_of(pid):
     return [int(word) for word in Path(f"/proc/{pid}/task/{pid}/children").read_text().split()]
 
 
-def wait_for(holds, what, seconds=30):
+def wait_for(holds, what, seconds=90):
     deadline = time.monotonic() + seconds
     while not holds():
         if time.monotonic() > deadline:

@@ -107,7 +107,7 @@ class Faults(Case):
         wait_for(lambda: time.monotonic() > began + 1.1, "the outage's end")
         self.assertEqual(len(self.left(gateway)), 1)
         self.ok(self.watch, "PUT 'other','w'")
-        self.ends_legal(gateway, "all connections are cut, and refused for 1 seconds")
+        self.ends_legal(gateway, "the fault XA PREPARE 2 outage 1, at XA PREPARE")
 
     def test_one_phase_is_counted_apart(self):
         gateway, client = self.start("ONE PHASE 1 close-before", "XA COMMIT 1 error 1402")

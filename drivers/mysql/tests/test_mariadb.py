@@ -2,8 +2,10 @@
 import re
 import subprocess
 import tempfile
+import unittest
 from pathlib import Path
 
+import support
 from mariadb import mariadb
 from support import Case
 from wire import Client
@@ -103,6 +105,7 @@ SECONDS = 5
 
 
 class Speed(Case):
+    @unittest.skipIf(support.SERVER and not support.LONG, "server/test has it with --long")
     def test_round_trips(self):
         """Prints the ratios; none is a promise."""
         gateway = self.gateway(record=False)

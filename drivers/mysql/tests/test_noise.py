@@ -1,10 +1,10 @@
 """Bytes that no client sends: the gateway answers others after each."""
 import random
 
-from support import SERVER, Case
+from support import LONG, Case
 from wire import Client, Closed
 
-MUTATED = 100_000 if SERVER else 10_000
+MUTATED = 100_000 if LONG else 10_000
 
 
 class Noise(Case):

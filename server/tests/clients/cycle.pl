@@ -30,4 +30,11 @@ $get->execute("p");
 ($value) = $get->fetchrow_array;
 print "prepared ", unpack("H*", $value), "\n";
 $get->finish;
+my @pool = map { DBI->connect($address, "root", "", { RaiseError => 1, PrintError => 0, AutoCommit => 1 }) } 1 .. 30;
+for my $number (0 .. 29) {
+    $pool[$number]->do($_) for "XA START 'p$number'", "PUT 'row $number','$number'", "XA END 'p$number'", "XA PREPARE 'p$number'";
+}
+print "thirty ", scalar @{ $pool[0]->selectall_arrayref("XA RECOVER") }, "\n";
+$pool[$_]->do("XA COMMIT 'p" . (29 - $_) . "'") for 0 .. 29;
+$_->disconnect for @pool;
 $db->disconnect;

@@ -26,3 +26,12 @@ connection.commit()
 cursor.execute("GET 'l'")
 print("local", cursor.fetchone()[0].hex())
 connection.rollback()
+
+pool = [MySQLdb.connect(host="127.0.0.1", port=int(sys.argv[1]), user="root", autocommit=True) for _ in range(30)]
+for number, each in enumerate(pool):
+    for text in (f"XA START 'p{number}'", f"PUT 'row {number}','{number}'", f"XA END 'p{number}'", f"XA PREPARE 'p{number}'"):
+        each.cursor().execute(text)
+listed = pool[0].cursor()
+print("thirty", listed.execute("XA RECOVER"))
+for number, each in enumerate(pool):
+    each.cursor().execute(f"XA COMMIT 'p{29 - number}'")

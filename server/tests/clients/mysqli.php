@@ -34,3 +34,13 @@ $get->execute();
 echo "prepared ", bin2hex($get->get_result()->fetch_row()[0]), "\n";
 $db->change_user("root", "", "db");
 $db->close();
+for ($number = 0; $number < 30; $number++) {
+    $pool[] = new mysqli("127.0.0.1", "root", "", "db", (int) $argv[1]);
+    foreach (["XA START 'p$number'", "PUT 'row $number','$number'", "XA END 'p$number'", "XA PREPARE 'p$number'"] as $text) {
+        $pool[$number]->query($text);
+    }
+}
+echo "thirty ", $pool[0]->query("XA RECOVER")->num_rows, "\n";
+foreach ($pool as $number => $each) {
+    $each->query("XA COMMIT 'p" . (29 - $number) . "'");
+}

@@ -27,3 +27,13 @@ $db->prepare("PUT ?,?")->execute(["p", "p\n'"]);
 $get = $db->prepare("GET ?");
 $get->execute(["p"]);
 echo "prepared ", bin2hex($get->fetchColumn()), "\n";
+for ($number = 0; $number < 30; $number++) {
+    $pool[] = new PDO("mysql:host=127.0.0.1;port=$argv[1];dbname=db", "root", "", [PDO::ATTR_ERRMODE => PDO::ERRMODE_EXCEPTION]);
+    foreach (["XA START 'p$number'", "PUT 'row $number','$number'", "XA END 'p$number'", "XA PREPARE 'p$number'"] as $text) {
+        $pool[$number]->exec($text);
+    }
+}
+echo "thirty ", count($pool[0]->query("XA RECOVER")->fetchAll()), "\n";
+foreach ($pool as $number => $each) {
+    $each->exec("XA COMMIT 'p" . (29 - $number) . "'");
+}

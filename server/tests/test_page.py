@@ -1,18 +1,15 @@
-"""The blocks of docs/CLIENTS.md, run as they stand there, with the ports of a gateway in the place of the usual ones."""
+"""The blocks of docs/CLIENTS.md, run as they stand there, with the ports of a server in the place of the usual ones."""
 import os
 import re
 import signal
 import subprocess
-import sys
 import tempfile
 from pathlib import Path
 
-from support import HERE, PROGRAM, PYTHON, Case, wait_for
+from support import PROGRAM, PYTHON, SERVER, Case, wait_for
 
-sys.path.insert(0, str(HERE.parent))
-from gateway import faults  # noqa: E402
-
-ROOT = HERE.parents[2]
+ROOT = Path(__file__).resolve().parents[2]
+FAULTS = {"close-before", "close-after", "stall", "stall-after", "error", "outage"}
 PAGE = (ROOT / "docs" / "CLIENTS.md").read_text()
 BLOCKS = re.findall(r"^```\w+\n(.*?)^```$", PAGE, re.MULTILINE | re.DOTALL)
 DRIVER = "/usr/share/java/mariadb-java-client.jar"
@@ -42,7 +39,7 @@ class Page(Case):
         return ran.stdout
 
     def test_start(self):
-        """Two stores, and what the gateway says of them."""
+        """Two stores, and what the server says of them."""
         says = block("store 1 listens on 127.0.0.1:3306\n")
         gateway = self.gateway(stores=2)
         for usual, port in zip(("3306", "3307"), gateway.ports):
@@ -50,12 +47,11 @@ class Page(Case):
         self.assertEqual("".join(f"{line}\n" for line in gateway.log), says)
 
     def test_java(self):
-        """The program starts a gateway of its own, from the folder that NIGBARU names."""
+        """The program starts a server of its own, from the folder that NIGBARU names."""
         home = self.folder / "nigbaru"
-        program = home / "crates/xa_script/out/xa_script"
+        program = home / "server/target/release/nigbaru-server"
         program.parent.mkdir(parents=True)
-        program.symlink_to(Path(PROGRAM).resolve())
-        (home / "drivers").symlink_to(ROOT / "drivers")
+        program.symlink_to(Path(SERVER).resolve())
         self.write("XaTest.java")
         said = self.run_here(*block("java -cp ").split(), NIGBARU=str(home))
         self.assertTrue(said.endswith(block("3 tests passed")), said)
@@ -96,10 +92,20 @@ class Page(Case):
         self.assertEqual(one.ask("XA RECOVER").rows, [])
 
     def test_crash_points(self):
-        """Each line of the page that names a fault is one that the gateway takes, and each kind of fault has one."""
+        """Each line of the page that names a fault is one that the server takes, and each kind of fault has one."""
         part = PAGE.partition("\n## Crash points\n")[2].partition("\n## ")[0]
         lines = [it for row in part.split("\n") if row.startswith("| ") for it in re.findall(r"`([A-Z][A-Z0-9 ]* [0-9]+ [a-z][^`]*)`", row)]
-        kinds = {fault.what for line in lines for fault in faults.read(line, 2)[1]}
-        self.assertEqual(kinds, set(faults.WHAT))
-        for kind in faults.KINDS:
-            self.assertIn(f"`{kind}`", part)
+        self.assertGreater(len(lines), 15)
+        self.client(self.gateway(faults=lines, stores=2))
+        self.assertEqual({re.search(r"[0-9] ([a-z-]+)", line)[1] for line in lines}, FAULTS)
+
+    def test_the_table_of_clients(self):
+        """Each of Debian's packages that it names has the version that is installed."""
+        part = PAGE.partition("\n## Which clients work\n")[2].partition("\n## ")[0]
+        for words, package in (("`mariadb` {}", "mariadb-client"), ("PyMySQL {}", "python3-pymysql"), ("mysqlclient {}", "python3-mysqldb"), ("MariaDB's library for C {}", "libmariadb3"), ("Connector/J {}", "libmariadb-java"),
+                               ("HikariCP {}", "libhikaricp-java"), ("Bitronix {}", "libbtm-java"), ("ODBC {}", "odbc-mariadb"), ("DBD::mysql {}", "libdbd-mysql-perl"), ("DBD::MariaDB {}", "libdbd-mariadb-perl"),
+                               ("PHP {}", "php8.2-mysql"), ("go-sql-driver {}", "golang-github-go-sql-driver-mysql-dev"), ("mysql {} (Node.js)", "node-mysql"), ("mysql2 {} (Ruby)", "ruby-mysql2"), ("RMySQL {}", "r-cran-rmysql")):
+            named = re.search(re.escape(words).replace(r"\{\}", r"([0-9.]+)"), part)
+            self.assertIsNotNone(named, words)
+            installed = subprocess.run(["dpkg-query", "-W", "-f", "${Version}", package], stdout=subprocess.PIPE, text=True, check=True).stdout
+            self.assertTrue(re.sub(r"^\d+:", "", installed).startswith(named[1].rstrip(".")), (words, named[1], installed))
