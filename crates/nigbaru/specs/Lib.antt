@@ -3,11 +3,12 @@ pub use Rattle.xa_statement.specs as statement
 pub use Rattle.xa_server.specs as server
 pub use Rattle.xa_words.specs as words
 pub use Rattle.decision_log.specs as log
+pub use Rattle.ring_log.specs as ring
 pub use Rattle.xa_session.specs as session
 pub use Rattle.xa_store.specs as store
 pub use Rattle.xa_coordinator.specs as coordinator
 pub use Rattle.xa_lasting.specs as lasting
-pub use Rattle.xa_renewal.specs as renewal
+pub use Rattle.xa_endless.specs as endless
 pub use Rattle.xa_lines.specs as lines
 pub use Rattle.xa_races.specs as races
 pub use Rattle.xa_judge.specs as judge

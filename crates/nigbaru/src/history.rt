@@ -2,4 +2,5 @@
 
 pub use chain_log::{ChainLog, ChainPass};
 pub use decision_log::{AddFault, DecisionLog, OpenFault, TurnLog, TurnPass};
+pub use ring_log::RingFault;
 pub use xa_words::Entry;

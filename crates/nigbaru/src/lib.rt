@@ -1,9 +1,8 @@
 //! Nigbaru for programs in Rattle: most of the public surface of its crates, under one name.
 //!
-//! The root has identifiers, statements, the server, stores with sessions and races, coordinators, and
-//! sessions that are kept over renewals. `script` runs and races scripts, `conversation` answers clients line
-//! by line, `history` has entries and logs, `records` the judge, `manager` a transaction manager. A clause of
-//! yours finds definitions in `specs/`, as in `Rattle.nigbaru.specs.store.Passes.{log_of}`. Read
+//! The root has identifiers, statements, the server, stores with sessions and races, stores without an end,
+//! and coordinators. `script` runs and races scripts, `conversation` answers clients line by line, `history`
+//! has entries and logs, `records` the judge, `manager` a transaction manager. A clause of yours finds definitions in `specs/`, as in `Rattle.nigbaru.specs.store.Passes.{log_of}`. Read
 //! docs/RATTLE.md first.
 #![tactic(auto)]
 
@@ -18,8 +17,8 @@ pub use xa_coordinator::{
     FORMAT_ID, Fused, Paused, Prepared, RecoverFault, Report, Speak, Transaction, Vote, VoteKind,
     WorkFault, xid_of_branch,
 };
+pub use xa_endless::{EndlessFault, EndlessSession, EndlessStore, Next, TakeFault};
 pub use xa_lasting::LastingStore;
-pub use xa_renewal::{Kept, renew, renew_fused_store, renew_store};
 pub use xa_server::{
     BranchEntry, BranchState, HeldRow, Hold, Phase, Reply, Server, XaError, XidList,
 };

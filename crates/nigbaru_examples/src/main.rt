@@ -1,11 +1,13 @@
 //! The programs that docs/RATTLE.md shows, as functions: statements from bytes, stores and sessions,
-//! histories, races, threads, transactions over two stores, and a recovery by decisions that were written
-//! down. `main` prints the result of each, and the gate compares it with the file `stdout`.
+//! histories, stores without an end, races, threads, transactions over two stores, and a recovery by
+//! decisions that were written down. `main` prints the result of each, and the gate compares it with the
+//! file `stdout`.
 //!
 //! It depends only on `nigbaru` and `anyhow`. Read docs/RATTLE.md first, then `src/meeting.rt`.
 #![tactic(auto)]
 
 mod agreement;
+mod endless;
 mod kept;
 mod meeting;
 mod passes;
@@ -18,7 +20,8 @@ mod turns;
 
 use anyhow::Result;
 use printing::{
-    show_ending, show_history, show_list, show_race, show_recovery, show_reply, show_statements,
+    show_ending, show_followed, show_history, show_list, show_race, show_recovery, show_reply,
+    show_statements,
 };
 use std::alloc::Global;
 use std::sync::Wait;
@@ -38,6 +41,11 @@ fn show_sessions<R: Print + Wait>(rt: &R, alloc: Global) -> Result<()> {
         "a pass after an error",
         &passes::asked_again(rt, alloc)?,
     )?;
+    show_reply(
+        rt,
+        "leave, and read without an end",
+        &endless::read_without_an_end(rt, alloc)?,
+    )?;
     show_ending(rt, &agreement::in_both(rt, alloc)?)?;
     show_recovery(rt, &recovery::recovered(rt, alloc)?)
 }
@@ -45,7 +53,8 @@ fn show_sessions<R: Print + Wait>(rt: &R, alloc: Global) -> Result<()> {
 /// The examples on several threads.
 fn show_threads<R: Print + Threads + Wait + Sync>(rt: &R, alloc: Global) -> Result<()> {
     show_race(rt, &threads::raced(rt, alloc)?)?;
-    show_list(rt, &threads::side_by_side(rt, alloc)?)
+    show_list(rt, &threads::side_by_side(rt, alloc)?)?;
+    show_followed(rt, endless::followed(rt, alloc)?)
 }
 
 fn main(rt: HostRuntime) -> Result<()> {

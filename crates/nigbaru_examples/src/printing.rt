@@ -100,3 +100,10 @@ pub fn show_recovery<R: Print>(rt: &R, report: &Report) -> Result<()> {
     )?;
     Ok(())
 }
+
+/// Prints how much of a history was handed out, and how much was lost.
+pub fn show_followed<R: Print>(rt: &R, told: (u64, u64)) -> Result<()> {
+    let (entries, lost) = told;
+    println!(rt; "followed: {entries} entries, {lost} lost")?;
+    Ok(())
+}

@@ -8,3 +8,4 @@ pub mod RingSeat
 pub mod RingPass
 pub mod RingSpare
 pub mod RingOpens
+pub mod Resting

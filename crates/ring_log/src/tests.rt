@@ -470,3 +470,26 @@ fn two_threads_go_round_a_ring_of_four_rows(rt: HostRuntime) {
     let last = reads(&log, &mut third, 2 * EACH - 1, one, 99);
     assert!(rt; last || reads(&log, &mut third, 2 * EACH - 1, two, 99));
 }
+
+/// Whether a pass that rested goes on as it was.
+fn rests_and_goes_on(log: &RingLog, mut pass: RingPass) -> bool
+    requires { log_of pass ≡ identity_of log.now }
+{
+    let added = adds_each(log, &mut pass, 0, 3);
+    let Some(mut awake) = pass.rest().wake() else {
+        return false;
+    };
+    added && log.length(&awake) == 3 && adds(log, &mut awake, 3) && log.length(&awake) == 4
+}
+
+#[test]
+fn a_pass_that_rested_goes_on(rt: HostRuntime) {
+    let Ok((log, mut passes, mut spares)) = RingLog::open(rt.alloc(), 4, 2, 1) else {
+        panic!(rt; "not opened")
+    };
+    let (Some(pass), Some(spare)) = (passes.pop(), spares.pop()) else {
+        panic!(rt; "a pass and a spare")
+    };
+    assert!(rt; rests_and_goes_on(&log, pass));
+    assert!(rt; spare.rest().wake().is_some());
+}

@@ -1,0 +1,123 @@
+-- What calls come to after steps that append nothing.
+use Rattle.std.proofs.Common.{◌≡◌, ◌+◌, ◌<◌, ◌≤◌, refl, sym, subst, ◌∙◌, Ok, Err, ℕ, arith}
+use Rattle.std.specs.Prelude.{Result, length}
+use Rattle.xa_xid.specs.declared.statement.Statement.{Statement}
+use Rattle.decision_log.specs.declared.known.Known.{Known}
+use Rattle.decision_log.specs.History.{Begins}
+use Rattle.decision_log.specs.Calls.{IsOvertaken, MeetsFirst, MeetsSecond}
+use Rattle.decision_log.proofs.Histories.{begins_itself, begins_through, length_begins}
+use Rattle.ring_log.specs.declared.ring.RingLog.{RingLog}
+use Rattle.ring_log.specs.declared.pass.RingPass.{RingPass}
+use Rattle.ring_log.specs.RingPass.{known_of}
+use Rattle.xa_server.specs.State.{no_state}
+use Rattle.xa_session.specs.Answer.{IsUnanswered}
+use Rattle.xa_session.specs.declared.answer.Answer.{Answer}
+use Rattle.xa_session.proofs.Answering.{then_answered, unanswered_through}
+use Rattle.xa_endless.specs.Answers.{Finds, HasAnswered, HasFailed, TriesOnce}
+use Rattle.xa_endless.specs.Seen.{HasOnlySeen}
+use Rattle.xa_endless.specs.declared.fault.EndlessFault.{EndlessFault}
+use Rattle.xa_endless.specs.declared.fault.EndlessFault.TheVariants.{Overtaken, NoMemory, Behind}
+use Rattle.xa_endless.specs.declared.replica.Replica.{Replica}
+
+pub seen_itself : (known : Known) → HasOnlySeen known known
+seen_itself known = record { number = refl; seen = begins_itself known.seen; mine = refl; looks = omega arith; tries = refl }
+
+pub seen_through : (old mid new : Known) → HasOnlySeen old mid → HasOnlySeen mid new → HasOnlySeen old new
+seen_through old mid new first second = record {
+  number = second.number ∙ first.number;
+  seen = begins_through old.seen mid.seen new.seen first.seen second.seen;
+  mine = second.mine ∙ first.mine;
+  looks = omega (arith, first.looks, second.looks);
+  tries = second.tries ∙ first.tries;
+}
+
+pub unanswered_seen : (old new : Known) → HasOnlySeen old new → IsUnanswered old new
+unanswered_seen old new seen = record {
+  advances = record { number = seen.number; seen = seen.seen; looks = seen.looks; tries = omega (arith, seen.tries) };
+  mine = seen.mine;
+}
+
+-- a meeting
+pub seen_first : (old new : Known) → MeetsFirst old new → HasOnlySeen old new
+seen_first old new met = record {
+  number = met.number;
+  seen = subst (λ list. Begins old.seen list) (sym met.seen) (begins_itself old.seen);
+  mine = met.mine;
+  looks = met.looks;
+  tries = met.tries;
+}
+
+pub seen_second : (other old new : Known) → MeetsSecond other old new → HasOnlySeen old new
+seen_second other old new met = record {
+  number = met.number;
+  seen = met.seen;
+  mine = met.mine;
+  looks = met.looks;
+  tries = met.tries;
+}
+
+overtaken_after : (front : ℕ) (old mid new : Known) → HasOnlySeen old mid → IsOvertaken front mid new → IsOvertaken front old new
+overtaken_after front old mid new seen lost = record {
+  number = lost.number ∙ seen.number;
+  seen = begins_through old.seen mid.seen new.seen seen.seen lost.seen;
+  longer = omega (arith, length_begins old.seen mid.seen seen.seen, lost.longer);
+  front = lost.front;
+  mine = lost.mine ∙ seen.mine;
+  looks = omega (arith, seen.looks, lost.looks);
+  tries = omega (arith, seen.tries, lost.tries);
+}
+
+-- a statement's end, if nothing was tried before
+pub finds_after : (log : RingLog) (statement : Statement) (result : Result Answer EndlessFault) (replica : Replica) (old mid new : RingPass)
+    → HasOnlySeen (known_of old) (known_of mid) → Finds log statement result replica mid new → Finds log statement result replica old new
+finds_after log statement (Ok answer) replica old mid new seen found = record {
+  answered = then_answered no_state statement answer (known_of old) (known_of mid) (known_of new) (unanswered_seen (known_of old) (known_of mid) seen) found.answered;
+  replayed = found.replayed;
+  kept = found.kept;
+}
+finds_after log statement (Err (Overtaken front)) replica old mid new seen found = record {
+  fails = overtaken_after front (known_of old) (known_of mid) (known_of new) seen found.fails;
+  cause = found.cause;
+}
+finds_after log statement (Err NoMemory) replica old mid new seen found = record {
+  fails = unanswered_through (known_of old) (known_of mid) (known_of new) (unanswered_seen (known_of old) (known_of mid) seen) found.fails;
+  cause = found.cause;
+}
+finds_after log statement (Err Behind) replica old mid new seen found = record {
+  fails = unanswered_through (known_of old) (known_of mid) (known_of new) (unanswered_seen (known_of old) (known_of mid) seen) found.fails;
+  cause = found.cause;
+}
+
+-- how often it tried
+pub tries_after : (result : Result Answer EndlessFault) (old mid new : Known) → HasOnlySeen old mid → TriesOnce result mid new → TriesOnce result old new
+tries_after (Ok answer) old mid new seen once = record {
+  looked = omega (arith, seen.looks, once.looked);
+  tries = omega (arith, seen.tries, once.tries);
+  tried = tt;
+}
+tries_after (Err (Overtaken front)) old mid new seen once = record {
+  looked = omega (arith, seen.looks, once.looked);
+  tries = omega (arith, seen.tries, once.tries);
+  tried = omega (arith, seen.tries, once.tried);
+}
+tries_after (Err NoMemory) old mid new seen once = record {
+  looked = omega (arith, seen.looks, once.looked);
+  tries = omega (arith, seen.tries, once.tries);
+  tried = once.tried ∙ seen.tries;
+}
+tries_after (Err Behind) old mid new seen once = record {
+  looked = omega (arith, seen.looks, once.looked);
+  tries = omega (arith, seen.tries, once.tries);
+  tried = once.tried ∙ seen.tries;
+}
+
+-- an attempt that found itself behind has tried nothing
+pub seen_behind : (log : RingLog) (statement : Statement) (replica : Replica) (old new : RingPass)
+    → HasFailed log statement Behind replica old new → TriesOnce (Err Behind) (known_of old) (known_of new) → HasOnlySeen (known_of old) (known_of new)
+seen_behind log statement replica old new failed once = record {
+  number = failed.fails.advances.number;
+  seen = failed.fails.advances.seen;
+  mine = failed.fails.mine;
+  looks = failed.fails.advances.looks;
+  tries = once.tried;
+}

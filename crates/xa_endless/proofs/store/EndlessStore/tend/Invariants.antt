@@ -1,0 +1,10 @@
+use Rattle.std.proofs.Common.{◌≡◌}
+use Rattle.ring_log.specs.RingPass.{log_of}
+use Rattle.xa_endless.specs.Members.{Keeps}
+use Rattle.xa_endless.proofs.store.EndlessStore.tend.Given as goal
+
+abbrev pub invariant-loop-index : goal.invariant-loop-index
+invariant-loop-index l = record {
+  belongs : log_of l.member.pass ≡ log_of l.fn.member.pass;
+  keeps : Keeps l.fn.member l.member;
+}

@@ -1,0 +1,69 @@
+-- How a call for a statement ends, by what the session's pass knew and knows.
+--     HasAnswered      the statement was answered
+--     Fails            nothing of it was appended
+--     IsCaused         the cause of a fault
+--     IsLost           entries that the replica hasn't replayed may be overwritten
+--     HasFailed        it wasn't answered, for a cause of this fault
+--     Finds            HasAnswered after Ok, HasFailed after Err
+--     TriesOnce        an attempt has looked, and has tried to append at most once
+use Rattle.std.specs.Prelude.{◌≡◌, ◌<◌, ◌≤◌, ◌+◌, ℕ, Bool, true, ◌⊎◌, length, Result, Ok, Err, IfErr}
+use Rattle.decision_log.specs.declared.known.Known.{Known}
+use Rattle.decision_log.specs.Calls.{IsOvertaken}
+use Rattle.xa_xid.specs.declared.statement.Statement.{Statement}
+use Rattle.xa_server.specs.State.{no_state}
+use Rattle.xa_server.specs.Step.{is_recover}
+use Rattle.xa_session.specs.Answer.{IsAnswered, IsUnanswered, IsKept}
+use Rattle.xa_session.specs.declared.answer.Answer.{Answer}
+use Rattle.ring_log.specs.declared.ring.RingLog.{RingLog}
+use Rattle.ring_log.specs.declared.pass.RingPass.{RingPass}
+use Rattle.ring_log.specs.RingPass.{known_of, least_of}
+use Rattle.xa_endless.specs.Replicas.{kept_of}
+use Rattle.xa_endless.specs.declared.fault.EndlessFault.{EndlessFault}
+use Rattle.xa_endless.specs.declared.fault.EndlessFault.TheVariants.{Overtaken, NoMemory, Behind}
+use Rattle.xa_endless.specs.declared.replica.Replica.{Replica}
+
+-- the reply is the server's at the answer's place, the replica had replayed what it was found on, and has replayed all that is seen since
+pub record HasAnswered (statement : Statement) (answer : Answer) (replica : Replica) (old new : Known) : Type 0 where
+  pub answered : IsAnswered no_state statement answer old new
+  pub replayed : answer.place ≤ replica.replayed
+  pub kept : IsKept no_state statement answer (kept_of replica) new
+
+-- at Overtaken a try was lost to a longer history; at the others nothing of the statement was appended
+abbrev pub Fails : EndlessFault → Known → Known → Type 0
+Fails (Overtaken front) old new = IsOvertaken front old new
+Fails NoMemory old new = IsUnanswered old new
+Fails Behind old new = IsUnanswered old new
+
+-- from the next entry that the replica would replay on, the history has at least as many entries as the ring has rows
+abbrev pub IsLost : ℕ → Replica → RingPass → Type 0
+IsLost rows replica pass = replica.replayed + rows ≤ least_of pass
+
+-- there is no memory only for the list of an XA RECOVER, or for a replica that hasn't replayed all that is seen; or the history has all entries
+-- that it can have, which are more than 2^59
+abbrev pub IsCaused : RingLog → Statement → EndlessFault → Replica → RingPass → Type 0
+IsCaused log statement (Overtaken front) replica pass = Unit {0}
+IsCaused log statement NoMemory replica pass =
+    (is_recover statement ≡ true) ⊎ ((replica.replayed < length (known_of pass).seen) ⊎ (length (known_of pass).seen ≡ log.capacity))
+IsCaused log statement Behind replica pass = IsLost log.rows replica pass
+
+-- nothing of the statement was appended, for a cause of this fault
+pub record HasFailed (log : RingLog) (statement : Statement) (fault : EndlessFault) (replica : Replica) (old new : RingPass) : Type 0 where
+  pub fails : Fails fault (known_of old) (known_of new)
+  pub cause : IsCaused log statement fault replica new
+
+-- the statement was answered, or it has a fault with its cause
+abbrev pub Finds : RingLog → Statement → Result Answer EndlessFault → Replica → RingPass → RingPass → Type 0
+Finds log statement (Ok answer) replica old new = HasAnswered statement answer replica (known_of old) (known_of new)
+Finds log statement (Err fault) replica old new = HasFailed log statement fault replica old new
+
+-- an attempt without an answer has lost one try to append, or else has not tried
+abbrev pub Tries : EndlessFault → Known → Known → Type 0
+Tries (Overtaken front) old new = new.tries ≡ old.tries + 1
+Tries NoMemory old new = new.tries ≡ old.tries
+Tries Behind old new = new.tries ≡ old.tries
+
+-- an attempt has looked, and has tried to append at most once
+pub record TriesOnce (result : Result Answer EndlessFault) (old new : Known) : Type 0 where
+  pub looked : old.looks < new.looks
+  pub tries : new.tries ≤ old.tries + 1
+  pub tried : IfErr result (λ fault. Tries fault old new)

@@ -1,0 +1,33 @@
+-- What a coordinator adds in one store, in any number of its calls.
+--     Course           calls, one after another
+--     joined           lists, one after another, as one
+--     AgreesThroughout     what was added in all calls agrees with the decisions
+use Rattle.std.specs.Prelude.{◌≡◌, ℕ, List, [], ◌∷◌, ◌++◌, map, All}
+use Rattle.std.specs.List.{AllZip}
+use Rattle.xa_xid.specs.declared.statement.Statement.{Statement}
+use Rattle.decision_log.specs.History.{Begins}
+use Rattle.xa_session.specs.Answer.{entry_of}
+use Rattle.xa_session.specs.View.{SessionView}
+use Rattle.xa_coordinator.specs.Agreement.{AgreesWith, Agrees}
+use Rattle.xa_coordinator.specs.declared.decisions.Decision.{Decision}
+
+-- from one session of the store to the session after calls, each with the decisions of its time
+pub data Course (name : List ℕ) (store : ℕ) : List (List Decision) → SessionView → SessionView → Type 0 where
+  stays : (session : SessionView) → Course name store [] session session
+  calls : (decisions : List Decision) (later : List (List Decision)) (old mid new : SessionView) → Agrees decisions name store old mid
+      → Course name store later mid new → Course name store (decisions ∷ later) old new
+
+abbrev pub joined : List (List Statement) → List Statement
+joined [] = []
+joined (list ∷ lists) = list ++ joined lists
+
+-- the session is of its log, and its history begins as it did; exactly these statements of the session were added, those of each call as its
+-- decisions allow
+pub record AgreesThroughout (name : List ℕ) (store : ℕ) (decisions : List (List Decision)) (old new : SessionView) : Type 0 where
+  pub identity : new.identity ≡ old.identity
+  pub base : new.base ≡ old.base
+  pub number : new.known.number ≡ old.known.number
+  pub seen : Begins old.known.seen new.known.seen
+  pub statements : List (List Statement)
+  pub mine : new.known.mine ≡ old.known.mine ++ map (entry_of old.known.number) (joined statements)
+  pub each : AllZip (λ stood added. All (AgreesWith stood name store) added) decisions statements

@@ -1,0 +1,11 @@
+-- The numbers of the faults of a session of an endless store.
+--     number_of_fault       the number of a fault
+use Rattle.std.specs.Prelude.{ℕ}
+use Rattle.xa_endless.specs.declared.fault.EndlessFault.{EndlessFault}
+use Rattle.xa_endless.specs.declared.fault.EndlessFault.TheVariants.{Overtaken, NoMemory, Behind}
+
+-- in the order of docs/RATTLE.md#faults-of-a-session
+abbrev pub number_of_fault : EndlessFault → ℕ
+number_of_fault (Overtaken front) = 1
+number_of_fault NoMemory = 3
+number_of_fault Behind = 5

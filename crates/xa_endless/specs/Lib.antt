@@ -1,0 +1,13 @@
+pub mod Faults
+pub mod Replicas
+pub mod Answers
+pub mod Halts
+pub mod Seen
+pub mod Members
+pub mod Takes
+pub mod Opens
+pub mod Stays
+pub mod Following
+pub mod Sessions
+pub mod Course
+pub mod Resting

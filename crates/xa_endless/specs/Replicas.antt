@@ -1,0 +1,31 @@
+-- A replica, and what a pass has seen.
+--     kept_of          the replica as a session's contracts see one
+--     Stands           it stands for the state after a prefix
+--     ReplaysOne       it has replayed the next entry, or is as before
+--     CatchesUp        it has replayed all that is seen, or some entries are left
+use Rattle.std.specs.Prelude.{◌≡◌, ◌<◌, ◌≤◌, ◌+◌, List, length, Result, Ok, Err}
+use Rattle.xa_words.specs.Entry.{Entry}
+use Rattle.decision_log.specs.declared.known.Known.{Known}
+use Rattle.xa_server.specs.State.{no_state}
+use Rattle.xa_session.specs.Replay.{state_at}
+use Rattle.xa_session.specs.declared.replica.Replica.{Replica as KeptReplica}
+use Rattle.xa_endless.specs.declared.replica.Replica.{Replica}
+
+-- its server, and how many entries it has replayed
+abbrev pub kept_of : Replica → KeptReplica
+kept_of replica = record { server = replica.server; replayed = replica.replayed }
+
+-- it has replayed no more entries than were seen, and is the server after them; a store begins with no branch and no row
+pub record Stands (seen : List Entry) (replica : Replica) : Type 0 where
+  pub within : replica.replayed ≤ length seen
+  pub state : replica.server ≡ state_at no_state seen replica.replayed
+
+-- one more entry is replayed, or the replica is as before
+abbrev pub ReplaysOne : {E : Type 0} → Result (Unit {0}) E → Replica → Replica → Type 0
+ReplaysOne (Ok _) old new = new.replayed ≡ old.replayed + 1
+ReplaysOne (Err _) old new = new ≡ old
+
+-- all that is seen is replayed, or not all of it
+abbrev pub CatchesUp : {A E : Type 0} → Result A E → Replica → Known → Type 0
+CatchesUp (Ok _) replica known = replica.replayed ≡ length known.seen
+CatchesUp (Err _) replica known = replica.replayed < length known.seen

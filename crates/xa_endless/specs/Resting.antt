@@ -1,0 +1,24 @@
+-- A session or a checkpoint that nobody has.
+--     IsAtRest         the member, with its pass at rest
+--     IsLeft           the checkpoint, with its spare at rest
+use Rattle.std.specs.Prelude.{◌≡◌}
+use Rattle.ring_log.specs.RingPass.{log_of, known_of}
+use Rattle.ring_log.specs.RingSpare.{spare_log_of, spare_known_of}
+use Rattle.ring_log.specs.Resting.{resting_log_of, resting_known_of, resting_spare_log_of, resting_spare_known_of}
+use Rattle.xa_endless.specs.declared.member.Member.{Member}
+use Rattle.xa_endless.specs.declared.checkpoint.Checkpoint.{Checkpoint}
+use Rattle.xa_endless.specs.declared.resting.RestingMember.{RestingMember}
+use Rattle.xa_endless.specs.declared.resting.RestingCheckpoint.{RestingCheckpoint}
+
+-- it is of the same log, and knows and has the same
+pub record IsAtRest (member : Member) (resting : RestingMember) : Type 0 where
+  pub log : resting_log_of resting.pass ≡ log_of member.pass
+  pub known : resting_known_of resting.pass ≡ known_of member.pass
+  pub replica : resting.replica ≡ member.replica
+  pub told : resting.told ≡ member.told
+
+-- it is of the same log, and knows and has the same
+pub record IsLeft (checkpoint : Checkpoint) (resting : RestingCheckpoint) : Type 0 where
+  pub log : resting_spare_log_of resting.spare ≡ spare_log_of checkpoint.spare
+  pub known : resting_spare_known_of resting.spare ≡ spare_known_of checkpoint.spare
+  pub replica : resting.replica ≡ checkpoint.replica

@@ -1,0 +1,10 @@
+-- What every call keeps of a session.
+--     Stays            it is of its store, and has replayed no fewer entries
+use Rattle.std.specs.Prelude.{◌≡◌, ◌≤◌}
+use Rattle.xa_endless.specs.declared.session.EndlessSession.{EndlessSession}
+
+-- the store is the same, how many entries are replayed never falls, and as much of the history is handed out
+pub record Stays (old new : EndlessSession) : Type 0 where
+  pub store : new.store.value ≡ old.store.value
+  pub folds : old.member.replica.replayed ≤ new.member.replica.replayed
+  pub told : new.member.told ≡ old.member.told

@@ -1,0 +1,36 @@
+//! A store whose history has no end. Its sessions share a ring (`ring_log`), in which the memory of old entries is used
+//! again, so no session ever changes its log.
+//!
+//! Read docs/RATTLE.md#a-store-without-an-end first, then `specs/Answers.antt`, `src/trying.rt`, `src/session.rt`,
+//! `src/store.rt` and `src/checkpoint.rt`. `src/speaking.rt` lets a coordinator use a session.
+#![tactic(auto)]
+
+mod answering;
+mod checkpoint;
+mod fault;
+mod following;
+pub mod laws;
+mod member;
+mod opening;
+mod replica;
+mod resting;
+mod rests;
+mod session;
+mod slot;
+mod speaking;
+mod store;
+mod taking;
+#[cfg(test)]
+mod tests;
+#[cfg(test)]
+mod transacting;
+mod trying;
+
+pub use fault::EndlessFault;
+pub use following::Next;
+pub use member::Member;
+pub use replica::Replica;
+pub use resting::RestingMember;
+pub use session::EndlessSession;
+pub use store::EndlessStore;
+pub use taking::TakeFault;

@@ -1,0 +1,26 @@
+//! What a session keeps between its calls.
+ghost use Rattle.std.specs.Prelude.{◌≡◌, ◌≤◌, length};
+ghost use Rattle.std.specs.Coded.{Coded-set};
+ghost use Rattle.ring_log.specs.RingPass.{known_of};
+ghost use Rattle.xa_server.specs.Coding.{coded_state};
+ghost use Rattle.xa_server.specs.State.{no_state};
+ghost use Rattle.xa_session.specs.Replay.{state_at};
+
+use crate::Replica;
+use ring_log::RingPass;
+
+/// What a session keeps between its calls: its pass, its replica, and how far it has handed out the history.
+#[derive(Drop)]
+pub struct Member {
+    pub(crate) pass: RingPass,
+    pub(crate) replica: Replica,
+    /// How many entries `next` has handed out, lost ones included.
+    pub(crate) told: u64,
+    /// How many entries its replica had replayed when it last looked after a checkpoint.
+    pub(crate) tended: u64,
+    ghost within: { replica.replayed ≤ length (known_of pass).seen },
+    // Proved (endless, replica-is-a-prefix): At every moment the replica of a session is the server after a prefix of
+    //   what the session has seen, from no branch and no row on.
+    ghost state: { replica.server ≡ state_at no_state (known_of pass).seen replica.replayed } by { Coded-set coded_state _ _ },
+    ghost handed: { told ≤ length (known_of pass).seen },
+}

@@ -1,0 +1,95 @@
+//! Opening a store.
+ghost use Rattle.std.specs.Prelude.{◌≡◌, ◌≤◌, length, IfOk, IfErr};
+ghost use Rattle.std.specs.List.{All};
+ghost use Rattle.ring_log.specs.RingOpens.{Refuses};
+ghost use Rattle.ring_log.specs.RingPass.{identity_of, log_of};
+ghost use Rattle.ring_log.specs.RingSpare.{spare_log_of};
+ghost use Rattle.xa_endless.specs.Opens.{Opens};
+
+use crate::checkpoint::Checkpoint;
+use crate::resting::{RestingCheckpoint, RestingMember};
+use crate::slot::Slot;
+use crate::{EndlessStore, Member, Replica};
+use ring_log::{RingFault, RingLog, RingPass, RingSpare};
+use std::alloc::{AllocError, Global};
+use std::sync::Arc;
+
+/// How many checkpoints a store has: none if nobody can be behind, and at most four.
+fn count_checkpoints(sessions: u64) -> u64
+    ensures { result ≤ 4 }
+{
+    if sessions <= 1 { 0 } else { sessions.min(4) }
+}
+
+/// A session for each pass.
+fn place_all(
+    alloc: Global,
+    log: &RingLog,
+    passes: Vec<RingPass>,
+) -> Result<Vec<Slot<RestingMember>>, AllocError>
+    requires { All (λ pass. log_of pass ≡ identity_of log.now) passes.items }
+    ensures ours { IfOk result (λ places. All (λ slot. identity_of slot.value ≡ identity_of log.now) places.items) }
+    ensures count { IfOk result (λ places. length places.items ≡ length passes.items) }
+{
+    let mut places = Vec::new(alloc);
+    for pass in passes {
+        let member = Member {
+            pass,
+            replica: Replica::new(alloc),
+            told: 0,
+            tended: 0,
+        };
+        places.push(Slot::new(member.rest(), log))?;
+    }
+    Ok(places)
+}
+
+/// A checkpoint for each spare.
+fn place_checkpoints(
+    alloc: Global,
+    log: &RingLog,
+    spares: Vec<RingSpare>,
+) -> Result<Vec<Slot<RestingCheckpoint>>, AllocError>
+    requires { All (λ spare. spare_log_of spare ≡ identity_of log.now) spares.items }
+    ensures { IfOk result (λ places. All (λ slot. identity_of slot.value ≡ identity_of log.now) places.items) }
+{
+    let mut places = Vec::new(alloc);
+    for spare in spares {
+        let checkpoint = Checkpoint {
+            spare,
+            replica: Replica::new(alloc),
+        };
+        places.push(Slot::new(checkpoint.rest(), log))?;
+    }
+    Ok(places)
+}
+
+impl EndlessStore {
+    /// Opens a store with no branch and no row, for 1 to 16 sessions. Its ring has `rows` rows, in `[1, 65536]`.
+    ///
+    /// A session may sleep while fewer entries than `rows` are added, and then replays them. After more than that it
+    /// goes on from a checkpoint, which takes a copy of all rows. A row of the ring takes 184 bytes for each session and
+    /// each checkpoint; there are up to 4 checkpoints. Errors, in the order of test: `RowsOutOfRange`,
+    /// `SessionsOutOfRange`, `NoMemory`. Doesn't wait.
+    /// Own rule: docs/RATTLE.md#a-store-without-an-end.
+    pub fn open(alloc: Global, rows: u64, sessions: u64) -> Result<Arc<EndlessStore>, RingFault>
+        // Proved (endless, open): A store opens with as many sessions as were asked for, or with the first fault, in the
+        //   order of test, whose cause holds.
+        ensures ok { IfOk result (λ store. Opens rows sessions store.value) }
+        // Proved (endless, open)
+        ensures err { IfErr result (Refuses rows sessions 0) }
+    {
+        let (log, passes, spares) = RingLog::open(alloc, rows, sessions, count_checkpoints(sessions))?;
+        let places = place_all(alloc, &log, passes)?;
+        let checkpoints = place_checkpoints(alloc, &log, spares)?;
+        let store = EndlessStore {
+            log,
+            checkpoints,
+            places,
+        };
+        match Arc::new(alloc, store) {
+            Ok(shared) => Ok(shared),
+            Err(_) => Err(RingFault::NoMemory),
+        }
+    }
+}

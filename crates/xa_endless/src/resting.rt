@@ -1,0 +1,45 @@
+//! What lies in the slots of a store, where threads share it: sessions that nobody has, and checkpoints.
+ghost use Rattle.std.specs.Prelude.{◌≡◌, ◌≤◌, length, IfSome};
+ghost use Rattle.std.specs.Coded.{Coded-set};
+ghost use Rattle.ring_log.specs.RingPass.{identity_of};
+ghost use Rattle.ring_log.specs.Resting.{resting_log_of, resting_known_of, resting_spare_log_of, resting_spare_known_of};
+ghost use Rattle.xa_server.specs.Coding.{coded_state};
+ghost use Rattle.xa_server.specs.State.{no_state};
+ghost use Rattle.xa_session.specs.Replay.{state_at};
+
+use crate::Replica;
+use counted_slot::Fits;
+use ring_log::{RestingPass, RestingSpare, RingLog};
+
+/// A session that nobody has.
+#[derive(Drop)]
+pub struct RestingMember {
+    pub(crate) pass: RestingPass,
+    pub(crate) replica: Replica,
+    pub(crate) told: u64,
+    pub(crate) tended: u64,
+    ghost within: { replica.replayed ≤ length (resting_known_of pass).seen },
+    ghost state: { replica.server ≡ state_at no_state (resting_known_of pass).seen replica.replayed } by { Coded-set coded_state _ _ },
+    ghost handed: { told ≤ length (resting_known_of pass).seen },
+}
+
+impl Fits for RestingMember {
+    type Tag = RingLog;
+
+    ghost fits = { λ log member. resting_log_of member.pass ≡ identity_of log };
+}
+
+/// A checkpoint that nobody looks after just now.
+#[derive(Drop)]
+pub(crate) struct RestingCheckpoint {
+    pub(crate) spare: RestingSpare,
+    pub(crate) replica: Replica,
+    ghost within: { replica.replayed ≤ length (resting_spare_known_of spare).seen },
+    ghost state: { replica.server ≡ state_at no_state (resting_spare_known_of spare).seen replica.replayed } by { Coded-set coded_state _ _ },
+}
+
+impl Fits for RestingCheckpoint {
+    type Tag = RingLog;
+
+    ghost fits = { λ log checkpoint. resting_spare_log_of checkpoint.spare ≡ identity_of log };
+}

@@ -1,0 +1,90 @@
+//! A session of an endless store.
+ghost use Rattle.std.specs.Prelude.{◌≡◌, ◌≤◌, length};
+ghost use Rattle.decision_log.specs.Calls.{MeetsFirst, MeetsSecond};
+ghost use Rattle.ring_log.specs.RingPass.{identity_of, log_of, known_of};
+ghost use Rattle.xa_session.specs.Replay.{state_at};
+ghost use Rattle.xa_server.specs.State.{no_state};
+
+use crate::{EndlessStore, Member};
+use std::sync::Arc;
+use xa_xid::SessionNo;
+
+/// A session of an endless store, which it owns together with the store's other sessions. It may be sent to another
+/// thread.
+///
+/// Its history is the store's, from the first entry on. If it is dropped, its branch stays open, with its locks, and
+/// nobody can take its number again: end it by `leave`.
+#[derive(Drop)]
+pub struct EndlessSession {
+    pub(crate) store: Arc<EndlessStore>,
+    pub(crate) member: Member,
+    ghost belongs: { log_of member.pass ≡ identity_of store.value.log },
+}
+
+impl EndlessSession {
+    /// Returns the session's number.
+    ///
+    /// Takes no memory. Doesn't wait.
+    /// Own rule: docs/RATTLE.md#a-store-without-an-end.
+    pub fn number(&self) -> SessionNo
+        // Proved (endless, reading)
+        ensures { result ≡ (known_of self.now.member.pass).number }
+    {
+        self.store.log.number(&self.member.pass)
+    }
+
+    /// Returns how many entries of the history the session has seen.
+    ///
+    /// Takes no memory. Doesn't wait.
+    /// Own rule: docs/RATTLE.md#a-store-without-an-end.
+    pub fn seen(&self) -> u64
+        // Proved (endless, reading): A session returns its number, and how many entries it has seen and has replayed.
+        ensures { result ≡ length (known_of self.now.member.pass).seen }
+    {
+        self.store.log.length(&self.member.pass)
+    }
+
+    /// Returns how many entries of what the session has seen its replica has replayed, from the first on.
+    ///
+    /// The number never falls. Takes no memory. Doesn't wait.
+    /// Own rule: docs/RATTLE.md#a-store-without-an-end.
+    pub fn folded(&self) -> u64
+        // Proved (endless, reading)
+        ensures replayed { result ≡ self.now.member.replica.replayed }
+        // Proved (endless, reading)
+        ensures within { result ≤ length (known_of self.now.member.pass).seen }
+        // Proved (endless, reading)
+        ensures state { self.now.member.replica.server ≡ state_at no_state (known_of self.now.member.pass).seen result }
+    {
+        self.member.replica.replayed
+    }
+
+    /// Lets two sessions of one store meet: `other` has then seen all that this session has.
+    ///
+    /// Takes no memory. Doesn't wait.
+    /// Own rule: docs/RATTLE.md#a-store-without-an-end.
+    pub fn meet(&mut self, other: &mut EndlessSession)
+        requires { log_of self.old.member.pass ≡ log_of other.old.member.pass }
+        ensures store { self.new.store.value ≡ self.old.store.value }
+        ensures other { other.new.store.value ≡ other.old.store.value }
+        // Proved (endless, meet): After two sessions meet, what the first has seen begins what the second has seen. The
+        //   first's own entries there are as the first knows them.
+        ensures first { MeetsFirst (known_of self.old.member.pass) (known_of self.new.member.pass) }
+        // Proved (endless, meet)
+        ensures second { MeetsSecond (known_of self.old.member.pass) (known_of other.old.member.pass) (known_of other.new.member.pass) }
+    {
+        self.store
+            .log
+            .meet(&mut self.member.pass, &mut other.member.pass);
+    }
+
+    /// Gives the session back to its store, from which it can be taken again.
+    ///
+    /// Nothing is logged: an open branch stays open, with its locks. Takes no memory. Doesn't wait.
+    /// Own rule: docs/RATTLE.md#a-store-without-an-end.
+    pub fn leave(self) {
+        let EndlessSession { store, member } = self;
+        let place = store.log.number(&member.pass).get() - 1;
+        store.put_member(place as usize, member);
+    }
+}

@@ -1,0 +1,86 @@
+//! Taking a session of a store.
+ghost use Rattle.std.specs.Prelude.{◌≡◌, ◌<◌, ◌≤◌, length, IfOk, IfErr, IfSome};
+ghost use Rattle.ring_log.specs.RingPass.{identity_of, log_of, known_of};
+ghost use Rattle.xa_endless.specs.Takes.{IsRefused};
+
+use crate::{EndlessSession, EndlessStore, Member};
+use std::sync::Arc;
+use thiserror::Error;
+
+/// Why a session couldn't be taken.
+#[derive(Clone, Copy, Debug, Drop, PartialEq, Eq, Error)]
+pub enum TakeFault {
+    /// The store has no session of this number.
+    #[error("the store has no session of this number")]
+    OutOfRange,
+    /// No memory is left.
+    #[error("out of memory")]
+    NoMemory,
+    /// Somebody has the session.
+    #[error("the session is taken")]
+    Taken,
+}
+
+impl EndlessStore {
+    /// Puts a session back into its place.
+    pub(crate) fn put_member(&self, index: usize, member: Member)
+        requires { log_of member.pass ≡ identity_of self.now.log }
+    {
+        if index < self.places.len() {
+            // Nobody else fills a place whose session this call has.
+            let _put = self.places[index].put(member.rest());
+        }
+    }
+
+    /// Takes a session out of its place.
+    fn take_member(&self, index: usize) -> Option<Member>
+        requires { index < length self.now.places.items }
+        ensures { IfSome result (λ member. log_of member.pass ≡ identity_of self.now.log) }
+    {
+        self.places[index].take()?.wake()
+    }
+
+    /// Returns how many sessions the store has, in `[1, 16]`.
+    ///
+    /// Takes no memory. Doesn't wait.
+    /// Own rule: docs/RATTLE.md#a-store-without-an-end.
+    pub fn sessions(&self) -> u64
+        ensures { result ≡ self.now.log.sessions }
+    {
+        self.log.sessions()
+    }
+
+    /// Takes the session of a number, in `[1, sessions]`. Nobody else has it until it leaves.
+    ///
+    /// Errors, in the order of test: `OutOfRange`, `NoMemory`, `Taken`. The store is as before after an error. Doesn't
+    /// wait.
+    /// Own rule: docs/RATTLE.md#a-store-without-an-end.
+    pub fn take(store: &Arc<EndlessStore>, number: u64) -> Result<EndlessSession, TakeFault>
+        // Proved (endless, take): A session that is taken is of the store, and has the number that was asked for.
+        ensures store { IfOk result (λ session. session.store.value ≡ store.now.value) }
+        // Proved (endless, take)
+        ensures number { IfOk result (λ session. (known_of session.member.pass).number ≡ number) }
+        // Proved (endless, take)
+        ensures err { IfErr result (λ fault. IsRefused store.now.value number fault) }
+    {
+        if number == 0 || number > store.places.len() as u64 {
+            return Err(TakeFault::OutOfRange);
+        }
+        let Ok(owned) = Arc::try_clone(store) else {
+            return Err(TakeFault::NoMemory);
+        };
+        let index = (number - 1) as usize;
+        let Some(member) = owned.take_member(index) else {
+            return Err(TakeFault::Taken);
+        };
+        // Each place has the session of its number.
+        if owned.log.number(&member.pass).get() != number {
+            owned.put_member(index, member);
+            return Err(TakeFault::Taken);
+        }
+        Ok(EndlessSession {
+            store: owned,
+            member,
+        })
+    }
+}
