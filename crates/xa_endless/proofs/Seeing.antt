@@ -1,6 +1,6 @@
 -- What calls come to after steps that append nothing.
-use Rattle.std.proofs.Common.{◌≡◌, ◌+◌, ◌<◌, ◌≤◌, refl, sym, subst, ◌∙◌, Ok, Err, ℕ, arith}
-use Rattle.std.specs.Prelude.{Result, length}
+use Rattle.std.proofs.Common.{refl, sym, subst, ◌∙◌, Ok, Err, ℕ, arith}
+use Rattle.std.specs.Prelude.{Result}
 use Rattle.xa_xid.specs.declared.statement.Statement.{Statement}
 use Rattle.decision_log.specs.declared.known.Known.{Known}
 use Rattle.decision_log.specs.History.{Begins}
@@ -13,7 +13,7 @@ use Rattle.xa_server.specs.State.{no_state}
 use Rattle.xa_session.specs.Answer.{IsUnanswered}
 use Rattle.xa_session.specs.declared.answer.Answer.{Answer}
 use Rattle.xa_session.proofs.Answering.{then_answered, unanswered_through}
-use Rattle.xa_endless.specs.Answers.{Finds, HasAnswered, HasFailed, TriesOnce}
+use Rattle.xa_endless.specs.Answers.{Finds, HasFailed, TriesOnce}
 use Rattle.xa_endless.specs.Seen.{HasOnlySeen}
 use Rattle.xa_endless.specs.declared.fault.EndlessFault.{EndlessFault}
 use Rattle.xa_endless.specs.declared.fault.EndlessFault.TheVariants.{Overtaken, NoMemory, Behind}

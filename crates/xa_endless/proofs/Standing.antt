@@ -1,8 +1,8 @@
 -- A replica that stands for a prefix: at the beginning, after one entry more, and in longer histories.
-use Rattle.std.proofs.Common.{◌≡◌, ℕ, ◌<◌, ◌≤◌, ◌+◌, List, length, Some, sym, ◌∙◌, ap, arith}
+use Rattle.std.proofs.Common.{◌≡◌, ◌≤◌, ◌+◌, List, length, Some, ◌∙◌}
 use Rattle.std.specs.Prelude.{slice_get}
 use Rattle.xa_words.specs.Entry.{Entry}
-use Rattle.xa_server.specs.State.{State, no_state}
+use Rattle.xa_server.specs.State.{no_state}
 use Rattle.xa_server.specs.Step.{after}
 use Rattle.decision_log.specs.History.{Begins}
 use Rattle.xa_session.specs.Replay.{Stands as StandsFrom}

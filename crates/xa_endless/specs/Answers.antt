@@ -6,7 +6,7 @@
 --     HasFailed        it wasn't answered, for a cause of this fault
 --     Finds            HasAnswered after Ok, HasFailed after Err
 --     TriesOnce        an attempt has looked, and has tried to append at most once
-use Rattle.std.specs.Prelude.{◌≡◌, ◌<◌, ◌≤◌, ◌+◌, ℕ, Bool, true, ◌⊎◌, length, Result, Ok, Err, IfErr}
+use Rattle.std.specs.Prelude.{◌≡◌, ◌<◌, ◌≤◌, ◌+◌, ℕ, true, ◌⊎◌, length, Result, Ok, Err, IfErr}
 use Rattle.decision_log.specs.declared.known.Known.{Known}
 use Rattle.decision_log.specs.Calls.{IsOvertaken}
 use Rattle.xa_xid.specs.declared.statement.Statement.{Statement}

@@ -2,7 +2,7 @@
 --     Hands            the next entry, or how many are lost, or nothing
 use Rattle.std.specs.Prelude.{◌≡◌, ◌<◌, ◌≤◌, ◌+◌, length, slice_get, Some}
 use Rattle.ring_log.specs.declared.ring.RingLog.{RingLog}
-use Rattle.ring_log.specs.RingPass.{known_of, least_of}
+use Rattle.ring_log.specs.RingPass.{known_of}
 use Rattle.xa_endless.specs.declared.following.Next.{Next as NextOf}
 use Rattle.xa_endless.specs.declared.following.Next.TheVariants.{Entry as IsEntry, Lost, End}
 use Rattle.xa_endless.specs.declared.member.Member.{Member}

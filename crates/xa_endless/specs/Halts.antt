@@ -1,6 +1,5 @@
 -- Why not all that is seen could be replayed.
 --     IsHalt           no memory, or the next entry is lost
-use Rattle.std.specs.Prelude.{◌≤◌, ◌+◌}
 use Rattle.ring_log.specs.declared.ring.RingLog.{RingLog}
 use Rattle.ring_log.specs.declared.pass.RingPass.{RingPass}
 use Rattle.xa_endless.specs.Answers.{IsLost}

@@ -27,10 +27,11 @@ impl EndlessStore {
         if since < self.log.rows() / 4 {
             return;
         }
-        // If another session has the first checkpoint for so long, it may have been stopped: then another has to do,
-        // though that may take a copy of all rows.
+        // Two are looked after in turn, so one of them is in its place while a session has the other, also if that is
+        // stopped. If neither can be had for so long, a third has to do, though that may take a copy of all rows.
+        let first = (replayed / (self.log.rows() / 4).max(1) % 2) as usize;
         let most = if since < self.log.rows() / 2 { 1 } else { 4 };
-        if self.tend(member, most) {
+        if self.tend(member, first, most) {
             member.tended = replayed;
         }
     }
@@ -115,7 +116,8 @@ impl EndlessSession {
             match self.attempt(statement) {
                 Ok(answer) => return Ok(answer),
                 Err(EndlessFault::NoMemory) => return Err(std::alloc::AllocError),
-                Err(EndlessFault::Overtaken { .. }) | Err(EndlessFault::Behind) => thread::yield_now(),
+                Err(EndlessFault::Overtaken { .. }) | Err(EndlessFault::Behind) =>
+                    thread::yield_now(),
             }
         }
         unreachable!()

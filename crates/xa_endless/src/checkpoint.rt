@@ -37,7 +37,10 @@ impl Checkpoint {
         ensures no { IfOk result (λ helped. helped ≡ false → member.new ≡ member.old) }
         ensures err { OnErr result (member.new.replica.replayed < length (known_of member.new.pass).seen) }
     {
-        if self.replica.replayed <= member.replica.replayed {
+        let replayed = self.replica.replayed;
+        // A replica of which entries are lost, too, is of no use, and a copy of it would take time.
+        let is_old = replayed.saturating_add(log.rows()) <= log.length(&member.pass);
+        if replayed <= member.replica.replayed || is_old {
             return Ok(false);
         }
         log.hear(&mut self.spare, &mut member.pass);

@@ -79,7 +79,12 @@ impl EndlessStore {
         // Proved (endless, open)
         ensures err { IfErr result (Refuses rows sessions 0) }
     {
-        let (log, passes, spares) = RingLog::open(alloc, rows, sessions, count_checkpoints(sessions))?;
+        let (log, passes, spares) = RingLog::open(
+            alloc,
+            rows,
+            sessions,
+            count_checkpoints(sessions),
+        )?;
         let places = place_all(alloc, &log, passes)?;
         let checkpoints = place_checkpoints(alloc, &log, spares)?;
         let store = EndlessStore {

@@ -59,7 +59,11 @@ impl Replica {
     /// Replays the next entry, which is this statement of this session and was accepted here already.
     ///
     /// May return `NoMemory`; the replica is then unchanged.
-    pub(crate) fn accept(&mut self, session: SessionNo, statement: &Statement) -> Result<(), NoMemory>
+    pub(crate) fn accept(
+        &mut self,
+        session: SessionNo,
+        statement: &Statement,
+    ) -> Result<(), NoMemory>
         requires accepted { is_refused (reply_to self.old.server session statement.now) ≡ false }
         requires fits { self.old.replayed + 1 < 2 ^ 64 }
         ensures ok { OnOk result

@@ -5,10 +5,10 @@ ghost use Rattle.ring_log.specs.RingPass.{identity_of, log_of, known_of};
 ghost use Rattle.ring_log.specs.RingSpare.{spare_log_of};
 ghost use Rattle.xa_endless.specs.Members.{Keeps};
 
+use crate::Member;
 use crate::checkpoint::Checkpoint;
 use crate::resting::{RestingCheckpoint, RestingMember};
 use crate::slot::Slot;
-use crate::Member;
 use ring_log::RingLog;
 use xa_xid::NoMemory;
 
@@ -65,14 +65,16 @@ impl EndlessStore {
         Ok(false)
     }
 
-    /// Has one of the first `most` checkpoints replay what this session has seen: the first that no other session has
-    /// now. Returns whether there was one.
-    pub(crate) fn tend(&self, member: &mut Member, most: usize) -> bool
+    /// Has a checkpoint replay what this session has seen: the first from `first` on, round and round, of the first
+    /// `most`, that no other session has now. Returns whether there was one.
+    pub(crate) fn tend(&self, member: &mut Member, first: usize, most: usize) -> bool
         requires { log_of member.old.pass ≡ identity_of self.now.log }
         ensures belongs { log_of member.new.pass ≡ log_of member.old.pass }
         ensures keeps { Keeps member.old member.new }
     {
-        for index in 0..self.checkpoints.len().min(most) {
+        let count = self.checkpoints.len();
+        for step in 0..count.min(most) {
+            let index = first.wrapping_add(step) % count;
             if let Some(mut checkpoint) = self.take_checkpoint(index) {
                 checkpoint.follow(&self.log, member);
                 self.put_checkpoint(index, checkpoint);

@@ -80,7 +80,13 @@ pub(crate) fn told(session: &mut EndlessSession, statement: &Statement) -> Optio
 fn carries_out(session: &mut EndlessSession, statements: &[Statement]) -> bool {
     for statement in statements {
         let answered = told(session, statement);
-        if !matches!(answered, Some(Answer { reply: Reply::Ok, .. })) {
+        if !matches!(
+            answered,
+            Some(Answer {
+                reply: Reply::Ok,
+                ..
+            })
+        ) {
             return false;
         }
     }

@@ -245,7 +245,13 @@ fn recovery_after_200_laps_survives(rt: HostRuntime) {
 
 /// Whether a statement is carried out.
 fn does<R: Wait>(rt: &R, session: &mut EndlessSession, statement: &Statement) -> bool {
-    matches!(session.execute(rt, statement), Ok(Answer { reply: Reply::Ok, .. }))
+    matches!(
+        session.execute(rt, statement),
+        Ok(Answer {
+            reply: Reply::Ok,
+            ..
+        })
+    )
 }
 
 /// Whether a branch of another client commits that writes a row: four entries.

@@ -36,7 +36,12 @@ impl Replica {
     }
 
     /// Replays all entries that are seen and weren't replayed. `count` is how many are seen.
-    pub(crate) fn catch_up(&mut self, log: &RingLog, pass: &mut RingPass, count: u64) -> Result<(), EndlessFault>
+    pub(crate) fn catch_up(
+        &mut self,
+        log: &RingLog,
+        pass: &mut RingPass,
+        count: u64,
+    ) -> Result<(), EndlessFault>
         requires belongs { log_of pass.old ≡ identity_of log.now }
         requires stands { Stands (known_of pass.old).seen self.old }
         requires count { count ≡ length (known_of pass.old).seen }
@@ -54,7 +59,11 @@ impl Replica {
     }
 
     /// Looks, and replays all that is seen then. Returns how many entries that is.
-    pub(crate) fn observe(&mut self, log: &RingLog, pass: &mut RingPass) -> Result<u64, EndlessFault>
+    pub(crate) fn observe(
+        &mut self,
+        log: &RingLog,
+        pass: &mut RingPass,
+    ) -> Result<u64, EndlessFault>
         requires belongs { log_of pass.old ≡ identity_of log.now }
         requires stands { Stands (known_of pass.old).seen self.old }
         ensures belongs { log_of pass.new ≡ log_of pass.old }

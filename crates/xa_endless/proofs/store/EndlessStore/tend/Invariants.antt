@@ -3,8 +3,8 @@ use Rattle.ring_log.specs.RingPass.{log_of}
 use Rattle.xa_endless.specs.Members.{Keeps}
 use Rattle.xa_endless.proofs.store.EndlessStore.tend.Given as goal
 
-abbrev pub invariant-loop-index : goal.invariant-loop-index
-invariant-loop-index l = record {
+abbrev pub invariant-loop-step : goal.invariant-loop-step
+invariant-loop-step l = record {
   belongs : log_of l.member.pass ≡ log_of l.fn.member.pass;
   keeps : Keeps l.fn.member l.member;
 }
