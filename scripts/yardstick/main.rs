@@ -2,9 +2,10 @@
 //!
 //!     rustc --edition 2021 -O -o yardstick scripts/yardstick/main.rs
 //!
-//!     yardstick MODE THREADS SECONDS      writes MODE threads=T per_s=N
-//!     yardstick echo                      answers each line with itself, at once
-//!     yardstick trips SECONDS PROGRAM..   the round trips a second of a client over pipes of the program
+//!     yardstick MODE THREADS SECONDS [ROWS]      writes MODE threads=T per_s=N
+//!     yardstick times THREADS STATEMENTS [ROWS]  writes times threads=T p999_ns=N longest_ns=N
+//!     yardstick echo                             answers each line with itself, at once
+//!     yardstick trips SECONDS PROGRAM..          the round trips a second of a client over pipes of the program
 //!
 //! | Mode | What is done | What is counted |
 //! |---|---|---|
@@ -13,7 +14,10 @@
 //! | `protomix5` | of a hundred statements of such sessions outside branches five write, the others read | statements |
 //! | `lib-enum`, `lib-text` | cycles on one server behind a lock; the statements are values, or texts that are read first | cycles |
 //! | `get-text` | texts that read rows outside branches, on one server behind a lock | reads |
-//! | `libmix5` | the statements of `protomix5` on one server behind a lock | statements |
+//! | `libmix5`, `mix-text` | the statements of `protomix5` on one server behind a lock, as values or as texts | statements |
+//! | `times` | the statements of `lib-text`: how long one takes but for one of a thousand, and the longest | |
+//!
+//! A server behind a lock begins with ROWS rows that nobody touches, none where the word is missing.
 mod log;
 mod reader;
 mod server;
@@ -71,10 +75,16 @@ impl Mix {
         Mix { numbers: Numbers(88172645463325252 ^ (thread as u64 * 7919)), rows: (0..TURNS).map(row).collect() }
     }
 
-    fn next(&mut self) -> Statement {
+    /// Which row comes next, and whether it is written.
+    fn next_turn(&mut self) -> (usize, bool) {
         let number = self.numbers.next();
-        let (key, value) = self.rows[(number >> 20) as usize % TURNS];
-        if number % 100 < 5 { Statement::Put(key, value) } else { Statement::Get(key) }
+        ((number >> 20) as usize % TURNS, number % 100 < 5)
+    }
+
+    fn next(&mut self) -> Statement {
+        let (turn, writes) = self.next_turn();
+        let (key, value) = self.rows[turn];
+        if writes { Statement::Put(key, value) } else { Statement::Get(key) }
     }
 }
 
@@ -105,8 +115,18 @@ fn mixed_sessions(threads: usize, seconds: f64) -> f64 {
     })
 }
 
-fn behind_a_lock(threads: usize, seconds: f64, reads: bool) -> f64 {
-    let (server, stops) = (Mutex::new(Server::default()), AtomicBool::new(false));
+/// A server with rows that nobody touches.
+fn filled(rows: usize) -> Mutex<Server> {
+    let mut server = Server::default();
+    for row in 0..rows {
+        let put = Statement::Put(Text::of(format!("row{row}").as_bytes()), Text::of(format!("value{row}").as_bytes()));
+        server.apply(1, &put).expect();
+    }
+    Mutex::new(server)
+}
+
+fn behind_a_lock(threads: usize, seconds: f64, rows: usize, reads: bool) -> f64 {
+    let (server, stops) = (filled(rows), AtomicBool::new(false));
     rate(threads, seconds, || stops.store(true, Relaxed), |thread| {
         let cycles: Vec<_> = (0..TURNS).map(|turn| (cycle(thread, turn), cycle_texts(thread, turn))).collect();
         let mut turn = 0;
@@ -141,18 +161,64 @@ fn reads_behind_a_lock(threads: usize, seconds: f64) -> f64 {
     })
 }
 
-fn mixed_behind_a_lock(threads: usize, seconds: f64) -> f64 {
-    let (server, stops) = (Mutex::new(Server::default()), AtomicBool::new(false));
+fn mixed_behind_a_lock(threads: usize, seconds: f64, rows: usize, reads: bool) -> f64 {
+    let (server, stops) = (filled(rows), AtomicBool::new(false));
     rate(threads, seconds, || stops.store(true, Relaxed), |thread| {
         let mut mix = Mix::new(thread);
+        let texts: Vec<_> = (0..TURNS).map(|turn| [format!("PUT 'k{thread}_{turn}','v{turn}'"), format!("GET 'k{thread}_{turn}'")]).collect();
         let mut done = 0;
         while done % 64 != 0 || !stops.load(Relaxed) {
-            let statement = mix.next();
+            let statement = if reads {
+                let (turn, writes) = mix.next_turn();
+                Reader::read(black_box(texts[turn][!writes as usize].as_bytes())).unwrap()
+            } else {
+                mix.next()
+            };
             server.lock().unwrap().apply(thread, &statement).expect();
             done += 1;
         }
         done
     })
+}
+
+/// Prints how long a statement of `lib-text` takes, but for one of a thousand, and the longest.
+fn print_times(threads: usize, statements: usize, rows: usize) {
+    let (server, each) = (filled(rows), statements / threads);
+    let server = &server;
+    let mut times: Vec<u64> = std::thread::scope(|scope| {
+        let timed = |thread: usize| move || timed_behind_a_lock(server, thread, each);
+        let running: Vec<_> = (1..=threads).map(|thread| scope.spawn(timed(thread))).collect();
+        running.into_iter().flat_map(|thread| thread.join().unwrap()).collect()
+    });
+    times.sort_unstable();
+    let last = times.len() - 1;
+    println!("times threads={threads} p999_ns={} longest_ns={}", times[last - times.len() / 1000], times[last]);
+}
+
+fn timed_behind_a_lock(server: &Mutex<Server>, thread: usize, count: usize) -> Vec<u64> {
+    let cycles: Vec<_> = (0..TURNS).map(|turn| cycle_texts(thread, turn)).collect();
+    let mut times = Vec::with_capacity(count);
+    for done in 0..count {
+        let begun = Instant::now();
+        let statement = Reader::read(black_box(cycles[done / 5 % TURNS][done % 5].as_bytes())).unwrap();
+        server.lock().unwrap().apply(thread, &statement).expect();
+        times.push(begun.elapsed().as_nanos() as u64);
+    }
+    times
+}
+
+fn measured(mode: &str, threads: usize, seconds: f64, rows: usize) -> f64 {
+    match mode {
+        "cas" => adds(threads, seconds),
+        "proto" => sessions(threads, seconds),
+        "protomix5" => mixed_sessions(threads, seconds),
+        "lib-enum" => behind_a_lock(threads, seconds, rows, false),
+        "lib-text" => behind_a_lock(threads, seconds, rows, true),
+        "get-text" => reads_behind_a_lock(threads, seconds),
+        "libmix5" => mixed_behind_a_lock(threads, seconds, rows, false),
+        "mix-text" => mixed_behind_a_lock(threads, seconds, rows, true),
+        _ => panic!("there is no mode {mode}"),
+    }
 }
 
 fn main() {
@@ -161,21 +227,14 @@ fn main() {
     let (threads, per_second) = match words[..] {
         ["echo"] => return trips::echo(),
         ["trips", seconds, ref program @ ..] => (1, trips::trips(seconds.parse().unwrap(), program)),
-        [mode, threads, seconds] => {
-            let (threads, seconds) = (threads.parse().unwrap(), seconds.parse().unwrap());
-            let per_second = match mode {
-                "cas" => adds(threads, seconds),
-                "proto" => sessions(threads, seconds),
-                "protomix5" => mixed_sessions(threads, seconds),
-                "lib-enum" => behind_a_lock(threads, seconds, false),
-                "lib-text" => behind_a_lock(threads, seconds, true),
-                "get-text" => reads_behind_a_lock(threads, seconds),
-                "libmix5" => mixed_behind_a_lock(threads, seconds),
-                _ => panic!("there is no mode {mode}"),
-            };
-            (threads, per_second)
+        ["times", threads, statements, ref rows @ ..] => {
+            return print_times(threads.parse().unwrap(), statements.parse().unwrap(), rows.first().map_or(0, |rows| rows.parse().unwrap()));
         }
-        _ => panic!("yardstick MODE THREADS SECONDS"),
+        [mode, threads, seconds, ref rows @ ..] => {
+            let threads = threads.parse().unwrap();
+            (threads, measured(mode, threads, seconds.parse().unwrap(), rows.first().map_or(0, |rows| rows.parse().unwrap())))
+        }
+        _ => panic!("yardstick MODE THREADS SECONDS [ROWS]"),
     };
     println!("{} threads={threads} per_s={per_second:.0}", words[0]);
 }
