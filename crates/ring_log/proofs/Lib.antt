@@ -3,6 +3,7 @@ pub mod RingSteps
 pub mod RingStores
 pub mod RingSeats
 pub mod Watching
+pub mod Reading
 pub mod Tables
 pub mod Walks
 pub mod Passes

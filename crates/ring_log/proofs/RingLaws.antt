@@ -30,7 +30,7 @@ use Rattle.ring_log.proofs.RingStores.{first_keeps, win_keeps, all_seen}
 module _ {sizes : Sizes} {words : List ℕ} {views : List SeatView} (r : RingRule sizes words views) where
   -- the last entries are in the words
   pub spelled_last : (place : ℕ) (entry : Entry) → slice_get r.log place ≡ Some entry → length r.log < place + rows_of sizes.capacity
-      → HasWordsAt words (cell_of sizes.capacity sizes.sessions place entry.session) (cell_words sizes.sessions r.log place entry)
+      → HasWordsAt words (cell_of sizes.capacity place entry.session) (cell_words sizes.sessions r.log place entry)
   spelled_last place entry is near = r.spelled.cells place entry is (r.spelled.fresh place entry is near)
 
   pub named_log : (id : ℕ) (h : PassView) → get_elem? views id ≡ some (Single h)
@@ -68,7 +68,7 @@ module _ {sizes : Sizes} {words : List ℕ} {views views' : List SeatView} (p : 
       let lengths = one_length_of in
       let session = (one_cell sizes.sessions place place e.session f.session a.0 a.1 b.0 b.1
       (sym (name_next sizes.sessions p.log place e is) ∙ same ∙ name_next sizes.sessions q.log place f is')).1 in
-      let at : ℕ → ℕ = λ s. cell_of sizes.capacity sizes.sessions place s in
+      let at : ℕ → ℕ = λ s. cell_of sizes.capacity place s in
       let one = spelled_last p place e is near in
       let two = spelled_last q place f is' (omega (arith, lengths)) in
       let each : (i : ℕ) → i < 23 → get_or (cell_words sizes.sessions p.log place e) i 0 ≡ get_or (cell_words sizes.sessions q.log place f) i 0 =

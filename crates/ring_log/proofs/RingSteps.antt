@@ -72,8 +72,8 @@ module _ {sizes : Sizes} {words : List ℕ} {views : List SeatView} (r : RingRul
 
   -- a cell, by the pass's own sizes
   pub cell_by : (h : PassView) (place session : ℕ) → Knows sizes words r.log h
-      → cell_of h.capacity h.sessions place session ≡ cell_of sizes.capacity sizes.sessions place session
-  cell_by h place session k = λ i. cell_of (k.capacity i) (k.sessions i) place session
+      → cell_of h.capacity place session ≡ cell_of sizes.capacity place session
+  cell_by h place session k = λ i. cell_of (k.capacity i) place session
 
   pub name_by : (h : PassView) (place session : ℕ) → Knows sizes words r.log h → name_at h.sessions place session ≡ name_at sizes.sessions place session
   name_by h place session k = λ i. name_at (k.sessions i) place session
@@ -112,7 +112,7 @@ module _ {sizes : Sizes} {words : List ℕ} {views : List SeatView} (r : RingRul
 
   -- a cell has the name of its entry until so many follow
   pub follows : (h : PassView) (place word : ℕ) (entry : Entry) → Knows sizes words r.log h → slice_get h.known.seen place ≡ Some entry
-      → word ≡ cell_of h.capacity h.sessions place entry.session → get_or words word 0 ≢ name_at h.sessions place entry.session
+      → word ≡ cell_of h.capacity place entry.session → get_or words word 0 ≢ name_at h.sessions place entry.session
       → place + rows_of h.capacity ≤ length h.known.seen + (length r.log - length h.known.seen)
   follows h place word entry k is at other =
       let low = length_begins h.known.seen r.log k.seen in
@@ -127,8 +127,8 @@ module _ {sizes : Sizes} {words : List ℕ} {views : List SeatView} (r : RingRul
 
   -- a word of a cell that has the name of an entry that was seen
   pub read_there : (h : PassView) (place index : ℕ) (entry : Entry) → Knows sizes words r.log h → index < 23 → slice_get h.known.seen place ≡ Some entry
-      → get_or words (cell_of h.capacity h.sessions place entry.session) 0 ≡ name_at h.sessions place entry.session
-      → get_or words (cell_of h.capacity h.sessions place entry.session + index) 0 ≡ get_or (cell_words h.sessions h.known.seen place entry) index 0
+      → get_or words (cell_of h.capacity place entry.session) 0 ≡ name_at h.sessions place entry.session
+      → get_or words (cell_of h.capacity place entry.session + index) 0 ≡ get_or (cell_words h.sessions h.known.seen place entry) index 0
   read_there h place index entry k below is named =
       let there = get_begins h.known.seen r.log place entry k.seen is in
       let intact = ap (λ n. get_or words n 0) (sym (cell_by h place entry.session k)) ∙ named ∙ name_by h place entry.session k in

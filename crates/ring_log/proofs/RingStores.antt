@@ -47,8 +47,8 @@ module _ {sizes : Sizes} {words : List ℕ} {views : List SeatView} (r : RingRul
       (omega (arith, p.low), omega (arith, p.high, r.within))
 
   -- a pass's own cell and name, by the log's sizes
-  own_by : (h : PassView) → Knows sizes words r.log h → own_cell h ≡ cell_of sizes.capacity sizes.sessions (length h.known.seen) h.known.number
-  own_by h k = λ i. cell_of (k.capacity i) (k.sessions i) (length h.known.seen) h.known.number
+  own_by : (h : PassView) → Knows sizes words r.log h → own_cell h ≡ cell_of sizes.capacity (length h.known.seen) h.known.number
+  own_by h k = λ i. cell_of (k.capacity i) (length h.known.seen) h.known.number
 
   own_name_by : (h : PassView) → Knows sizes words r.log h → own_name h ≡ name_at sizes.sessions (length h.known.seen) h.known.number
   own_name_by h k = λ i. name_at (k.sessions i) (length h.known.seen) h.known.number
@@ -66,7 +66,7 @@ module _ {sizes : Sizes} {words : List ℕ} {views : List SeatView} (r : RingRul
   -- an entry of which a pass's own cell has a word is the pass's, and so many entries follow as there are rows
   own_old : (id : ℕ) (h : PassView) (place i index : ℕ) (entry : Entry) → get_elem? views id ≡ some (Single h) → slice_get r.log place ≡ Some entry → i < 23
       → index < 23
-      → cell_of sizes.capacity sizes.sessions place entry.session + i ≡ own_cell h + index
+      → cell_of sizes.capacity place entry.session + i ≡ own_cell h + index
       → place + rows_of sizes.capacity ≤ length r.log
   own_old id h place i index entry here is below below' same =
       let k = (known r id h here).fact_is in
@@ -74,7 +74,7 @@ module _ {sizes : Sizes} {words : List ℕ} {views : List SeatView} (r : RingRul
       let e = ranged r place entry is in
       let low = length_begins h.known.seen r.log k.seen in
       let c =
-      one_word sizes.capacity sizes.sessions place entry.session (length h.known.seen) h.known.number i index r.spelled.some e.0 e.1 n.0 n.1 below below'
+      one_word sizes.capacity place entry.session (length h.known.seen) h.known.number i index r.spelled.some e.0 n.0 below below'
       (same ∙ ap (λ n. n + index) (own_by h k)) in
       dite (dec_le (length h.known.seen) place)
       (λ later. absurd (later_other h.known.number h.known.seen r.log h.known.mine place entry k.seen k.mine k.part later is c.1))
@@ -90,10 +90,9 @@ module _ {sizes : Sizes} {words : List ℕ} {views : List SeatView} (r : RingRul
   not_of_other id h g index i here below apart low k d less same =
       let p = (known r id h here).fact_is in
       let n = numbered id h here in
-      let high : g.known.number ≤ sizes.sessions = omega (arith, d.column (omega (arith, less)), k.sessions) in
       apart
-      (one_word sizes.capacity sizes.sessions (length g.known.seen) g.known.number (length h.known.seen) h.known.number i index r.spelled.some
-      (omega (arith, low)) high n.0 n.1 (omega (arith, less, d.short)) below
+      (one_word sizes.capacity (length g.known.seen) g.known.number (length h.known.seen) h.known.number i index r.spelled.some (omega (arith, low)) n.0
+      (omega (arith, less, d.short)) below
       (sym (ap (λ a. a + i) (own_by g k)) ∙ same ∙ ap (λ a. a + index) (own_by h p))).1
 
   -- the own cell is within the ring
@@ -103,25 +102,25 @@ module _ {sizes : Sizes} {words : List ℕ} {views : List SeatView} (r : RingRul
       let n = numbered id h here in
       let w = within_words sizes.capacity sizes.sessions (length h.known.seen) h.known.number index r.spelled.some n.0 n.1 below in
       subst (λ a. a + index < length words) (sym (own_by h k))
-      (subst (λ n. cell_of sizes.capacity sizes.sessions (length h.known.seen) h.known.number + index < n) (sym r.spelled.wide) w)
+      (subst (λ n. cell_of sizes.capacity (length h.known.seen) h.known.number + index < n) (sym r.spelled.wide) w)
 
   -- after a store into the own cell, which has the own name then, a cell that has an entry's name is another
   not_own : (id : ℕ) (h : PassView) (index new place i : ℕ) (entry : Entry) → get_elem? views id ≡ some (Single h) → index < 23 → i < 23
       → get_or (set words (own_cell h + index) new) (own_cell h) 0 ≡ own_name h
       → slice_get r.log place ≡ Some entry
-      → get_or (set words (own_cell h + index) new) (cell_of sizes.capacity sizes.sessions place entry.session) 0
+      → get_or (set words (own_cell h + index) new) (cell_of sizes.capacity place entry.session) 0
       ≡ name_at sizes.sessions place entry.session
-      → cell_of sizes.capacity sizes.sessions place entry.session + i ≢ own_cell h + index
+      → cell_of sizes.capacity place entry.session + i ≢ own_cell h + index
   not_own id h index new place i entry here below less named is intact same =
       let e = ranged r place entry is in
       let n = numbered id h here in
       let k = (known r id h here).fact_is in
       let c =
-      one_word sizes.capacity sizes.sessions place entry.session (length h.known.seen) h.known.number i index r.spelled.some e.0 e.1 n.0 n.1 less below
+      one_word sizes.capacity place entry.session (length h.known.seen) h.known.number i index r.spelled.some e.0 n.0 less below
       (same ∙ ap (λ n. n + index) (own_by h k)) in
-      let one : cell_of sizes.capacity sizes.sessions place entry.session
-      ≡ cell_of sizes.capacity sizes.sessions (length h.known.seen) h.known.number =
-      λ j. cell_at (name_at sizes.sessions (c.0 j) (c.1 j)) in
+      let one : cell_of sizes.capacity place entry.session
+      ≡ cell_of sizes.capacity (length h.known.seen) h.known.number =
+      λ j. cell_at (name_at (rows_of sizes.capacity) (c.1 j - 1) (c.0 j + 1)) in
       name_apart id h place entry here is
       (sym intact ∙ ap (λ a. get_or (set words (own_cell h + index) new) a 0) (one ∙ sym (own_by h k)) ∙ named)
 
@@ -137,7 +136,7 @@ module _ {sizes : Sizes} {words : List ℕ} {views : List SeatView} (r : RingRul
         newest = get_or-set_other words word 0 new 0 (λ e. omega arith) ∙ r.spelled.newest;
         cells =
             λ place entry is intact.
-            let cell = cell_of sizes.capacity sizes.sessions place entry.session in
+            let cell = cell_of sizes.capacity place entry.session in
             let apart : cell ≢ word =
             λ e. not_own id h index new place 0 entry here below (omega arith) named is intact (omega (arith, e)) in
             holds_beside words word new cell (cell_words sizes.sessions r.log place entry)
@@ -145,7 +144,7 @@ module _ {sizes : Sizes} {words : List ℕ} {views : List SeatView} (r : RingRul
             (r.spelled.cells place entry is (sym (get_or-set_other words word cell new 0 apart) ∙ intact));
         fresh =
             λ place entry is young.
-            let cell = cell_of sizes.capacity sizes.sessions place entry.session in
+            let cell = cell_of sizes.capacity place entry.session in
             let apart : cell ≢ word =
             λ e. let old = own_old id h place 0 index entry here is (omega arith) below (omega (arith, e)) in omega arith in
             get_or-set_other words word cell new 0 apart ∙ r.spelled.fresh place entry is young;
@@ -168,8 +167,8 @@ module _ {sizes : Sizes} {words : List ℕ} {views : List SeatView} (r : RingRul
     notes.0,
     (λ place entry is at name still.
         let there = get_begins g.known.seen r.log place entry k.seen is in
-        let cell : watched_word g ≡ cell_of sizes.capacity sizes.sessions place entry.session =
-        at ∙ (λ i. cell_of (k.capacity i) (k.sessions i) place entry.session) in
+        let cell : watched_word g ≡ cell_of sizes.capacity place entry.session =
+        at ∙ (λ i. cell_of (k.capacity i) place entry.session) in
         let intact =
         ap (λ a. get_or (set words (own_cell h + index) new) a 0) (sym cell) ∙ still ∙ name ∙ (λ i. name_at (k.sessions i) place entry.session) in
         let other : watched_word g ≢ own_cell h + index =
@@ -248,7 +247,7 @@ module _ {sizes : Sizes} {words : List ℕ} {views : List SeatView} (r : RingRul
       let more = notes.0 in (
         omega arith,
         (λ place entry is at name still.
-            let low = cell_low g.capacity g.sessions place entry.session in
+            let low = cell_low g.capacity place entry.session in
             notes.1 place entry is at name (sym (get_or-set_other words 0 (watched_word g) new 0 (λ e. omega (arith, at, low, e))) ∙ still)),
       )
 
@@ -263,9 +262,9 @@ module _ {sizes : Sizes} {words : List ℕ} {views : List SeatView} (r : RingRul
       let new = name_at sizes.sessions (length r.log) h.known.number in
       let words' = set words 0 new in
       let log' = r.log ++ entry ∷ [] in
-      let at = cell_of sizes.capacity sizes.sessions (length r.log) entry.session in
+      let at = cell_of sizes.capacity (length r.log) entry.session in
       let own_is : own_cell h ≡ at =
-      own_by h k ∙ (λ i. cell_of sizes.capacity sizes.sessions (length (all i)) (sym own i)) in
+      own_by h k ∙ (λ i. cell_of sizes.capacity (length (all i)) (sym own i)) in
       let name_is : own_name h ≡ name_at sizes.sessions (length r.log) entry.session =
       own_name_by h k ∙ (λ i. name_at sizes.sessions (length (all i)) (sym own i)) in
       let longer : length log' ≡ length r.log + 1 = length-append r.log (entry ∷ []) in
@@ -274,9 +273,9 @@ module _ {sizes : Sizes} {words : List ℕ} {views : List SeatView} (r : RingRul
       (subst (λ draft. HasWordsAt words (own_cell h) draft) (whole ∙ ap (λ name. name ∷ newest_of sizes.sessions r.log ∷ words_of entry) name_is) d.draft) in
       let link : (place : ℕ) → place ≤ length r.log → name_before sizes.sessions r.log place ≡ name_before sizes.sessions log' place =
       λ place low. name_begins sizes.sessions r.log log' place (begins_append r.log (entry ∷ [])) low in
-      let beside : (place : ℕ) (other : Entry) → get_or words' (cell_of sizes.capacity sizes.sessions place other.session) 0
-      ≡ get_or words (cell_of sizes.capacity sizes.sessions place other.session) 0 =
-      λ place other. get_or-set_other words 0 (cell_of sizes.capacity sizes.sessions place other.session) new 0 (λ e. omega arith) in
+      let beside : (place : ℕ) (other : Entry) → get_or words' (cell_of sizes.capacity place other.session) 0
+      ≡ get_or words (cell_of sizes.capacity place other.session) 0 =
+      λ place other. get_or-set_other words 0 (cell_of sizes.capacity place other.session) new 0 (λ e. omega arith) in
       appended r words' id h (won h entry) entry here all is own room
       (record {
         some = r.spelled.some;
@@ -286,14 +285,14 @@ module _ {sizes : Sizes} {words : List ℕ} {views : List SeatView} (r : RingRul
             ∙ sym (newest_added sizes.sessions r.log entry);
         cells =
             λ place other there intact.
-            holds_beside words 0 new (cell_of sizes.capacity sizes.sessions place other.session) (cell_words sizes.sessions log' place other)
+            holds_beside words 0 new (cell_of sizes.capacity place other.session) (cell_words sizes.sessions log' place other)
             (λ i less e. omega arith)
             (⊎_elim
-            (λ t. subst (λ name. HasWordsAt words (cell_of sizes.capacity sizes.sessions place other.session)
+            (λ t. subst (λ name. HasWordsAt words (cell_of sizes.capacity place other.session)
             (name_at sizes.sessions place other.session ∷ name ∷ words_of other))
             (link place (omega (arith, slice_get_within r.log place other t))) (r.spelled.cells place other t (sym (beside place other) ∙ intact)))
-            (λ t. subst (λ x. HasWordsAt words (cell_of sizes.capacity sizes.sessions place x.session) (cell_words sizes.sessions log' place x)) t.1
-            (subst (λ n. HasWordsAt words (cell_of sizes.capacity sizes.sessions n entry.session) (cell_words sizes.sessions log' n entry)) (sym t.0)
+            (λ t. subst (λ x. HasWordsAt words (cell_of sizes.capacity place x.session) (cell_words sizes.sessions log' place x)) t.1
+            (subst (λ n. HasWordsAt words (cell_of sizes.capacity n entry.session) (cell_words sizes.sessions log' n entry)) (sym t.0)
             (subst (λ name. HasWordsAt words at (name_at sizes.sessions (length r.log) entry.session ∷ name ∷ words_of entry))
             (link (length r.log) (omega arith)) cell)))
             (get_last r.log entry place other there));
@@ -301,8 +300,8 @@ module _ {sizes : Sizes} {words : List ℕ} {views : List SeatView} (r : RingRul
             λ place other there young.
             beside place other
             ∙ ⊎_elim (λ t. r.spelled.fresh place other t (omega (arith, longer)))
-            (λ t. subst (λ x. get_or words (cell_of sizes.capacity sizes.sessions place x.session) 0 ≡ name_at sizes.sessions place x.session) t.1
-            (subst (λ n. get_or words (cell_of sizes.capacity sizes.sessions n entry.session) 0 ≡ name_at sizes.sessions n entry.session) (sym t.0)
+            (λ t. subst (λ x. get_or words (cell_of sizes.capacity place x.session) 0 ≡ name_at sizes.sessions place x.session) t.1
+            (subst (λ n. get_or words (cell_of sizes.capacity n entry.session) 0 ≡ name_at sizes.sessions n entry.session) (sym t.0)
             (ap (λ a. get_or words a 0) (first at) ∙ cell 0 (omega arith))))
             (get_last r.log entry place other there);
       })

@@ -1,9 +1,9 @@
 -- Rows that are used in turn: which places of the history share a row, and that two cells share no word.
-use Rattle.std.proofs.Common.{◌≡◌, ◌≢◌, ℕ, suc, ◌+◌, ◌-◌, ◌*◌, ◌/◌, ◌%◌, ◌<◌, ◌≤◌, sym}
+use Rattle.std.proofs.Common.{◌≡◌, ◌≢◌, ℕ, suc, ◌+◌, ◌-◌, ◌*◌, ◌/◌, ◌%◌, ◌<◌, ◌≤◌, sym, subst}
 use Rattle.std.proofs.Common.{mul-le-mul_right, suc-mul, arith}
 use mathlib.Core.Logic.{dite}
 use native.Mathlib.Decide.{dec_le, ℕ_discrete}
-use Rattle.std.proofs.Math.Nat.{mod-lt, mod-add-div'}
+use Rattle.std.proofs.Math.Nat.{mod-lt, mod-add-div', mul_comm}
 use Rattle.chain_log.specs.Cells.{name_at}
 use Rattle.chain_log.proofs.Names.{one_cell, name_low}
 use Rattle.ring_log.specs.Places.{most, rows_of, word_count, cell_at, cell_of}
@@ -42,35 +42,43 @@ rows_apart rows place other apart near near' same =
     (λ le. let s = same_row rows place other same (omega arith) in omega arith)
     (λ gt. let s = same_row rows other place (sym same) (omega arith) in omega arith)
 
-pub cell_low : (capacity sessions place session : ℕ) → 1 ≤ cell_of capacity sessions place session
-cell_low capacity sessions place session = omega arith
+pub cell_low : (capacity place session : ℕ) → 1 ≤ cell_of capacity place session
+cell_low capacity place session = omega arith
 
 -- two cells share no word
 words_apart : (cell other i j : ℕ) → 1 ≤ cell → 1 ≤ other → cell ≢ other → i < 23 → j < 23 → cell_at cell + i ≢ cell_at other + j
 words_apart cell other i j low low' apart below below' same = apart (omega arith)
 
 -- a word is of one cell
-pub one_word : (capacity sessions place session later other i j : ℕ) → 0 < rows_of capacity → 1 ≤ session → session ≤ sessions → 1 ≤ other → other ≤ sessions
-    → i < 23 → j < 23
-    → cell_of capacity sessions place session + i ≡ cell_of capacity sessions later other + j
+pub one_word : (capacity place session later other i j : ℕ) → 0 < rows_of capacity → 1 ≤ session → 1 ≤ other → i < 23 → j < 23
+    → cell_of capacity place session + i ≡ cell_of capacity later other + j
     → (place % rows_of capacity ≡ later % rows_of capacity) × (session ≡ other)
-one_word capacity sessions place session later other i j some low high low' high' below below' same =
+one_word capacity place session later other i j some low low' below below' same =
     let rows : ℕ = rows_of capacity in
-    let one : ℕ = name_at sessions (place % rows) session in
-    let two : ℕ = name_at sessions (later % rows) other in
+    let row : ℕ = place % rows in
+    let row' : ℕ = later % rows in
+    let fits : row < rows = mod-lt place some in
+    let fits' : row' < rows = mod-lt later some in
+    let one : ℕ = name_at rows (session - 1) (row + 1) in
+    let two : ℕ = name_at rows (other - 1) (row' + 1) in
     let cell : one ≡ two =
     dite (ℕ_discrete one two) (λ e. e)
-    (λ apart. absurd (words_apart one two i j (name_low sessions (place % rows) session low) (name_low sessions (later % rows) other low') apart below below' same)) in
-    one_cell sessions (place % rows) (later % rows) session other low high low' high' cell
+    (λ apart.
+    absurd
+    (words_apart one two i j (name_low rows (session - 1) (row + 1) (omega arith)) (name_low rows (other - 1) (row' + 1) (omega arith)) apart below below' same)) in
+    let c = one_cell rows (session - 1) (other - 1) (row + 1) (row' + 1) (omega arith) (omega arith) (omega arith) (omega arith) cell in
+    (omega (arith, c.1), omega (arith, c.0))
 
 -- the words of a cell are words of the ring
 pub within_words : (capacity sessions place session index : ℕ) → 0 < rows_of capacity → 1 ≤ session → session ≤ sessions → index < 23
-    → cell_of capacity sessions place session + index < word_count sessions (rows_of capacity)
+    → cell_of capacity place session + index < word_count sessions (rows_of capacity)
 within_words capacity sessions place session index some low high short =
     let rows : ℕ = rows_of capacity in
     let row : ℕ = place % rows in
-    let x : ℕ = row * sessions in
-    let y : ℕ = rows * sessions in
-    let f : x + sessions ≤ y = further row rows sessions (mod-lt place some) in
-    let goal : 1 + (x + session - 1) * 23 + index < 1 + y * 23 = omega arith in
-    goal
+    let fits : row < rows = mod-lt place some in
+    let x : ℕ = (session - 1) * rows in
+    let y : ℕ = sessions * rows in
+    let f : x + rows ≤ y = further (session - 1) sessions rows (omega arith) in
+    let whole : rows * sessions ≡ y = mul_comm rows sessions in
+    let goal : 1 + (x + (row + 1) - 1) * 23 + index < 1 + y * 23 = omega arith in
+    subst (λ n. cell_of capacity place session + index < 1 + n * 23) (sym whole) goal

@@ -36,12 +36,12 @@ name_some log h place name ours below named =
     omega (arith, named)
 
 -- the cell of a place, at a pass that knows the same
-pub cell_is : (log : RingLog) (h g : PassView) (place start column : ℕ) → IsOurs log h → KeepsPass h g → start ≡ cell_of log.capacity log.columns place column
+pub cell_is : (log : RingLog) (h g : PassView) (place start column : ℕ) → IsOurs log h → KeepsPass h g → start ≡ cell_of log.capacity place column
     → column ≡ session_at h.known.seen place
-    → start ≡ cell_of g.capacity g.sessions place (session_at g.known.seen place)
+    → start ≡ cell_of g.capacity place (session_at g.known.seen place)
 cell_is log h g place start column ours keeps at is =
-    at ∙ ap (cell_of log.capacity log.columns place) (is ∙ ap (λ known. session_at known.seen place) (sym keeps.known))
-    ∙ (λ i. cell_of (sym (keeps.capacity ∙ ours.capacity) i) (sym (keeps.sessions ∙ ours.sessions) i) place (session_at g.known.seen place))
+    at ∙ ap (cell_of log.capacity place) (is ∙ ap (λ known. session_at known.seen place) (sym keeps.known))
+    ∙ (λ i. cell_of (sym (keeps.capacity ∙ ours.capacity) i) place (session_at g.known.seen place))
 
 -- and the name
 pub name_is : (log : RingLog) (h g : PassView) (place name : ℕ) → IsOurs log h → KeepsPass h g

@@ -17,24 +17,24 @@ use Rattle.ring_log.proofs.RingSteps.{without_won}
 -- what is looked for: an entry that was seen, its cell and its name
 pub record IsLookedFor (start name place : ℕ) (entry : Entry) (h : PassView) : Type 0 where
   pub seen : slice_get h.known.seen place ≡ Some entry
-  pub cell : start ≡ cell_of h.capacity h.sessions place entry.session
+  pub cell : start ≡ cell_of h.capacity place entry.session
   pub name_is : name ≡ name_at h.sessions place entry.session
 
 -- by the place, whose entry's session is known
 pub looked_for : (start name place : ℕ) (h : PassView) → place < length h.known.seen
-    → start ≡ cell_of h.capacity h.sessions place (session_at h.known.seen place)
+    → start ≡ cell_of h.capacity place (session_at h.known.seen place)
     → name ≡ name_at h.sessions place (session_at h.known.seen place)
     → (entry : Entry) × IsLookedFor start name place entry h
 looked_for start name place h below cell named =
     let e = there h.known.seen place below in
     let session = session_there h.known.seen place e.0 e.1 in
-    (e.0, record { seen = e.1; cell = cell ∙ ap (cell_of h.capacity h.sessions place) session; name_is = named ∙ ap (name_at h.sessions place) session })
+    (e.0, record { seen = e.1; cell = cell ∙ ap (cell_of h.capacity place) session; name_is = named ∙ ap (name_at h.sessions place) session })
 
 pub still_for : (start name place : ℕ) (entry : Entry) (h k : PassView) → KeepsPass h k → IsLookedFor start name place entry h
     → IsLookedFor start name place entry k
 still_for start name place entry h k keeps is = record {
   seen = ap (λ known. slice_get known.seen place) keeps.known ∙ is.seen;
-  cell = is.cell ∙ (λ i. cell_of (sym keeps.capacity i) (sym keeps.sessions i) place entry.session);
+  cell = is.cell ∙ (λ i. cell_of (sym keeps.capacity i) place entry.session);
   name_is = is.name_is ∙ (λ i. name_at (sym keeps.sessions i) place entry.session);
 }
 
@@ -148,7 +148,7 @@ behind_link name link index words =
 pub watched_on : (start place : ℕ) (entry : Entry) (h k : PassView) → KeepsWatch h k → ReadsCell start place entry h → ReadsCell start place entry k
 watched_on start place entry h k keeps is = record {
   seen = ap (λ known. slice_get known.seen place) keeps.known ∙ is.seen;
-  cell = is.cell ∙ (λ i. cell_of (sym keeps.capacity i) (sym keeps.sessions i) place entry.session);
+  cell = is.cell ∙ (λ i. cell_of (sym keeps.capacity i) place entry.session);
   word = keeps.word ∙ is.word;
   name = keeps.name ∙ is.name ∙ (λ i. name_at (sym keeps.sessions i) place entry.session);
 }

@@ -29,7 +29,7 @@ own_name h = name_at h.sessions (length h.known.seen) h.known.number
 
 -- in the pass's own column
 abbrev pub own_cell : PassView → ℕ
-own_cell h = cell_of h.capacity h.sessions (length h.known.seen) h.known.number
+own_cell h = cell_of h.capacity (length h.known.seen) h.known.number
 
 -- the word of the newest entry's name, at which passes also look
 abbrev pub try_word : ℕ
@@ -67,10 +67,10 @@ pub record HasCells (sizes : Sizes) (words : List ℕ) (log : List Entry) : Type
   pub wide : length words ≡ word_count sizes.sessions (rows_of sizes.capacity)
   pub newest : slice_index words 0 ≡ newest_of sizes.sessions log
   pub cells : (place : ℕ) (entry : Entry) → slice_get log place ≡ Some entry
-      → slice_index words (cell_of sizes.capacity sizes.sessions place entry.session) ≡ name_at sizes.sessions place entry.session
-      → HasWordsAt words (cell_of sizes.capacity sizes.sessions place entry.session) (cell_words sizes.sessions log place entry)
+      → slice_index words (cell_of sizes.capacity place entry.session) ≡ name_at sizes.sessions place entry.session
+      → HasWordsAt words (cell_of sizes.capacity place entry.session) (cell_words sizes.sessions log place entry)
   pub fresh : (place : ℕ) (entry : Entry) → slice_get log place ≡ Some entry → length log < place + rows_of sizes.capacity
-      → slice_index words (cell_of sizes.capacity sizes.sessions place entry.session) ≡ name_at sizes.sessions place entry.session
+      → slice_index words (cell_of sizes.capacity place entry.session) ≡ name_at sizes.sessions place entry.session
 
 -- a pass's draft is what its own cell begins with, and the first word is the name
 pub record IsDraft (words : List ℕ) (h : PassView) : Type 0 where
@@ -82,7 +82,7 @@ pub record IsDraft (words : List ℕ) (h : PassView) : Type 0 where
 -- if the name that the pass found is of an entry that it has seen, and of that entry's cell, it isn't there any more
 abbrev pub IsBroken : List ℕ → PassView → Type 0
 IsBroken words h =
-    (place : ℕ) (entry : Entry) → slice_get h.known.seen place ≡ Some entry → watched_word h ≡ cell_of h.capacity h.sessions place entry.session
+    (place : ℕ) (entry : Entry) → slice_get h.known.seen place ≡ Some entry → watched_word h ≡ cell_of h.capacity place entry.session
     → watched_name h ≡ name_at h.sessions place entry.session → slice_index words (watched_word h) ≢ watched_name h
 
 -- `Without` a pass may have a draft; `Won` it reads a cell; `Fresh` it reads one that is another entry's now

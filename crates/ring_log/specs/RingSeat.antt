@@ -43,6 +43,6 @@ pub record KeepsPass (old new : PassView) : Type 0 where
 -- it found the entry's name in the cell that begins here
 pub record ReadsCell (start place : ℕ) (entry : Entry) (h : PassView) : Type 0 where
   pub seen : slice_get h.known.seen place ≡ Some entry
-  pub cell : start ≡ cell_of h.capacity h.sessions place entry.session
+  pub cell : start ≡ cell_of h.capacity place entry.session
   pub word : watched_word h ≡ start
   pub name : watched_name h ≡ name_at h.sessions place entry.session

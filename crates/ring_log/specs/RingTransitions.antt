@@ -87,10 +87,10 @@ Sees word old found new =
 abbrev pub Checks : ℕ → PassView → ℕ → PassView → Type 0
 Checks word old found new =
     (word ≢ 0) × (more : ℕ) × (new ≡ noted old word found more Won)
-    × ((place : ℕ) (entry : Entry) → slice_get old.known.seen place ≡ Some entry → word ≡ cell_of old.capacity old.sessions place entry.session
+    × ((place : ℕ) (entry : Entry) → slice_get old.known.seen place ≡ Some entry → word ≡ cell_of old.capacity place entry.session
     → found ≢ name_at old.sessions place entry.session
     → place + rows_of old.capacity ≤ length old.known.seen + more)
-    × ((place : ℕ) (entry : Entry) → slice_get old.known.seen place ≡ Some entry → word ≡ cell_of old.capacity old.sessions place entry.session
+    × ((place : ℕ) (entry : Entry) → slice_get old.known.seen place ≡ Some entry → word ≡ cell_of old.capacity place entry.session
     → found ≡ name_at old.sessions place entry.session
     → watched_word old ≡ word → watched_name old ≡ found → old.turn ≢ Fresh)
 
@@ -100,7 +100,7 @@ Reads word old found new =
     (word ≢ 0) × KeepsWatch old new
     × (new.turn ≡ Won
     → (place index : ℕ) (entry : Entry) → slice_get old.known.seen place ≡ Some entry
-    → watched_word old ≡ cell_of old.capacity old.sessions place entry.session → watched_name old ≡ name_at old.sessions place entry.session
+    → watched_word old ≡ cell_of old.capacity place entry.session → watched_name old ≡ name_at old.sessions place entry.session
     → word ≡ watched_word old + index → index < 23
     → IsEntry entry × (found ≡ slice_index (cell_words old.sessions old.known.seen place entry) index))
 

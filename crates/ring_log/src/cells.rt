@@ -11,39 +11,45 @@ ghost use Rattle.ring_log.specs.RingTransitions.{KeepsWatch, with_words};
 ghost use Rattle.ring_log.specs.RingSeat.{IsSeat, IsStart, KeepsPass, ReadsCell};
 
 use crate::RingLog;
+use crate::layout::words_filled;
 use atomic_table::Seat;
 use decision_log::SeatView;
-use xa_words::{Entry, WORDS, decode, encode, is_behind_text};
+use xa_words::{Entry, WORDS, decode, encode};
 
 impl RingLog {
-    /// Returns the entry's word at `index` in the cell that the pass reads. The words before it are known. A word
-    /// after the end of its text is 0, and isn't loaded: others' cells are far, and most texts are short.
-    fn read_word(
+    /// Loads the entry's words at `[from, end)` in the cell that the pass reads.
+    fn read_words(
         &self,
         seat: &mut Seat<Entry, SeatView>,
         start: usize,
-        index: usize,
-        words: &[u64; WORDS],
-    ) -> u64
+        from: usize,
+        end: usize,
+        words: &mut [u64; WORDS],
+    )
         requires seat { IsSeat self.now seat.old }
         requires start { IsStart self.now start }
-        requires index { index < 21 }
+        requires end { end ≤ 21 }
+        requires sized { length words.old ≡ 21 }
         ensures seat { IsSeat self.now seat.new }
+        ensures sized { length words.new ≡ 21 }
         ensures keeps { KeepsWatch (pass_view seat.old) (pass_view seat.new) }
+        ensures below { (index : ℕ) → index < from → slice_index words.new index ≡ slice_index words.old index }
+        ensures above { (index : ℕ) → end ≤ index → slice_index words.new index ≡ slice_index words.old index }
         ensures read { (place : ℕ) (entry : Entry)
             → ReadsCell start place entry (pass_view seat.old)
             → (pass_view seat.new).turn ≡ Won
-            → (0 < index → IsEntry entry)
-            → ((before : ℕ) → before < index → slice_index words.now before ≡ slice_index (words_of entry) before)
-            → IsEntry entry × (result ≡ slice_index (words_of entry) index) }
+            → (index : ℕ)
+            → from ≤ index
+            → index < end
+            → IsEntry entry × (slice_index words.new index ≡ slice_index (words_of entry) index) }
     {
-        if is_behind_text(words, index) {
-            return 0;
+        for index in from..end {
+            words[index] = self.load_word(seat, start, 2 + index);
         }
-        self.load_word(seat, start, 2 + index)
     }
 
-    /// Returns the entry's words in the cell that the pass reads.
+    /// Returns the entry's words in the cell that the pass reads. A word after the end of its text is 0, and isn't
+    /// loaded: most texts are short, and a pass reads each entry of all others.
     fn read_cell(&self, seat: &mut Seat<Entry, SeatView>, start: usize) -> [u64; WORDS]
         requires seat { IsSeat self.now seat.old }
         requires start { IsStart self.now start }
@@ -55,9 +61,12 @@ impl RingLog {
             → IsEntry entry × (result ≡ words_of entry) }
     {
         let mut words = [0; WORDS];
-        for index in 0..WORDS {
-            words[index] = self.read_word(seat, start, index, &words);
-        }
+        self.read_words(seat, start, 0, 5, &mut words);
+        // The lengths of both texts are among the first words.
+        let first = 5 + words_filled(words[2]);
+        self.read_words(seat, start, 5, first, &mut words);
+        let second = 13 + words_filled(words[3]);
+        self.read_words(seat, start, 13, second, &mut words);
         words
     }
 
@@ -73,7 +82,7 @@ impl RingLog {
         requires start { IsStart self.now start }
         requires seen { place < length (pass_view seat.old).known.seen }
         requires cell { start
-            ≡ cell_of (pass_view seat.old).capacity (pass_view seat.old).sessions place (session_at (pass_view seat.old).known.seen place) }
+            ≡ cell_of (pass_view seat.old).capacity place (session_at (pass_view seat.old).known.seen place) }
         requires name { name ≡ name_at (pass_view seat.old).sessions place (session_at (pass_view seat.old).known.seen place) }
         ensures seat { IsSeat self.now seat.new }
         ensures keeps { KeepsPass (pass_view seat.old) (pass_view seat.new) }
@@ -104,7 +113,7 @@ impl RingLog {
         requires start { IsStart self.now start }
         requires seen { place < length (pass_view seat.old).known.seen }
         requires cell { start
-            ≡ cell_of (pass_view seat.old).capacity (pass_view seat.old).sessions place (session_at (pass_view seat.old).known.seen place) }
+            ≡ cell_of (pass_view seat.old).capacity place (session_at (pass_view seat.old).known.seen place) }
         requires name { name ≡ name_at (pass_view seat.old).sessions place (session_at (pass_view seat.old).known.seen place) }
         ensures seat { IsSeat self.now seat.new }
         ensures keeps { KeepsPass (pass_view seat.old) (pass_view seat.new) }

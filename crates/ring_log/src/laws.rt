@@ -28,7 +28,7 @@ pub fn words_spell_the_last_entries()
     ensures { (sizes : Sizes) (words : List ℕ) (views : List SeatView) (rule : RingRule sizes words views) (place : ℕ) (entry : Entry)
         → slice_get rule.log place ≡ Some entry
         → length rule.log < place + rows_of sizes.capacity
-        → HasWordsAt words (cell_of sizes.capacity sizes.sessions place entry.session) (cell_words sizes.sessions rule.log place entry) }
+        → HasWordsAt words (cell_of sizes.capacity place entry.session) (cell_words sizes.sessions rule.log place entry) }
 {}
 
 /// States that two histories of the same words have the same length and the same last entries, one fewer than there

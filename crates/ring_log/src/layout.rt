@@ -1,5 +1,5 @@
 //! Where the words of a ring lie.
-ghost use Rattle.std.specs.Prelude.{◌≡◌, ◌<◌, ◌≤◌, ◌+◌, ◌%◌, ℕ, List, length};
+ghost use Rattle.std.specs.Prelude.{◌≡◌, ◌<◌, ◌≤◌, ◌+◌, ◌-◌, ◌*◌, ◌%◌, ℕ, List, length};
 ghost use Rattle.xa_words.specs.Entry.{Entry};
 ghost use Rattle.decision_log.specs.Known.{AllOf};
 ghost use Rattle.chain_log.specs.Cells.{name_at, newest_of};
@@ -52,16 +52,27 @@ pub(crate) fn name_column(columns: u64, name: u64) -> u8
 }
 
 /// The first word of the cell of a place and a session.
-pub(crate) fn cell_start(columns: u64, rows: u64, place: u64, session: u64) -> usize
-    requires columns { columns ≤ 20 }
+pub(crate) fn cell_start(rows: u64, place: u64, session: u64) -> usize
     requires some { 0 < rows }
     requires rows { rows ≤ 65536 }
     requires first { 1 ≤ session }
-    requires last { session ≤ columns }
-    ensures { result ≡ cell_at (name_at columns (place % rows) session) }
+    requires last { session ≤ 20 }
+    ensures { result ≡ cell_at (name_at rows (session - 1) (place % rows + 1)) }
 {
-    let cell = (place % rows) as usize * columns as usize + session as usize;
+    // The cells of a column lie side by side, so that a session's next cell is in the caches already, or on its way.
+    let cell = (session - 1) as usize * rows as usize + (place % rows) as usize + 1;
     1 + (cell - 1) * CELL
+}
+
+/// How many of its eight words a text of so many bytes fills, in `[0, 8]`. The others are 0.
+pub(crate) fn words_filled(size: u64) -> usize
+    ensures most { result ≤ 8 }
+    ensures behind { (word : ℕ) → result ≤ word → word < 8 → size ≤ 8 * word }
+{
+    if size > 56 {
+        return 8;
+    }
+    (size as usize + 7) / 8
 }
 
 /// How many entries a history has if its newest entry has this name: one more than its place.

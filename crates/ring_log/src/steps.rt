@@ -44,9 +44,9 @@ impl RingLog {
         requires first { 1 ≤ session }
         requires last { session ≤ self.now.columns }
         ensures start { IsStart self.now result }
-        ensures value { result ≡ cell_of self.now.capacity self.now.columns place session }
+        ensures value { result ≡ cell_of self.now.capacity place session }
     {
-        cell_start(self.columns, self.rows, place, session)
+        cell_start(self.rows, place, session)
     }
 
     /// Loads the newest entry's name: the pass has then seen the whole history.

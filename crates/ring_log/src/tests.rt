@@ -4,7 +4,7 @@ ghost use Rattle.std.specs.Prelude.{◌≡◌, IfSome};
 ghost use Rattle.ring_log.specs.RingPass.{identity_of, log_of, known_of};
 ghost use Rattle.ring_log.specs.RingSpare.{spare_log_of};
 
-use crate::layout::{cell_start, count_from, count_words, entry_name};
+use crate::layout::{cell_start, count_from, count_words, entry_name, words_filled};
 use crate::{RingFault, RingLog, RingPass, RingSpare, laws};
 use decision_log::AddFault;
 use std::thread;
@@ -19,7 +19,7 @@ const TRIES: u64 = 100_000_000;
 const EACH: u64 = 100;
 
 #[test]
-fn cells_lie_row_by_row_in_turn(rt: HostRuntime) {
+fn cells_of_a_session_lie_side_by_side_in_turn(rt: HostRuntime) {
     laws::words_spell_the_last_entries();
     laws::one_history_of_its_words();
     laws::one_history_of_its_newest_name();
@@ -31,9 +31,15 @@ fn cells_lie_row_by_row_in_turn(rt: HostRuntime) {
     laws::won_exchange_adds_its_entry();
     assert_eq!(rt; count_words(2, 4), 185);
     assert_eq!(rt; entry_name(2, 6, 1), 13);
-    assert_eq!(rt; cell_start(2, 4, 2, 1), 93);
-    assert_eq!(rt; cell_start(2, 4, 6, 1), 93);
-    assert_eq!(rt; cell_start(2, 4, 7, 2) + 23, 185);
+    assert_eq!(rt; cell_start(4, 2, 1), 47);
+    assert_eq!(rt; cell_start(4, 6, 1), 47);
+    assert_eq!(rt; cell_start(4, 3, 1) + 23, cell_start(4, 0, 2));
+    assert_eq!(rt; cell_start(4, 7, 2) + 23, 185);
+    assert_eq!(rt; words_filled(0), 0);
+    assert_eq!(rt; words_filled(8), 1);
+    assert_eq!(rt; words_filled(9), 2);
+    assert_eq!(rt; words_filled(57), 8);
+    assert_eq!(rt; words_filled(64), 8);
 }
 
 #[test]
