@@ -1,5 +1,5 @@
 -- What calls come to after steps that append nothing.
-use Rattle.std.proofs.Common.{refl, sym, subst, ◌∙◌, Ok, Err, ℕ, arith}
+use Rattle.std.proofs.Common.{◌≡◌, [], ◌∷◌, ◌++◌, length, take, refl, ap, sym, subst, ◌∙◌, ⊎_elim, inl, inr, Ok, Err, ℕ, arith}
 use Rattle.std.specs.Prelude.{Result}
 use Rattle.xa_xid.specs.declared.statement.Statement.{Statement}
 use Rattle.decision_log.specs.declared.known.Known.{Known}
@@ -10,10 +10,14 @@ use Rattle.ring_log.specs.declared.ring.RingLog.{RingLog}
 use Rattle.ring_log.specs.declared.pass.RingPass.{RingPass}
 use Rattle.ring_log.specs.RingPass.{known_of}
 use Rattle.xa_server.specs.State.{no_state}
-use Rattle.xa_session.specs.Answer.{IsUnanswered}
+use Rattle.xa_server.specs.Step.{enters, may_take_memory}
+use Rattle.xa_session.specs.Answer.{entry_of, AnswersAt, IsAnswered, IsUnanswered, IsKept}
+use Rattle.xa_session.specs.Replay.{state_at}
+use Rattle.xa_session.specs.declared.replica.Replica.{Replica as KeptReplica}
 use Rattle.xa_session.specs.declared.answer.Answer.{Answer}
 use Rattle.xa_session.proofs.Answering.{then_answered, unanswered_through}
-use Rattle.xa_endless.specs.Answers.{Finds, HasFailed, TriesOnce}
+use Rattle.xa_endless.specs.Answers.{HasAnswered, Finds, HasFailed, TriesOnce}
+use Rattle.xa_endless.specs.Replicas.{kept_of}
 use Rattle.xa_endless.specs.Seen.{HasOnlySeen}
 use Rattle.xa_endless.specs.declared.fault.EndlessFault.{EndlessFault}
 use Rattle.xa_endless.specs.declared.fault.EndlessFault.TheVariants.{Overtaken, NoMemory, Behind}
@@ -78,14 +82,17 @@ finds_after log statement (Ok answer) replica old mid new seen found = record {
 finds_after log statement (Err (Overtaken front)) replica old mid new seen found = record {
   fails = overtaken_after front (known_of old) (known_of mid) (known_of new) seen found.fails;
   cause = found.cause;
+  leaves = (omega (arith, length_begins (known_of old).seen (known_of mid).seen seen.seen, found.leaves.0), found.leaves.1);
 }
 finds_after log statement (Err NoMemory) replica old mid new seen found = record {
   fails = unanswered_through (known_of old) (known_of mid) (known_of new) (unanswered_seen (known_of old) (known_of mid) seen) found.fails;
   cause = found.cause;
+  leaves = tt;
 }
 finds_after log statement (Err Behind) replica old mid new seen found = record {
   fails = unanswered_through (known_of old) (known_of mid) (known_of new) (unanswered_seen (known_of old) (known_of mid) seen) found.fails;
   cause = found.cause;
+  leaves = tt;
 }
 
 -- how often it tried
@@ -120,4 +127,66 @@ seen_behind log statement replica old new failed once = record {
   mine = failed.fails.mine;
   looks = failed.fails.advances.looks;
   tries = once.tried;
+}
+
+-- a session that looks after a checkpoint after an answer
+pub met_itself : (known : Known) → MeetsFirst known known
+met_itself known = record { number = refl; seen = refl; mine = refl; looks = omega arith; tries = refl }
+
+pub met_through : (old mid new : Known) → MeetsFirst old mid → MeetsFirst mid new → MeetsFirst old new
+met_through old mid new first second = record {
+  number = second.number ∙ first.number;
+  seen = second.seen ∙ first.seen;
+  mine = second.mine ∙ first.mine;
+  looks = omega (arith, first.looks, second.looks);
+  tries = second.tries ∙ first.tries;
+}
+
+answered_met : (statement : Statement) (answer : Answer) (old mid new : Known) → IsAnswered no_state statement answer old mid → MeetsFirst mid new
+    → IsAnswered no_state statement answer old new
+answered_met statement answer old mid new is met =
+    let entering : enters (state_at no_state new.seen answer.place) old.number statement ≡ enters (state_at no_state mid.seen answer.place) old.number statement =
+    ap (λ list. enters (state_at no_state list answer.place) old.number statement) met.seen in
+    record {
+      advances = record {
+        number = met.number ∙ is.advances.number;
+        seen = subst (λ list. Begins old.seen list) (sym met.seen) is.advances.seen;
+        looks = omega (arith, is.advances.looks, met.looks);
+        tries = omega (arith, is.advances.tries, met.tries);
+      };
+      looked = omega (arith, is.looked, met.looks);
+      not_before = is.not_before;
+      at = subst (λ list. AnswersAt no_state list old.number statement answer.place answer.reply) (sym met.seen) is.at;
+      entered = λ enters_there.
+          let entered = is.entered (sym entering ∙ enters_there) in record {
+            seen = subst (λ list. list ≡ take answer.place list ++ entry_of old.number statement ∷ []) (sym met.seen) entered.seen;
+            mine = met.mine ∙ entered.mine;
+          };
+      outside = λ outside_there.
+          let outside = is.outside (sym entering ∙ outside_there) in record {
+            whole = ap length met.seen ∙ outside.whole;
+            mine = met.mine ∙ outside.mine;
+          };
+    }
+
+kept_met : (statement : Statement) (answer : Answer) (replica : KeptReplica) (mid new : Known) → IsKept no_state statement answer replica mid → MeetsFirst mid new
+    → IsKept no_state statement answer replica new
+kept_met statement answer replica mid new kept met =
+    ⊎_elim (λ whole. inl (whole ∙ ap length (sym met.seen))) (λ memory. inr
+    (ap (λ list. may_take_memory (state_at no_state list answer.place) new.number statement) met.seen
+    ∙ ap (λ n. may_take_memory (state_at no_state mid.seen answer.place) n statement) met.number ∙ memory)) kept
+
+pub has_answered_met : (statement : Statement) (answer : Answer) (replica : Replica) (old mid new : Known) → HasAnswered statement answer replica old mid
+    → MeetsFirst mid new → HasAnswered statement answer replica old new
+has_answered_met statement answer replica old mid new has met = record {
+  answered = answered_met statement answer old mid new has.answered met;
+  replayed = has.replayed;
+  kept = kept_met statement answer (kept_of replica) mid new has.kept met;
+}
+
+pub tries_met : (answer : Answer) (old mid new : Known) → TriesOnce (Ok answer) old mid → MeetsFirst mid new → TriesOnce (Ok answer) old new
+tries_met answer old mid new once met = record {
+  looked = omega (arith, once.looked, met.looks);
+  tries = omega (arith, once.tries, met.tries);
+  tried = tt;
 }

@@ -2,6 +2,7 @@
 --     HasAnswered      the statement was answered
 --     Fails            nothing of it was appended
 --     IsCaused         the cause of a fault
+--     Leaves           what a lost try has seen
 --     IsLost           entries that the replica hasn't replayed may be overwritten
 --     HasFailed        it wasn't answered, for a cause of this fault
 --     Finds            HasAnswered after Ok, HasFailed after Err
@@ -46,10 +47,17 @@ IsCaused log statement NoMemory replica pass =
     (is_recover statement ≡ true) ⊎ ((replica.replayed < length (known_of pass).seen) ⊎ (length (known_of pass).seen ≡ log.capacity))
 IsCaused log statement Behind replica pass = IsLost log.rows replica pass
 
+-- a try is lost after the replica has replayed all that was seen before, and to entries that it hasn't replayed
+abbrev pub Leaves : EndlessFault → Replica → Known → Known → Type 0
+Leaves (Overtaken front) replica old new = (length old.seen ≤ replica.replayed) × (replica.replayed < length new.seen)
+Leaves NoMemory replica old new = Unit {0}
+Leaves Behind replica old new = Unit {0}
+
 -- nothing of the statement was appended, for a cause of this fault
 pub record HasFailed (log : RingLog) (statement : Statement) (fault : EndlessFault) (replica : Replica) (old new : RingPass) : Type 0 where
   pub fails : Fails fault (known_of old) (known_of new)
   pub cause : IsCaused log statement fault replica new
+  pub leaves : Leaves fault replica (known_of old) (known_of new)
 
 -- the statement was answered, or it has a fault with its cause
 abbrev pub Finds : RingLog → Statement → Result Answer EndlessFault → Replica → RingPass → RingPass → Type 0

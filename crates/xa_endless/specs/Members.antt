@@ -1,12 +1,35 @@
 -- What a session keeps between its calls, before and after steps that append nothing.
 --     Keeps            more may be seen and replayed, and as much of the history is handed out
-use Rattle.std.specs.Prelude.{◌≡◌, ◌≤◌}
+--     Hears            more may be seen
+--     Tends            no more is seen
+--     Serves           a replica that the session can go on from
+use Rattle.std.specs.Prelude.{◌≡◌, ◌<◌, ◌≤◌}
+use Rattle.decision_log.specs.Calls.{MeetsFirst}
 use Rattle.ring_log.specs.RingPass.{known_of}
+use Rattle.xa_endless.specs.Replicas.{Stands}
 use Rattle.xa_endless.specs.Seen.{HasOnlySeen}
 use Rattle.xa_endless.specs.declared.member.Member.{Member}
+use Rattle.xa_endless.specs.declared.replica.Replica.{Replica}
 
 -- nothing was tried, the replica has replayed no less, and as much of the history is handed out
 pub record Keeps (old new : Member) : Type 0 where
   pub seen : HasOnlySeen (known_of old.pass) (known_of new.pass)
   pub folds : old.replica.replayed ≤ new.replica.replayed
   pub told : new.told ≡ old.told
+
+-- nothing was tried, and the replica is the same
+pub record Hears (old new : Member) : Type 0 where
+  pub seen : HasOnlySeen (known_of old.pass) (known_of new.pass)
+  pub replica : new.replica ≡ old.replica
+  pub told : new.told ≡ old.told
+
+-- the pass has met others, and has heard nothing from them
+pub record Tends (old new : Member) : Type 0 where
+  pub met : MeetsFirst (known_of old.pass) (known_of new.pass)
+  pub replica : new.replica ≡ old.replica
+  pub told : new.told ≡ old.told
+
+-- it has replayed more than the session's own replica, and is the state after a prefix of what the session has seen
+pub record Serves (member : Member) (replica : Replica) : Type 0 where
+  pub further : member.replica.replayed < replica.replayed
+  pub stands : Stands (known_of member.pass).seen replica

@@ -1,74 +1,111 @@
 //! A replica that no session owns.
-ghost use Rattle.std.specs.Prelude.{◌≡◌, ◌<◌, ◌≤◌, false, length, IfOk, OnErr};
-ghost use Rattle.xa_endless.specs.Members.{Keeps};
+ghost use Rattle.std.specs.Prelude.{◌≡◌, ◌<◌, ◌≤◌, length, IfSome, IfNone};
 ghost use Rattle.std.specs.Coded.{Coded-set};
 ghost use Rattle.ring_log.specs.RingPass.{identity_of, log_of, known_of};
 ghost use Rattle.ring_log.specs.RingSpare.{spare_log_of, spare_known_of};
+ghost use Rattle.xa_endless.specs.Members.{Hears, Tends};
+ghost use Rattle.xa_endless.specs.Replicas.{Stands};
 ghost use Rattle.xa_server.specs.Coding.{coded_state};
 ghost use Rattle.xa_server.specs.State.{no_state};
 ghost use Rattle.xa_session.specs.Replay.{state_at};
 
+use crate::upkeep::Upkeep;
 use crate::{EndlessFault, Member, Replica};
 use ring_log::{RingLog, RingSpare};
-use xa_xid::NoMemory;
+use std::mem;
+use std::sync::Arc;
 
 /// A replica that no session owns, and a spare, which remembers the history that the replica stands for.
 ///
-/// The sessions keep it near the end of the history, so that a session that is behind can go on from there.
+/// The sessions keep it near the end of the history, so that a session that is behind can go on from there. Such a
+/// session shares the replica while it copies it. A replica that is shared can't change.
 #[derive(Drop)]
 pub(crate) struct Checkpoint {
     pub(crate) spare: RingSpare,
-    pub(crate) replica: Replica,
-    ghost within: { replica.replayed ≤ length (spare_known_of spare).seen },
-    ghost state: { replica.server ≡ state_at no_state (spare_known_of spare).seen replica.replayed } by { Coded-set coded_state _ _ },
+    pub(crate) replica: Arc<Replica>,
+    ghost within: { replica.value.replayed ≤ length (spare_known_of spare).seen },
+    ghost state: { replica.value.server ≡ state_at no_state (spare_known_of spare).seen replica.value.replayed } by { Coded-set coded_state _ _ },
 }
 
 impl Checkpoint {
-    /// Has a session go on from this replica, if the replica has replayed more than the session's own. Returns whether
-    /// it does.
+    /// Shares the replica with a session, if it has replayed more than `least` entries, and can replay the next one.
     ///
-    /// May return `NoMemory`; the session's replica is then as it was.
-    pub(crate) fn help(&mut self, log: &RingLog, member: &mut Member) -> Result<bool, NoMemory>
+    /// The session has then seen all that the replica stands for.
+    pub(crate) fn share(
+        &mut self,
+        log: &RingLog,
+        member: &mut Member,
+        least: u64,
+    ) -> Option<Arc<Replica>>
         requires mine { spare_log_of self.old.spare ≡ identity_of log.now }
         requires belongs { log_of member.old.pass ≡ identity_of log.now }
         ensures mine { spare_log_of self.new.spare ≡ identity_of log.now }
         ensures belongs { log_of member.new.pass ≡ log_of member.old.pass }
-        ensures keeps { Keeps member.old member.new }
-        ensures no { IfOk result (λ helped. helped ≡ false → member.new ≡ member.old) }
-        ensures err { OnErr result (member.new.replica.replayed < length (known_of member.new.pass).seen) }
+        ensures hears { Hears member.old member.new }
+        ensures further { IfSome result (λ shared. least < shared.value.replayed) }
+        ensures stands { IfSome result (λ shared. Stands (known_of member.new.pass).seen shared.value) }
+        ensures none { IfNone result (member.new ≡ member.old) }
     {
         let replayed = self.replica.replayed;
         // A replica of which entries are lost, too, is of no use, and a copy of it would take time.
-        let is_old = replayed.saturating_add(log.rows()) <= log.length(&member.pass);
-        if replayed <= member.replica.replayed || is_old {
-            return Ok(false);
+        let is_lost = replayed.saturating_add(log.rows()) <= log.length(&member.pass);
+        if replayed <= least || is_lost {
+            return None;
         }
-        log.hear(&mut self.spare, &mut member.pass);
+        let shared = Arc::try_clone(&self.replica).ok()?;
         // Both have seen first parts of one history, so what the replica has replayed begins what the session has seen.
-        member.replica = self.replica.copy()?;
-        Ok(true)
+        log.hear(&mut self.spare, &mut member.pass);
+        Some(shared)
     }
 
-    /// Replays here what a session has seen. If entries of that are lost, the replica becomes a copy of the session's.
+    /// Replays here what a session has seen, unless the replica is shared.
     ///
     /// If memory runs out, less is replayed.
-    pub(crate) fn follow(&mut self, log: &RingLog, member: &mut Member)
+    pub(crate) fn follow(&mut self, log: &RingLog, member: &mut Member) -> Upkeep
         requires mine { spare_log_of self.old.spare ≡ identity_of log.now }
         requires belongs { log_of member.old.pass ≡ identity_of log.now }
         ensures mine { spare_log_of self.new.spare ≡ identity_of log.now }
         ensures belongs { log_of member.new.pass ≡ log_of member.old.pass }
-        ensures keeps { Keeps member.old member.new }
+        ensures tends { Tends member.old member.new }
     {
         log.tell(&mut member.pass, &mut self.spare);
         let count = log.length(&member.pass);
+        // It may be lost before those who copy it are done.
+        let is_old = self.replica.replayed.saturating_add(log.rows() / 2) <= count;
+        let Some(replica) = Arc::get_mut(&mut self.replica) else {
+            return if is_old { Upkeep::Old } else { Upkeep::NotNow };
+        };
         // Another session has come further, and was here before.
-        if self.replica.replayed > count {
-            return;
+        if replica.replayed > count {
+            return Upkeep::Done;
         }
-        if let Err(EndlessFault::Behind) = self.replica.catch_up(log, &mut member.pass, count) {
-            if let Ok(copy) = member.replica.copy() {
-                self.replica = copy;
-            }
+        match replica.catch_up(log, &mut member.pass, count) {
+            Ok(()) => Upkeep::Done,
+            Err(EndlessFault::Behind) => Upkeep::Old,
+            Err(_) => Upkeep::NotNow,
         }
+    }
+
+    /// Takes a copy of a session's replica for its own, if that has replayed more. Returns the one that isn't needed.
+    pub(crate) fn renew(
+        &mut self,
+        log: &RingLog,
+        member: &mut Member,
+        copy: Arc<Replica>,
+    ) -> Arc<Replica>
+        requires mine { spare_log_of self.old.spare ≡ identity_of log.now }
+        requires belongs { log_of member.old.pass ≡ identity_of log.now }
+        requires copy { copy.value ≡ member.old.replica }
+        ensures mine { spare_log_of self.new.spare ≡ identity_of log.now }
+        ensures belongs { log_of member.new.pass ≡ log_of member.old.pass }
+        ensures tends { Tends member.old member.new }
+    {
+        // Another session has come further, and was here before.
+        if copy.replayed <= self.replica.replayed {
+            return copy;
+        }
+        let pass = &mut member.pass;
+        log.tell(pass, &mut self.spare);
+        mem::replace(&mut self.replica, copy)
     }
 }

@@ -19,7 +19,8 @@ pub enum EndlessFault {
     /// No memory is left. The session may have seen and replayed more.
     #[error("out of memory")]
     NoMemory,
-    /// The ring has gone round since the session replayed last, and no other session has left a replica: try again.
+    /// Entries that the session hasn't replayed were overwritten. It found no checkpoint to go on from, or others were
+    /// faster than its copy: try again.
     #[error("behind: entries that this session hasn't replayed were overwritten; try again")]
     Behind,
 }

@@ -2,14 +2,17 @@
 //! again, so no session ever changes its log.
 //!
 //! Read docs/RATTLE.md#a-store-without-an-end first, then `specs/Answers.antt`, `src/trying.rt`, `src/session.rt`,
-//! `src/store.rt` and `src/checkpoint.rt`. `src/speaking.rt` lets a coordinator use a session.
+//! `src/store.rt`, `src/checkpoint.rt`, `src/helping.rt` and `src/tending.rt`. `src/speaking.rt` lets a coordinator use a
+//! session.
 #![tactic(auto)]
 
 mod answering;
 mod checkpoint;
 mod fault;
 mod following;
+mod helping;
 pub mod laws;
+mod leaving;
 mod member;
 mod opening;
 mod replica;
@@ -20,11 +23,13 @@ mod slot;
 mod speaking;
 mod store;
 mod taking;
+mod tending;
 #[cfg(test)]
 mod tests;
 #[cfg(test)]
 mod transacting;
 mod trying;
+mod upkeep;
 
 pub use fault::EndlessFault;
 pub use following::Next;

@@ -55,11 +55,12 @@ fn place_checkpoints(
 {
     let mut places = Vec::new(alloc);
     for spare in spares {
-        let checkpoint = Checkpoint {
-            spare,
-            replica: Replica::new(alloc),
+        let Ok(replica) = Arc::new(alloc, Replica::new(alloc)) else {
+            return Err(AllocError);
         };
-        places.push(Slot::new(checkpoint.rest(), log))?;
+        let checkpoint = Checkpoint { spare, replica };
+        let slot = Slot::new(checkpoint.rest(), log);
+        places.push(slot)?;
     }
     Ok(places)
 }
@@ -88,6 +89,7 @@ impl EndlessStore {
         let places = place_all(alloc, &log, passes)?;
         let checkpoints = place_checkpoints(alloc, &log, spares)?;
         let store = EndlessStore {
+            alloc,
             log,
             checkpoints,
             places,

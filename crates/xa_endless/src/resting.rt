@@ -10,6 +10,7 @@ ghost use Rattle.xa_session.specs.Replay.{state_at};
 use crate::Replica;
 use counted_slot::Fits;
 use ring_log::{RestingPass, RestingSpare, RingLog};
+use std::sync::Arc;
 
 /// A session that nobody has.
 #[derive(Drop)]
@@ -33,9 +34,9 @@ impl Fits for RestingMember {
 #[derive(Drop)]
 pub(crate) struct RestingCheckpoint {
     pub(crate) spare: RestingSpare,
-    pub(crate) replica: Replica,
-    ghost within: { replica.replayed ≤ length (resting_spare_known_of spare).seen },
-    ghost state: { replica.server ≡ state_at no_state (resting_spare_known_of spare).seen replica.replayed } by { Coded-set coded_state _ _ },
+    pub(crate) replica: Arc<Replica>,
+    ghost within: { replica.value.replayed ≤ length (resting_spare_known_of spare).seen },
+    ghost state: { replica.value.server ≡ state_at no_state (resting_spare_known_of spare).seen replica.value.replayed } by { Coded-set coded_state _ _ },
 }
 
 impl Fits for RestingCheckpoint {

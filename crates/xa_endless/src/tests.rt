@@ -5,7 +5,7 @@
 ghost use Rattle.std.specs.Prelude.{◌≡◌, ◌∷◌, [], IfSome};
 ghost use Rattle.xa_coordinator.specs.Work.{IsRow};
 
-use crate::{EndlessFault, EndlessSession, EndlessStore, Next, TakeFault, laws};
+use crate::{EndlessFault, EndlessSession, EndlessStore, Next, Replica, TakeFault, laws};
 use ring_log::RingFault;
 use std::alloc::Global;
 use std::sync::Arc;
@@ -366,6 +366,71 @@ fn a_session_without_a_checkpoint_is_behind(rt: HostRuntime) {
     assert!(rt; misses(&mut first, b'x', 100));
     assert!(rt; puts(&mut second, b'x', 1));
     assert!(rt; finds(&mut first, b'x', 101));
+}
+
+/// A store of eight rows, two sessions and two checkpoints, and both sessions.
+fn small(alloc: Global) -> Option<(Arc<EndlessStore>, EndlessSession, EndlessSession)> {
+    let store = opened(alloc, 8, 2)?;
+    let first = taken(&store, 1)?;
+    let second = taken(&store, 2)?;
+    Some((store, first, second))
+}
+
+/// Whether a session adds 100 entries while nobody can reach the checkpoints, so that both are lost.
+fn loses_checkpoints(store: &EndlessStore, session: &mut EndlessSession) -> bool {
+    let (Some(first), Some(second)) = (store.checkpoints.get(0), store.checkpoints.get(1)) else {
+        return false;
+    };
+    let (Some(one), Some(two)) = (first.take(), second.take()) else {
+        return false;
+    };
+    let added = puts(session, b'r', 100);
+    first.put(one).is_ok() && second.put(two).is_ok() && added
+}
+
+/// Neither checkpoint can replay what was added meanwhile. So each becomes a copy of the replica of a session that looks
+/// after it.
+#[test]
+fn a_lost_checkpoint_becomes_a_copy_survives(rt: HostRuntime) {
+    let Some((store, mut first, mut second)) = small(rt.alloc()) else {
+        panic!(rt; "two sessions")
+    };
+    assert!(rt; loses_checkpoints(&store, &mut first));
+    let lost = get(b'r').map(|get| second.attempt(&get));
+    assert!(rt; matches!(lost, Some(Err(EndlessFault::Behind))));
+    // Enough for a second copy if one is refused.
+    assert!(rt; puts(&mut first, b's', 8));
+    assert!(rt; finds(&mut second, b's', 108));
+    assert_eq!(rt; second.folded(), 108);
+    assert!(rt; held(&store, 0).is_some_and(|replica| replica.replayed > 100));
+    assert!(rt; held(&store, 1).is_some_and(|replica| replica.replayed > 100));
+}
+
+/// The replica of a checkpoint, as a session holds it that copies it.
+fn held(store: &EndlessStore, index: usize) -> Option<Arc<Replica>> {
+    let slot = store.checkpoints.get(index)?;
+    let checkpoint = slot.take()?;
+    let held = Arc::try_clone(&checkpoint.replica).ok();
+    slot.put(checkpoint).ok()?;
+    held
+}
+
+/// Both checkpoints are shared with somebody who stopped while copying them. They can't change, and others take their
+/// places.
+#[test]
+fn others_get_a_checkpoint_while_some_are_copied_survives(rt: HostRuntime) {
+    let Some((store, mut first, mut second)) = small(rt.alloc()) else {
+        panic!(rt; "two sessions")
+    };
+    assert!(rt; puts(&mut first, b'q', 4));
+    let (Some(one), Some(two)) = (held(&store, 0), held(&store, 1)) else {
+        panic!(rt; "two checkpoints")
+    };
+    let (before, after) = (one.replayed, two.replayed);
+    assert!(rt; puts(&mut first, b'r', 100));
+    assert!(rt; finds(&mut second, b'r', 104));
+    assert!(rt; one.replayed == before && two.replayed == after);
+    assert!(rt; before <= 4 && after <= 4);
 }
 
 #[test]

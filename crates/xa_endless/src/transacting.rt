@@ -13,7 +13,7 @@ use std::thread::Threads;
 use xa_coordinator::{Coordinator, Decisions, Ending, Prepared, Report, Transaction, Vote};
 use xa_server::Reply;
 use xa_session::Answer;
-use xa_xid::Statement;
+use xa_xid::{Key, Statement};
 
 /// A coordinator over session 1 of each of two stores, and its decisions.
 #[derive(Drop)]
@@ -332,4 +332,100 @@ fn other_clients_write_beside_a_coordinator(rt: HostRuntime) {
     assert!(rt; finds(&mut first, b'k', 9_000) && finds(&mut first, b'a', 9_000));
     assert!(rt; finds(&mut second, b'k', 9_000) && finds(&mut second, b'b', 9_000));
     assert!(rt; lists(&mut first, 0) && lists(&mut second, 0));
+}
+
+/// Writes the rows of so many keys of two letters each.
+fn fills<R: Wait>(rt: &R, session: &mut EndlessSession, count: u16) -> bool {
+    for number in 0..count {
+        let [first, second] = number.to_be_bytes();
+        let mut text = text_of(first);
+        text.push(second);
+        let Some(key) = Key::of(text) else {
+            return false;
+        };
+        if !does(rt, session, &Statement::Put(key, text_of(b'v'))) {
+            return false;
+        }
+    }
+    true
+}
+
+/// Whether so many branches of each of two clients commit, each client on a thread of its own.
+fn two_write<R: Threads + Wait + Sync>(
+    rt: &R,
+    first: (EndlessSession, u8),
+    second: (EndlessSession, u8),
+    count: u64,
+) -> bool {
+    let (left, right) = thread::join(
+        rt,
+        move || writes_each(rt, first.0, first.1, count),
+        move || writes_each(rt, second.0, second.1, count),
+    );
+    left && right
+}
+
+/// The session of a number, and the letter of its client: `b` for the first.
+fn lettered(store: &Arc<EndlessStore>, number: u64) -> Option<(EndlessSession, u8)> {
+    let session = taken(store, number)?;
+    let after = u8::try_from(number).unwrap_or(0);
+    Some((session, b'a'.wrapping_add(after)))
+}
+
+/// Whether so many branches of sessions `from` to `from + 3` commit, each on a thread of its own.
+fn four_write<R: Threads + Wait + Sync>(
+    rt: &R,
+    store: &Arc<EndlessStore>,
+    from: u64,
+    count: u64,
+) -> bool
+    requires { from < 16 }
+{
+    let (Some(one), Some(two)) = (lettered(store, from), lettered(store, from + 1)) else {
+        return false;
+    };
+    let (Some(three), Some(four)) = (lettered(store, from + 2), lettered(store, from + 3)) else {
+        return false;
+    };
+    let (left, right) = thread::join(
+        rt,
+        move || two_write(rt, one, two, count),
+        move || two_write(rt, three, four, count),
+    );
+    left && right
+}
+
+/// Whether so many branches of sessions 1 to 8 commit, each on a thread of its own.
+fn eight_write<R: Threads + Wait + Sync>(rt: &R, store: &Arc<EndlessStore>, count: u64) -> bool {
+    let (left, right) = thread::join(
+        rt,
+        move || four_write(rt, store, 1, count),
+        move || four_write(rt, store, 5, count),
+    );
+    left && right
+}
+
+/// Whether each of the eight clients' rows is there, at this place.
+fn each_is_found(session: &mut EndlessSession, place: u64) -> bool {
+    for letter in b'b'..b'j' {
+        if !finds(session, letter, place) {
+            return false;
+        }
+    }
+    true
+}
+
+/// A copy of the rows takes longer than 64 entries of eight threads, so most sessions are behind most of the time. Each
+/// statement is answered all the same: 3,000 rows and 3,200 entries, or 96 laps.
+#[test]
+fn eight_threads_are_answered_in_a_small_ring_with_many_rows(rt: HostRuntime) {
+    let Some(store) = opened(rt.alloc(), 64, 9) else {
+        panic!(rt; "a store")
+    };
+    let Some(mut last) = taken(&store, 9) else {
+        panic!(rt; "a session")
+    };
+    assert!(rt; fills(&rt, &mut last, 3_000));
+    assert!(rt; eight_write(&rt, &store, 100));
+    assert!(rt; each_is_found(&mut last, 6_200));
 }

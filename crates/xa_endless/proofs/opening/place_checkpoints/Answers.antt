@@ -11,4 +11,4 @@ pub loop-spare-preserved : goal.loop-spare-preserved
 loop-spare-preserved c =
     let IsOurs : Slot RestingCheckpoint RingLog → Type 0 = λ slot. identity_of slot.value ≡ identity_of c.args.log.now in
     subst (All IsOurs) (sym c.in_ok-push.ensures.items)
-    (All-push IsOurs c.loop-spare.places.items c.new-in-loop-spare.result c.loop-spare.invariant (ap identity_of c.new-in-loop-spare.ensures))
+    (All-push IsOurs c.loop-spare.places.items c.new-slot.result c.loop-spare.invariant (ap identity_of c.new-slot.ensures))

@@ -1,10 +1,10 @@
 use Rattle.std.proofs.Common.{◌≡◌}
 use Rattle.ring_log.specs.RingPass.{log_of}
-use Rattle.xa_endless.specs.Members.{Keeps}
+use Rattle.xa_endless.specs.Members.{Tends}
 use Rattle.xa_endless.proofs.store.EndlessStore.tend.Given as goal
 
 abbrev pub invariant-loop-step : goal.invariant-loop-step
 invariant-loop-step l = record {
   belongs : log_of l.member.pass ≡ log_of l.fn.member.pass;
-  keeps : Keeps l.fn.member l.member;
+  tends : Tends l.fn.member l.member;
 }

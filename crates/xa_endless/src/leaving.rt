@@ -1,0 +1,28 @@
+//! What a session leaves for others when it has no more statements.
+ghost use Rattle.ring_log.specs.RingPass.{known_of};
+ghost use Rattle.xa_endless.specs.Seen.{HasOnlySeen};
+ghost use Rattle.xa_endless.specs.Stays.{Stays};
+
+use crate::EndlessSession;
+use crate::tending::MOST_LOOKS;
+
+impl EndlessSession {
+    /// Leaves a checkpoint at the end of what the session has seen: others that are behind can go on from there.
+    ///
+    /// A session that ends and has added the last entry should do so, since nobody else will: sessions look after
+    /// checkpoints while they replay entries. Returns whether a checkpoint could be had. If not, others use them just
+    /// now: try again. If memory runs out, the checkpoint may be older. Doesn't wait.
+    /// Own rule: docs/RATTLE.md#a-store-without-an-end.
+    pub fn leave_checkpoint(&mut self) -> bool
+        // Proved (endless, stays)
+        ensures stays { Stays self.old self.new }
+        // Proved (endless, leave-checkpoint): A session that leaves a checkpoint adds nothing.
+        ensures seen { HasOnlySeen (known_of self.old.member.pass) (known_of self.new.member.pass) }
+    {
+        // With one session nobody can be behind.
+        if self.store.checkpoints.is_empty() {
+            return true;
+        }
+        self.store.tend(&mut self.member, 0, MOST_LOOKS)
+    }
+}
