@@ -2,31 +2,37 @@
 
        bench MODE THREADS SECONDS ROWS       writes MODE threads=T per_s=N, as scripts/yardstick does
        bench times THREADS STATEMENTS ROWS   writes times threads=T p999_ns=N longest_ns=N
+       bench memory THREADS ENTRIES ROWS     writes memory threads=T before_kb=N after_kb=N: what the process has before so many entries and afterwards,
+                                             with a session more that sleeps all the time
 
    cycle   threads commit branches of one row each in two phases, by texts; what is counted are branches
    get     threads read a hundred rows in turn, each outside a branch; what is counted are reads
    mix5    of a hundred statements outside branches five write, the others read; what is counted are statements
    times   so many statements of cycles: how long one takes at most, but for one of a thousand, and the longest
 
-   The store has ROWS rows more than those, which nobody touches meanwhile. */
-#include "nigbaru_shared.h"
+   The store has ROWS rows more than those, which nobody touches meanwhile. Its ring has 16,384 rows, or as many as BENCH_RING says. With BENCH_BEHIND
+   set, a second line says how many tries were lost, and how many were behind. */
+#include "nigbaru.h"
 
 #include <pthread.h>
+#include <sched.h>
 #include <stdatomic.h>
 #include <stdio.h>
 #include <stdlib.h>
 #include <string.h>
 #include <time.h>
+#include <unistd.h>
 
 #define TURNS 100
 #define TEXTS 5
-#define CAPACITY 1024
+#define RING 16384
 
 struct worker {
   pthread_t thread;
-  nigbaru_seat *seat;
+  nigbaru_session session;
   int number;
-  unsigned long done, wanted; /* `wanted` statements are timed */
+  unsigned long done, wanted; /* `wanted` statements are timed, or add entries */
+  unsigned long overtaken, behind;
   uint64_t *times;
   char texts[TURNS][TEXTS][48], gets[TURNS][48];
   char apart[128]; /* so that no two workers share a line of the cache */
@@ -34,17 +40,26 @@ struct worker {
 
 static atomic_int stops;
 static struct worker workers[16];
+static nigbaru_session sleeper = NIGBARU_EMPTY;
 
 static void fail(const char *what, uint32_t status) {
   fprintf(stderr, "bench: %s: %s\n", what, nigbaru_text(status));
   exit(1);
 }
 
+/* As nigbaru_run, but for the counts, and that a session that is behind lets others go on. */
 static void say(struct worker *it, const char *text, uint32_t wanted) {
   nigbaru_answer answer;
-  uint32_t status = nigbaru_seat_run(it->seat, text, strlen(text), &answer, NULL, 0);
-  if (status != wanted)
-    fail(text, status);
+  uint32_t status;
+  size_t length = strlen(text);
+  while ((status = nigbaru_attempt(&it->session, text, length, &answer, NULL, 0)) != wanted) {
+    it->overtaken += status == NIGBARU_OVERTAKEN;
+    it->behind += status == NIGBARU_BEHIND;
+    if (status == NIGBARU_BEHIND)
+      sched_yield();
+    else if (status != NIGBARU_OVERTAKEN)
+      fail(text, status);
+  }
 }
 
 static void write_texts(struct worker *it) {
@@ -124,35 +139,36 @@ static void *timed(void *worker) {
   return NULL;
 }
 
-/* Rows that nobody touches, each in a statement of its own. */
-static void fill(nigbaru_shared *shared, long rows) {
-  struct worker it = {.number = 0};
-  uint32_t status = nigbaru_seat_take(shared, 0, &it.seat);
-  if (status != NIGBARU_OK)
-    fail("no session", status);
+/* The session that the first worker has fills the store with rows that nobody touches, each in a statement of its own. */
+static void fill(struct worker *it, long rows) {
   for (long row = 0; row < rows; row++) {
     char text[64];
     snprintf(text, sizeof text, "PUT 'row%ld','value%ld'", row, row);
-    say(&it, text, NIGBARU_OK);
+    say(it, text, NIGBARU_OK);
   }
-  nigbaru_seat_leave(it.seat);
 }
 
-static nigbaru_shared *opened(int threads, long rows) {
-  nigbaru_shared *shared;
-  uint32_t status = nigbaru_shared_open(CAPACITY, (uint64_t)threads, NULL, NULL, &shared);
-  if (status != NIGBARU_OK)
-    fail("no store", status);
-  fill(shared, rows);
-  for (int index = 0; index < threads; index++) {
+/* Opens a store, with a session for each worker and as many more. The store's handle isn't needed any more then. */
+static void opened(int threads, int more, long rows) {
+  const char *ring = getenv("BENCH_RING");
+  nigbaru_store store = NIGBARU_EMPTY;
+  uint32_t status = nigbaru_open(ring == NULL ? RING : (uint64_t)atol(ring), (uint64_t)(threads + more), &store);
+  for (int index = 0; index < threads && status == NIGBARU_OK; index++) {
     workers[index].number = index + 1;
     write_texts(&workers[index]);
-    if ((status = nigbaru_seat_take(shared, 0, &workers[index].seat)) != NIGBARU_OK)
-      fail("no session", status);
-    /* whoever was idle meanwhile sees the rows now, and not while the time is taken */
-    say(&workers[index], "PUT 'k0_0','v'", NIGBARU_OK);
+    status = nigbaru_take(&store, (uint64_t)index + 1, &workers[index].session);
   }
-  return shared;
+  if (more > 0 && status == NIGBARU_OK)
+    status = nigbaru_take(&store, (uint64_t)threads + 1, &sleeper);
+  if (status != NIGBARU_OK)
+    fail("no store", status);
+  nigbaru_close(&store);
+  fill(&workers[0], rows);
+  /* whoever was idle meanwhile sees the rows now, and not while the time is taken */
+  for (int index = 0; index < threads; index++) {
+    say(&workers[index], "PUT 'k0_0','v'", NIGBARU_OK);
+    workers[index].overtaken = workers[index].behind = 0;
+  }
 }
 
 static void start(void *(*work)(void *), int threads) {
@@ -170,15 +186,21 @@ static unsigned long join(int threads) {
   return done;
 }
 
-static void closed(nigbaru_shared *shared, int threads) {
-  for (int index = 0; index < threads; index++)
-    nigbaru_seat_leave(workers[index].seat);
-  nigbaru_shared_close(shared);
+static void closed(int threads) {
+  unsigned long overtaken = 0, behind = 0;
+  for (int index = 0; index < threads; index++) {
+    overtaken += workers[index].overtaken;
+    behind += workers[index].behind;
+    nigbaru_leave(&workers[index].session);
+  }
+  nigbaru_leave(&sleeper);
+  if (getenv("BENCH_BEHIND") != NULL)
+    printf("overtaken=%lu behind=%lu\n", overtaken, behind);
 }
 
 /* What threads do a second. */
 static double rate(void *(*work)(void *), int threads, double seconds, long rows) {
-  nigbaru_shared *shared = opened(threads, rows);
+  opened(threads, 0, rows);
   uint64_t begun = now();
   start(work, threads);
   struct timespec pause = {(time_t)seconds, (long)((seconds - (double)(time_t)seconds) * 1e9)};
@@ -186,7 +208,7 @@ static double rate(void *(*work)(void *), int threads, double seconds, long rows
   atomic_store(&stops, 1);
   unsigned long done = join(threads);
   double taken = (double)(now() - begun) / 1e9;
-  closed(shared, threads);
+  closed(threads);
   return (double)done / taken;
 }
 
@@ -200,31 +222,61 @@ static void print_times(int threads, unsigned long statements, long rows) {
   uint64_t *times = calloc(count, sizeof *times);
   if (times == NULL)
     fail("no memory", NIGBARU_NO_MEMORY);
-  nigbaru_shared *shared = opened(threads, rows);
+  opened(threads, 0, rows);
   for (int index = 0; index < threads; index++) {
     workers[index].wanted = each;
     workers[index].times = times + each * (unsigned long)index;
   }
   start(timed, threads);
   join(threads);
-  closed(shared, threads);
+  closed(threads);
   qsort(times, count, sizeof *times, by_time);
   printf("times threads=%d p999_ns=%lu longest_ns=%lu\n", threads, (unsigned long)times[count - 1 - count / 1000], (unsigned long)times[count - 1]);
   free(times);
 }
 
+static void *adds(void *worker) {
+  struct worker *it = worker;
+  for (; it->done < it->wanted; it->done++)
+    say(it, it->texts[it->done / TEXTS % TURNS][it->done % TEXTS], NIGBARU_OK);
+  return NULL;
+}
+
+/* How many kilobytes of the process are in memory. */
+static unsigned long resident(void) {
+  unsigned long size = 0, pages = 0;
+  FILE *file = fopen("/proc/self/statm", "r");
+  if (file == NULL || fscanf(file, "%lu %lu", &size, &pages) != 2)
+    fail("no /proc/self/statm", NIGBARU_NO_HANDLE);
+  fclose(file);
+  return pages * (unsigned long)(sysconf(_SC_PAGESIZE) / 1024);
+}
+
+static void print_memory(int threads, unsigned long entries, long rows) {
+  opened(threads, 1, rows);
+  unsigned long before = resident();
+  for (int index = 0; index < threads; index++)
+    workers[index].wanted = entries / (unsigned long)threads;
+  start(adds, threads);
+  join(threads);
+  printf("memory threads=%d before_kb=%lu after_kb=%lu\n", threads, before, resident());
+  closed(threads);
+}
+
 int main(int count, char **words) {
-  static const struct { const char *name; void *(*work)(void *); } modes[] = {{"cycle", cycle}, {"get", get}, {"mix5", mix5}, {"times", NULL}};
+  static const struct { const char *name; void *(*work)(void *); } modes[] = {{"cycle", cycle}, {"get", get}, {"mix5", mix5}, {"times", NULL}, {"memory", NULL}};
   size_t mode = 0;
-  while (count == 5 && mode < 4 && strcmp(words[1], modes[mode].name) != 0)
+  while (count == 5 && mode < 5 && strcmp(words[1], modes[mode].name) != 0)
     mode++;
   int threads = count == 5 ? atoi(words[2]) : 0;
   double much = count == 5 ? atof(words[3]) : 0;
-  if (count != 5 || mode == 4 || threads < 1 || threads > 16 || much <= 0) {
-    fprintf(stderr, "bench cycle|get|mix5 THREADS SECONDS ROWS, or bench times THREADS STATEMENTS ROWS\n");
+  if (count != 5 || mode == 5 || threads < 1 || threads > 16 || (mode == 4 && threads > 15) || much <= 0) {
+    fprintf(stderr, "bench cycle|get|mix5 THREADS SECONDS ROWS, bench times THREADS STATEMENTS ROWS, or bench memory THREADS ENTRIES ROWS\n");
     return 2;
   }
-  if (modes[mode].work == NULL)
+  if (mode == 4)
+    print_memory(threads, (unsigned long)much, atol(words[4]));
+  else if (modes[mode].work == NULL)
     print_times(threads, (unsigned long)much, atol(words[4]));
   else
     printf("%s threads=%d per_s=%.0f\n", words[1], threads, rate(modes[mode].work, threads, much, atol(words[4])));

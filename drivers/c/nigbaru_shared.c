@@ -1,58 +1,72 @@
 #include "nigbaru_shared.h"
 
-#include <pthread.h>
+#include <sched.h>
 #include <stdatomic.h>
 #include <stdlib.h>
 #include <string.h>
 
 #define SEATS 16
-#define LONGEST 512 /* bytes of a statement in canonical form, at most */
+#define MOST_YIELDS 32
+#define ROUNDS 16 /* how often all places are looked at for a free one, since others move meanwhile */
 
-struct nigbaru_seat {
-  nigbaru_shared *shared;
-  uint64_t number;
-  uint64_t renewals; /* of the store that the session was taken from */
+/* What a place's word has in its last bits; before them it counts how often the place was taken. */
+enum { FREE, TAKEN, CALLED, CLOSED, STATES };
+
+/* A session, which who has brought the word from FREE to TAKEN and then to CALLED uses alone. */
+struct place {
+  atomic_uint_fast64_t word;
   nigbaru_session session;
-  int taken;
-  char apart[128]; /* so that no two threads' seats share a line of the cache */
+  uint64_t yielded; /* the place in the history at which the session let others go on last */
+  char apart[128]; /* so that no two places share a line of the cache */
 };
 
-/* store, seats' taken, and each change of renewals are the mutex'. Only the thread that has a seat uses its session and its renewals. */
 struct nigbaru_shared {
-  pthread_mutex_t mutex;
-  atomic_uint_fast64_t renewals;
-  uint64_t capacity, sessions;
-  nigbaru_store store;
-  nigbaru_listener *listener;
-  void *context;
-  nigbaru_seat seats[SEATS];
+  uint64_t rows, sessions;
+  struct place places[SEATS];
 };
 
-uint32_t nigbaru_shared_open(uint64_t capacity, uint64_t sessions, nigbaru_listener *listener, void *context, nigbaru_shared **shared) {
+static uint64_t word_of(uint64_t turn, unsigned state) { return turn * STATES + state; }
+
+/* Steps from one word to another, if that is still the place's. */
+static int steps(struct place *place, uint64_t *from, uint64_t to) {
+  uint_fast64_t found = *from;
+  int stepped = atomic_compare_exchange_strong_explicit(&place->word, &found, to, memory_order_acq_rel, memory_order_acquire);
+  *from = found;
+  return stepped;
+}
+
+static void leave_all(nigbaru_shared *shared) {
+  for (uint64_t index = 0; index < SEATS; index++)
+    nigbaru_leave(&shared->places[index].session);
+}
+
+/* Opens the store, and takes all its sessions; they keep it, so its own handle is closed. */
+static uint32_t take_all(nigbaru_shared *shared) {
+  nigbaru_store store = NIGBARU_EMPTY;
+  uint32_t status = nigbaru_open(shared->rows, shared->sessions, &store);
+  for (uint64_t index = 0; index < shared->sessions && status == NIGBARU_OK; index++)
+    status = nigbaru_take(&store, index + 1, &shared->places[index].session);
+  if (status != NIGBARU_OK)
+    leave_all(shared);
+  nigbaru_close(&store);
+  return status;
+}
+
+uint32_t nigbaru_shared_open(uint64_t rows, uint64_t sessions, nigbaru_shared **shared) {
   if (shared == NULL)
     return NIGBARU_NO_POINTER;
   nigbaru_shared *made = malloc(sizeof *made);
   if (made == NULL)
     return NIGBARU_NO_MEMORY;
   memset(made, 0, sizeof *made);
-  const nigbaru_store closed = NIGBARU_EMPTY;
-  made->store = closed;
-  made->capacity = capacity;
+  made->rows = rows;
   made->sessions = sessions;
-  made->listener = listener;
-  made->context = context;
-  atomic_init(&made->renewals, 0);
   for (uint64_t index = 0; index < SEATS; index++) {
     const nigbaru_session left = NIGBARU_EMPTY;
-    made->seats[index].shared = made;
-    made->seats[index].number = index + 1;
-    made->seats[index].session = left;
+    made->places[index].session = left;
+    atomic_init(&made->places[index].word, word_of(0, FREE));
   }
-  uint32_t status = nigbaru_open(capacity, sessions, &made->store);
-  if (status == NIGBARU_OK && pthread_mutex_init(&made->mutex, NULL) != 0) {
-    nigbaru_close(&made->store);
-    status = NIGBARU_NO_MEMORY;
-  }
+  uint32_t status = take_all(made);
   if (status != NIGBARU_OK) {
     free(made);
     return status;
@@ -61,132 +75,124 @@ uint32_t nigbaru_shared_open(uint64_t capacity, uint64_t sessions, nigbaru_liste
   return NIGBARU_OK;
 }
 
+/* Brings so many free places from one state to another, or, where one isn't in it, none. */
+static int brings_all(nigbaru_shared *shared, uint64_t count, unsigned from, unsigned to) {
+  for (uint64_t index = 0; index < count; index++) {
+    struct place *place = &shared->places[index];
+    uint64_t word = atomic_load_explicit(&place->word, memory_order_acquire);
+    if (word % STATES != from || !steps(place, &word, word - from + to)) {
+      brings_all(shared, index, to, from);
+      return 0;
+    }
+  }
+  return 1;
+}
+
 uint32_t nigbaru_shared_close(nigbaru_shared *shared) {
   if (shared == NULL)
     return NIGBARU_NO_POINTER;
-  int taken = 0;
-  pthread_mutex_lock(&shared->mutex);
-  for (uint64_t index = 0; index < shared->sessions; index++)
-    taken |= shared->seats[index].taken;
-  pthread_mutex_unlock(&shared->mutex);
-  if (taken)
+  if (!brings_all(shared, shared->sessions, FREE, CLOSED))
     return NIGBARU_BUSY;
-  for (uint64_t index = 0; index < shared->sessions; index++)
-    nigbaru_leave(&shared->seats[index].session);
-  nigbaru_close(&shared->store);
-  pthread_mutex_destroy(&shared->mutex);
+  leave_all(shared);
   free(shared);
   return NIGBARU_OK;
 }
 
-/* Gives a seat a session of the store that is current, in place of the one it has, if any. The mutex is held. */
-static uint32_t seat_in_current(nigbaru_seat *seat) {
-  nigbaru_shared *shared = seat->shared;
-  nigbaru_session next = NIGBARU_EMPTY;
-  uint32_t status = nigbaru_take(&shared->store, seat->number, &next);
-  if (status != NIGBARU_OK)
-    return status;
-  nigbaru_leave(&seat->session);
-  seat->session.handle = next.handle;
-  seat->renewals = atomic_load_explicit(&shared->renewals, memory_order_relaxed);
-  return NIGBARU_OK;
+/* Takes a place, if it is free. */
+static int is_taken_now(nigbaru_shared *shared, uint64_t index, nigbaru_seat *seat) {
+  struct place *place = &shared->places[index];
+  uint64_t word = atomic_load_explicit(&place->word, memory_order_acquire);
+  while (word % STATES == FREE) {
+    uint64_t turn = word / STATES + 1;
+    if (steps(place, &word, word_of(turn, TAKEN))) {
+      *seat = (nigbaru_seat){.shared = shared, .number = index + 1, .turn = turn};
+      return 1;
+    }
+  }
+  return 0;
 }
 
-/* Whether a seat has no session of the current store. */
-static int is_behind(const nigbaru_seat *seat) {
-  return seat->session.handle.at == NULL || seat->renewals != atomic_load_explicit(&seat->shared->renewals, memory_order_acquire);
-}
-
-uint32_t nigbaru_seat_take(nigbaru_shared *shared, uint64_t number, nigbaru_seat **seat) {
+uint32_t nigbaru_seat_take(nigbaru_shared *shared, uint64_t number, nigbaru_seat *seat) {
   if (shared == NULL || seat == NULL)
     return NIGBARU_NO_POINTER;
   if (number > shared->sessions)
     return NIGBARU_OUT_OF_RANGE;
-  uint32_t status = NIGBARU_NO_SESSION;
-  pthread_mutex_lock(&shared->mutex);
-  uint64_t first = number == 0 ? 0 : number - 1, end = number == 0 ? shared->sessions : number;
-  for (uint64_t index = first; index < end && status == NIGBARU_NO_SESSION; index++) {
-    nigbaru_seat *it = &shared->seats[index];
-    if (it->taken)
-      continue;
-    status = is_behind(it) ? seat_in_current(it) : NIGBARU_OK;
-    if (status == NIGBARU_OK) {
-      it->taken = 1;
-      *seat = it;
-    }
-  }
-  pthread_mutex_unlock(&shared->mutex);
-  return status;
+  if (number != 0)
+    return is_taken_now(shared, number - 1, seat) ? NIGBARU_OK : NIGBARU_NO_SESSION;
+  for (uint64_t step = 0; step < ROUNDS * shared->sessions; step++)
+    if (is_taken_now(shared, step % shared->sessions, seat))
+      return NIGBARU_OK;
+  return NIGBARU_NO_SESSION;
 }
 
-/* Tells the listener each entry of the history that a session has seen to its end. */
-static void tell_history(nigbaru_seat *seat) {
-  nigbaru_shared *shared = seat->shared;
-  char text[LONGEST];
-  for (uint64_t place = 0; place < shared->capacity; place++) {
-    uint64_t number, length;
-    uint32_t status;
-    do {
-      status = nigbaru_history(&seat->session, place, &number, text, sizeof text, &length);
-    } while (status == NIGBARU_NO_MEMORY);
-    if (status == NIGBARU_OK && length <= sizeof text)
-      shared->listener(shared->context, number, text, (size_t)length);
-  }
-}
-
-/* A seat goes over to the store that is current. Where its own is, and is full, it is renewed first: nobody adds to the new one before the count
-   of renewals says that there is one. */
-static uint32_t move_on(nigbaru_seat *seat, int is_full) {
-  nigbaru_shared *shared = seat->shared;
-  uint32_t status = NIGBARU_OK;
-  pthread_mutex_lock(&shared->mutex);
-  if (is_full && !is_behind(seat)) {
-    nigbaru_store next = NIGBARU_EMPTY;
-    status = nigbaru_renew(&seat->session, &next);
-    if (status == NIGBARU_OK) {
-      if (shared->listener != NULL)
-        tell_history(seat);
-      nigbaru_close(&shared->store);
-      shared->store.handle = next.handle;
-      atomic_fetch_add_explicit(&shared->renewals, 1, memory_order_release);
-    }
-  }
-  if (status == NIGBARU_OK)
-    status = seat_in_current(seat);
-  pthread_mutex_unlock(&shared->mutex);
-  return status;
-}
-
-uint32_t nigbaru_seat_run(nigbaru_seat *seat, const char *text, size_t length, nigbaru_answer *answer, nigbaru_xid *xids, size_t room) {
+/* Begins a call with a seat: nobody else is in one, and it wasn't given back. */
+static uint32_t begin(const nigbaru_seat *seat, struct place **place) {
   if (seat == NULL)
     return NIGBARU_NO_POINTER;
-  uint32_t status = is_behind(seat) ? move_on(seat, 0) : NIGBARU_OK;
-  while (status == NIGBARU_OK) {
-    uint32_t answered = nigbaru_run(&seat->session, text, length, answer, xids, room, 0);
-    if (answered != NIGBARU_FULL)
-      return answered;
-    status = move_on(seat, 1);
+  if (seat->shared == NULL)
+    return NIGBARU_NO_HANDLE;
+  *place = &seat->shared->places[seat->number - 1];
+  uint64_t word = word_of(seat->turn, TAKEN);
+  if (steps(*place, &word, word_of(seat->turn, CALLED)))
+    return NIGBARU_OK;
+  return word == word_of(seat->turn, CALLED) ? NIGBARU_BUSY : NIGBARU_NO_HANDLE;
+}
+
+static void end(const nigbaru_seat *seat, struct place *place, unsigned state) {
+  atomic_store_explicit(&place->word, word_of(seat->turn, state), memory_order_release);
+}
+
+/* Has a statement answered in as many tries as it takes. A session that is behind needs a checkpoint, which others keep: it lets them go on for longer
+   each time, since they can't while it has the checkpoint in hand. */
+static uint32_t run(nigbaru_session *session, const char *text, size_t length, nigbaru_answer *answer, nigbaru_xid *xids, size_t room) {
+  unsigned turns = 0;
+  for (;;) {
+    uint32_t status = nigbaru_run(session, text, length, answer, xids, room, 1);
+    if (status != NIGBARU_OVERTAKEN && status != NIGBARU_BEHIND)
+      return status;
+    if (status == NIGBARU_BEHIND && turns < MOST_YIELDS)
+      turns = 2 * turns + 1;
+    for (unsigned turn = 0; status == NIGBARU_BEHIND && turn < turns; turn++)
+      sched_yield();
   }
-  return status;
 }
 
-uint64_t nigbaru_seat_number(const nigbaru_seat *seat) { return seat->number; }
-
-uint64_t nigbaru_seat_renewals(const nigbaru_seat *seat) { return seat->renewals; }
-
-uint32_t nigbaru_seat_history(nigbaru_seat *seat, uint64_t place, uint64_t *number, char *text, size_t room, uint64_t *length) {
-  return seat == NULL ? NIGBARU_NO_POINTER : nigbaru_history(&seat->session, place, number, text, room, length);
-}
-
-uint32_t nigbaru_seat_leave(nigbaru_seat *seat) {
-  if (seat == NULL)
-    return NIGBARU_NO_POINTER;
-  nigbaru_answer answer;
-  uint32_t status = nigbaru_seat_run(seat, "DISCONNECT", 10, &answer, NULL, 0);
+uint32_t nigbaru_seat_run(const nigbaru_seat *seat, const char *text, size_t length, nigbaru_answer *answer, nigbaru_xid *xids, size_t room) {
+  struct place *place;
+  uint32_t status = begin(seat, &place);
   if (status != NIGBARU_OK)
     return status;
-  pthread_mutex_lock(&seat->shared->mutex);
-  seat->taken = 0;
-  pthread_mutex_unlock(&seat->shared->mutex);
-  return NIGBARU_OK;
+  status = run(&place->session, text, length, answer, xids, room);
+  int is_time = status <= NIGBARU_REFUSED && answer->place >= place->yielded + seat->shared->rows / 4;
+  if (is_time)
+    place->yielded = answer->place;
+  end(seat, place, TAKEN);
+  /* In a quarter of the ring's rows the session has brought a checkpoint up to date: whoever waits for a processor can use it before the ring has gone
+     round. The seat is no longer in a call then, so that whoever shares it can have it. */
+  if (is_time)
+    sched_yield();
+  return status;
+}
+
+uint64_t nigbaru_seat_number(const nigbaru_seat *seat) { return seat == NULL ? 0 : seat->number; }
+
+uint32_t nigbaru_seat_follow(const nigbaru_seat *seat, nigbaru_entry *entry) {
+  struct place *place;
+  uint32_t status = begin(seat, &place);
+  if (status != NIGBARU_OK)
+    return status;
+  status = nigbaru_follow(&place->session, entry);
+  end(seat, place, TAKEN);
+  return status;
+}
+
+uint32_t nigbaru_seat_leave(const nigbaru_seat *seat) {
+  struct place *place;
+  nigbaru_answer answer;
+  uint32_t status = begin(seat, &place);
+  if (status != NIGBARU_OK)
+    return status;
+  status = run(&place->session, "DISCONNECT", 10, &answer, NULL, 0);
+  end(seat, place, status == NIGBARU_OK ? FREE : TAKEN);
+  return status;
 }

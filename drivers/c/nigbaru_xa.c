@@ -1,33 +1,49 @@
 #include "nigbaru_xa.h"
 
-#include "nigbaru_shared.h"
+#include "nigbaru.h"
 
 #include <pthread.h>
+#include <stdatomic.h>
 #include <stdlib.h>
 #include <string.h>
 
 #define LONGEST_NAME 64
 #define LONGEST_TEXT 512
-#define DEFAULT_CAPACITY 1024
-#define DEFAULT_SESSIONS 16
+#define DEFAULT_ROWS 16384
+#define MOST_SESSIONS 16
+#define DEFAULT_SESSIONS MOST_SESSIONS
+#define ROUNDS 16 /* how often all places are looked at for a free one, since others move meanwhile */
+#define WORDS_OF_XID (sizeof(XID) / sizeof(unsigned long))
+_Static_assert(sizeof(XID) % sizeof(unsigned long) == 0, "an XID is a whole number of words");
+
+/* What a place's word has in its last bits; before them it counts how often the place got a branch. USED: in a call; UNCLEAN: free, but with a
+   branch that there was no memory to roll back when its thread ended. */
+enum state { FREE, USED, ACTIVE, IDLE, UNCLEAN, STATES };
+
+/* A session. Who has brought the word to USED, or has the branch that is ACTIVE, uses it alone; the branch is read by all. */
+struct place {
+  atomic_uint_fast64_t word;
+  atomic_ulong branch[WORDS_OF_XID];
+  nigbaru_session session;
+  char apart[128]; /* so that no two places share a line of the cache */
+};
 
 /* A store that xa_open named. The list and each entry's openings are the mutex'. */
 struct named_store {
   char name[LONGEST_NAME + 1];
-  uint64_t capacity, sessions;
-  nigbaru_shared *shared;
+  uint64_t rows, sessions;
+  struct place places[MOST_SESSIONS];
   uint64_t openings;
   struct named_store *next;
 };
 
-/* What a thread of control has open under an rmid, with the branch of its session. */
+/* What a thread of control has open under an rmid. */
 struct opening {
   int rmid;
   struct named_store *store;
-  nigbaru_seat *seat;
-  enum { FREE, ACTIVE, IDLE } state;
-  XID branch; /* where the state isn't FREE */
-  XID *scan;  /* what xa_recover lists, from scan_at on, where is_scanning */
+  struct place *active; /* with the branch that the thread works in, if it does */
+  uint64_t last;        /* the place that it used last */
+  XID *scan;            /* what xa_recover lists, from scan_at on, where is_scanning */
   size_t scan_count, scan_at;
   int is_scanning;
   struct opening *next;
@@ -44,22 +60,101 @@ static void *zeroed(size_t size) {
   return memory == NULL ? NULL : memset(memory, 0, size);
 }
 
+/* ---- places ---- */
+
+static uint64_t word_of(uint64_t turn, enum state state) { return turn * STATES + state; }
+
+static uint64_t word_in(struct place *place) { return atomic_load_explicit(&place->word, memory_order_acquire); }
+
+/* Brings a place from a word to USED, if the word is still the place's. */
+static int is_used_now(struct place *place, uint64_t from) {
+  uint_fast64_t found = from;
+  return atomic_compare_exchange_strong_explicit(&place->word, &found, word_of(from / STATES, USED), memory_order_acq_rel, memory_order_relaxed);
+}
+
+/* Ends the use of a place. */
+static void put_back(struct place *place, enum state state) {
+  atomic_store_explicit(&place->word, word_of(word_in(place) / STATES, state), memory_order_release);
+}
+
+/* Has a place that is used keep a branch, which is ACTIVE then. */
+static void keep_branch(struct place *place, const XID *xid) {
+  unsigned long words[WORDS_OF_XID];
+  memcpy(words, xid, sizeof words);
+  for (size_t index = 0; index < WORDS_OF_XID; index++)
+    atomic_store_explicit(&place->branch[index], words[index], memory_order_release);
+  atomic_store_explicit(&place->word, word_of(word_in(place) / STATES + 1, ACTIVE), memory_order_release);
+}
+
+/* The branch of a place. It is whole where the place has the same word before and after. */
+static XID branch_of(struct place *place) {
+  unsigned long words[WORDS_OF_XID];
+  XID xid;
+  for (size_t index = 0; index < WORDS_OF_XID; index++)
+    words[index] = atomic_load_explicit(&place->branch[index], memory_order_acquire);
+  memcpy(&xid, words, sizeof xid);
+  return xid;
+}
+
+static int is_same_branch(const XID *one, const XID *other) {
+  return one->formatID == other->formatID && one->gtrid_length == other->gtrid_length && one->bqual_length == other->bqual_length &&
+         memcmp(one->data, other->data, (size_t)(one->gtrid_length + one->bqual_length)) == 0;
+}
+
+/* The place with a branch that is ACTIVE or IDLE, and its word; null where there is none. */
+static struct place *place_of(struct named_store *store, const XID *xid, uint64_t *word) {
+  for (uint64_t index = 0; index < store->sessions; index++) {
+    struct place *place = &store->places[index];
+    *word = word_in(place);
+    if (*word % STATES != ACTIVE && *word % STATES != IDLE)
+      continue;
+    XID found = branch_of(place);
+    if (is_same_branch(xid, &found) && word_in(place) == *word)
+      return place;
+  }
+  return NULL;
+}
+
+/* Has the session of a place roll back what isn't prepared. The place is free then, or UNCLEAN without memory. */
+static int is_clean_now(struct place *place) {
+  nigbaru_answer answer;
+  int is_clean = nigbaru_run(&place->session, "DISCONNECT", 10, &answer, NULL, 0, 0) == NIGBARU_OK;
+  if (!is_clean)
+    put_back(place, UNCLEAN);
+  return is_clean;
+}
+
+/* A place without a branch, to be used for a statement: that of the last time if it is free. Null where none is. */
+static struct place *free_place(struct opening *it) {
+  struct named_store *store = it->store;
+  for (uint64_t step = 0; step < ROUNDS * store->sessions; step++) {
+    uint64_t index = (it->last + step) % store->sessions;
+    struct place *place = &store->places[index];
+    uint64_t word = word_in(place);
+    if ((word % STATES != FREE && word % STATES != UNCLEAN) || !is_used_now(place, word))
+      continue;
+    if (word % STATES == UNCLEAN && !is_clean_now(place))
+      continue;
+    it->last = index;
+    return place;
+  }
+  return NULL;
+}
+
 /* ---- what a thread of control has open ---- */
 
-/* Gives the session back, rolls back what isn't prepared, and frees the opening. Without memory for that nothing is done. */
-static uint32_t end_opening(struct opening *it) {
-  uint32_t status = nigbaru_seat_leave(it->seat);
-  if (status != NIGBARU_OK)
-    return status;
+/* Rolls back the branch that the thread works in, if any, and frees the opening. */
+static void end_opening(struct opening *it) {
+  if (it->active != NULL && is_clean_now(it->active))
+    put_back(it->active, FREE);
   pthread_mutex_lock(&stores_mutex);
   it->store->openings--;
   pthread_mutex_unlock(&stores_mutex);
   free(it->scan);
   free(it);
-  return NIGBARU_OK;
 }
 
-/* A thread that ends without xa_close. (a session for whose end there is no memory stays taken) */
+/* A thread that ends without xa_close. */
 static void end_openings(void *first) {
   for (struct opening *it = first, *next; it != NULL; it = next) {
     next = it->next;
@@ -132,11 +227,6 @@ static int is_branch_id(const XID *xid) {
          xid->bqual_length <= MAXBQUALSIZE;
 }
 
-static int is_same_branch(const XID *one, const XID *other) {
-  return one->formatID == other->formatID && one->gtrid_length == other->gtrid_length && one->bqual_length == other->bqual_length &&
-         memcmp(one->data, other->data, (size_t)(one->gtrid_length + one->bqual_length)) == 0;
-}
-
 /* What a call returns for the store's answer. A statement that its state forbids is C193's XAER_PROTO. */
 static int code_of(uint32_t status, const nigbaru_answer *answer, int without_memory) {
   switch (status) {
@@ -154,11 +244,22 @@ static int code_of(uint32_t status, const nigbaru_answer *answer, int without_me
   }
 }
 
-static int say(struct opening *it, const char *verb, const XID *xid, const char *clause, int without_memory) {
+/* Has a statement about a branch answered by the session of a place. */
+static int say(struct place *place, const char *verb, const XID *xid, const char *clause, int without_memory) {
   struct text text = statement_of(verb, xid, clause);
   nigbaru_answer answer;
-  uint32_t status = nigbaru_seat_run(it->seat, text.bytes, text.length, &answer, NULL, 0);
+  uint32_t status = nigbaru_run(&place->session, text.bytes, text.length, &answer, NULL, 0, 0);
   return code_of(status, &answer, without_memory);
+}
+
+/* The same by any session that has no branch. */
+static int say_anywhere(struct opening *it, const char *verb, const XID *xid, int without_session) {
+  struct place *place = free_place(it);
+  if (place == NULL)
+    return without_session;
+  int code = say(place, verb, xid, "", without_session);
+  put_back(place, FREE);
+  return code;
 }
 
 /* What is wrong with a call's flags, its rmid or its identifier; XA_OK where nothing is. */
@@ -176,13 +277,13 @@ static int check(long flags, long known, const struct opening *it, const XID *xi
 
 struct wanted {
   char name[LONGEST_NAME + 1];
-  uint64_t capacity, sessions;
+  uint64_t rows, sessions;
 };
 
-/* A decimal number of 1 to 4 digits; 0 where it is none. */
+/* A decimal number of 1 to 6 digits; 0 where it is none. */
 static uint64_t number_of(const char *digits, size_t length) {
   uint64_t number = 0;
-  if (length < 1 || length > 4)
+  if (length < 1 || length > 6)
     return 0;
   for (size_t index = 0; index < length; index++) {
     if (digits[index] < '0' || digits[index] > '9')
@@ -194,15 +295,15 @@ static uint64_t number_of(const char *digits, size_t length) {
 
 /* Takes one part, `name=value`, of xa_open's string. */
 static int read_part(const char *part, size_t length, struct wanted *wanted) {
-  static const char store[] = "store=", capacity[] = "capacity=", sessions[] = "sessions=";
-  const size_t before_name = sizeof store - 1, before_capacity = sizeof capacity - 1, before_sessions = sizeof sessions - 1;
+  static const char store[] = "store=", rows[] = "rows=", sessions[] = "sessions=";
+  const size_t before_name = sizeof store - 1, before_rows = sizeof rows - 1, before_sessions = sizeof sessions - 1;
   if (length > before_name && length - before_name <= LONGEST_NAME && memcmp(part, store, before_name) == 0) {
     memcpy(wanted->name, part + before_name, length - before_name);
     wanted->name[length - before_name] = 0;
     return 1;
   }
-  if (length > before_capacity && memcmp(part, capacity, before_capacity) == 0)
-    return (wanted->capacity = number_of(part + before_capacity, length - before_capacity)) != 0;
+  if (length > before_rows && memcmp(part, rows, before_rows) == 0)
+    return (wanted->rows = number_of(part + before_rows, length - before_rows)) != 0;
   if (length > before_sessions && memcmp(part, sessions, before_sessions) == 0)
     return (wanted->sessions = number_of(part + before_sessions, length - before_sessions)) != 0;
   return 0;
@@ -212,7 +313,7 @@ static int read_part(const char *part, size_t length, struct wanted *wanted) {
 static int read_info(const char *info, struct wanted *wanted) {
   if (info == NULL || memchr(info, 0, MAXINFOSIZE) == NULL)
     return 0;
-  *wanted = (struct wanted){.name = "nigbaru", .capacity = DEFAULT_CAPACITY, .sessions = DEFAULT_SESSIONS};
+  *wanted = (struct wanted){.name = "nigbaru", .rows = DEFAULT_ROWS, .sessions = DEFAULT_SESSIONS};
   while (*info != 0) {
     size_t length = strcspn(info, ",");
     if (!read_part(info, length, wanted))
@@ -224,6 +325,38 @@ static int read_info(const char *info, struct wanted *wanted) {
   return 1;
 }
 
+static void leave_all(struct named_store *it) {
+  for (uint64_t index = 0; index < MOST_SESSIONS; index++)
+    nigbaru_leave(&it->places[index].session);
+}
+
+/* Opens a store, and takes all its sessions; they keep it, so its own handle is closed. */
+static uint32_t take_all(struct named_store *it) {
+  nigbaru_store store = NIGBARU_EMPTY;
+  uint32_t status = nigbaru_open(it->rows, it->sessions, &store);
+  for (uint64_t index = 0; index < it->sessions && status == NIGBARU_OK; index++)
+    status = nigbaru_take(&store, index + 1, &it->places[index].session);
+  if (status != NIGBARU_OK)
+    leave_all(it);
+  nigbaru_close(&store);
+  return status;
+}
+
+static struct named_store *made(const struct wanted *wanted) {
+  struct named_store *it = zeroed(sizeof *it);
+  if (it == NULL)
+    return NULL;
+  memcpy(it->name, wanted->name, sizeof it->name);
+  it->rows = wanted->rows;
+  it->sessions = wanted->sessions;
+  for (uint64_t index = 0; index < MOST_SESSIONS; index++) {
+    const nigbaru_session left = NIGBARU_EMPTY;
+    it->places[index].session = left;
+    atomic_init(&it->places[index].word, word_of(0, FREE));
+  }
+  return it;
+}
+
 /* The store of a name, which is opened where there is none. The mutex is held. */
 static int find_or_open(const struct wanted *wanted, struct named_store **found) {
   struct named_store *it = stores;
@@ -231,30 +364,25 @@ static int find_or_open(const struct wanted *wanted, struct named_store **found)
     it = it->next;
   if (it != NULL) {
     *found = it;
-    return it->capacity == wanted->capacity && it->sessions == wanted->sessions ? XA_OK : XAER_INVAL;
+    return it->rows == wanted->rows && it->sessions == wanted->sessions ? XA_OK : XAER_INVAL;
   }
-  it = zeroed(sizeof *it);
+  it = made(wanted);
   if (it == NULL)
     return XAER_RMERR;
-  uint32_t status = nigbaru_shared_open(wanted->capacity, wanted->sessions, NULL, NULL, &it->shared);
+  uint32_t status = take_all(it);
   if (status != NIGBARU_OK) {
     free(it);
     return status == NIGBARU_OUT_OF_RANGE ? XAER_INVAL : XAER_RMERR;
   }
-  memcpy(it->name, wanted->name, sizeof it->name);
-  it->capacity = wanted->capacity;
-  it->sessions = wanted->sessions;
   it->next = stores;
   *found = stores = it;
   return XA_OK;
 }
 
-/* Gives an opening a session of the store. Where all are taken, or memory is, the store is as it was. */
-static int take_session(const struct wanted *wanted, struct opening *it) {
+/* Opens the store for a thread, or leaves all as it was. */
+static int open_store(const struct wanted *wanted, struct opening *it) {
   pthread_mutex_lock(&stores_mutex);
   int code = find_or_open(wanted, &it->store);
-  if (code == XA_OK && nigbaru_seat_take(it->store->shared, 0, &it->seat) != NIGBARU_OK)
-    code = XAER_RMERR;
   if (code == XA_OK)
     it->store->openings++;
   pthread_mutex_unlock(&stores_mutex);
@@ -274,7 +402,7 @@ static int xa_open_here(char *info, int rmid, long flags) {
     return XAER_RMERR;
   it->rmid = rmid;
   it->next = first_opening();
-  int code = take_session(&wanted, it);
+  int code = open_store(&wanted, it);
   if (code == XA_OK && pthread_setspecific(openings_key, it) == 0)
     return XA_OK;
   if (code == XA_OK) {
@@ -306,14 +434,11 @@ static int xa_close_here(char *info, int rmid, long flags) {
   struct opening *it = opening_of(rmid);
   if (it == NULL)
     return XA_OK;
-  if (it->state == ACTIVE)
+  if (it->active != NULL)
     return XAER_PROTO;
   unlink_opening(it);
-  if (end_opening(it) == NIGBARU_OK)
-    return XA_OK;
-  it->next = first_opening();
-  pthread_setspecific(openings_key, it);
-  return XAER_RMERR;
+  end_opening(it);
+  return XA_OK;
 }
 
 int nigbaru_xa_drop(const char *store) {
@@ -327,7 +452,7 @@ int nigbaru_xa_drop(const char *store) {
     code = XAER_PROTO;
   else if (it != NULL) {
     *at = it->next;
-    nigbaru_shared_close(it->shared);
+    leave_all(it);
     free(it);
     code = XA_OK;
   }
@@ -337,8 +462,8 @@ int nigbaru_xa_drop(const char *store) {
 
 /* ---- what is prepared ---- */
 
-/* All prepared branches, in a block of their own. */
-static uint32_t list_prepared(struct opening *it, XID **listed, size_t *count) {
+/* All prepared branches, in a block of their own, as a session gives them. */
+static uint32_t list_by(struct place *place, XID **listed, size_t *count) {
   static const char text[] = "XA RECOVER";
   nigbaru_answer answer;
   size_t room = 16;
@@ -346,7 +471,7 @@ static uint32_t list_prepared(struct opening *it, XID **listed, size_t *count) {
     XID *xids = zeroed(room * sizeof *xids);
     if (xids == NULL)
       return NIGBARU_NO_MEMORY;
-    uint32_t status = nigbaru_seat_run(it->seat, text, sizeof text - 1, &answer, (nigbaru_xid *)xids, room);
+    uint32_t status = nigbaru_run(&place->session, text, sizeof text - 1, &answer, (nigbaru_xid *)xids, room, 0);
     if (status == NIGBARU_LIST && answer.count <= room) {
       *listed = xids;
       *count = (size_t)answer.count;
@@ -359,10 +484,22 @@ static uint32_t list_prepared(struct opening *it, XID **listed, size_t *count) {
   }
 }
 
-/* What a call returns for an identifier that isn't the session's: it is prepared already, or unknown here. */
+static uint32_t list_prepared(struct opening *it, XID **listed, size_t *count) {
+  struct place *place = free_place(it);
+  if (place == NULL)
+    return NIGBARU_NO_SESSION;
+  uint32_t status = list_by(place, listed, count);
+  put_back(place, FREE);
+  return status;
+}
+
+/* What a call returns for a branch that isn't as it has to be: it is there in another state, or unknown. */
 static int code_of_other(struct opening *it, const XID *xid) {
   XID *listed;
   size_t count;
+  uint64_t word;
+  if (place_of(it->store, xid, &word) != NULL)
+    return XAER_PROTO;
   if (list_prepared(it, &listed, &count) != NIGBARU_OK)
     return XAER_RMERR;
   int code = XAER_NOTA;
@@ -380,15 +517,20 @@ static int xa_start_here(XID *xid, int rmid, long flags) {
   int code = check(flags, TMJOIN | TMRESUME | TMNOWAIT, it, xid);
   if (code != XA_OK)
     return code;
-  if ((flags & TMJOIN) && (flags & TMRESUME))
+  /* The store knows neither (docs/STATEMENTS.md). */
+  if (flags & (TMJOIN | TMRESUME))
     return XAER_INVAL;
-  if (it->state == IDLE && !(flags & (TMJOIN | TMRESUME)) && is_same_branch(&it->branch, xid))
-    return XAER_DUPID;
-  code = say(it, "XA START ", xid, flags & TMJOIN ? " JOIN" : flags & TMRESUME ? " RESUME" : "", XAER_RMERR);
+  if (it->active != NULL)
+    return XAER_PROTO;
+  struct place *place = free_place(it);
+  if (place == NULL)
+    return XAER_RMERR;
+  code = say(place, "XA START ", xid, "", XAER_RMERR);
   if (code == XA_OK) {
-    it->state = ACTIVE;
-    it->branch = *xid;
-  }
+    keep_branch(place, xid);
+    it->active = place;
+  } else
+    put_back(place, FREE);
   return code;
 }
 
@@ -397,45 +539,58 @@ static int xa_end_here(XID *xid, int rmid, long flags) {
   int code = check(flags, TMSUSPEND | TMMIGRATE | TMSUCCESS | TMFAIL, it, xid);
   if (code != XA_OK)
     return code;
-  const char *clause;
-  switch (flags) {
-  case TMSUCCESS:
-  case TMFAIL: clause = ""; break;
-  case TMSUSPEND: clause = " SUSPEND"; break;
-  case TMSUSPEND | TMMIGRATE: clause = " SUSPEND FOR MIGRATE"; break;
-  default: return XAER_INVAL;
+  /* The store has no branch whose work is suspended (docs/STATEMENTS.md). */
+  if (flags != TMSUCCESS && flags != TMFAIL)
+    return XAER_INVAL;
+  if (it->active == NULL)
+    return XAER_PROTO;
+  XID own = branch_of(it->active);
+  if (!is_same_branch(xid, &own))
+    return code_of_other(it, xid);
+  code = say(it->active, "XA END ", xid, "", XAER_RMERR);
+  if (code == XA_OK) {
+    put_back(it->active, IDLE);
+    it->active = NULL;
   }
-  code = say(it, "XA END ", xid, clause, XAER_RMERR);
-  if (code == XA_OK)
-    it->state = IDLE;
-  return code == XAER_NOTA ? code_of_other(it, xid) : code;
+  return code;
 }
 
 /* ---- the end of a branch ---- */
+
+/* Has the session of an idle branch, whichever thread worked in it, answer a statement that ends or prepares it. XAER_NOTA where no branch is idle
+   or active under this identifier, XAER_PROTO where it is active, or another thread is in such a call. */
+static int finish(struct opening *it, const char *verb, const XID *xid, const char *clause, int without_memory) {
+  uint64_t word;
+  struct place *place = place_of(it->store, xid, &word);
+  if (place == NULL)
+    return XAER_NOTA;
+  if (word % STATES != IDLE || !is_used_now(place, word))
+    return XAER_PROTO;
+  int code = say(place, verb, xid, clause, without_memory);
+  put_back(place, code == XA_OK ? FREE : IDLE);
+  return code;
+}
 
 static int xa_prepare_here(XID *xid, int rmid, long flags) {
   struct opening *it = opening_of(rmid);
   int code = check(flags, TMNOFLAGS, it, xid);
   if (code != XA_OK)
     return code;
-  code = it->state == FREE ? XAER_NOTA : say(it, "XA PREPARE ", xid, "", XAER_RMERR);
-  if (code == XA_OK)
-    it->state = FREE;
+  code = finish(it, "XA PREPARE ", xid, "", XAER_RMERR);
   return code == XAER_NOTA ? code_of_other(it, xid) : code;
 }
 
 static int xa_commit_here(XID *xid, int rmid, long flags) {
   struct opening *it = opening_of(rmid);
+  uint64_t word;
   int code = check(flags, TMONEPHASE | TMNOWAIT, it, xid);
   if (code != XA_OK)
     return code;
-  if (flags & TMONEPHASE)
-    code = say(it, "XA COMMIT ", xid, " ONE PHASE", XAER_RMFAIL);
-  else
-    code = say(it, "XA COMMIT ", xid, "", XA_RETRY);
-  if (code == XA_OK)
-    it->state = FREE;
-  return code;
+  if (flags & TMONEPHASE) {
+    code = finish(it, "XA COMMIT ", xid, " ONE PHASE", XAER_RMFAIL);
+    return code == XAER_NOTA ? code_of_other(it, xid) : code;
+  }
+  return place_of(it->store, xid, &word) != NULL ? XAER_PROTO : say_anywhere(it, "XA COMMIT ", xid, XA_RETRY);
 }
 
 static int xa_rollback_here(XID *xid, int rmid, long flags) {
@@ -443,10 +598,8 @@ static int xa_rollback_here(XID *xid, int rmid, long flags) {
   int code = check(flags, TMNOFLAGS, it, xid);
   if (code != XA_OK)
     return code;
-  code = say(it, "XA ROLLBACK ", xid, "", XAER_RMFAIL);
-  if (code == XA_OK)
-    it->state = FREE;
-  return code;
+  code = finish(it, "XA ROLLBACK ", xid, "", XAER_RMFAIL);
+  return code == XAER_NOTA ? say_anywhere(it, "XA ROLLBACK ", xid, XAER_RMFAIL) : code;
 }
 
 /* No branch is ever completed by the store's own decision, so there is none to forget. */
@@ -523,6 +676,9 @@ static int row(int rmid, const char *verb, const void *key, size_t key_length, c
     return NIGBARU_OUT_OF_RANGE;
   struct opening *it = opening_of(rmid);
   if (it == NULL)
+    return NIGBARU_NO_HANDLE;
+  struct place *place = it->active != NULL ? it->active : free_place(it);
+  if (place == NULL)
     return NIGBARU_NO_SESSION;
   struct text text = {.length = 0};
   add_word(&text, verb);
@@ -531,7 +687,9 @@ static int row(int rmid, const char *verb, const void *key, size_t key_length, c
     add_word(&text, ",");
     add_literal(&text, value, length);
   }
-  uint32_t status = nigbaru_seat_run(it->seat, text.bytes, text.length, answer, NULL, 0);
+  uint32_t status = nigbaru_run(&place->session, text.bytes, text.length, answer, NULL, 0, 0);
+  if (place != it->active)
+    put_back(place, FREE);
   return status == NIGBARU_REFUSED ? (int)answer->error : (int)status;
 }
 

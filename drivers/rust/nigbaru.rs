@@ -1,14 +1,14 @@
 //! A verified XA row store, called from plain Rust over its C interface (crates/nigbaru_c/include/nigbaru.h).
 //!
-//! A [`Store`] may be shared by threads; each [`Session`] is one thread's at a time, and may be sent to another. Statements of several sessions go on
-//! side by side, without a lock; a mutex is taken only to take a session, to give it back, and to renew a store whose history is full, which
-//! happens by itself. What a statement is, and what it is answered: docs/STATEMENTS.md. The library is proved, this file is tested.
+//! A [`Store`] may be shared by threads; each [`Session`] is one thread's at a time, and may be sent to another. No call takes a lock or waits for
+//! another thread. What a statement is, and what it is answered: docs/STATEMENTS.md. The library is proved, this file is tested.
+use std::cell::UnsafeCell;
 use std::ffi::c_void;
 use std::fmt;
 use std::os::raw::c_char;
 use std::ptr;
-use std::sync::atomic::{AtomicBool, AtomicU64, Ordering};
-use std::sync::{Arc, Mutex};
+use std::sync::atomic::{AtomicU8, Ordering};
+use std::sync::Arc;
 
 /// A store's or a session's.
 #[repr(C)]
@@ -32,6 +32,10 @@ struct RawAnswer {
     value: [u8; 64],
 }
 
+impl RawAnswer {
+    const NONE: RawAnswer = RawAnswer { place: 0, length: 0, count: 0, error: 0, value: [0; 64] };
+}
+
 #[repr(C)]
 #[derive(Clone)]
 struct RawXid {
@@ -41,13 +45,23 @@ struct RawXid {
     data: [c_char; 128],
 }
 
+/// How long the text of an entry is at most.
+const LONGEST_TEXT: usize = 304;
+
+#[repr(C)]
+struct RawEntry {
+    number: u64,
+    length: u64,
+    lost: u64,
+    text: [u8; LONGEST_TEXT],
+}
+
 extern "C" {
-    fn nigbaru_raw_open(capacity: u64, sessions: u64, store: *mut Handle) -> u32;
+    fn nigbaru_raw_open(rows: u64, sessions: u64, store: *mut Handle) -> u32;
     fn nigbaru_raw_take(store: *mut Handle, number: u64, session: *mut Handle) -> u32;
     fn nigbaru_raw_attempt(session: *mut Handle, text: *const u8, length: usize, answer: *mut RawAnswer, xids: *mut RawXid, room: usize) -> u32;
+    fn nigbaru_raw_follow(session: *mut Handle, entry: *mut RawEntry) -> u32;
     fn nigbaru_raw_leave(session: *mut Handle) -> u32;
-    fn nigbaru_raw_renew(session: *mut Handle, store: *mut Handle) -> u32;
-    fn nigbaru_raw_history(session: *mut Handle, place: u64, number: *mut u64, text: *mut u8, room: usize, length: *mut u64) -> u32;
     fn nigbaru_raw_close(store: *mut Handle) -> u32;
 }
 
@@ -57,10 +71,10 @@ const NONE: u32 = 2;
 const LIST: u32 = 3;
 const REFUSED: u32 = 4;
 const OVERTAKEN: u32 = 5;
-const FULL: u32 = 6;
 const NO_MEMORY: u32 = 7;
 const SYNTAX: u32 = 8;
 const OUT_OF_RANGE: u32 = 10;
+const BEHIND: u32 = 16;
 
 const RECOVER: &[u8] = b"XA RECOVER";
 
@@ -92,12 +106,16 @@ pub enum Error {
     Refused(u32),
     /// The text spells no statement: at this byte, counted from 0, it goes wrong.
     Syntax(u64),
-    /// Capacity, sessions or a formatID is out of its range.
+    /// Rows, sessions, a session's number or a formatID is out of its range.
     OutOfRange,
-    /// All sessions are taken.
+    /// The session is taken, or all are.
     NoSession,
     /// There was no memory. The session goes on, and the call may be made again.
     NoMemory,
+    /// [`Session::attempt`]: another session added to the history first.
+    Overtaken,
+    /// [`Session::attempt`]: others have overwritten entries that the session needs, and just now it can't be had without them.
+    Behind,
     /// A status that the call doesn't have.
     Unexpected(u32),
 }
@@ -113,8 +131,10 @@ impl fmt::Display for Error {
             Error::Refused(number) => write!(f, "refused with {}", number),
             Error::Syntax(place) => write!(f, "syntax fault at byte {}", place),
             Error::OutOfRange => write!(f, "out of range"),
-            Error::NoSession => write!(f, "all sessions are taken"),
+            Error::NoSession => write!(f, "the session is taken, or all are"),
             Error::NoMemory => write!(f, "out of memory"),
+            Error::Overtaken => write!(f, "overtaken by another session"),
+            Error::Behind => write!(f, "behind: entries are overwritten"),
             Error::Unexpected(status) => write!(f, "unexpected status {}", status),
         }
     }
@@ -122,128 +142,68 @@ impl fmt::Display for Error {
 
 impl std::error::Error for Error {}
 
-fn fault(status: u32) -> Error {
+fn fault(status: u32, answer: &RawAnswer) -> Error {
     match status {
-        OUT_OF_RANGE => Error::OutOfRange,
+        REFUSED => Error::Refused(answer.error),
+        OVERTAKEN => Error::Overtaken,
         NO_MEMORY => Error::NoMemory,
+        SYNTAX => Error::Syntax(answer.place),
+        OUT_OF_RANGE => Error::OutOfRange,
+        BEHIND => Error::Behind,
         other => Error::Unexpected(other),
     }
 }
 
-/// A session that nobody has, or none yet, of a number.
-struct Seat {
-    number: u64,
-    handle: Handle,
-    /// How many renewals the store had that it was taken from.
-    renewals: u64,
+/// What comes next in the history, after what a session has handed out.
+#[derive(Clone, Debug, PartialEq, Eq)]
+pub enum Next {
+    /// The next entry: the number of the session that added it, and the statement in its canonical form.
+    Entry { session: u64, text: Vec<u8> },
+    /// So many entries were overwritten before they were handed out.
+    Lost(u64),
+    /// All that the history has was handed out.
+    End,
 }
 
-/// Who is given each entry of a store's history once, in the history's order: the session's number, and the statement's text in canonical form.
-pub type Keeper = Box<dyn FnMut(u64, &[u8]) + Send>;
+/// What a place is: free; free, but left with what may be a branch; free, but without memory for its DISCONNECT; somebody's.
+const FREE: u8 = 0;
+const LEFT: u8 = 1;
+const UNCLEAN: u8 = 2;
+const TAKEN: u8 = 3;
 
-/// A keeper, and how many entries of the history that is current it was given.
-struct Kept {
-    keeper: Keeper,
-    given: u64,
+/// How often a session that is behind lets others go on before a try, at most.
+const MOST_YIELDS: u32 = 32;
+/// How often all places are looked at for a free one, since others move meanwhile.
+const ROUNDS: usize = 16;
+
+/// A session of the library, and whose it is. A line of the cache of its own, so that no two threads' places share one.
+#[repr(align(128))]
+struct Place {
+    state: AtomicU8,
+    handle: UnsafeCell<Handle>,
 }
 
-impl Kept {
-    /// Gives the keeper what a session has seen and it wasn't given yet.
-    fn take_from(&mut self, seat: &mut Seat) -> Result<(), Error> {
-        let mut text = vec![0; 512];
-        loop {
-            let (mut number, mut length) = (0, 0);
-            match unsafe { nigbaru_raw_history(&mut seat.handle, self.given, &mut number, text.as_mut_ptr(), text.len(), &mut length) } {
-                OK if length as usize > text.len() => text.resize(length as usize, 0),
-                OK => {
-                    (self.keeper)(number, &text[..length as usize]);
-                    self.given += 1;
-                }
-                OUT_OF_RANGE => return Ok(()),
-                status => return Err(fault(status)),
-            }
-        }
+// Only the `Session` that has brought the state to TAKEN uses the handle, until it brings it to another.
+unsafe impl Sync for Place {}
+
+impl Place {
+    /// Takes the place, if it is in one of the states; in which it was.
+    fn take(&self, states: &[u8]) -> Option<u8> {
+        let taken = |state: &&u8| self.state.compare_exchange(**state, TAKEN, Ordering::AcqRel, Ordering::Relaxed).is_ok();
+        states.iter().find(taken).copied()
     }
-}
-
-/// What the mutex guards: the store as it was renewed last, the seats that are free, the lowest number last, and who keeps the history.
-struct Current {
-    store: Handle,
-    free: Vec<Seat>,
-    kept: Option<Kept>,
 }
 
 struct Shared {
-    current: Mutex<Current>,
-    renewals: AtomicU64,
-    /// Whether the mutex is held for a renewal.
-    is_renewing: AtomicBool,
-}
-
-impl Shared {
-    fn lock(&self) -> std::sync::MutexGuard<'_, Current> {
-        self.current.lock().unwrap_or_else(|poisoned| poisoned.into_inner())
-    }
-
-    fn is_behind(&self, seat: &Seat) -> bool {
-        seat.handle.at.is_null() || seat.renewals != self.renewals.load(Ordering::Acquire)
-    }
-
-    /// Gives a seat a session of the store that is current, in place of the one it has.
-    fn seat_in(&self, current: &mut Current, seat: &mut Seat) -> Result<(), Error> {
-        let mut next = Handle::EMPTY;
-        match unsafe { nigbaru_raw_take(&mut current.store, seat.number, &mut next) } {
-            OK => {
-                unsafe { nigbaru_raw_leave(&mut seat.handle) };
-                seat.handle = next;
-                seat.renewals = self.renewals.load(Ordering::Relaxed);
-                Ok(())
-            }
-            status => Err(fault(status)),
-        }
-    }
-
-    /// Renews the store, from a session that has seen its full history.
-    fn renew(&self, current: &mut Current, seat: &mut Seat) -> Result<(), Error> {
-        if let Some(kept) = &mut current.kept {
-            kept.take_from(seat)?;
-        }
-        let mut next = Handle::EMPTY;
-        match unsafe { nigbaru_raw_renew(&mut seat.handle, &mut next) } {
-            OK => {
-                unsafe { nigbaru_raw_close(&mut current.store) };
-                current.store = next;
-                if let Some(kept) = &mut current.kept {
-                    kept.given = 0;
-                }
-                self.renewals.fetch_add(1, Ordering::Release);
-                Ok(())
-            }
-            status => Err(fault(status)),
-        }
-    }
-
-    /// A seat goes over to the current store, which is renewed first where it is the seat's own and full. Nobody adds to a new store before `renewals`
-    /// says that there is one.
-    fn move_on(&self, seat: &mut Seat, is_full: bool) -> Result<(), Error> {
-        let mut current = self.lock();
-        if is_full && !self.is_behind(seat) {
-            self.is_renewing.store(true, Ordering::Relaxed);
-            let renewed = self.renew(&mut current, seat);
-            self.is_renewing.store(false, Ordering::Relaxed);
-            renewed?;
-        }
-        self.seat_in(&mut current, seat)
-    }
+    rows: u64,
+    places: Vec<Place>,
 }
 
 impl Drop for Shared {
     fn drop(&mut self) {
-        let mut current = self.lock();
-        for seat in &mut current.free {
-            unsafe { nigbaru_raw_leave(&mut seat.handle) };
+        for place in &mut self.places {
+            unsafe { nigbaru_raw_leave(place.handle.get_mut()) };
         }
-        unsafe { nigbaru_raw_close(&mut current.store) };
     }
 }
 
@@ -254,95 +214,135 @@ pub struct Store {
 }
 
 impl Store {
-    /// Opens a store without rows: its history is renewed every `capacity` entries, 1 to 1024, and it has 1 to 16 sessions.
-    pub fn open(capacity: u64, sessions: u64) -> Result<Store, Error> {
-        Store::open_with(capacity, sessions, None)
-    }
-
-    /// The same, and a keeper is given the whole history: what is full before it is renewed, and the rest by [`Session::hand_over`].
-    pub fn open_kept(capacity: u64, sessions: u64, keeper: Keeper) -> Result<Store, Error> {
-        Store::open_with(capacity, sessions, Some(Kept { keeper, given: 0 }))
-    }
-
-    fn open_with(capacity: u64, sessions: u64, kept: Option<Kept>) -> Result<Store, Error> {
-        let mut store = Handle::EMPTY;
-        match unsafe { nigbaru_raw_open(capacity, sessions, &mut store) } {
-            OK => {
-                let free = (1..=sessions).rev().map(|number| Seat { number, handle: Handle::EMPTY, renewals: 0 }).collect();
-                Ok(Store {
-                    shared: Arc::new(Shared {
-                        current: Mutex::new(Current { store, free, kept }),
-                        renewals: AtomicU64::new(0),
-                        is_renewing: AtomicBool::new(false),
-                    }),
-                })
+    /// Opens a store without rows: its ring keeps the last `rows` entries of its history, 1 to 65536, and it has 1 to 16 sessions.
+    pub fn open(rows: u64, sessions: u64) -> Result<Store, Error> {
+        let (mut store, mut shared) = (Handle::EMPTY, Shared { rows, places: Vec::new() });
+        let mut status = unsafe { nigbaru_raw_open(rows, sessions, &mut store) };
+        // All sessions are taken at once, since a store's handle has one call at a time. They keep the store, so its own handle is closed.
+        for number in 1..=sessions {
+            if status != OK {
+                break;
             }
-            status => Err(fault(status)),
+            let mut handle = Handle::EMPTY;
+            status = unsafe { nigbaru_raw_take(&mut store, number, &mut handle) };
+            shared.places.push(Place { state: AtomicU8::new(FREE), handle: UnsafeCell::new(handle) });
+        }
+        unsafe { nigbaru_raw_close(&mut store) };
+        match status {
+            OK => Ok(Store { shared: Arc::new(shared) }),
+            status => Err(fault(status, &RawAnswer::NONE)),
         }
     }
 
-    /// How many times its history was full.
-    pub fn renewals(&self) -> u64 {
-        self.shared.renewals.load(Ordering::Relaxed)
+    /// Takes a session that is free and has no branch, the one with the lowest number.
+    pub fn session(&self) -> Result<Session, Error> {
+        let places = self.shared.places.len();
+        for index in (0..ROUNDS * places).map(|step| step % places) {
+            if let Some(state) = self.shared.places[index].take(&[FREE, UNCLEAN]) {
+                let mut session = self.session_at(index);
+                if state == UNCLEAN {
+                    session.execute("DISCONNECT")?;
+                }
+                return Ok(session);
+            }
+        }
+        Err(Error::NoSession)
     }
 
-    /// Takes a session that is free.
-    pub fn session(&self) -> Result<Session, Error> {
-        let seat = self.shared.lock().free.pop().ok_or(Error::NoSession)?;
-        let mut session = Session { shared: Arc::clone(&self.shared), seat: Some(seat) };
-        session.execute("DISCONNECT")?;
-        Ok(session)
+    /// Takes the session of a number, from 1 on. It has the branch with which it was [left](Session::leave).
+    pub fn take(&self, number: u64) -> Result<Session, Error> {
+        if number < 1 || self.shared.places.len() as u64 <= number - 1 {
+            return Err(Error::OutOfRange);
+        }
+        let index = (number - 1) as usize;
+        self.shared.places[index].take(&[FREE, LEFT, UNCLEAN]).ok_or(Error::NoSession)?;
+        Ok(self.session_at(index))
+    }
+
+    fn session_at(&self, index: usize) -> Session {
+        Session { shared: Arc::clone(&self.shared), index, place: 0, yielded: 0, end: None }
     }
 }
 
 /// A session of a store. Dropped, it disconnects: a branch that isn't prepared is rolled back.
 pub struct Session {
     shared: Arc<Shared>,
-    seat: Option<Seat>,
+    index: usize,
+    /// Of the last answer.
+    place: u64,
+    /// At which place it let others go on last.
+    yielded: u64,
+    /// The state in which it leaves its place, if that is decided.
+    end: Option<u8>,
 }
 
 impl Session {
     /// Its number, from 1 on.
     pub fn number(&self) -> u64 {
-        self.seat.as_ref().map_or(0, |seat| seat.number)
+        self.index as u64 + 1
     }
 
-    /// Goes over to the store that is current, and waits for a renewal that is under way. A statement does so by itself; who notes when statements begin calls
-    /// this before, so that the wait doesn't count.
+    /// How many entries of the history come before its last answer.
+    pub fn place(&self) -> u64 {
+        self.place
+    }
+
+    fn handle(&mut self) -> *mut Handle {
+        self.shared.places[self.index].handle.get()
+    }
+
+    /// Gives the session back with its branch, if it has one, for [`Store::take`].
+    pub fn leave(mut self) {
+        self.end = Some(LEFT);
+    }
+
+    /// Sees what other sessions have added. A statement does so by itself; whoever lends sessions has idle ones catch up, so that none is behind later, and who
+    /// notes when statements begin calls this before, so that what others added doesn't count.
     pub fn catch_up(&mut self) -> Result<(), Error> {
-        if self.shared.is_renewing.load(Ordering::Relaxed) {
-            drop(self.shared.lock());
-        }
-        let seat = self.seat.as_mut().ok_or(Error::NoSession)?;
-        if self.shared.is_behind(seat) {
-            self.shared.move_on(seat, false)?;
-        }
-        Ok(())
-    }
-
-    /// Gives the store's keeper, if it has one, what was logged until now and it wasn't given yet.
-    pub fn hand_over(&mut self) -> Result<(), Error> {
-        let seat = self.seat.as_mut().ok_or(Error::NoSession)?;
-        let mut current = self.shared.lock();
-        if self.shared.is_behind(seat) {
-            self.shared.seat_in(&mut current, seat)?;
-        }
-        // Whatever a session is answered it has seen the history up to there; nobody renews while the lock is held.
-        let mut answer = RawAnswer { place: 0, length: 0, count: 0, error: 0, value: [0; 64] };
-        let mut none: [RawXid; 0] = [];
-        while unsafe { nigbaru_raw_attempt(&mut seat.handle, RECOVER.as_ptr(), RECOVER.len(), &mut answer, none.as_mut_ptr(), 0) } == OVERTAKEN {}
-        match &mut current.kept {
-            Some(kept) => kept.take_from(seat),
-            None => Ok(()),
+        match self.answer(RECOVER, &mut [], true) {
+            (LIST, _) => Ok(()),
+            (status, answer) => Err(fault(status, &answer)),
         }
     }
 
-    /// Has a statement answered, over as many tries and renewals as it takes. After an error nothing of it is in the store.
+    /// Hands out the next entry of the history. Each session hands out each entry once, in order, from the store's first on, also after it was given
+    /// back and taken again. If it follows too slowly, entries are overwritten: it hands out the last three quarters of the ring then.
+    pub fn follow(&mut self) -> Next {
+        let mut entry = RawEntry { number: 0, length: 0, lost: 0, text: [0; LONGEST_TEXT] };
+        match unsafe { nigbaru_raw_follow(self.handle(), &mut entry) } {
+            OK => Next::Entry { session: entry.number, text: entry.text[..entry.length as usize].to_vec() },
+            BEHIND => Next::Lost(entry.lost),
+            _ => Next::End,
+        }
+    }
+
+    /// Gives a keeper each entry that the history has now and this session hasn't handed out: the number of its session, and its text. Returns how many entries
+    /// were lost.
+    pub fn hand_over(&mut self, keeper: &mut dyn FnMut(u64, &[u8])) -> u64 {
+        let mut lost = 0;
+        loop {
+            match self.follow() {
+                Next::Entry { session, text } => keeper(session, &text),
+                Next::Lost(count) => lost += count,
+                Next::End => return lost,
+            }
+        }
+    }
+
+    /// Has a statement answered, in as many tries as it takes. After an error nothing of it is in the store.
     pub fn execute(&mut self, text: impl AsRef<[u8]>) -> Result<Reply, Error> {
-        let text = text.as_ref();
+        self.reply(text.as_ref(), true)
+    }
+
+    /// Tries once to have a statement answered.
+    pub fn attempt(&mut self, text: impl AsRef<[u8]>) -> Result<Reply, Error> {
+        self.reply(text.as_ref(), false)
+    }
+
+    fn reply(&mut self, text: &[u8], goes_on: bool) -> Result<Reply, Error> {
         let mut xids = Vec::new();
         loop {
-            let (status, answer) = self.answer(text, &mut xids)?;
+            let (status, answer) = self.answer(text, &mut xids, goes_on);
             return match status {
                 OK => Ok(Reply::Ok),
                 VALUE => Ok(Reply::Value(answer.value[..answer.length as usize].to_vec())),
@@ -353,26 +353,41 @@ impl Session {
                     continue;
                 }
                 LIST => Ok(Reply::List(xids[..answer.count as usize].iter().map(xid_of).collect())),
-                REFUSED => Err(Error::Refused(answer.error)),
-                SYNTAX => Err(Error::Syntax(answer.place)),
-                status => Err(fault(status)),
+                status => Err(fault(status, &answer)),
             };
         }
     }
 
-    /// The first status that is neither `OVERTAKEN` nor `FULL`.
-    fn answer(&mut self, text: &[u8], xids: &mut [RawXid]) -> Result<(u32, RawAnswer), Error> {
-        let seat = self.seat.as_mut().ok_or(Error::NoSession)?;
-        let mut answer = RawAnswer { place: 0, length: 0, count: 0, error: 0, value: [0; 64] };
-        if self.shared.is_behind(seat) {
-            self.shared.move_on(seat, false)?;
-        }
+    /// The first status; where it goes on, the first that is neither `OVERTAKEN` nor `BEHIND`. A session that is behind needs a checkpoint, which others keep:
+    /// it lets them go on for longer each time, since they can't while it has the checkpoint in hand.
+    fn answer(&mut self, text: &[u8], xids: &mut [RawXid], goes_on: bool) -> (u32, RawAnswer) {
+        let mut answer = RawAnswer::NONE;
+        let mut turns = 1;
         loop {
-            match unsafe { nigbaru_raw_attempt(&mut seat.handle, text.as_ptr(), text.len(), &mut answer, xids.as_mut_ptr(), xids.len()) } {
-                OVERTAKEN => std::hint::spin_loop(),
-                FULL => self.shared.move_on(seat, true)?,
-                status => return Ok((status, answer)),
+            let status = unsafe { nigbaru_raw_attempt(self.handle(), text.as_ptr(), text.len(), &mut answer, xids.as_mut_ptr(), xids.len()) };
+            match status {
+                OVERTAKEN if goes_on => (),
+                BEHIND if goes_on => {
+                    (0..turns).for_each(|_| std::thread::yield_now());
+                    turns = MOST_YIELDS.min(2 * turns);
+                }
+                OK..=REFUSED => {
+                    self.place = answer.place;
+                    self.yield_in_time(goes_on);
+                    return (status, answer);
+                }
+                status => return (status, answer),
             }
+        }
+    }
+}
+
+impl Session {
+    /// In a quarter of the ring's rows the session has brought a checkpoint up to date: whoever waits for a processor can use it before the ring has gone round.
+    fn yield_in_time(&mut self, goes_on: bool) {
+        if goes_on && self.place >= self.yielded + self.shared.rows / 4 {
+            self.yielded = self.place;
+            std::thread::yield_now();
         }
     }
 }
@@ -380,10 +395,8 @@ impl Session {
 impl Drop for Session {
     fn drop(&mut self) {
         // Without memory the branch stays until the session is taken again.
-        let _ = self.execute("DISCONNECT");
-        if let Some(seat) = self.seat.take() {
-            self.shared.lock().free.push(seat);
-        }
+        let end = self.end.unwrap_or_else(|| if self.execute("DISCONNECT").is_ok() { FREE } else { UNCLEAN });
+        self.shared.places[self.index].state.store(end, Ordering::Release);
     }
 }
 

@@ -5,7 +5,7 @@
  *     nigbaru_store store = NIGBARU_EMPTY;
  *     nigbaru_session session = NIGBARU_EMPTY;
  *     nigbaru_answer answer;
- *     if (nigbaru_open(1024, 16, &store) || nigbaru_take(&store, 1, &session)) return 1;
+ *     if (nigbaru_open(16384, 16, &store) || nigbaru_take(&store, 1, &session)) return 1;
  *     if (nigbaru_run(&session, "PUT 'k','v'", 11, &answer, NULL, 0, 0) != NIGBARU_OK) return 1;
  *     nigbaru_leave(&session);
  *     nigbaru_close(&store);
@@ -13,26 +13,30 @@
  * docs/STATEMENTS.md has the statements and their replies, docs/EMBEDDING.md whole programs and how to link.
  *
  * Threads. Sessions of one store may be on threads of their own, without a lock of yours. Each session
- * answers from its own copy of the history, and adds to the one history that all share. A handle takes one
- * call at a time: a second call on it at the same time returns NIGBARU_BUSY. No call waits for another
- * thread; nigbaru_run without a limit tries again as long as other sessions are faster. A handle may be moved
- * to another thread between calls.
+ * answers from its own copy of the rows, and adds to the one history that all share. A handle takes one call
+ * at a time: a second call on it at the same time returns NIGBARU_BUSY. No call waits for another thread;
+ * nigbaru_run without a limit tries again as long as other sessions are faster. A handle may be moved to
+ * another thread between calls.
  *
- * Memory. The library takes memory by malloc and realloc, and frees it. nigbaru_leave and nigbaru_close take
- * none. A store is freed after it was closed and all its sessions have left. A handle that you neither leave
- * nor close keeps its memory.
+ * The history has no end. It is kept in a ring of `rows` entries: each new entry overwrites the oldest one. A
+ * session that isn't used while others add more entries than that is behind. It then goes on by itself from
+ * a copy of all rows, a checkpoint, which other sessions keep for it.
+ *
+ * Memory. The library takes memory by malloc and realloc, and frees it. The ring doesn't grow.
+ * nigbaru_follow, nigbaru_leave and nigbaru_close take no memory. A store is freed after it was closed and
+ * all its sessions have left. A handle that you neither leave nor close keeps its memory.
  *
  * After an error. From status 5 on nothing of the statement is in the history, and every handle holds what it
  * held, except that a session may have seen more of the history. You can go on with all of them.
  *
  * No call can see whether you keep these rules, so they are yours:
  *   1. A pointer that isn't null points to what its type says, with room for it.
- *   2. `text` points to `length` bytes (in nigbaru_history: room for `room` bytes), `xids` to room for `room`
- *      identifiers.
+ *   2. `text` points to `length` bytes, `xids` to room for `room` identifiers.
  *   3. A handle begins as NIGBARU_EMPTY, and only calls of this header change it.
  *   4. A handle is never copied: pass it by its address, and move it only while no call has it.
- *   5. What a call writes to, such as `answer`, isn't touched by another thread before the call has returned.
- *      It doesn't overlap anything else that the call is given. Store and session are two different handles.
+ *   5. What a call writes to, such as `answer` and `entry`, isn't touched by another thread before the call has
+ *      returned. It doesn't overlap anything else that the call is given. Store and session are two different
+ *      handles.
  *   6. No call comes from a signal handler, or from the child after a fork of a process with threads.
  *   7. malloc, realloc and free belong to one allocator, which aligns blocks to 16 bytes.
  *   8. If you call nigbaru_raw_* yourself: no pointer is null, and one thread at a time uses a handle. These
@@ -55,13 +59,13 @@ typedef atomic_flag nigbaru_flag;
 
 /* The statuses that calls return. 0 to 4: the statement was answered, and answer.place is the place in the
  * history. From 5 on the call failed. If several causes hold, the one that the call's comment names first is
- * returned. */
+ * returned. No call returns 6 or 12. */
 
 /* The call was carried out; from nigbaru_attempt and nigbaru_run: the reply is OK. */
 #define NIGBARU_OK            0
 /* GET: the row's value is the first answer.length bytes of answer.value. */
 #define NIGBARU_VALUE         1
-/* GET: there is no such row. */
+/* GET: there is no such row. From nigbaru_follow: all entries that there are were handed out. */
 #define NIGBARU_NONE          2
 /* XA RECOVER: there are answer.count prepared branches. The first of them, as many as `room`, are in xids. If
  * there are more, call again with more room. */
@@ -70,10 +74,7 @@ typedef atomic_flag nigbaru_flag;
 #define NIGBARU_REFUSED       4
 /* Another session added to the history first: call again. nigbaru_run does so by itself. */
 #define NIGBARU_OVERTAKEN     5
-/* The statement is to be logged, and the history has as many entries as its capacity: call nigbaru_renew, and
- * go on in the new store. Statements that aren't logged are still answered. */
-#define NIGBARU_FULL          6
-/* An allocation failed: free some memory and call again. */
+/* An allocation failed, or the history has 2^59 entries: free some memory and call again. */
 #define NIGBARU_NO_MEMORY     7
 /* The text is no statement: answer.place is the first byte that doesn't fit, from 0. Correct the text. */
 #define NIGBARU_SYNTAX        8
@@ -82,11 +83,8 @@ typedef atomic_flag nigbaru_flag;
 #define NIGBARU_NO_HANDLE     9
 /* An argument is out of its range, or a formatID is above LONG_MAX: correct it. */
 #define NIGBARU_OUT_OF_RANGE 10
-/* The session of this number was taken from this store already: take another number, or take it from the next
- * store. */
+/* Somebody has the session of this number: take another number, or wait until the session leaves. */
 #define NIGBARU_NO_SESSION   11
-/* nigbaru_renew: the session hasn't seen a full history, so there is nothing to renew. Go on with the store. */
-#define NIGBARU_NOT_FULL     12
 /* The handle that is to be filled isn't empty: leave or close it first, or use another. */
 #define NIGBARU_HELD         13
 /* Another call has the handle, and this one did nothing: give each thread a session of its own. Not from
@@ -94,6 +92,11 @@ typedef atomic_flag nigbaru_flag;
 #define NIGBARU_BUSY         14
 /* A pointer is null that must not be, and the call did nothing. Not from nigbaru_raw_*. */
 #define NIGBARU_NO_POINTER   15
+/* Others have added so many entries since this session last answered that some which it needs are
+ * overwritten, and no checkpoint can be had just now: call again. nigbaru_run does so by itself. From
+ * nigbaru_follow: entry.lost entries were overwritten before they were handed out; call again for the entries
+ * after them. */
+#define NIGBARU_BEHIND       16
 
 /* What a store or a session is kept by. Its pointer is the library's. */
 typedef struct nigbaru_handle { void *at; } nigbaru_handle;
@@ -101,8 +104,8 @@ typedef struct nigbaru_handle { void *at; } nigbaru_handle;
 /* What nigbaru_attempt and nigbaru_run write. It is written at every status except NIGBARU_NO_POINTER and
  * NIGBARU_BUSY. */
 typedef struct nigbaru_answer {
-    /* At 0 to 4: how many entries of the history come before the answer, in [0, capacity]. At NIGBARU_SYNTAX:
-     * the first byte of the text that doesn't fit, from 0. Else 0. */
+    /* At 0 to 4: how many entries of the history come before the answer, from the store's first on, in
+     * [0, 2^59]. At NIGBARU_SYNTAX: the first byte of the text that doesn't fit, from 0. Else 0. */
     uint64_t place;
     /* At NIGBARU_VALUE: how many bytes of `value` are the row's, in [0, 64]. Else 0. */
     uint64_t length;
@@ -120,6 +123,22 @@ typedef struct nigbaru_answer {
     uint8_t value[64];
 } nigbaru_answer;
 
+/* How long the text of an entry is at most, in bytes. */
+#define NIGBARU_TEXT 304
+
+/* What nigbaru_follow writes. It is written at every status except NIGBARU_NO_POINTER and NIGBARU_BUSY. */
+typedef struct nigbaru_entry {
+    /* At NIGBARU_OK: the number of the session that added the entry, in [1, 16]. Else 0. */
+    uint64_t number;
+    /* At NIGBARU_OK: how many bytes of `text` are the statement's, in [1, NIGBARU_TEXT]. Else 0. */
+    uint64_t length;
+    /* At NIGBARU_BEHIND: how many entries were overwritten before they were handed out, from 1 on. Else 0. */
+    uint64_t lost;
+    /* At NIGBARU_OK: the statement in its canonical form (docs/STATEMENTS.md#canonical-form), in the first
+     * `length` bytes, without a terminator. */
+    uint8_t text[NIGBARU_TEXT];
+} nigbaru_entry;
+
 /* X/Open's XID, with the same layout: you may pass an XID * as a nigbaru_xid *. data has the gtrid and then
  * the bqual. */
 typedef struct nigbaru_xid {
@@ -131,13 +150,12 @@ typedef struct nigbaru_xid {
 
 /* ---- The library's functions. They are proved, for one call at a time on a handle. Use the calls below
  * instead. ---- */
-uint32_t nigbaru_raw_open(uint64_t capacity, uint64_t sessions, nigbaru_handle *store);
+uint32_t nigbaru_raw_open(uint64_t rows, uint64_t sessions, nigbaru_handle *store);
 uint32_t nigbaru_raw_take(nigbaru_handle *store, uint64_t number, nigbaru_handle *session);
 uint32_t nigbaru_raw_attempt(nigbaru_handle *session, const uint8_t *text, size_t length, nigbaru_answer *answer,
-                            nigbaru_xid *xids, size_t room);
+                             nigbaru_xid *xids, size_t room);
+uint32_t nigbaru_raw_follow(nigbaru_handle *session, nigbaru_entry *entry);
 uint32_t nigbaru_raw_leave(nigbaru_handle *session);
-uint32_t nigbaru_raw_renew(nigbaru_handle *session, nigbaru_handle *store);
-uint32_t nigbaru_raw_history(nigbaru_handle *session, uint64_t place, uint64_t *number, uint8_t *text, size_t room, uint64_t *length);
 uint32_t nigbaru_raw_close(nigbaru_handle *store);
 
 #ifdef __cplusplus
@@ -166,30 +184,31 @@ static inline void nigbaru_exit_(nigbaru_flag *busy) {
 #endif
 }
 
-/* Opens a store with no rows.
+/* Opens a store with no branch and no row.
  *
- * capacity: how many entries its history has room for, in [1, 1024]. sessions: how many sessions it has, in
- * [1, 16].
+ * rows: how many entries its ring keeps, in [1, 65536]. sessions: how many sessions it has, in [1, 16].
  * store: an empty handle, which holds the store afterwards.
- * Errors: NO_POINTER, BUSY, HELD (the handle isn't empty), OUT_OF_RANGE (capacity or sessions), NO_MEMORY.
- * After an error the handle is as before. */
-static inline uint32_t nigbaru_open(uint64_t capacity, uint64_t sessions, nigbaru_store *store) {
+ * Errors: NO_POINTER, BUSY, HELD (the handle isn't empty), OUT_OF_RANGE (rows or sessions), NO_MEMORY.
+ * After an error the handle is as before. docs/EMBEDDING.md#the-ring says how much memory the ring takes, and
+ * how to choose its rows. */
+static inline uint32_t nigbaru_open(uint64_t rows, uint64_t sessions, nigbaru_store *store) {
     uint32_t status;
     if (store == NULL) return NIGBARU_NO_POINTER;
     if (!nigbaru_enter_(&store->busy)) return NIGBARU_BUSY;
-    status = nigbaru_raw_open(capacity, sessions, &store->handle);
+    status = nigbaru_raw_open(rows, sessions, &store->handle);
     nigbaru_exit_(&store->busy);
     return status;
 }
 
-/* Takes a session out of a store. Each session of a store can be taken once.
+/* Takes a session of a store. Nobody else has it until it leaves. Any thread may take it.
  *
  * number: the session's, in [1, sessions]. session: an empty handle, which holds the session afterwards. It
- * keeps the store alive, so you may close the store's handle.
- * Errors: NO_POINTER, BUSY, NO_HANDLE (the store's handle is empty), HELD (the session's isn't), NO_HANDLE
- * (the store's handle holds a session), OUT_OF_RANGE (number), NO_SESSION (it was taken), NO_MEMORY. If
- * memory is missing, NO_MEMORY may come before the last three of these are looked at.
- * After an error both handles are as before, and no session is used up. */
+ * keeps the store alive, so you may close the store's handle. If the session was taken before and has left,
+ * it goes on where it was: its branch is as it was, with its locks, and so is what it has handed out by
+ * nigbaru_follow.
+ * Errors: NO_POINTER, BUSY, NO_HANDLE (the store's handle holds no store), HELD (the session's isn't empty),
+ * OUT_OF_RANGE (number), NO_MEMORY, NO_SESSION (somebody has it).
+ * After an error both handles are as before, and the session can still be taken. */
 static inline uint32_t nigbaru_take(nigbaru_store *store, uint64_t number, nigbaru_session *session) {
     uint32_t status;
     if (store == NULL || session == NULL) return NIGBARU_NO_POINTER;
@@ -207,8 +226,9 @@ static inline uint32_t nigbaru_take(nigbaru_store *store, uint64_t number, nigba
  * answer: gets the answer. xids, room: room for the identifiers of an XA RECOVER; xids may be null if room is
  * 0.
  * Returns 0 to 4 if the statement was answered. Errors: NO_POINTER, BUSY, NO_HANDLE (no session is held),
- * SYNTAX, OUT_OF_RANGE (a formatID is above LONG_MAX), then NO_MEMORY, FULL and OVERTAKEN.
- * After an error nothing of the statement is in the history. The session may have seen more of it. */
+ * SYNTAX, OUT_OF_RANGE (a formatID is above LONG_MAX), then BEHIND, NO_MEMORY and OVERTAKEN.
+ * After an error nothing of the statement is in the history. The session may have seen more of it. `xids` is
+ * written only at LIST. */
 static inline uint32_t nigbaru_attempt(nigbaru_session *session, const char *text, size_t length, nigbaru_answer *answer,
                                       nigbaru_xid *xids, size_t room) {
     static nigbaru_xid none;
@@ -221,26 +241,52 @@ static inline uint32_t nigbaru_attempt(nigbaru_session *session, const char *tex
     return status;
 }
 
-/* Gives a session a statement as nigbaru_attempt does, and tries again while it is overtaken.
+/* Counts down, up to a tenth of a millisecond. A session that is behind needs a checkpoint, which others can't
+ * bring up to date while it has the checkpoint in hand: so it lets them go on, for longer each time. */
+static inline void nigbaru_pause_(uint64_t tried) {
+    volatile uint32_t left = UINT32_C(64) << (tried < 10 ? tried : 10);
+    while (left != 0) left = left - 1;
+}
+
+/* Gives a session a statement as nigbaru_attempt does, and tries again while it is overtaken or behind. While it
+ * is behind it pauses between two tries, for a tenth of a millisecond at most.
  *
  * tries: how often it tries at most, from 1 on; 0 means without a limit.
- * Errors: those of nigbaru_attempt; OVERTAKEN only after `tries` tries. */
+ * Errors: those of nigbaru_attempt; OVERTAKEN and BEHIND only after `tries` tries. */
 static inline uint32_t nigbaru_run(nigbaru_session *session, const char *text, size_t length, nigbaru_answer *answer,
                                   nigbaru_xid *xids, size_t room, uint64_t tries) {
     uint64_t tried = 0;
-    uint32_t status;
-    do {
-        status = nigbaru_attempt(session, text, length, answer, xids, room);
+    for (;;) {
+        uint32_t status = nigbaru_attempt(session, text, length, answer, xids, room);
         tried++;
-    } while (status == NIGBARU_OVERTAKEN && tried != tries);
+        if ((status != NIGBARU_OVERTAKEN && status != NIGBARU_BEHIND) || tried == tries) return status;
+        if (status == NIGBARU_BEHIND) nigbaru_pause_(tried);
+    }
+}
+
+/* Hands out the next entry of the history: its session and its statement. A session hands out each entry
+ * once, in order, from the store's first on, also after it has left and was taken again. If it follows too
+ * slowly, entries are overwritten; it says how many it lost, and goes on after them. Never waits.
+ *
+ * entry: gets the entry at OK, and the number of lost entries at BEHIND.
+ * Returns OK with an entry; NONE if all that the history has was handed out: call again later; BEHIND if
+ * entries were lost: call again for the next. Errors: NO_POINTER, BUSY, NO_HANDLE (no session is held).
+ * Entries that the session itself adds are handed out like all others. Takes no memory. */
+static inline uint32_t nigbaru_follow(nigbaru_session *session, nigbaru_entry *entry) {
+    uint32_t status;
+    if (session == NULL || entry == NULL) return NIGBARU_NO_POINTER;
+    if (!nigbaru_enter_(&session->busy)) return NIGBARU_BUSY;
+    status = nigbaru_raw_follow(&session->handle, entry);
+    nigbaru_exit_(&session->busy);
     return status;
 }
 
-/* Ends a session's handle, which is empty afterwards. The server isn't told: what the session added stays,
- * and so does its open branch, with its locks. Send DISCONNECT first to roll an open branch back.
+/* Gives a session back to its store, from which any thread can take it again. Its handle is empty afterwards.
  *
- * The session's number can be taken again only from the next store, after a renewal. Takes no memory.
- * Errors: NO_POINTER, BUSY, NO_HANDLE (no session is held). After an error the handle is as before. */
+ * Nothing is logged: what the session added stays, and so does its open branch, with its locks. Send
+ * DISCONNECT first to roll an open branch back. Takes no memory.
+ * Errors: NO_POINTER, BUSY, NO_HANDLE (no session is held, also if it has left already). After an error the
+ * handle is as before. */
 static inline uint32_t nigbaru_leave(nigbaru_session *session) {
     uint32_t status;
     if (session == NULL) return NIGBARU_NO_POINTER;
@@ -250,48 +296,8 @@ static inline uint32_t nigbaru_leave(nigbaru_session *session) {
     return status;
 }
 
-/* Makes the next store after a full history. It begins with what the history leaves, and its own history is
- * empty, of the same capacity. Each session can be taken from it again, and goes on with the branch that its
- * number had open.
- *
- * session: one that has seen the full history, as after FULL. store: an empty handle, which holds the new
- * store afterwards. Sessions of the old store stay, and answer from the old history. So two things are yours:
- * make the new store known to all threads before anything is added to it, and keep only one of several
- * renewals of one history. drivers/c/nigbaru_shared.c does both.
- * Errors: NO_POINTER, BUSY, NO_HANDLE (the session's handle is empty), HELD (the store's isn't), NO_HANDLE
- * (the session's handle holds a store), NOT_FULL, NO_MEMORY. After an error both handles are as before. */
-static inline uint32_t nigbaru_renew(nigbaru_session *session, nigbaru_store *store) {
-    uint32_t status;
-    if (store == NULL || session == NULL) return NIGBARU_NO_POINTER;
-    if (!nigbaru_enter_(&session->busy)) return NIGBARU_BUSY;
-    if (!nigbaru_enter_(&store->busy)) { nigbaru_exit_(&session->busy); return NIGBARU_BUSY; }
-    status = nigbaru_raw_renew(&session->handle, &store->handle);
-    nigbaru_exit_(&store->busy);
-    nigbaru_exit_(&session->busy);
-    return status;
-}
-
-/* Reads an entry of the history that the session has seen.
- *
- * place: from 0, less than the number of entries that it has seen. number: gets the number of the entry's
- * session.
- * text, room: gets the entry's statement, at most room bytes, without a terminator; text may be null if room
- * is 0.
- * length: gets the length of the whole text. If it is more than room, call again with more room.
- * Errors: NO_POINTER, BUSY, NO_HANDLE (no session is held), OUT_OF_RANGE (place), NO_MEMORY.
- * After an error number, text and length are as before. */
-static inline uint32_t nigbaru_history(nigbaru_session *session, uint64_t place, uint64_t *number, char *text, size_t room, uint64_t *length) {
-    static uint8_t none;
-    uint32_t status;
-    if (session == NULL || number == NULL || length == NULL || (text == NULL && room != 0)) return NIGBARU_NO_POINTER;
-    if (!nigbaru_enter_(&session->busy)) return NIGBARU_BUSY;
-    status = nigbaru_raw_history(&session->handle, place, number, text == NULL ? &none : (uint8_t *)text, room, length);
-    nigbaru_exit_(&session->busy);
-    return status;
-}
-
-/* Ends a store's handle, which is empty afterwards. Sessions that were taken go on, and the memory is freed
- * when the last of them has left. Takes no memory.
+/* Ends a store's handle, which is empty afterwards. Nothing is logged. Sessions that were taken go on, and the
+ * memory is freed when the last of them has left. Takes no memory.
  *
  * Errors: NO_POINTER, BUSY, NO_HANDLE (no store is held). After an error the handle is as before. */
 static inline uint32_t nigbaru_close(nigbaru_store *store) {
@@ -308,20 +314,19 @@ static inline const char *nigbaru_text(uint32_t status) {
     switch (status) {
     case NIGBARU_OK: return "ok";
     case NIGBARU_VALUE: return "a value";
-    case NIGBARU_NONE: return "no such row";
+    case NIGBARU_NONE: return "no such row, or no entry";
     case NIGBARU_LIST: return "a list of identifiers";
     case NIGBARU_REFUSED: return "refused";
     case NIGBARU_OVERTAKEN: return "overtaken by another session";
-    case NIGBARU_FULL: return "the history is full";
     case NIGBARU_NO_MEMORY: return "out of memory";
     case NIGBARU_SYNTAX: return "the text spells no statement";
     case NIGBARU_NO_HANDLE: return "the handle holds nothing that the call takes";
     case NIGBARU_OUT_OF_RANGE: return "out of range";
-    case NIGBARU_NO_SESSION: return "the session was taken already";
-    case NIGBARU_NOT_FULL: return "the session has not seen a full history";
+    case NIGBARU_NO_SESSION: return "somebody has the session";
     case NIGBARU_HELD: return "the handle holds something";
     case NIGBARU_BUSY: return "another call has the handle";
     case NIGBARU_NO_POINTER: return "a null pointer";
+    case NIGBARU_BEHIND: return "behind: entries are overwritten";
     default: return "no status";
     }
 }

@@ -1,3 +1,2 @@
 mod Holding
 mod Laying
-mod Places

@@ -1,4 +1,7 @@
 pub mod Held
+pub mod Holds
+pub mod Opening
+pub mod Taking
 pub mod Outcome
-pub mod Stands
 pub mod Telling
+pub mod Following

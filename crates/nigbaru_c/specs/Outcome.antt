@@ -1,38 +1,25 @@
 -- The result of a text that C gives to a session.
---     seat_of          the session that a handle holds, if it holds one
 --     status_of        the status that C gets
 --     Fits             X/Open's layout can hold a statement's identifier
 --     Attempts         a statement was tried, if a session is held
 --     Goes             what happened to the session, by the outcome
 --     Comes            the same for the session that a handle holds
-use Rattle.std.specs.Prelude.{◌≡◌, ◌<◌, ◌^◌, ℕ, false, List, Option, None, Some}
+use Rattle.std.specs.Prelude.{◌≡◌, ◌<◌, ◌^◌, ℕ, List, Result, Ok, Err, Option, None, Some}
 use Rattle.xa_xid.specs.declared.statement.Statement.{Statement}
 use Rattle.xa_xid.specs.declared.statement.Statement.TheVariants.{Start, End, Prepare, Commit, Rollback, Recover, Unsupported, Get, Put, Del, Disconnect}
 use Rattle.xa_statement.specs.Grammar.{Spells}
 use Rattle.xa_statement.specs.FaultPlace.{FaultAt}
 use Rattle.xa_server.specs.declared.reply.Reply.{Reply}
 use Rattle.xa_server.specs.declared.reply.Reply.TheVariants.{Ok as Accepted, Value, Recovered, Refused}
-use Rattle.xa_session.specs.Answer.{IsAnswered, Fails}
-use Rattle.xa_session.specs.declared.fault.Fault.{Fault}
-use Rattle.xa_session.specs.declared.fault.Fault.TheVariants.{Overtaken, Full, NoMemory, Busy}
-use Rattle.xa_store.specs.Passes.{log_of, known_of}
-use Rattle.nigbaru_c.specs.declared.chair.Chair.{Chair}
-use Rattle.nigbaru_c.specs.declared.hold.Hold.{Hold}
-use Rattle.nigbaru_c.specs.declared.hold.Hold.TheVariants.{Store, Session}
-use Rattle.nigbaru_c.specs.declared.seat.Seat.{Seat}
+use Rattle.xa_session.specs.declared.answer.Answer.{Answer}
+use Rattle.ring_log.specs.RingPass.{known_of}
+use Rattle.xa_endless.specs.Answers.{Finds, TriesOnce}
+use Rattle.xa_endless.specs.Stays.{Stays}
+use Rattle.xa_endless.specs.declared.fault.EndlessFault.{EndlessFault}
+use Rattle.xa_endless.specs.declared.fault.EndlessFault.TheVariants.{Overtaken, NoMemory, Behind}
+use Rattle.xa_endless.specs.declared.session.EndlessSession.{EndlessSession}
 use Rattle.nigbaru_c.specs.declared.outcome.Outcome.{Outcome}
 use Rattle.nigbaru_c.specs.declared.outcome.Outcome.TheVariants.{Vacant, Misspelled, OutOfRange, Answered, Unanswered}
-
--- the session that a box holds, if it holds one
-abbrev pub seat_in : Option Hold → Option Seat
-seat_in None = None
-seat_in (Some (Store stand)) = None
-seat_in (Some (Session seat)) = Some seat
-
--- the session that a handle holds, if it holds one
-abbrev pub seat_of : Option Chair → Option Seat
-seat_of None = None
-seat_of (Some chair) = seat_in chair.hold
 
 -- the status of a reply
 abbrev pub status_of_reply : Reply → ℕ
@@ -42,12 +29,11 @@ status_of_reply (Value None) = 2
 status_of_reply (Recovered xids) = 3
 status_of_reply (Refused error) = 4
 
--- the status of a fault: trying again helps if another has the turn, as it does after Overtaken
-abbrev pub status_of_fault : Fault → ℕ
+-- the status of a fault
+abbrev pub status_of_fault : EndlessFault → ℕ
 status_of_fault (Overtaken front) = 5
-status_of_fault Full = 6
 status_of_fault NoMemory = 7
-status_of_fault Busy = 5
+status_of_fault Behind = 16
 
 -- the status that C gets
 abbrev pub status_of : Outcome → ℕ
@@ -71,34 +57,34 @@ Fits (Put key value) = Unit {0}
 Fits (Del key) = Unit {0}
 Fits Disconnect = Unit {0}
 
--- the session is of the store that it was of
-pub record Stays (old new : Seat) : Type 0 where
-  pub store : new.store.value ≡ old.store.value
-  pub belongs : log_of new.pass ≡ log_of old.pass
+-- one try: the session is of its store, the statement is answered or not for a cause, and at most one exchange was made
+pub record HasTried (statement : Statement) (result : Result Answer EndlessFault) (old new : EndlessSession) : Type 0 where
+  pub stays : Stays old new
+  pub finds : Finds old.store.value.log statement result new.member.replica old.member.pass new.member.pass
+  pub once : TriesOnce result (known_of old.member.pass) (known_of new.member.pass)
 
 -- one try at a statement: its answer, or why there is none
-abbrev pub Tried : Statement → Outcome → Seat → Seat → Type 0
-Tried statement (Answered answer) old new = Stays old new × IsAnswered old.store.value.base statement answer (known_of old.pass) (known_of new.pass)
-Tried statement (Unanswered fault) old new = Stays old new
-    × Fails false (log_of old.pass).capacity old.store.value.base statement fault (known_of old.pass) (known_of new.pass)
+abbrev pub Tried : Statement → Outcome → EndlessSession → EndlessSession → Type 0
+Tried statement (Answered answer) old new = HasTried statement (Ok answer) old new
+Tried statement (Unanswered fault) old new = HasTried statement (Err fault) old new
 Tried statement (Misspelled fault) old new = ⊥
 Tried statement Vacant old new = ⊥
 Tried statement OutOfRange old new = (Fits statement → ⊥) × (new ≡ old)
 
 -- a statement that X/Open's layout can hold was tried, if a session is held
-abbrev pub Attempts : Statement → Outcome → Option Seat → Option Seat → Type 0
+abbrev pub Attempts : Statement → Outcome → Option EndlessSession → Option EndlessSession → Type 0
 Attempts statement Vacant None None = Unit {0}
 Attempts statement (Answered answer) (Some old) (Some new) = Tried statement (Answered answer) old new
 Attempts statement (Unanswered fault) (Some old) (Some new) = Tried statement (Unanswered fault) old new
 Attempts statement outcome old new = ⊥
 
 -- the text's statement was tried, or it spells none
-abbrev pub Goes : List ℕ → Outcome → Seat → Seat → Type 0
+abbrev pub Goes : List ℕ → Outcome → EndlessSession → EndlessSession → Type 0
 Goes text (Misspelled fault) old new = FaultAt text fault.at × (new ≡ old)
 Goes text outcome old new = (statement : Statement) × Spells text statement × Tried statement outcome old new
 
 -- the same for what a handle holds; without a session nothing changes
-abbrev pub Comes : List ℕ → Outcome → Option Seat → Option Seat → Type 0
+abbrev pub Comes : List ℕ → Outcome → Option EndlessSession → Option EndlessSession → Type 0
 Comes text Vacant None None = Unit {0}
 Comes text outcome (Some old) (Some new) = Goes text outcome old new
 Comes text outcome old new = ⊥

@@ -2,7 +2,7 @@
 --     Tells            the place, the counts and the bytes
 --     IsLaid           an identifier as X/Open lays it out
 --     Lists            the identifiers of an answer, as many as there is room for
-use Rattle.std.specs.Prelude.{◌≡◌, ◌<◌, ◌+◌, ◌^◌, ◌++◌, ℕ, pos, List, length, take, slice_index_or, Option, None, Some}
+use Rattle.std.specs.Prelude.{◌≡◌, ◌<◌, ◌≤◌, ◌+◌, ◌^◌, ◌++◌, ℕ, pos, List, length, take, slice_index_or, Option, None, Some}
 use Rattle.xa_xid.specs.declared.xid.Xid.{Xid}
 use Rattle.xa_server.specs.declared.reply.Reply.{Reply}
 use Rattle.xa_server.specs.declared.reply.Reply.TheVariants.{Ok as Accepted, Value, Recovered, Refused}
@@ -20,13 +20,17 @@ TellsReply (Value None) told = (told.length ≡ 0) × (told.count ≡ 0) × (tol
 TellsReply (Recovered xids) told = (told.length ≡ 0) × (told.count ≡ length xids) × (told.error ≡ 0)
 TellsReply (Refused error) told = (told.length ≡ 0) × (told.count ≡ 0) × (told.error ≡ number_of error)
 
--- the place of an answer or of a fault, and the fields of the reply
+-- a place, and nothing of a reply
+abbrev pub TellsPlace : ℕ → Told → Type 0
+TellsPlace place told = (told.place ≡ place) × (told.length ≡ 0) × (told.count ≡ 0) × (told.error ≡ 0)
+
+-- the place of an answer or of a fault of the text, and the fields of the reply; else 0
 abbrev pub Tells : Outcome → Told → Type 0
 Tells (Answered answer) told = (told.place ≡ answer.place) × TellsReply answer.reply told
-Tells (Misspelled fault) told = (told.place ≡ fault.at)
-Tells (Unanswered fault) told = (told.place ≡ 0)
-Tells Vacant told = (told.place ≡ 0)
-Tells OutOfRange told = (told.place ≡ 0)
+Tells (Misspelled fault) told = TellsPlace fault.at told
+Tells (Unanswered fault) told = TellsPlace 0 told
+Tells Vacant told = TellsPlace 0 told
+Tells OutOfRange told = TellsPlace 0 told
 
 -- X/Open's parts: the formatID, the two lengths, and the bytes of the gtrid followed by those of the bqual
 pub record IsLaid (xid : Xid) (part : XidPart) : Type 0 where
@@ -35,21 +39,23 @@ pub record IsLaid (xid : Xid) (part : XidPart) : Type 0 where
   pub bqual : part.bqual_length ≡ pos (length xid.bqual.items)
   pub bytes : take (length (xid.gtrid.items ++ xid.bqual.items)) part.data ≡ xid.gtrid.items ++ xid.bqual.items
 
--- each identifier for which there is room, at its place
-abbrev pub LaidOut : List Xid → List XidPart → Type 0
-LaidOut xids parts = (k : ℕ) (d : Xid) (e : XidPart) → k < length xids → k < length parts → IsLaid (slice_index_or xids k d) (slice_index_or parts k e)
+-- each identifier for which there is room, at its place, and after the last of them what was there
+pub record LaidOut (xids : List Xid) (old new : List XidPart) : Type 0 where
+  pub room : length new ≡ length old
+  pub each : (k : ℕ) (d : Xid) (e : XidPart) → k < length xids → k < length new → IsLaid (slice_index_or xids k d) (slice_index_or new k e)
+  pub rest : (k : ℕ) (e : XidPart) → length xids ≤ k → slice_index_or new k e ≡ slice_index_or old k e
 
--- the identifiers of a list, and of no other reply
-abbrev pub ListsReply : Reply → List XidPart → Type 0
-ListsReply (Recovered xids) parts = LaidOut xids parts
-ListsReply Accepted parts = Unit {0}
-ListsReply (Value value) parts = Unit {0}
-ListsReply (Refused error) parts = Unit {0}
+-- the identifiers of a list; after any other reply what was there
+abbrev pub ListsReply : Reply → List XidPart → List XidPart → Type 0
+ListsReply (Recovered xids) old new = LaidOut xids old new
+ListsReply Accepted old new = new ≡ old
+ListsReply (Value value) old new = new ≡ old
+ListsReply (Refused error) old new = new ≡ old
 
 -- the same for an outcome
-abbrev pub Lists : Outcome → List XidPart → Type 0
-Lists (Answered answer) parts = ListsReply answer.reply parts
-Lists (Misspelled fault) parts = Unit {0}
-Lists (Unanswered fault) parts = Unit {0}
-Lists Vacant parts = Unit {0}
-Lists OutOfRange parts = Unit {0}
+abbrev pub Lists : Outcome → List XidPart → List XidPart → Type 0
+Lists (Answered answer) old new = ListsReply answer.reply old new
+Lists (Misspelled fault) old new = new ≡ old
+Lists (Unanswered fault) old new = new ≡ old
+Lists Vacant old new = new ≡ old
+Lists OutOfRange old new = new ≡ old

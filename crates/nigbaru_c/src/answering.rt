@@ -1,8 +1,10 @@
 //! How a session answers a text of C.
-ghost use Rattle.std.specs.Prelude.{Some, IsTrue};
-ghost use Rattle.nigbaru_c.specs.Outcome.{seat_in, Fits, Attempts, Comes};
+ghost use Rattle.std.specs.Prelude.{◌≡◌, Some, None, IsTrue};
+ghost use Rattle.nigbaru_c.specs.Holds.{session_in};
+ghost use Rattle.nigbaru_c.specs.Outcome.{Fits, Attempts, Comes};
 
-use crate::{Chair, Hold, Outcome, Seat};
+use crate::{Chair, Hold, Outcome};
+use xa_endless::EndlessSession;
 use xa_statement::read_statement;
 use xa_xid::Statement;
 
@@ -21,44 +23,40 @@ fn fits(statement: &Statement) -> bool
     }
 }
 
-impl Seat {
-    /// Tries a statement once, with the session in its place.
-    fn attempt(&mut self, statement: &Statement) -> Outcome
-        ensures { Attempts statement.now result (Some self.old) (Some self.new) }
-    {
-        match self
-            .store
-            .attempt(&mut self.pass, &mut self.replica, statement)
-        {
-            Ok(answer) => Outcome::Answered(answer),
-            Err(fault) => Outcome::Unanswered(fault),
-        }
+/// Tries a statement once.
+fn attempt(session: &mut EndlessSession, statement: &Statement) -> Outcome
+    ensures { Attempts statement.now result (Some session.old) (Some session.new) }
+{
+    match session.attempt(statement) {
+        Ok(answer) => Outcome::Answered(answer),
+        Err(fault) => Outcome::Unanswered(fault),
     }
+}
 
-    /// Tries once the statement that a text spells.
-    fn answer(&mut self, text: &[u8]) -> Outcome
-        ensures { Comes text.now result (Some self.old) (Some self.new) }
-    {
-        match read_statement(text) {
-            Ok(statement) => {
-                if fits(&statement) {
-                    self.attempt(&statement)
-                } else {
-                    Outcome::OutOfRange
-                }
+/// Tries once the statement that a text spells.
+fn answer(session: &mut EndlessSession, text: &[u8]) -> Outcome
+    ensures { Comes text.now result (Some session.old) (Some session.new) }
+{
+    match read_statement(text) {
+        Ok(statement) => {
+            if fits(&statement) {
+                attempt(session, &statement)
+            } else {
+                Outcome::OutOfRange
             }
-            Err(fault) => Outcome::Misspelled(fault),
         }
+        Err(fault) => Outcome::Misspelled(fault),
     }
 }
 
 impl Chair {
     /// Tries once the statement that a text spells, if a session is held.
     pub(crate) fn answer(&mut self, text: &[u8]) -> Outcome
-        ensures { Comes text.now result (seat_in self.old.hold) (seat_in self.new.hold) }
+        ensures comes { Comes text.now result (session_in self.old.hold) (session_in self.new.hold) }
+        ensures same { session_in self.old.hold ≡ None → self.new.hold ≡ self.old.hold }
     {
         match &mut self.hold {
-            Some(Hold::Session(seat)) => seat.answer(text),
+            Some(Hold::Session(session)) => answer(session, text),
             _ => Outcome::Vacant,
         }
     }

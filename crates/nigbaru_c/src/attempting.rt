@@ -1,16 +1,18 @@
 //! The call that gives a session a statement.
-ghost use Rattle.std.specs.Prelude.{◌≡◌, Some};
-ghost use Rattle.nigbaru_c.specs.Outcome.{seat_of, status_of, Comes};
+ghost use Rattle.std.specs.Prelude.{◌≡◌, Some, None};
+ghost use Rattle.nigbaru_c.specs.Holds.{session_of};
+ghost use Rattle.nigbaru_c.specs.Outcome.{status_of, Comes};
 ghost use Rattle.nigbaru_c.specs.Telling.{Tells, Lists};
 ghost use Rattle.nigbaru_c.specs.declared.outcome.Outcome.{Outcome as OutcomeOf};
 
 use crate::telling::list;
-use crate::{Handle, Outcome, Told, XidPart, status};
+use crate::{Handle, Outcome, Told, XidPart};
 use std::alloc::Global;
 
 /// Tries once the statement that a text spells, if the handle holds a session.
 fn answer(alloc: Global, session: &mut Handle, text: &[u8]) -> Outcome
-    ensures { Comes text.now result (seat_of session.old.held) (seat_of session.new.held) }
+    ensures comes { Comes text.now result (session_of session.old.held) (session_of session.new.held) }
+    ensures same { session_of session.old.held ≡ None → session.new.held ≡ session.old.held }
 {
     match session.empty(alloc) {
         Some(mut chair) => {
@@ -26,7 +28,8 @@ fn answer(alloc: Global, session: &mut Handle, text: &[u8]) -> Outcome
 /// `include/nigbaru.h`.
 ///
 /// `session`: a handle. `text`: the statement. `told`: gets the answer. `xids`: gets the identifiers of a
-/// list, as many as there is room for. Returns a status, 0 to 10.
+/// list, as many as there is room for, and is else as before. Returns a status: 0 to 4 with an answer, or in the
+/// order of test `NO_HANDLE`, `SYNTAX`, `OUT_OF_RANGE`, and then `BEHIND`, `NO_MEMORY` or `OVERTAKEN`.
 /// After an error nothing of the statement is in the history; the session may have seen more.
 /// May return `NO_MEMORY`. Doesn't wait.
 /// Own rule: docs/EMBEDDING.md#errors.
@@ -39,11 +42,16 @@ pub extern "C" fn nigbaru_raw_attempt(
     xids: &mut [XidPart],
 ) -> u32
     // Proved (c, attempt): At status 0 to 4 the text spells a statement, and the answer is the server's reply
-    //   to it at `place`, in one history that begins with all that the session had seen.
-    // Proved (c, attempt-fails): At any status but 0 to 4 nothing of the text's statement was added, for that
-    //   status' cause. The statuses for syntax and range change nothing.
-    // Proved (c, attempt-answer): The answer's fields and the identifiers that C gets are those of the reply.
-    ensures { (outcome : OutcomeOf) × (result ≡ status_of outcome) × Tells outcome told.new × Lists outcome xids.new × Comes text.now outcome (seat_of session.old.held) (seat_of session.new.held) }
+    //   to it at `place`, in the store's one history, which begins with all that the session had seen.
+    // Proved (c, attempt-fails): At any other status nothing of the text's statement was added, and the status'
+    //   cause holds: at `BEHIND` entries that the session needs are overwritten, at `OVERTAKEN` the one try was lost
+    //   to a longer history. The statuses for syntax and range change nothing, and a
+    //   handle without a session stays as it is.
+    // Proved (c, attempt-answer): The answer's fields and the identifiers that C gets are those of the reply, and 0
+    //   where the reply has none. Identifiers are written only for a list.
+    ensures outcome { (outcome : OutcomeOf) × (result ≡ status_of outcome) × Tells outcome told.new × Lists outcome xids.old xids.new × Comes text.now outcome (session_of session.old.held) (session_of session.new.held) }
+    // Proved (c, attempt-fails)
+    ensures same { session_of session.old.held ≡ None → session.new.held ≡ session.old.held }
 {
     let outcome = answer(alloc, session, text);
     *told = Told::of(&outcome);

@@ -1,12 +1,13 @@
 //! A store or a session, as a handle holds it.
 
-use crate::{Seat, Stand};
+use std::sync::Arc;
+use xa_endless::{EndlessSession, EndlessStore};
 
 /// A store or a session, as a handle holds it.
 #[derive(Drop)]
 pub enum Hold {
-    /// A store, with the passes that weren't taken.
-    Store(Stand),
+    /// A store. Its sessions own it, too.
+    Store(Arc<EndlessStore>),
     /// A session.
-    Session(Seat),
+    Session(EndlessSession),
 }

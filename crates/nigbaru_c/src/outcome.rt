@@ -3,8 +3,9 @@ ghost use Rattle.std.specs.Prelude.{◌≡◌};
 ghost use Rattle.nigbaru_c.specs.Outcome.{status_of, status_of_reply, status_of_fault};
 
 use crate::status;
+use xa_endless::EndlessFault;
 use xa_server::Reply;
-use xa_session::{Answer, Fault};
+use xa_session::Answer;
 use xa_statement::SyntaxFault;
 
 /// The result of a text that C gives to a session.
@@ -19,7 +20,7 @@ pub enum Outcome {
     /// The statement was answered.
     Answered(Answer),
     /// The statement wasn't answered.
-    Unanswered(Fault),
+    Unanswered(EndlessFault),
 }
 
 /// The status of a reply.
@@ -36,13 +37,13 @@ fn number_of_reply(reply: &Reply) -> u32
 }
 
 /// The status of a fault.
-fn number_of_fault(fault: &Fault) -> u32
+fn number_of_fault(fault: &EndlessFault) -> u32
     ensures { result ≡ status_of_fault fault.now }
 {
     match fault {
-        Fault::Overtaken { .. } | Fault::Busy => status::OVERTAKEN,
-        Fault::Full => status::FULL,
-        Fault::NoMemory => status::NO_MEMORY,
+        EndlessFault::Overtaken { .. } => status::OVERTAKEN,
+        EndlessFault::NoMemory => status::NO_MEMORY,
+        EndlessFault::Behind => status::BEHIND,
     }
 }
 

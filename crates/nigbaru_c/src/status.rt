@@ -12,8 +12,6 @@ pub(crate) const REFUSED: u32 = 4;
 
 pub(crate) const OVERTAKEN: u32 = 5;
 
-pub(crate) const FULL: u32 = 6;
-
 pub(crate) const NO_MEMORY: u32 = 7;
 
 pub(crate) const SYNTAX: u32 = 8;
@@ -26,4 +24,4 @@ pub(crate) const NO_SESSION: u32 = 11;
 
 pub(crate) const HELD: u32 = 13;
 
-pub(crate) const NOT_FULL: u32 = 12;
+pub(crate) const BEHIND: u32 = 16;

@@ -1,6 +1,6 @@
 //! Writing an outcome into the structures of C.
 ghost use Rattle.std.specs.Prelude.{◌≡◌, ◌≤◌, length, take};
-ghost use Rattle.nigbaru_c.specs.Telling.{Tells, TellsReply, IsLaid, LaidOut, Lists, ListsReply};
+ghost use Rattle.nigbaru_c.specs.Telling.{Tells, TellsPlace, TellsReply, IsLaid, LaidOut, Lists, ListsReply};
 
 use crate::{Outcome, Told, XidPart};
 use arrayvec::ArrayVec;
@@ -20,7 +20,7 @@ pub(crate) fn copy_front(target: &mut [u8], source: &[u8])
 impl Told {
     /// Nothing but a place.
     fn at(place: u64) -> Told
-        ensures { (result.place ≡ place) × (result.length ≡ 0) × (result.count ≡ 0) × (result.error ≡ 0) }
+        ensures { TellsPlace place result }
     {
         Told {
             place,
@@ -102,7 +102,7 @@ impl XidPart {
 
 /// Lays identifiers out, as many as there is room for.
 fn lay_out(parts: &mut [XidPart], xids: &[Xid])
-    ensures { LaidOut xids.now parts.new }
+    ensures { LaidOut xids.now parts.old parts.new }
 {
     for index in 0..parts.len().min(xids.len()) {
         parts[index] = XidPart::of(&xids[index]);
@@ -111,7 +111,7 @@ fn lay_out(parts: &mut [XidPart], xids: &[Xid])
 
 /// Writes the identifiers of a reply, as many as there is room for.
 fn list_reply(reply: &Reply, parts: &mut [XidPart])
-    ensures { ListsReply reply.now parts.new }
+    ensures { ListsReply reply.now parts.old parts.new }
 {
     match reply {
         Reply::Recovered(xids) => lay_out(parts, xids.as_slice()),
@@ -121,7 +121,7 @@ fn list_reply(reply: &Reply, parts: &mut [XidPart])
 
 /// Writes the identifiers of an answer, as many as there is room for.
 pub(crate) fn list(outcome: &Outcome, parts: &mut [XidPart])
-    ensures { Lists outcome.now parts.new }
+    ensures { Lists outcome.now parts.old parts.new }
 {
     match outcome {
         Outcome::Answered(answer) => list_reply(&answer.reply, parts),

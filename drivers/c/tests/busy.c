@@ -22,21 +22,18 @@ static void *calls(void *answered) {
 
 /* While a call has a handle: nothing is done. */
 static void held(void) {
-  nigbaru_store next = NIGBARU_EMPTY;
   nigbaru_session other = NIGBARU_EMPTY;
   nigbaru_answer answer;
-  uint64_t number, length;
+  nigbaru_entry entry;
   CHECK(nigbaru_enter_(&session.busy));
   SAME(nigbaru_attempt(&session, "PUT 'k','v'", 11, &answer, NULL, 0), NIGBARU_BUSY);
   SAME(nigbaru_run(&session, "PUT 'k','v'", 11, &answer, NULL, 0, 0), NIGBARU_BUSY);
   SAME(nigbaru_leave(&session), NIGBARU_BUSY);
-  SAME(nigbaru_renew(&session, &next), NIGBARU_BUSY);
-  SAME(nigbaru_history(&session, 0, &number, NULL, 0, &length), NIGBARU_BUSY);
+  SAME(nigbaru_follow(&session, &entry), NIGBARU_BUSY);
   SAME(nigbaru_take(&store, 2, &session), NIGBARU_BUSY);
   nigbaru_exit_(&session.busy);
   CHECK(nigbaru_enter_(&store.busy));
   SAME(nigbaru_take(&store, 2, &other), NIGBARU_BUSY);
-  SAME(nigbaru_renew(&session, &store), NIGBARU_BUSY);
   SAME(nigbaru_open(1, 1, &store), NIGBARU_BUSY);
   SAME(nigbaru_close(&store), NIGBARU_BUSY);
   nigbaru_exit_(&store.busy);

@@ -5,11 +5,13 @@
 
 #include "check.h"
 
+#include <pthread.h>
+
 #define RM 1
 
 static int refusals;
 static struct xa_switch_t *const xa = &nigbaru_xa_switch;
-static char info[] = "store=growth,capacity=3,sessions=2";
+static char info[] = "store=growth,rows=3,sessions=2";
 
 #define AGAIN(call, without_memory, wanted) \
   do { \
@@ -32,6 +34,23 @@ static void holds(char wanted) {
   AGAIN(nigbaru_xa_get(RM, "k", 1, value, &length), NIGBARU_NO_MEMORY, NIGBARU_VALUE);
   SAME(length, 1);
   SAME(value[0], wanted);
+}
+
+/* A thread that ends in an active branch, which is rolled back: then, or when its session is used next. */
+static void *ends_active(void *xid) {
+  AGAIN(xa->xa_open_entry(info, RM, TMNOFLAGS), XAER_RMERR, XA_OK);
+  start(xid);
+  put("4");
+  return NULL;
+}
+
+static void in_a_thread(void) {
+  pthread_t thread;
+  XID a = {.formatID = 0, .gtrid_length = 1, .bqual_length = 1, .data = "ab"};
+  int failed;
+  while ((failed = pthread_create(&thread, NULL, ends_active, &a)) != 0)
+    CHECK(++refusals == 1);
+  SAME(pthread_join(thread, NULL), 0);
 }
 
 int main(void) {
@@ -58,11 +77,20 @@ int main(void) {
   start(&b);
   put("3");
   end(&b);
-  AGAIN(xa->xa_close_entry(info, RM, TMNOFLAGS), XAER_RMERR, XA_OK);
+  SAME(xa->xa_close_entry(info, RM, TMNOFLAGS), XA_OK);
   AGAIN(xa->xa_open_entry(info, RM, TMNOFLAGS), XAER_RMERR, XA_OK);
+  SAME(xa->xa_commit_entry(&b, RM, TMNOFLAGS), XAER_PROTO);
+  AGAIN(xa->xa_rollback_entry(&b, RM, TMNOFLAGS), XAER_RMFAIL, XA_OK);
   AGAIN(xa->xa_commit_entry(&b, RM, TMNOFLAGS), XA_RETRY, XAER_NOTA);
   holds('2');
-  AGAIN(xa->xa_close_entry(info, RM, TMNOFLAGS), XAER_RMERR, XA_OK);
+  in_a_thread();
+  AGAIN(xa->xa_commit_entry(&a, RM, TMNOFLAGS), XA_RETRY, XAER_NOTA);
+  start(&a);
+  end(&a);
+  prepare(&a);
+  AGAIN(xa->xa_rollback_entry(&a, RM, TMNOFLAGS), XAER_RMFAIL, XA_OK);
+  holds('2');
+  SAME(xa->xa_close_entry(info, RM, TMNOFLAGS), XA_OK);
   SAME(nigbaru_xa_drop("growth"), XA_OK);
   CHECK(refusals <= 1);
   return 0;

@@ -18,18 +18,27 @@ HOLDS(offsetof(nigbaru_xid, bqual_length) == offsetof(XID, bqual_length));
 HOLDS(offsetof(nigbaru_xid, data) == offsetof(XID, data));
 HOLDS(sizeof(nigbaru_handle) == sizeof(void *));
 HOLDS(sizeof(((nigbaru_answer *)0)->value) == 64);
+HOLDS(offsetof(nigbaru_entry, text) == 24);
+HOLDS(sizeof(((nigbaru_entry *)0)->text) == NIGBARU_TEXT);
 
 int main(void) {
   nigbaru_store store = NIGBARU_EMPTY;
   nigbaru_session session = NIGBARU_EMPTY;
   SAME(nigbaru_close(&store), NIGBARU_NO_HANDLE);
   SAME(nigbaru_leave(&session), NIGBARU_NO_HANDLE);
-  for (uint32_t status = NIGBARU_OK; status <= NIGBARU_NO_POINTER; status++) {
-    SAME(strcmp(nigbaru_text(status), "no status") == 0, 0);
-    for (uint32_t other = NIGBARU_OK; other < status; other++)
-      CHECK(strcmp(nigbaru_text(status), nigbaru_text(other)) != 0);
+  static const uint32_t statuses[] = {NIGBARU_OK,        NIGBARU_VALUE,     NIGBARU_NONE,         NIGBARU_LIST,       NIGBARU_REFUSED, NIGBARU_OVERTAKEN, NIGBARU_NO_MEMORY, NIGBARU_SYNTAX,
+                                      NIGBARU_NO_HANDLE, NIGBARU_OUT_OF_RANGE, NIGBARU_NO_SESSION, NIGBARU_HELD,     NIGBARU_BUSY,      NIGBARU_NO_POINTER, NIGBARU_BEHIND};
+  const size_t count = sizeof statuses / sizeof *statuses;
+  uint32_t known = 0;
+  for (size_t index = 0; index < count; index++) {
+    known |= 1u << statuses[index];
+    SAME(strcmp(nigbaru_text(statuses[index]), "no status") == 0, 0);
+    for (size_t other = 0; other < index; other++)
+      CHECK(strcmp(nigbaru_text(statuses[index]), nigbaru_text(statuses[other])) != 0);
   }
-  SAME(strcmp(nigbaru_text(NIGBARU_NO_POINTER + 1), "no status"), 0);
+  for (uint32_t status = 0; status < 32; status++)
+    if (!(known & (1u << status)))
+      SAME(strcmp(nigbaru_text(status), "no status"), 0);
   SAME(strcmp(nigbaru_text(UINT32_MAX), "no status"), 0);
   CHECK(strcmp(nigbaru_xa_switch.name, "nigbaru") == 0);
   SAME(nigbaru_xa_switch.version, 0);

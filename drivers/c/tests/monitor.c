@@ -1,6 +1,6 @@
 /* A transaction monitor of a few lines, which knows nothing but an xa_switch_t and the rows: threads of control move one from an account in one store to one
-   in another, in two phases, and some stop between the votes or between the commits. Recovery commits what was decided and rolls the rest back, and then
-   nothing is lost and nothing made. */
+   in another, in two phases, and some stop between the votes or between the commits. Recovery commits what was decided and rolls the rest back, also what is
+   idle, and then nothing is lost and nothing made. */
 #include "nigbaru.h"
 #include "nigbaru_xa.h"
 
@@ -16,10 +16,10 @@
 enum stop { NEVER, AFTER_ONE_VOTE, AFTER_VOTES, AFTER_DECISION, AFTER_ONE_COMMIT, STOPS };
 
 static struct xa_switch_t *const xa = &nigbaru_xa_switch;
-static char *const infos[] = {NULL, (char[]){"store=north,capacity=32,sessions=8"}, (char[]){"store=south,capacity=9,sessions=8"}};
+static char *const infos[] = {NULL, (char[]){"store=north,rows=32,sessions=8"}, (char[]){"store=south,rows=9,sessions=8"}};
 static pthread_mutex_t mutex = PTHREAD_MUTEX_INITIALIZER;
 static char decided[THREADS * TRANSFERS];
-static int counts[STOPS];
+static int counts[STOPS], ended;
 
 static XID xid_of(int transfer, int rmid) {
   XID xid = {.formatID = 5, .bqual_length = 1};
@@ -134,6 +134,14 @@ static void recover(void) {
   }
 }
 
+/* Rolls back what a thread left idle that stopped after its first vote: no list has it, so the monitor has to know of it. */
+static int end_idle(int transfer) {
+  XID xid = xid_of(transfer, 2);
+  int code = decided[transfer] ? XAER_NOTA : xa->xa_rollback_entry(&xid, 2, TMNOFLAGS);
+  CHECK(code == XA_OK || code == XAER_NOTA);
+  return code == XA_OK;
+}
+
 static long sum(int rmid) {
   long all = 0;
   for (int account = 0; account < ACCOUNTS; account++) {
@@ -155,6 +163,8 @@ static void round_of(int first) {
   for (int index = 0; index < THREADS; index++)
     SAME(pthread_join(threads[index], NULL), 0);
   recover();
+  for (int index = 0; index < THREADS; index++)
+    ended += end_idle(transfers[index]);
 }
 
 int main(void) {
@@ -171,6 +181,7 @@ int main(void) {
   SAME(sum(2), ACCOUNTS * AT_FIRST + moved);
   for (int stop = AFTER_ONE_VOTE; stop < STOPS; stop++)
     CHECK(counts[stop] > 0);
+  SAME(ended, counts[AFTER_ONE_VOTE]);
   close_both();
   SAME(nigbaru_xa_drop("north"), XA_OK);
   SAME(nigbaru_xa_drop("south"), XA_OK);

@@ -1,14 +1,17 @@
-/* Threads race cycles over renewals: race THREADS CYCLES CAPACITY SCRIPT ANSWERS
+/* Threads race cycles: race THREADS CYCLES ROWS [SCRIPT ANSWERS]
 
    In a cycle a thread writes a row of its own in a branch, counts in a row that all share if nobody holds it, ends the branch in one of five ways, and
-   reads. Afterwards each row is what the thread knows that it committed. The histories, one after another, and the statements that didn't enter,
-   each in front of the entry at its place, are written to the file SCRIPT, one `session statement` a line, and what was answered to ANSWERS; of a
-   refusal only its number. */
+   reads. Afterwards each row is what the thread knows that it committed. One thread hands out the history meanwhile. With two files no entry may be lost,
+   so the others wait for it: the history and the statements that didn't enter, each in front of the entry at its place, are written to SCRIPT, one
+   `session statement` a line, and what was answered to ANSWERS; of a refusal only its number. Without them each entry is handed out or counted as
+   lost. */
 #include "nigbaru_shared.h"
 
 #include "check.h"
 
 #include <pthread.h>
+#include <sched.h>
+#include <stdatomic.h>
 
 #define LONGEST 160
 #define XIDS 16
@@ -25,9 +28,10 @@ struct told {
 struct teller {
   pthread_t thread;
   uint64_t number;
-  nigbaru_seat *seat;
+  nigbaru_seat seat;
   struct told *told;
   size_t count, room;
+  uint64_t place;
   long own, counted; /* the value of the own row, and how often the shared row was counted up, as committed */
 };
 
@@ -36,8 +40,12 @@ struct entry {
   char statement[LONGEST];
 };
 
-static uint64_t capacity;
+static uint64_t rows;
 static long cycles;
+static int is_explained;
+static atomic_uint_fast64_t followed; /* how many entries were handed out or lost */
+static uint64_t lost;
+static atomic_int finished;
 static nigbaru_shared *shared;
 static struct teller tellers[17];
 static int threads;
@@ -53,14 +61,38 @@ static void *grown(void *block, size_t count, size_t *room, size_t size) {
   return block;
 }
 
-static void heard(void *context, uint64_t session, const char *text, size_t length) {
-  (void)context;
-  CHECK(length < LONGEST);
-  entries = grown(entries, entry_count, &entry_room, sizeof *entries);
-  struct entry *it = &entries[entry_count++];
-  it->session = session;
-  memcpy(it->statement, text, length);
-  it->statement[length] = 0;
+/* Takes what the session of the first thread hands out now. */
+static void follow(void) {
+  nigbaru_entry entry;
+  uint32_t status;
+  while ((status = nigbaru_seat_follow(&tellers[1].seat, &entry)) != NIGBARU_NONE) {
+    CHECK(status == NIGBARU_OK || (status == NIGBARU_BEHIND && !is_explained));
+    if (status == NIGBARU_BEHIND) {
+      CHECK(entry.lost > 0);
+      lost += entry.lost;
+      atomic_fetch_add(&followed, entry.lost);
+      continue;
+    }
+    CHECK(entry.number >= 1 && entry.number <= (uint64_t)threads);
+    atomic_fetch_add(&followed, 1);
+    if (!is_explained)
+      continue;
+    CHECK(entry.length < LONGEST);
+    entries = grown(entries, entry_count, &entry_room, sizeof *entries);
+    struct entry *it = &entries[entry_count++];
+    it->session = entry.number;
+    memcpy(it->statement, entry.text, entry.length);
+    it->statement[entry.length] = 0;
+  }
+}
+
+/* Follows, or waits until the first thread has followed far enough that no entry is lost. */
+static void keep_up(const struct teller *it, uint64_t place) {
+  if (it->number == 1)
+    follow();
+  else
+    while (is_explained && place > atomic_load(&followed) + rows / 2)
+      sched_yield();
 }
 
 /* The list that XA RECOVER CONVERT XID prints. */
@@ -81,18 +113,20 @@ static char *list_of(const nigbaru_xid *xids, uint64_t count) {
 static const struct told *say(struct teller *it, const char *statement) {
   nigbaru_xid xids[XIDS];
   it->told = grown(it->told, it->count, &it->room, sizeof *it->told);
-  struct told *told = &it->told[it->count++];
+  struct told *told = &it->told[it->count];
+  it->count += is_explained;
   CHECK(strlen(statement) < LONGEST);
   strcpy(told->statement, statement);
-  told->status = nigbaru_seat_run(it->seat, statement, strlen(statement), &told->answer, xids, XIDS);
+  told->status = nigbaru_seat_run(&it->seat, statement, strlen(statement), &told->answer, xids, XIDS);
   if (told->status > NIGBARU_REFUSED) {
     fprintf(stderr, "%s: %s\n", statement, nigbaru_text(told->status));
     exit(1);
   }
-  told->place = nigbaru_seat_renewals(it->seat) * capacity + told->answer.place;
-  CHECK(told->answer.place <= capacity);
+  CHECK(told->answer.place >= it->place);
+  it->place = told->place = told->answer.place;
   CHECK(told->status != NIGBARU_LIST || told->answer.count <= XIDS);
-  told->list = told->status == NIGBARU_LIST ? list_of(xids, told->answer.count) : NULL;
+  told->list = told->status == NIGBARU_LIST && is_explained ? list_of(xids, told->answer.count) : NULL;
+  keep_up(it, told->place);
   return told;
 }
 
@@ -188,18 +222,12 @@ static void *run(void *teller) {
   struct teller *it = teller;
   for (long turn = 0; turn < cycles; turn++)
     cycle(it, turn);
-  return NULL;
-}
-
-/* The rest of the history, which no renewal has told. */
-static void hear_rest(struct teller *last) {
-  uint64_t end = last->told[last->count - 1].answer.place;
-  for (uint64_t place = 0; place < end; place++) {
-    uint64_t session, length;
-    char text[LONGEST];
-    SAME(nigbaru_seat_history(last->seat, place, &session, text, sizeof text, &length), NIGBARU_OK);
-    heard(NULL, session, text, length);
+  atomic_fetch_add(&finished, 1);
+  while (it->number == 1 && atomic_load(&finished) < threads) {
+    follow();
+    sched_yield();
   }
+  return NULL;
 }
 
 static void check_rows(void) {
@@ -267,31 +295,44 @@ static void free_all(void) {
   free(entries);
 }
 
-int main(int count, char **words) {
-  CHECK(count == 6);
-  threads = atoi(words[1]);
-  cycles = atol(words[2]);
-  capacity = (uint64_t)atol(words[3]);
-  CHECK(threads >= 1 && threads <= 16);
-  SAME(nigbaru_shared_open(capacity, (uint64_t)threads, heard, NULL, &shared), NIGBARU_OK);
+static void start(void) {
+  SAME(nigbaru_shared_open(rows, (uint64_t)threads, &shared), NIGBARU_OK);
   for (int number = 1; number <= threads; number++) {
     tellers[number].number = (uint64_t)number;
     SAME(nigbaru_seat_take(shared, (uint64_t)number, &tellers[number].seat), NIGBARU_OK);
   }
+}
+
+static void write_files(const char *script_name, const char *answers_name) {
+  FILE *script = fopen(script_name, "w"), *answers = fopen(answers_name, "w");
+  CHECK(script != NULL && answers != NULL);
+  write_order(script, answers);
+  CHECK(fclose(script) == 0 && fclose(answers) == 0);
+}
+
+int main(int count, char **words) {
+  CHECK(count == 4 || count == 6);
+  threads = atoi(words[1]);
+  cycles = atol(words[2]);
+  rows = (uint64_t)atol(words[3]);
+  is_explained = count == 6;
+  CHECK(threads >= 1 && threads <= 16);
+  start();
   for (int number = 1; number <= threads; number++)
     SAME(pthread_create(&tellers[number].thread, NULL, run, &tellers[number]), 0);
   for (int number = 1; number <= threads; number++)
     SAME(pthread_join(tellers[number].thread, NULL), 0);
   check_rows();
-  hear_rest(&tellers[threads]);
-  CHECK(entry_count > 4 * (size_t)threads * (size_t)cycles);
-  FILE *script = fopen(words[4], "w"), *answers = fopen(words[5], "w");
-  CHECK(script != NULL && answers != NULL);
-  write_order(script, answers);
-  CHECK(fclose(script) == 0 && fclose(answers) == 0);
-  printf("%zu entries, %lu renewals\n", entry_count, (unsigned long)nigbaru_seat_renewals(tellers[threads].seat));
+  follow();
+  SAME(atomic_load(&followed), tellers[threads].place);
+  CHECK(tellers[threads].place > 4 * (uint64_t)threads * (uint64_t)cycles);
+  if (is_explained) {
+    SAME(entry_count, tellers[threads].place);
+    write_files(words[4], words[5]);
+  }
+  printf("%lu entries, %lu rounds of the ring, %lu lost\n", (unsigned long)tellers[threads].place, (unsigned long)(tellers[threads].place / rows), (unsigned long)lost);
   for (int number = 1; number <= threads; number++)
-    SAME(nigbaru_seat_leave(tellers[number].seat), NIGBARU_OK);
+    SAME(nigbaru_seat_leave(&tellers[number].seat), NIGBARU_OK);
   SAME(nigbaru_shared_close(shared), NIGBARU_OK);
   free_all();
   return 0;

@@ -1,17 +1,18 @@
 /* The switch: each call in each state of branch and thread, allowed or refused, and what follows it; flags, identifiers and strings that are wrong;
-   recovery by cursor; threads; renewals; rows. What is expected is README.md's table, 'A resource manager'. */
+   recovery by cursor; threads; rows. What is expected is README.md's table, 'A resource manager'. */
 #include "nigbaru.h"
 #include "nigbaru_xa.h"
 
 #include "check.h"
 
 #include <pthread.h>
+#include <stdatomic.h>
 
 #define RM 7
-#define STATES 10
+#define STATES 12
 
 static struct xa_switch_t *const xa = &nigbaru_xa_switch;
-static char info[] = "store=cells,capacity=64,sessions=4";
+static char info[] = "store=cells,rows=64,sessions=4";
 
 static XID xid_of(const char *gtrid) {
   XID xid = {.formatID = 3, .gtrid_length = (long)strlen(gtrid), .bqual_length = 1};
@@ -23,9 +24,11 @@ static XID xid_of(const char *gtrid) {
 /* ---- states ---- */
 
 /* Of the thread and of the branch X that a call names. M is another branch, the thread's own. */
-enum state { CLOSED, NONE, ACTIVE, IDLE, PREPARED, ACTIVE_NONE, ACTIVE_PREPARED, IDLE_NONE, IDLE_PREPARED, ELSEWHERE };
+enum state { CLOSED, NONE, ACTIVE, IDLE, PREPARED, ACTIVE_NONE, ACTIVE_IDLE, ACTIVE_PREPARED, IDLE_NONE, IDLE_PREPARED, ELSEWHERE, IDLE_ELSEWHERE,
+             IDLE_ACTIVE /* M idle, X active: what a call leads to */ };
 static const char *const state_names[STATES] = {
-    "closed", "no branch", "active", "idle", "prepared", "M active, X none", "M active, X prepared", "M idle, X none", "M idle, X prepared", "another thread's"};
+    "closed", "no branch", "active", "idle", "prepared", "M active, X none", "M active, X idle", "M active, X prepared", "M idle, X none", "M idle, X prepared",
+    "another thread's", "another thread's, which has closed, and idle"};
 
 /* Another thread of control, which does one thing and waits for the next. */
 static struct {
@@ -106,6 +109,10 @@ static void bring(const char *gtrid, enum state to) {
     SAME(xa->xa_prepare_entry(&xid, RM, TMNOFLAGS), XA_OK);
 }
 
+static int is_m_active(enum state state) { return state == ACTIVE_NONE || state == ACTIVE_IDLE || state == ACTIVE_PREPARED; }
+
+static int is_m_idle(enum state state) { return state == IDLE_NONE || state == IDLE_PREPARED || state == IDLE_ACTIVE; }
+
 static void enter(enum state state) {
   if (state == CLOSED)
     return;
@@ -114,43 +121,55 @@ static void enter(enum state state) {
   case ACTIVE:
   case IDLE:
   case PREPARED: bring("X", state); break;
+  case ACTIVE_IDLE: bring("X", IDLE); break;
   case ACTIVE_PREPARED:
   case IDLE_PREPARED: bring("X", PREPARED); break;
   case ELSEWHERE:
+  case IDLE_ELSEWHERE:
     SAME(elsewhere(open_here), XA_OK);
     SAME(elsewhere(start_x), XA_OK);
     break;
   default: break;
   }
-  if (state == ACTIVE_NONE || state == ACTIVE_PREPARED)
+  if (state == IDLE_ELSEWHERE) {
+    SAME(elsewhere(end_x), XA_OK);
+    SAME(elsewhere(close_here), XA_OK);
+  }
+  if (is_m_active(state))
     bring("M", ACTIVE);
-  if (state == IDLE_NONE || state == IDLE_PREPARED)
+  if (is_m_idle(state))
     bring("M", IDLE);
 }
 
 /* Sees that the state is this one, by what only it allows, and leaves nothing behind. */
 static void leave(enum state state) {
   XID m = xid_of("M");
-  if (state == ACTIVE_NONE || state == ACTIVE_PREPARED)
+  if (is_m_active(state))
     SAME(xa->xa_end_entry(&m, RM, TMSUCCESS), XA_OK);
-  if (state == ACTIVE_NONE || state == ACTIVE_PREPARED || state == IDLE_NONE || state == IDLE_PREPARED)
+  if (is_m_active(state) || is_m_idle(state))
     SAME(xa->xa_rollback_entry(&m, RM, TMNOFLAGS), XA_OK);
   switch (state) {
   case CLOSED:
     SAME(start_x(), XAER_PROTO);
     return;
   case ACTIVE:
+  case IDLE_ACTIVE:
     SAME(end_x(), XA_OK);
     SAME(rollback_x(), XA_OK);
     break;
-  case IDLE: SAME(rollback_x(), XA_OK); break;
+  case IDLE:
+  case ACTIVE_IDLE:
+  case IDLE_ELSEWHERE:
+    SAME(commit_x(), XAER_PROTO);
+    SAME(rollback_x(), XA_OK);
+    break;
   case PREPARED:
   case ACTIVE_PREPARED:
   case IDLE_PREPARED: SAME(commit_x(), XA_OK); break;
   case ELSEWHERE:
     SAME(elsewhere(end_x), XA_OK);
-    SAME(elsewhere(rollback_x), XA_OK);
     SAME(elsewhere(close_here), XA_OK);
+    SAME(rollback_x(), XA_OK);
     break;
   default: break;
   }
@@ -192,49 +211,49 @@ static int called(const char *call, long flags) {
 #define D XAER_DUPID
 #define ON(state) (1000 + (state)) /* XA_OK, and then the state */
 
+#define STAYS (-100) /* XA_OK, and all branches are as they were */
+
 /* One column a state, in the order of its enumeration. */
 static const struct {
   const char *call;
   long flags;
   int wanted[STATES];
 } table[] = {
-    /*                                   closed     none        active    idle      prepared  M active  M active  M idle    M idle    another's
-                                                                                              X none    X prep.   X none    X prep.            */
-    {"open", TMNOFLAGS,                  {ON(NONE), 0,          0,        0,        0,        0,        0,        0,        0,        0}},
-    {"close", TMNOFLAGS,                 {0,        ON(CLOSED), P,        -100,     -100,     P,        P,        -100,     -100,     -100}},
-    {"start", TMNOFLAGS,                 {P,        ON(ACTIVE), P,        D,        D,        P,        P,        P,        P,        D}},
-    {"start", TMNOWAIT,                  {P,        ON(ACTIVE), P,        D,        D,        P,        P,        P,        P,        D}},
-    {"start", TMJOIN,                    {P,        I,          I,        I,        I,        I,        I,        I,        I,        I}},
-    {"start", TMRESUME,                  {P,        I,          I,        I,        I,        I,        I,        I,        I,        I}},
-    {"end", TMSUCCESS,                   {P,        P,          ON(IDLE), P,        P,        N,        P,        P,        P,        P}},
-    {"end", TMFAIL,                      {P,        P,          ON(IDLE), P,        P,        N,        P,        P,        P,        P}},
-    {"end", TMSUSPEND,                   {P,        I,          I,        I,        I,        I,        I,        I,        I,        I}},
-    {"end", TMSUSPEND | TMMIGRATE,       {P,        I,          I,        I,        I,        I,        I,        I,        I,        I}},
-    {"prepare", TMNOFLAGS,               {P,        N,          P,        ON(PREPARED), P,    P,        P,        N,        P,        N}},
-    {"commit", TMNOFLAGS,                {P,        N,          P,        P,        ON(NONE), P,        P,        P,        P,        N}},
-    {"commit", TMNOWAIT,                 {P,        N,          P,        P,        ON(NONE), P,        P,        P,        P,        N}},
-    {"commit", TMONEPHASE,               {P,        N,          P,        ON(NONE), P,        P,        P,        P,        P,        N}},
-    {"rollback", TMNOFLAGS,              {P,        N,          P,        ON(NONE), ON(NONE), P,        P,        P,        P,        N}},
-    {"forget", TMNOFLAGS,                {P,        N,          N,        N,        N,        N,        N,        N,        N,        N}},
-    {"recover", TMSTARTRSCAN | TMENDRSCAN, {P,      0,          0,        0,        1,        0,        1,        0,        1,        0}},
-    {"complete", TMNOFLAGS,              {P,        P,          P,        P,        P,        P,        P,        P,        P,        P}},
+    /*                                 closed    none        active    idle          prepared  M active         M active             M active         M idle           M idle         active  idle
+                                                                                               X none           X idle               X prepared       X none           X prepared     elsewhere  */
+    {"open", TMNOFLAGS,                {ON(NONE), 0,         0,        0,            0,        0,               0,                   0,               0,               0,             0,      0}},
+    {"close", TMNOFLAGS,               {0,        ON(CLOSED), P,       STAYS,        STAYS,    P,               P,                   P,               STAYS,           STAYS,         STAYS,  STAYS}},
+    {"start", TMNOFLAGS,               {P,        ON(ACTIVE), P,       D,            D,        P,               P,                   P,               ON(IDLE_ACTIVE), D,             D,      D}},
+    {"start", TMNOWAIT,                {P,        ON(ACTIVE), P,       D,            D,        P,               P,                   P,               ON(IDLE_ACTIVE), D,             D,      D}},
+    {"start", TMJOIN,                  {P,        I,         I,        I,            I,        I,               I,                   I,               I,               I,             I,      I}},
+    {"start", TMRESUME,                {P,        I,         I,        I,            I,        I,               I,                   I,               I,               I,             I,      I}},
+    {"end", TMSUCCESS,                 {P,        P,         ON(IDLE), P,            P,        N,               P,                   P,               P,               P,             P,      P}},
+    {"end", TMFAIL,                    {P,        P,         ON(IDLE), P,            P,        N,               P,                   P,               P,               P,             P,      P}},
+    {"end", TMSUSPEND,                 {P,        I,         I,        I,            I,        I,               I,                   I,               I,               I,             I,      I}},
+    {"end", TMSUSPEND | TMMIGRATE,     {P,        I,         I,        I,            I,        I,               I,                   I,               I,               I,             I,      I}},
+    {"prepare", TMNOFLAGS,             {P,        N,         P,        ON(PREPARED), P,        N,               ON(ACTIVE_PREPARED), P,               N,               P,             P,      ON(PREPARED)}},
+    {"commit", TMNOFLAGS,              {P,        N,         P,        P,            ON(NONE), N,               P,                   ON(ACTIVE_NONE), N,               ON(IDLE_NONE), P,      P}},
+    {"commit", TMNOWAIT,               {P,        N,         P,        P,            ON(NONE), N,               P,                   ON(ACTIVE_NONE), N,               ON(IDLE_NONE), P,      P}},
+    {"commit", TMONEPHASE,             {P,        N,         P,        ON(NONE),     P,        N,               ON(ACTIVE_NONE),     P,               N,               P,             P,      ON(NONE)}},
+    {"rollback", TMNOFLAGS,            {P,        N,         P,        ON(NONE),     ON(NONE), N,               ON(ACTIVE_NONE),     ON(ACTIVE_NONE), N,               ON(IDLE_NONE), P,      ON(NONE)}},
+    {"forget", TMNOFLAGS,              {P,        N,         N,        N,            N,        N,               N,                   N,               N,               N,             N,      N}},
+    {"recover", TMSTARTRSCAN | TMENDRSCAN, {P,    0,         0,        0,            1,        0,               0,                   1,               0,               1,             0,      0}},
+    {"complete", TMNOFLAGS,            {P,        P,         P,        P,            P,        P,               P,                   P,               P,               P,             P,      P}},
 };
 
-/* xa_close where it isn't refused: what isn't prepared is gone. -100 stands for XA_OK, and this. */
+/* xa_close where it isn't refused: the thread has nothing open, and each branch is as it was. */
 static void closes(enum state state) {
   SAME(close_here(), XA_OK);
   SAME(close_here(), XA_OK);
   SAME(start_x(), XAER_PROTO);
   SAME(open_here(), XA_OK);
-  XID m = xid_of("M");
-  SAME(xa->xa_prepare_entry(&m, RM, TMNOFLAGS), XAER_NOTA);
-  leave(state == PREPARED || state == IDLE_PREPARED ? PREPARED : state == ELSEWHERE ? ELSEWHERE : NONE);
+  leave(state);
 }
 
 static void cell(size_t row, enum state state) {
   enter(state);
   int wanted = table[row].wanted[state];
-  if (wanted == -100) {
+  if (wanted == STAYS) {
     closes(state);
     return;
   }
@@ -312,9 +331,9 @@ static void identifiers(void) {
 }
 
 static void strings(void) {
-  static const char *const bad[] = {"x", "store=", "store", "store=a,", ",store=a", "capacity=0", "capacity=1025", "sessions=17", "sessions=0", "sessions=-1",
-                                    "capacity=1x", "capacity=99999", "store=a,,sessions=1", "store =a", " store=a", "Store=a"};
-  static const char *const good[] = {"", "store=a", "sessions=1", "capacity=1,sessions=16,store=a=b", "sessions=2,sessions=3"};
+  static const char *const bad[] = {"x", "store=", "store", "store=a,", ",store=a", "rows=0", "rows=65537", "rows=", "capacity=5", "sessions=17", "sessions=0", "sessions=-1",
+                                    "rows=1x", "rows=9999999", "store=a,,sessions=1", "store =a", " store=a", "Store=a"};
+  static const char *const good[] = {"", "store=a", "sessions=1", "rows=1,sessions=16,store=a=b", "sessions=2,sessions=3"};
   static const char *const names[] = {"nigbaru", "a", "nigbaru", "a=b", "nigbaru"};
   char text[MAXINFOSIZE + 8];
   SAME(xa->xa_open_entry(NULL, RM, TMNOFLAGS), XAER_INVAL);
@@ -346,7 +365,7 @@ static void strings(void) {
   text[MAXINFOSIZE - 1] = 0;
   SAME(xa->xa_open_entry(text, RM, TMNOFLAGS), XA_OK);
   SAME(nigbaru_xa_drop("abcdefghi"), XAER_PROTO);
-  SAME(xa->xa_open_entry((char[]){"store=abcdefghi,capacity=5"}, RM + 1, TMNOFLAGS), XAER_INVAL);
+  SAME(xa->xa_open_entry((char[]){"store=abcdefghi,rows=5"}, RM + 1, TMNOFLAGS), XAER_INVAL);
   SAME(xa->xa_close_entry(text, RM, TMNOFLAGS), XA_OK);
   SAME(nigbaru_xa_drop("abcdefghi"), XA_OK);
   SAME(nigbaru_xa_drop("abcdefghi"), XAER_INVAL);
@@ -355,31 +374,41 @@ static void strings(void) {
 
 /* ---- sessions ---- */
 
-/* As many openings as sessions, by rmid; one that is closed is free again; stores of two names are two. */
+/* Each branch that isn't prepared has a session, and every other call needs one for a moment; stores of two names are two. */
 static void sessions(void) {
-  char one[] = "store=one,sessions=2", two[] = "store=two";
-  XID x = xid_of("X");
-  SAME(xa->xa_open_entry(one, 1, TMNOFLAGS), XA_OK);
-  SAME(xa->xa_open_entry(one, 2, TMNOFLAGS), XA_OK);
-  SAME(xa->xa_open_entry(one, 3, TMNOFLAGS), XAER_RMERR);
-  SAME(xa->xa_open_entry(two, 3, TMNOFLAGS), XA_OK);
+  char one[] = "store=one,rows=16,sessions=2", two[] = "store=two,rows=16";
+  XID x = xid_of("X"), y = xid_of("Y"), z = xid_of("Z");
+  unsigned char value[64];
+  size_t length;
   for (int rmid = 1; rmid <= 3; rmid++)
-    SAME(xa->xa_start_entry(&x, rmid, TMNOFLAGS), rmid == 2 ? XAER_DUPID : XA_OK);
+    SAME(xa->xa_open_entry(one, rmid, TMNOFLAGS), XA_OK);
+  SAME(xa->xa_open_entry(two, 4, TMNOFLAGS), XA_OK);
+  SAME(xa->xa_start_entry(&x, 1, TMNOFLAGS), XA_OK);
+  SAME(xa->xa_start_entry(&x, 2, TMNOFLAGS), XAER_DUPID);
+  SAME(xa->xa_start_entry(&x, 4, TMNOFLAGS), XA_OK);
   SAME(nigbaru_xa_put(1, "k", 1, "v", 1), NIGBARU_OK);
   SAME(nigbaru_xa_put(2, "k", 1, "w", 1), 3572);
-  SAME(nigbaru_xa_put(3, "k", 1, "w", 1), NIGBARU_OK);
-  SAME(xa->xa_close_entry(one, 2, TMNOFLAGS), XA_OK);
-  SAME(xa->xa_open_entry(one, 9, TMNOFLAGS), XA_OK);
-  SAME(xa->xa_start_entry(&x, 2, TMNOFLAGS), XAER_PROTO);
-  for (int rmid = 1; rmid <= 3; rmid += 2) {
-    SAME(xa->xa_end_entry(&x, rmid, TMSUCCESS), XA_OK);
-    SAME(xa->xa_prepare_entry(&x, rmid, TMNOFLAGS), XA_OK);
+  SAME(nigbaru_xa_put(4, "k", 1, "w", 1), NIGBARU_OK);
+  SAME(xa->xa_start_entry(&y, 2, TMNOFLAGS), XA_OK);
+  SAME(xa->xa_start_entry(&z, 3, TMNOFLAGS), XAER_RMERR);
+  SAME(nigbaru_xa_get(3, "k", 1, value, &length), NIGBARU_NO_SESSION);
+  SAME(xa->xa_prepare_entry(&z, 3, TMNOFLAGS), XAER_RMERR);
+  SAME(xa->xa_commit_entry(&z, 3, TMNOFLAGS), XA_RETRY);
+  SAME(xa->xa_rollback_entry(&z, 3, TMNOFLAGS), XAER_RMFAIL);
+  SAME(xa->xa_recover_entry(NULL, 0, 3, TMSTARTRSCAN | TMENDRSCAN), XAER_RMERR);
+  SAME(nigbaru_xa_get(1, "k", 1, value, &length), NIGBARU_VALUE);
+  SAME(xa->xa_end_entry(&x, 1, TMSUCCESS), XA_OK);
+  SAME(xa->xa_start_entry(&z, 1, TMNOFLAGS), XAER_RMERR);
+  SAME(xa->xa_prepare_entry(&x, 3, TMNOFLAGS), XA_OK);
+  SAME(xa->xa_commit_entry(&x, 3, TMNOFLAGS), XA_OK);
+  SAME(xa->xa_start_entry(&z, 3, TMNOFLAGS), XA_OK);
+  XID *const rest[] = {NULL, NULL, &y, &z, &x};
+  for (int rmid = 2; rmid <= 4; rmid++) {
+    SAME(xa->xa_end_entry(rest[rmid], rmid, TMSUCCESS), XA_OK);
+    SAME(xa->xa_rollback_entry(rest[rmid], rmid, TMNOFLAGS), XA_OK);
   }
-  SAME(xa->xa_commit_entry(&x, 9, TMNOFLAGS), XA_OK);
-  SAME(xa->xa_rollback_entry(&x, 3, TMNOFLAGS), XA_OK);
-  static const int open_ones[] = {1, 3, 9};
-  for (int index = 0; index < 3; index++)
-    SAME(xa->xa_close_entry(one, open_ones[index], TMNOFLAGS), XA_OK);
+  for (int rmid = 1; rmid <= 4; rmid++)
+    SAME(xa->xa_close_entry(one, rmid, TMNOFLAGS), XA_OK);
   SAME(nigbaru_xa_drop("one"), XA_OK);
   SAME(nigbaru_xa_drop("two"), XA_OK);
 }
@@ -397,24 +426,72 @@ static int prepared_x(void) {
   return xa->xa_prepare_entry(&x, RM, TMNOFLAGS);
 }
 
+static int idle_x(void) {
+  SAME(work_of_x(), NIGBARU_OK);
+  return end_x();
+}
+
 static void *ends_within(void *task) {
   (*(int (**)(void))task)();
   return NULL;
 }
 
-/* Threads that end without xa_close: what isn't prepared is rolled back, what is goes on, and the session is free. */
+/* Threads that end without xa_close: an active branch is rolled back, an idle or a prepared one goes on, and the session of the first is free. */
 static void threads_that_end(void) {
   pthread_t thread;
-  int (*tasks[])(void) = {work_of_x, prepared_x};
+  int (*tasks[])(void) = {work_of_x, prepared_x, idle_x};
+  static const int commits[] = {XAER_NOTA, XA_OK, XAER_PROTO}, rollbacks[] = {XAER_NOTA, XAER_NOTA, XA_OK};
   unsigned char value[64];
   size_t length;
   SAME(open_here(), XA_OK);
-  for (int turn = 0; turn < 8; turn++) {
-    SAME(pthread_create(&thread, NULL, ends_within, &tasks[turn % 2]), 0);
+  for (int turn = 0; turn < 12; turn++) {
+    SAME(pthread_create(&thread, NULL, ends_within, &tasks[turn % 3]), 0);
     SAME(pthread_join(thread, NULL), 0);
-    SAME(commit_x(), turn % 2 == 0 ? XAER_NOTA : XA_OK);
+    SAME(commit_x(), commits[turn % 3]);
+    SAME(rollback_x(), rollbacks[turn % 3]);
     SAME(nigbaru_xa_get(RM, "k", 1, value, &length), turn == 0 ? NIGBARU_NONE : NIGBARU_VALUE);
   }
+  SAME(close_here(), XA_OK);
+  SAME(nigbaru_xa_drop("cells"), XA_OK);
+}
+
+/* Two threads that finish the same idle branch: one does it. */
+static struct {
+  pthread_barrier_t barrier;
+  atomic_int done;
+} both;
+
+static void *finishes_x(void *unused) {
+  (void)unused;
+  XID x = xid_of("X");
+  SAME(open_here(), XA_OK);
+  for (int turn = 0; turn < 200; turn++) {
+    pthread_barrier_wait(&both.barrier);
+    int code = turn % 3 == 0 ? xa->xa_prepare_entry(&x, RM, TMNOFLAGS) : turn % 3 == 1 ? xa->xa_commit_entry(&x, RM, TMONEPHASE) : xa->xa_rollback_entry(&x, RM, TMNOFLAGS);
+    CHECK(code == XA_OK || code == XAER_PROTO || code == XAER_NOTA);
+    atomic_fetch_add(&both.done, code == XA_OK);
+    pthread_barrier_wait(&both.barrier);
+  }
+  SAME(close_here(), XA_OK);
+  return NULL;
+}
+
+static void two_that_finish(void) {
+  pthread_t threads[2];
+  SAME(open_here(), XA_OK);
+  SAME(pthread_barrier_init(&both.barrier, NULL, 3), 0);
+  for (int index = 0; index < 2; index++)
+    SAME(pthread_create(&threads[index], NULL, finishes_x, NULL), 0);
+  for (int turn = 0; turn < 200; turn++) {
+    bring("X", IDLE);
+    atomic_store(&both.done, 0);
+    pthread_barrier_wait(&both.barrier);
+    pthread_barrier_wait(&both.barrier);
+    SAME(atomic_load(&both.done), 1);
+    SAME(rollback_x(), turn % 3 == 0 ? XA_OK : XAER_NOTA);
+  }
+  for (int index = 0; index < 2; index++)
+    SAME(pthread_join(threads[index], NULL), 0);
   SAME(close_here(), XA_OK);
   SAME(nigbaru_xa_drop("cells"), XA_OK);
 }
@@ -460,9 +537,9 @@ static void recovery(void) {
   SAME(nigbaru_xa_drop("cells"), XA_OK);
 }
 
-/* More branches than a history has room for: the list is asked for again. */
+/* More branches than the first list has room for: it is asked for again. */
 static void long_list(void) {
-  char text[] = "store=long,capacity=8,sessions=1", name[16];
+  char text[] = "store=long,rows=8,sessions=1", name[16];
   static XID listed[40];
   SAME(xa->xa_open_entry(text, RM, TMNOFLAGS), XA_OK);
   for (int index = 0; index < 40; index++) {
@@ -478,7 +555,7 @@ static void long_list(void) {
   SAME(nigbaru_xa_drop("long"), XA_OK);
 }
 
-/* ---- rows, and renewals under them ---- */
+/* ---- rows ---- */
 
 static int put_rows(void) {
   SAME(open_here(), XA_OK);
@@ -494,7 +571,7 @@ static void rows(void) {
   unsigned char value[64], key[65] = "longest";
   size_t length = 77;
   pthread_t thread;
-  SAME(nigbaru_xa_get(RM, "k", 1, value, &length), NIGBARU_NO_SESSION);
+  SAME(nigbaru_xa_get(RM, "k", 1, value, &length), NIGBARU_NO_HANDLE);
   SAME(open_here(), XA_OK);
   SAME(nigbaru_xa_get(RM, NULL, 1, value, &length), NIGBARU_NO_POINTER);
   SAME(nigbaru_xa_get(RM, "k", 1, NULL, &length), NIGBARU_NO_POINTER);
@@ -523,7 +600,8 @@ static void rows(void) {
   SAME(length, 3);
   SAME(memcmp(value, "499", 3), 0);
   SAME(end_x(), XA_OK);
-  SAME(nigbaru_xa_put(RM, "mine", 4, "2", 1), 1399);
+  SAME(nigbaru_xa_put(RM, "mine", 4, "2", 1), 3572);
+  SAME(nigbaru_xa_put(RM, "yours", 5, "2", 1), NIGBARU_OK);
   SAME(called("prepare", TMNOFLAGS), XA_OK);
   SAME(nigbaru_xa_put(RM, "mine", 4, "2", 1), 3572);
   SAME(commit_x(), XA_OK);
@@ -533,8 +611,8 @@ static void rows(void) {
   SAME(nigbaru_xa_drop("cells"), XA_OK);
 }
 
-/* Threads of control over one store of a short history: cycles in two phases, renewals in each, and a count of what was committed. */
-static char racing_info[] = "store=race,capacity=7,sessions=4";
+/* Threads of control over one store with a short ring: cycles in two phases, and a count of what was committed. */
+static char racing_info[] = "store=race,rows=7,sessions=4";
 static long committed[4];
 
 static void *race(void *at) {
@@ -595,6 +673,7 @@ int main(void) {
   sessions();
   cells();
   threads_that_end();
+  two_that_finish();
   recovery();
   long_list();
   rows();

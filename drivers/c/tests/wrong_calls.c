@@ -7,11 +7,11 @@
 
 static nigbaru_answer answer;
 static nigbaru_xid xids[2];
+static nigbaru_entry entry;
 
 static void nulls(void) {
   nigbaru_store store = NIGBARU_EMPTY;
   nigbaru_session session = NIGBARU_EMPTY;
-  uint64_t number, length;
   SAME(nigbaru_open(1, 1, NULL), NIGBARU_NO_POINTER);
   SAME(nigbaru_take(NULL, 1, &session), NIGBARU_NO_POINTER);
   SAME(nigbaru_take(&store, 1, NULL), NIGBARU_NO_POINTER);
@@ -21,40 +21,35 @@ static void nulls(void) {
   SAME(nigbaru_attempt(&session, "GET 'k'", 7, &answer, NULL, 2), NIGBARU_NO_POINTER);
   SAME(nigbaru_run(NULL, "GET 'k'", 7, &answer, NULL, 0, 3), NIGBARU_NO_POINTER);
   SAME(nigbaru_leave(NULL), NIGBARU_NO_POINTER);
-  SAME(nigbaru_renew(NULL, &store), NIGBARU_NO_POINTER);
-  SAME(nigbaru_renew(&session, NULL), NIGBARU_NO_POINTER);
-  SAME(nigbaru_history(NULL, 0, &number, NULL, 0, &length), NIGBARU_NO_POINTER);
-  SAME(nigbaru_history(&session, 0, NULL, NULL, 0, &length), NIGBARU_NO_POINTER);
-  SAME(nigbaru_history(&session, 0, &number, NULL, 1, &length), NIGBARU_NO_POINTER);
-  SAME(nigbaru_history(&session, 0, &number, NULL, 0, NULL), NIGBARU_NO_POINTER);
+  SAME(nigbaru_follow(NULL, &entry), NIGBARU_NO_POINTER);
+  SAME(nigbaru_follow(&session, NULL), NIGBARU_NO_POINTER);
   SAME(nigbaru_close(NULL), NIGBARU_NO_POINTER);
 }
 
 static void empty_handles(void) {
   nigbaru_store store = NIGBARU_EMPTY;
   nigbaru_session session = NIGBARU_EMPTY;
-  uint64_t number, length;
-  char text[8];
   SAME(nigbaru_take(&store, 1, &session), NIGBARU_NO_HANDLE);
   SAME(nigbaru_attempt(&session, "GET 'k'", 7, &answer, xids, 2), NIGBARU_NO_HANDLE);
   SAME(nigbaru_leave(&session), NIGBARU_NO_HANDLE);
-  SAME(nigbaru_renew(&session, &store), NIGBARU_NO_HANDLE);
-  SAME(nigbaru_history(&session, 0, &number, text, sizeof text, &length), NIGBARU_NO_HANDLE);
+  SAME(nigbaru_follow(&session, &entry), NIGBARU_NO_HANDLE);
   SAME(nigbaru_close(&store), NIGBARU_NO_HANDLE);
   CHECK(store.handle.at == NULL && session.handle.at == NULL);
 }
 
 static void ranges(void) {
-  static const uint64_t bad_capacities[] = {0, 1025, UINT64_MAX}, bad_sessions[] = {0, 17, UINT64_MAX};
+  static const uint64_t bad_rows[] = {0, 65537, UINT64_MAX}, bad_sessions[] = {0, 17, UINT64_MAX};
   nigbaru_store store = NIGBARU_EMPTY;
   nigbaru_session session = NIGBARU_EMPTY;
   for (int index = 0; index < 3; index++) {
-    SAME(nigbaru_open(bad_capacities[index], 1, &store), NIGBARU_OUT_OF_RANGE);
+    SAME(nigbaru_open(bad_rows[index], 1, &store), NIGBARU_OUT_OF_RANGE);
     SAME(nigbaru_open(1, bad_sessions[index], &store), NIGBARU_OUT_OF_RANGE);
     CHECK(store.handle.at == NULL);
   }
-  SAME(nigbaru_open(1024, 16, &store), NIGBARU_OK);
-  SAME(nigbaru_open(1024, 16, &store), NIGBARU_HELD);
+  SAME(nigbaru_open(65536, 1, &store), NIGBARU_OK);
+  SAME(nigbaru_close(&store), NIGBARU_OK);
+  SAME(nigbaru_open(1, 16, &store), NIGBARU_OK);
+  SAME(nigbaru_open(1, 16, &store), NIGBARU_HELD);
   SAME(nigbaru_take(&store, 0, &session), NIGBARU_OUT_OF_RANGE);
   SAME(nigbaru_take(&store, 17, &session), NIGBARU_OUT_OF_RANGE);
   SAME(nigbaru_take(&store, UINT64_MAX, &session), NIGBARU_OUT_OF_RANGE);
@@ -63,7 +58,8 @@ static void ranges(void) {
   nigbaru_session other = NIGBARU_EMPTY;
   SAME(nigbaru_take(&store, 16, &other), NIGBARU_NO_SESSION);
   SAME(nigbaru_leave(&session), NIGBARU_OK);
-  SAME(nigbaru_take(&store, 16, &other), NIGBARU_NO_SESSION);
+  SAME(nigbaru_take(&store, 16, &other), NIGBARU_OK);
+  SAME(nigbaru_leave(&other), NIGBARU_OK);
   SAME(nigbaru_take(&store, 1, &other), NIGBARU_OK);
   SAME(nigbaru_close(&store), NIGBARU_OK);
   SAME(nigbaru_attempt(&other, "PUT 'k','v'", 11, &answer, NULL, 0), NIGBARU_OK);
@@ -79,14 +75,12 @@ static void one_of_each(nigbaru_store *store, nigbaru_session *session) {
 
 /* A store's handle where a session's is wanted, and the other way round. */
 static void mixed_up(void) {
-  nigbaru_store store = NIGBARU_EMPTY, next = NIGBARU_EMPTY;
+  nigbaru_store store = NIGBARU_EMPTY;
   nigbaru_session session = NIGBARU_EMPTY, other = NIGBARU_EMPTY;
-  uint64_t number, length;
   one_of_each(&store, &session);
   SAME(nigbaru_raw_attempt(&store.handle, (const uint8_t *)"GET 'k'", 7, &answer, xids, 2), NIGBARU_NO_HANDLE);
   SAME(nigbaru_raw_leave(&store.handle), NIGBARU_NO_HANDLE);
-  SAME(nigbaru_raw_renew(&store.handle, &next.handle), NIGBARU_NO_HANDLE);
-  SAME(nigbaru_raw_history(&store.handle, 0, &number, (uint8_t *)"", 0, &length), NIGBARU_NO_HANDLE);
+  SAME(nigbaru_raw_follow(&store.handle, &entry), NIGBARU_NO_HANDLE);
   SAME(nigbaru_raw_close(&session.handle), NIGBARU_NO_HANDLE);
   SAME(nigbaru_raw_take(&session.handle, 2, &other.handle), NIGBARU_NO_HANDLE);
   SAME(nigbaru_attempt(&session, "GET 'k'", 7, &answer, NULL, 0), NIGBARU_NONE);
@@ -160,57 +154,99 @@ static void limits(void) {
   SAME(nigbaru_close(&store), NIGBARU_OK);
 }
 
-/* Renewal: only where the history is full; what is open goes on, each branch with its session's number. */
-static void renewal(void) {
-  nigbaru_store store = NIGBARU_EMPTY, next = NIGBARU_EMPTY;
-  nigbaru_session session = NIGBARU_EMPTY, other = NIGBARU_EMPTY;
+/* A session that left is taken again, from any handle: its branch and what it has handed out go on. */
+static void taken_again(void) {
+  nigbaru_store store = NIGBARU_EMPTY;
+  nigbaru_session session = NIGBARU_EMPTY, other = NIGBARU_EMPTY, again = NIGBARU_EMPTY;
   one_of_each(&store, &session);
-  SAME(nigbaru_renew(&session, &next), NIGBARU_NOT_FULL);
+  SAME(nigbaru_take(&store, 2, &other), NIGBARU_OK);
   SAME(nigbaru_attempt(&session, "XA START 'a'", 12, &answer, NULL, 0), NIGBARU_OK);
-  SAME(nigbaru_renew(&session, &next), NIGBARU_NOT_FULL);
+  SAME(answer.place, 0);
   SAME(nigbaru_attempt(&session, "PUT 'k','v'", 11, &answer, NULL, 0), NIGBARU_OK);
-  SAME(nigbaru_attempt(&session, "XA END 'a'", 10, &answer, NULL, 0), NIGBARU_FULL);
-  SAME(nigbaru_attempt(&session, "XA END 'b'", 10, &answer, NULL, 0), NIGBARU_REFUSED);
-  SAME(nigbaru_renew(&session, &store), NIGBARU_HELD);
-  SAME(nigbaru_renew(&session, &next), NIGBARU_OK);
+  SAME(answer.place, 1);
+  SAME(nigbaru_follow(&session, &entry), NIGBARU_OK);
+  SAME(memcmp(entry.text, "XA START 0x61,X'',1", entry.length), 0);
   SAME(nigbaru_leave(&session), NIGBARU_OK);
-  SAME(nigbaru_close(&store), NIGBARU_OK);
-  SAME(nigbaru_take(&next, 2, &other), NIGBARU_OK);
-  SAME(nigbaru_take(&next, 1, &session), NIGBARU_OK);
+  SAME(nigbaru_leave(&session), NIGBARU_NO_HANDLE);
+  SAME(nigbaru_attempt(&session, "GET 'k'", 7, &answer, NULL, 0), NIGBARU_NO_HANDLE);
   SAME(nigbaru_attempt(&other, "PUT 'k','w'", 11, &answer, NULL, 0), NIGBARU_REFUSED);
   SAME(answer.error, 3572);
-  SAME(nigbaru_attempt(&session, "XA END 'a'", 10, &answer, NULL, 0), NIGBARU_OK);
-  SAME(answer.place, 0);
-  SAME(nigbaru_attempt(&session, "XA COMMIT 'a' ONE PHASE", 23, &answer, NULL, 0), NIGBARU_OK);
+  SAME(nigbaru_take(&store, 1, &again), NIGBARU_OK);
+  SAME(nigbaru_follow(&again, &entry), NIGBARU_OK);
+  SAME(memcmp(entry.text, "PUT 0x6b,0x76", entry.length), 0);
+  SAME(nigbaru_follow(&again, &entry), NIGBARU_NONE);
+  SAME(nigbaru_attempt(&again, "XA END 'a'", 10, &answer, NULL, 0), NIGBARU_OK);
+  SAME(nigbaru_attempt(&again, "XA COMMIT 'a' ONE PHASE", 23, &answer, NULL, 0), NIGBARU_OK);
+  SAME(answer.place, 3);
   SAME(nigbaru_attempt(&other, "GET 'k'", 7, &answer, NULL, 0), NIGBARU_VALUE);
+  SAME(answer.place, 4);
   SAME(answer.value[0], 'v');
-  SAME(nigbaru_leave(&session), NIGBARU_OK);
+  SAME(nigbaru_leave(&again), NIGBARU_OK);
   SAME(nigbaru_leave(&other), NIGBARU_OK);
-  SAME(nigbaru_close(&next), NIGBARU_OK);
+  SAME(nigbaru_close(&store), NIGBARU_OK);
 }
 
-/* The history: each entry in canonical form, with its session; its whole length, also where there is less room. */
+/* Wants the next entry that a session hands out to be this one. */
+static void hands_out(nigbaru_session *session, uint64_t number, const char *text) {
+  SAME(nigbaru_follow(session, &entry), NIGBARU_OK);
+  SAME(entry.number, number);
+  SAME(entry.length, strlen(text));
+  SAME(memcmp(entry.text, text, strlen(text)), 0);
+  SAME(entry.lost, 0);
+}
+
+/* The history: each entry once, in canonical form, with its session, to each session; the longest; what is lost where a session follows too slowly. */
 static void history(void) {
   nigbaru_store store = NIGBARU_EMPTY;
-  nigbaru_session session = NIGBARU_EMPTY;
-  uint64_t number, length;
-  char text[16];
-  one_of_each(&store, &session);
-  SAME(nigbaru_history(&session, 0, &number, text, sizeof text, &length), NIGBARU_OUT_OF_RANGE);
+  nigbaru_session session = NIGBARU_EMPTY, other = NIGBARU_EMPTY;
+  char text[LONGEST], wanted[LONGEST];
+  SAME(nigbaru_open(64, 2, &store), NIGBARU_OK);
+  SAME(nigbaru_take(&store, 1, &session), NIGBARU_OK);
+  SAME(nigbaru_take(&store, 2, &other), NIGBARU_OK);
+  SAME(nigbaru_follow(&session, &entry), NIGBARU_NONE);
+  SAME(entry.number, 0);
+  SAME(entry.length, 0);
   SAME(nigbaru_attempt(&session, "put X'6B' , \"v\" ;", 17, &answer, NULL, 0), NIGBARU_OK);
-  SAME(nigbaru_history(&session, 0, &number, text, sizeof text, &length), NIGBARU_OK);
-  SAME(number, 1);
-  SAME(length, strlen("PUT 0x6b,0x76"));
-  SAME(memcmp(text, "PUT 0x6b,0x76", (size_t)length), 0);
-  memset(text, '-', sizeof text);
-  SAME(nigbaru_history(&session, 0, &number, text, 3, &length), NIGBARU_OK);
-  SAME(length, strlen("PUT 0x6b,0x76"));
-  SAME(memcmp(text, "PUT-", 4), 0);
-  SAME(nigbaru_history(&session, 0, &number, NULL, 0, &length), NIGBARU_OK);
-  SAME(length, strlen("PUT 0x6b,0x76"));
-  SAME(nigbaru_history(&session, 1, &number, text, sizeof text, &length), NIGBARU_OUT_OF_RANGE);
-  SAME(nigbaru_history(&session, UINT64_MAX, &number, text, sizeof text, &length), NIGBARU_OUT_OF_RANGE);
+  SAME(nigbaru_run(&other, "DEL 'l'", 7, &answer, NULL, 0, 0), NIGBARU_OK);
+  SAME(nigbaru_attempt(&other, "GET 'k'", 7, &answer, NULL, 0), NIGBARU_VALUE);
+  SAME(nigbaru_attempt(&other, "XA END 'k'", 10, &answer, NULL, 0), NIGBARU_REFUSED);
+  hands_out(&session, 1, "PUT 0x6b,0x76");
+  hands_out(&session, 2, "DEL 0x6c");
+  hands_out(&other, 1, "PUT 0x6b,0x76");
+  SAME(nigbaru_follow(&session, &entry), NIGBARU_NONE);
+  sprintf(text, "XA START '%064d','%064d',9223372036854775807", 1, 2);
+  SAME(nigbaru_run(&session, text, strlen(text), &answer, NULL, 0, 0), NIGBARU_OK);
+  int at = sprintf(wanted, "XA START 0x");
+  for (int byte = 0; byte < 128; byte++)
+    at += sprintf(wanted + at, "%s%02x", byte == 64 ? ",0x" : "", byte == 63 ? '1' : byte == 127 ? '2' : '0');
+  sprintf(wanted + at, ",9223372036854775807");
+  hands_out(&session, 1, wanted);
+  CHECK(strlen(wanted) <= NIGBARU_TEXT);
+  SAME(nigbaru_run(&session, "DISCONNECT", 10, &answer, NULL, 0, 0), NIGBARU_OK);
+  hands_out(&session, 1, "DISCONNECT");
+  for (int turn = 0; turn < 200; turn++) {
+    int length = sprintf(text, "PUT 'k','%03d'", turn);
+    SAME(nigbaru_run(&other, text, (size_t)length, &answer, NULL, 0, 0), NIGBARU_OK);
+  }
+  int next = 0, lost = 0;
+  uint32_t status;
+  while ((status = nigbaru_follow(&session, &entry)) != NIGBARU_NONE) {
+    if (status == NIGBARU_BEHIND) {
+      CHECK(entry.lost > 0);
+      lost += (int)entry.lost;
+      next += (int)entry.lost;
+      continue;
+    }
+    SAME(status, NIGBARU_OK);
+    sprintf(wanted, "PUT 0x6b,0x%02x%02x%02x", '0' + next / 100, '0' + next / 10 % 10, '0' + next % 10);
+    SAME(entry.length, strlen(wanted));
+    SAME(memcmp(entry.text, wanted, strlen(wanted)), 0);
+    next++;
+  }
+  SAME(next, 200);
+  CHECK(lost >= 200 - 64 && lost <= 200 - 64 / 2);
   SAME(nigbaru_leave(&session), NIGBARU_OK);
+  SAME(nigbaru_leave(&other), NIGBARU_OK);
   SAME(nigbaru_close(&store), NIGBARU_OK);
 }
 
@@ -221,7 +257,7 @@ int main(void) {
   mixed_up();
   no_statements();
   limits();
-  renewal();
+  taken_again();
   history();
   return 0;
 }

@@ -2,6 +2,8 @@
 //!
 //!     bench cycle|get|mix5 THREADS SECONDS ROWS
 //!     bench times THREADS STATEMENTS ROWS
+//!
+//! The ring has 16,384 rows, or as many as BENCH_RING says.
 use nigbaru::{Reply, Session, Store};
 use std::env;
 use std::process;
@@ -11,7 +13,7 @@ use std::thread;
 use std::time::{Duration, Instant};
 
 const TURNS: usize = 100;
-const CAPACITY: u64 = 1024;
+const RING: u64 = 16384;
 
 /// The texts of a thread: those of its branches, and those that read its rows.
 struct Texts {
@@ -100,12 +102,14 @@ fn timed(session: &mut Session, texts: &Texts, count: usize) -> Vec<u64> {
 
 /// A store with rows that nobody touches, and sessions that have seen them.
 fn opened(threads: usize, rows: usize) -> Vec<Session> {
-    let store = Store::open(CAPACITY, threads as u64).unwrap();
+    let ring = env::var("BENCH_RING").map_or(RING, |rows| rows.parse().unwrap());
+    let store = Store::open(ring, threads as u64).unwrap();
     let mut sessions = vec![store.session().unwrap()];
     for row in 0..rows {
         ok(&mut sessions[0], &format!("PUT 'row{}','value{}'", row, row));
     }
     sessions.extend((1..threads).map(|_| store.session().unwrap()));
+    // Whoever was idle meanwhile sees the rows now, and not while the time is taken.
     sessions.iter_mut().for_each(|session| ok(session, "PUT 'k0_0','v'"));
     sessions
 }

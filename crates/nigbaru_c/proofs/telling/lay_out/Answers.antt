@@ -2,7 +2,7 @@ use Rattle.std.proofs.Common.{◌≡◌, ◌∙◌, ◌<◌, length, sym, subst,
 use Rattle.std.proofs.lemmas.List.{length-set, get_or_default}
 use Rattle.xa_xid.specs.declared.xid.Xid.{Xid}
 use Rattle.nigbaru_c.specs.Telling.{IsLaid}
-use Rattle.nigbaru_c.proofs.Laying.{laid_more}
+use Rattle.nigbaru_c.proofs.Laying.{laid_more, kept_more}
 use Rattle.nigbaru_c.proofs.telling.lay_out.Goals as goal
 
 pub loop-index-preserved : goal.loop-index-preserved
@@ -17,4 +17,5 @@ loop-index-preserved c =
       laid_more xids parts index c.of.result room
           (λ d. subst (λ (other : Xid). IsLaid other c.of.result) (c.index-xids-index.is ∙ get_or_default xids index xid d there) c.of.ensures)
           c.loop-index.invariant.1,
+      kept_more parts c.args.parts.now index c.of.result c.loop-index.invariant.2,
     )

@@ -1,0 +1,42 @@
+-- How C gets the history.
+--     status_of_next   the status of what comes next
+--     Shows            how what comes next is written into the structure of C
+--     HandsOut         one more entry is handed out, or some are lost, or there is none
+--     Follows          HandsOut, of what a handle holds
+use Rattle.std.specs.Prelude.{◌≡◌, ℕ, length, take, Option, None, Some}
+use Rattle.ring_log.specs.RingPass.{known_of}
+use Rattle.xa_statement.specs.Canonical.{statement_text}
+use Rattle.xa_endless.specs.Following.{Hands}
+use Rattle.xa_endless.specs.Seen.{HasOnlySeen}
+use Rattle.xa_endless.specs.declared.following.Next.{Next}
+use Rattle.xa_endless.specs.declared.following.Next.TheVariants.{Entry as IsEntry, Lost, End}
+use Rattle.xa_endless.specs.declared.session.EndlessSession.{EndlessSession}
+use Rattle.nigbaru_c.specs.declared.handed.Handed.{Handed}
+
+-- the status of what comes next; without a session there is nothing
+abbrev pub status_of_next : Option Next → ℕ
+status_of_next (Some (IsEntry entry)) = 0
+status_of_next (Some End) = 2
+status_of_next (Some (Lost count)) = 16
+status_of_next None = 9
+
+-- an entry's session and the canonical text of its statement, or how many entries are lost, and else nothing
+abbrev pub Shows : Option Next → Handed → Type 0
+Shows (Some (IsEntry entry)) handed = (handed.number ≡ entry.session) × (handed.length ≡ length (statement_text entry.statement))
+    × (take handed.length handed.text ≡ statement_text entry.statement) × (handed.lost ≡ 0)
+Shows (Some (Lost count)) handed = (handed.number ≡ 0) × (handed.length ≡ 0) × (handed.lost ≡ count)
+Shows (Some End) handed = (handed.number ≡ 0) × (handed.length ≡ 0) × (handed.lost ≡ 0)
+Shows None handed = (handed.number ≡ 0) × (handed.length ≡ 0) × (handed.lost ≡ 0)
+
+-- the session is of its store and has its replica, nothing was added, and the history is handed out up to here
+pub record HandsOut (next : Next) (old new : EndlessSession) : Type 0 where
+  pub store : new.store.value ≡ old.store.value
+  pub replica : new.member.replica ≡ old.member.replica
+  pub seen : HasOnlySeen (known_of old.member.pass) (known_of new.member.pass)
+  pub hands : Hands old.store.value.log next old.member new.member
+
+-- what comes next is handed out, if a session is held
+abbrev pub Follows : Option Next → Option EndlessSession → Option EndlessSession → Type 0
+Follows None None None = Unit {0}
+Follows (Some next) (Some old) (Some new) = HandsOut next old new
+Follows next old new = ⊥

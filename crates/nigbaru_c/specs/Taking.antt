@@ -1,0 +1,38 @@
+-- How C takes a session.
+--     IsTaken          a session of this store and this number
+--     Takes            IsTaken, of what handles hold
+--     IsSeatStatus     the cause of each status, in the order of test, at a store
+--     IsTakeStatus     the same, if a store is held
+use Rattle.std.specs.Prelude.{◌≡◌, ◌≢◌, ◌≤◌, ◌⊎◌, ℕ, Option, None, Some}
+use Rattle.ring_log.specs.RingPass.{known_of}
+use Rattle.xa_endless.specs.declared.session.EndlessSession.{EndlessSession}
+use Rattle.xa_endless.specs.declared.store.EndlessStore.{EndlessStore}
+use Rattle.nigbaru_c.specs.declared.chair.Chair.{Chair}
+
+-- the session is of the store, and has the number
+pub record IsTaken (number : ℕ) (store : EndlessStore) (session : EndlessSession) : Type 0 where
+  pub of_store : session.store.value ≡ store
+  pub number_is : (known_of session.member.pass).number ≡ number
+
+-- a store and a session are held, and the session is taken from the store
+abbrev pub Takes : ℕ → Option EndlessStore → Option EndlessSession → Type 0
+Takes number (Some store) (Some session) = IsTaken number store session
+Takes number store session = ⊥
+
+-- the store has a session of this number
+abbrev pub IsNumber : ℕ → EndlessStore → Type 0
+IsNumber number store = (1 ≤ number) × (number ≤ store.log.sessions)
+
+-- each status but 0 has one cause: the handle that is to be filled held something, the store has no such session, memory was missing, or
+-- somebody had the session
+pub record IsSeatStatus (number : ℕ) (store : EndlessStore) (held : Option Chair) (status : ℕ) : Type 0 where
+  pub some : (status ≡ 0) ⊎ ((status ≡ 13) ⊎ ((status ≡ 10) ⊎ ((status ≡ 7) ⊎ (status ≡ 11))))
+  pub held_is : status ≡ 13 → held ≢ None
+  pub empty : status ≢ 13 → held ≡ None
+  pub range : status ≡ 10 → IsNumber number store → ⊥
+  pub fits : status ≢ 13 → status ≢ 10 → IsNumber number store
+
+-- without a store there is no other status than 9, which comes only then
+abbrev pub IsTakeStatus : ℕ → Option EndlessStore → Option Chair → ℕ → Type 0
+IsTakeStatus number None held status = status ≡ 9
+IsTakeStatus number (Some store) held status = IsSeatStatus number store held status

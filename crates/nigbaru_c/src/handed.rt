@@ -1,0 +1,15 @@
+//! The entry that C gets: `nigbaru_entry`.
+
+/// The entry that C gets: `nigbaru_entry` of `include/nigbaru.h`.
+#[repr(C)]
+#[derive(Drop)]
+pub struct Handed {
+    /// The number of the entry's session, or 0.
+    pub number: u64,
+    /// How many bytes of `text` are the statement's.
+    pub length: u64,
+    /// How many entries were overwritten before they were handed out.
+    pub lost: u64,
+    /// The statement's canonical text.
+    pub text: [u8; 304],
+}

@@ -1,0 +1,135 @@
+//! The canonical text of an entry's statement, written without memory: there is a most that it can have.
+ghost use Rattle.std.specs.Prelude.{◌≡◌, ◌≤◌, ◌++◌, ◌∷◌, length};
+ghost use Rattle.xa_statement.specs.Canonical.{statement_text};
+ghost use Rattle.xa_xid.specs.Limits.{text_bytes};
+ghost use Rattle.xa_xid.specs.XidText.{part_text, xid_text};
+ghost use Rattle.hex.specs.Hex.{encode_lower};
+
+use arrayvec::ArrayVec;
+use itoa::Buffer;
+use xa_xid::{Statement, Xid};
+
+/// Two lower-case hexadecimal digits for each byte.
+fn small_digits(bytes: &[u8]) -> ArrayVec<u8, 128>
+    requires { length bytes.now ≤ text_bytes }
+    ensures { result.items ≡ encode_lower bytes.now }
+{
+    let mut digits = ArrayVec::from([0; 128]);
+    digits.truncate(2 * bytes.len());
+    let _ = hex::encode_to_slice(bytes, digits.as_mut_slice());
+    digits
+}
+
+/// The text of a gtrid, a bqual, a key or a value.
+fn spell_part(bytes: &[u8]) -> ArrayVec<u8, 130>
+    requires { length bytes.now ≤ text_bytes }
+    ensures { result.items ≡ part_text bytes.now }
+{
+    let mut text = ArrayVec::<u8, 130>::new();
+    if bytes.is_empty() {
+        text.try_extend_from_slice(b"X''").unwrap();
+    } else {
+        let digits = small_digits(bytes);
+        text.try_extend_from_slice(b"0x").unwrap();
+        text.try_extend_from_slice(digits.as_slice()).unwrap();
+    }
+    text
+}
+
+/// Two such texts, and a comma between them.
+fn spell_pair(first: &[u8], second: &[u8]) -> ArrayVec<u8, 261>
+    requires first { length first.now ≤ text_bytes }
+    requires second { length second.now ≤ text_bytes }
+    ensures { result.items ≡ part_text first.now ++ (44 ∷ part_text second.now) }
+{
+    let first = spell_part(first);
+    let second = spell_part(second);
+    let mut text = ArrayVec::<u8, 261>::new();
+    text.try_extend_from_slice(first.as_slice()).unwrap();
+    text.push(b',');
+    text.try_extend_from_slice(second.as_slice()).unwrap();
+    text
+}
+
+/// The text of an identifier.
+fn spell_xid(xid: &Xid) -> ArrayVec<u8, 282>
+    ensures { result.items ≡ xid_text xid.now }
+{
+    let pair = spell_pair(xid.gtrid.as_slice(), xid.bqual.as_slice());
+    let mut buffer = Buffer::new();
+    let mut text = ArrayVec::<u8, 282>::new();
+    text.try_extend_from_slice(pair.as_slice()).unwrap();
+    text.push(b',');
+    text.try_extend_from_slice(buffer.format(xid.format_id).as_bytes())
+        .unwrap();
+    text
+}
+
+/// Words, a text and words.
+fn between(before: &[u8], text: &[u8], after: &[u8]) -> ArrayVec<u8, 304>
+    requires before { length before.now ≤ 12 }
+    requires text { length text.now ≤ 282 }
+    requires after { length after.now ≤ 10 }
+    ensures { result.items ≡ before.now ++ (text.now ++ after.now) }
+{
+    let mut whole = ArrayVec::<u8, 304>::new();
+    whole.try_extend_from_slice(before).unwrap();
+    whole.try_extend_from_slice(text).unwrap();
+    whole.try_extend_from_slice(after).unwrap();
+    whole
+}
+
+/// Words and an identifier.
+fn with_xid(before: &[u8], xid: &Xid, after: &[u8]) -> ArrayVec<u8, 304>
+    requires before { length before.now ≤ 12 }
+    requires after { length after.now ≤ 10 }
+    ensures { result.items ≡ before.now ++ (xid_text xid.now ++ after.now) }
+{
+    let xid = spell_xid(xid);
+    between(before, xid.as_slice(), after)
+}
+
+/// Words and a key.
+fn with_key(before: &[u8], key: &[u8]) -> ArrayVec<u8, 304>
+    requires before { length before.now ≤ 12 }
+    requires key { length key.now ≤ text_bytes }
+    ensures { result.items ≡ before.now ++ part_text key.now }
+{
+    let key = spell_part(key);
+    between(before, key.as_slice(), b"")
+}
+
+/// The canonical text of a statement. None is longer than 304 bytes.
+#[tactic(auto, unfolding(xa_statement::specs::Canonical::statement_text))]
+pub(crate) fn spell(statement: &Statement) -> ArrayVec<u8, 304>
+    ensures { result.items ≡ statement_text statement.now }
+{
+    match statement {
+        Statement::Start(xid) => with_xid(b"XA START ", xid, b""),
+        Statement::End(xid) => with_xid(b"XA END ", xid, b""),
+        Statement::Prepare(xid) => with_xid(b"XA PREPARE ", xid, b""),
+        Statement::Commit { xid, one_phase } => {
+            if *one_phase {
+                with_xid(b"XA COMMIT ", xid, b" ONE PHASE")
+            } else {
+                with_xid(b"XA COMMIT ", xid, b"")
+            }
+        }
+        Statement::Rollback(xid) => with_xid(b"XA ROLLBACK ", xid, b""),
+        Statement::Recover { convert } => {
+            if *convert {
+                between(b"XA RECOVER", b" CONVERT XID", b"")
+            } else {
+                between(b"XA RECOVER", b"", b"")
+            }
+        }
+        Statement::Unsupported => ArrayVec::<u8, 304>::new(),
+        Statement::Get(key) => with_key(b"GET ", key.as_slice()),
+        Statement::Put(key, value) => {
+            let pair = spell_pair(key.as_slice(), value.as_slice());
+            between(b"PUT ", pair.as_slice(), b"")
+        }
+        Statement::Del(key) => with_key(b"DEL ", key.as_slice()),
+        Statement::Disconnect => between(b"DISCONNECT", b"", b""),
+    }
+}
