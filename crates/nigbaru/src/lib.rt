@@ -18,6 +18,7 @@ pub use xa_coordinator::{
     WorkFault, xid_of_branch,
 };
 pub use xa_endless::{EndlessFault, EndlessSession, EndlessStore, Next, TakeFault};
+pub use xa_endless_races::{LongOutcome, LongRun, hold_long_race, race_on};
 pub use xa_lasting::LastingStore;
 pub use xa_server::{
     BranchEntry, BranchState, HeldRow, Hold, Phase, Reply, Server, XaError, XidList,
@@ -26,7 +27,6 @@ pub use xa_session::{Answer, Fault, Session};
 pub use xa_statement::{SyntaxFault, read_statement, write_statement};
 pub use xa_store::{
     Gate, Log, OpenGate, Outcome, Pass, RaceFault, Run, ShuffledGate, Store, TogetherGate, race,
-    race_in_rounds,
 };
 pub use xa_xid::{
     Bytes, Key, LiteralFault, NoMemory, SessionNo, Statement, Xid, copy_of, read_xid, write_xid,

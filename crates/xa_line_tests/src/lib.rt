@@ -10,6 +10,8 @@ mod calls;
 #[cfg(test)]
 mod events;
 #[cfg(test)]
+mod long_races;
+#[cfg(test)]
 mod races;
 #[cfg(test)]
 mod records;

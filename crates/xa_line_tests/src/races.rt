@@ -18,8 +18,8 @@ use xa_xid::SessionNo;
 enum RaceKind {
     /// In one history.
     Once,
-    /// In rounds.
-    InRounds,
+    /// Over a store without an end.
+    Endless,
 }
 
 /// Races the script that a reader gives.
@@ -36,7 +36,7 @@ fn race<I: Read, O: Write, G: Gate + Sync, R: Threads + Wait + Sync + Alloc<A = 
     let alloc = rt.alloc();
     match race_kind {
         RaceKind::Once => race_script(rt, alloc, input, output, capacity, gate),
-        RaceKind::InRounds => race_script_in_rounds(rt, alloc, input, output, capacity, gate),
+        RaceKind::Endless => race_script_in_rounds(rt, alloc, input, output, capacity, gate),
     }
 }
 
@@ -120,7 +120,7 @@ const OUTCOME: &[u8] =
 
 #[test]
 fn with_faulty_lines_no_gate_is_asked(rt: HostRuntime) -> Result<(), Fail> {
-    for race_kind in [RaceKind::Once, RaceKind::InRounds] {
+    for race_kind in [RaceKind::Once, RaceKind::Endless] {
         let mut input = FAULTY;
         let mut output = Vec::new(rt.alloc());
         race(&rt, race_kind, &mut input, &mut output, 1, &ShutGate)?;
@@ -133,7 +133,7 @@ fn with_faulty_lines_no_gate_is_asked(rt: HostRuntime) -> Result<(), Fail> {
 fn write_fault_leaves_a_prefix(rt: HostRuntime) {
     writes_prefixes(&rt, RaceKind::Once, FAULTY, TOLD, 1);
     writes_prefixes(&rt, RaceKind::Once, SCRIPT, OUTCOME, 1024);
-    writes_prefixes(&rt, RaceKind::InRounds, SCRIPT, OUTCOME, 1);
+    writes_prefixes(&rt, RaceKind::Endless, SCRIPT, OUTCOME, 1);
 }
 
 #[test]
@@ -181,7 +181,7 @@ fn stream_fault_ends_a_race_at_once(rt: HostRuntime) {
 
 #[test]
 fn shut_gate_writes_nothing(rt: HostRuntime) {
-    for race_kind in [RaceKind::Once, RaceKind::InRounds] {
+    for race_kind in [RaceKind::Once, RaceKind::Endless] {
         let mut input = SCRIPT;
         writes_nothing(&rt, race_kind, &mut input, &ShutGate, ScriptFault::GateShut);
     }

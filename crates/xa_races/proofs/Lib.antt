@@ -1,3 +1,4 @@
 pub mod Race
 pub mod RaceRuns
 pub mod ReadLines
+pub mod Held

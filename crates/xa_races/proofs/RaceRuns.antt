@@ -1,5 +1,5 @@
 -- The runs of a race, and the sessions of its history.
-use Rattle.std.proofs.Common.{◌≡◌, ℕ, zero, suc, Some, get_or, Vec, Global, ◌+◌, ◌<◌, ◌≤◌, max, List, [], ◌∷◌, ◌++◌, length, map, take, refl, ap, sym, ◌∙◌, subst, arith}
+use Rattle.std.proofs.Common.{◌≡◌, ℕ, zero, suc, Some, None, get_or, Vec, Global, ◌+◌, ◌<◌, ◌≤◌, max, List, [], ◌∷◌, ◌++◌, length, map, take, refl, ap, sym, ◌∙◌, subst, arith}
 use Rattle.std.specs.Prelude.{slice_get}
 use Rattle.std.specs.List.{All, AllZip, zip}
 use Rattle.std.proofs.lemmas.List.Elements.{All-head, All-tail, All-cons, All-nil, All-take}
@@ -22,9 +22,18 @@ pub length_mapped : {A B : Type 0} (f : A → B) (xs : List A) → length (map f
 length_mapped f [] = refl
 length_mapped f (x ∷ xs) = ap suc (length_mapped f xs)
 
-all_of_mapped : {A B : Type 0} (P : B → Type 0) (f : A → B) (xs : List A) → All P (map f xs) → All (λ x. P (f x)) xs
+pub all_of_mapped : {A B : Type 0} (P : B → Type 0) (f : A → B) (xs : List A) → All P (map f xs) → All (λ x. P (f x)) xs
 all_of_mapped P f [] all = All-nil (λ x. P (f x))
 all_of_mapped P f (x ∷ xs) all = All-cons (λ y. P (f y)) x xs (All-head P (f x) (map f xs) all) (all_of_mapped P f xs (All-tail P (f x) (map f xs) all))
+
+never : {A : Type 0} (x : A) → None ≡ Some x → ⊥
+never x is = cc
+
+pub get_taken : {A : Type 0} (n : ℕ) (xs : List A) (place : ℕ) (x : A) → slice_get (take n xs) place ≡ Some x → slice_get xs place ≡ Some x
+get_taken zero xs place x is = absurd (never x is)
+get_taken (suc n) [] place x is = absurd (never x is)
+get_taken (suc n) (y ∷ xs) zero x is = is
+get_taken (suc n) (y ∷ xs) (suc place) x is = get_taken n xs place x is
 
 -- the runs are of the log that the passes are of
 pub runs_belong : (identity : LogIdentity) (n : ℕ) (passes taken : List Pass) (runs : List Run) → All (λ pass. log_of pass ≡ identity) passes

@@ -1,55 +1,83 @@
--- In which log, and with which gate, a race of a script is held.
+-- In which log or store, and with which gate, a race of a script is held.
 --     HaveRoom        the runs' log has room for this number of entries
---     Blamed          why a race of runs gives no outcome
---     IsHeldOn        a text is what is written for a race that was held
---     EndsBy          a race was held, and ended with a fault
+--     IsHeldInLog     a text is what is written for a race that was held in one log
+--     IsHeldEndless   it is what is written for a race that was held over a store without an end
+--     EndsInLog, EndsEndless     a race was held, and ended with a fault
 --     IsCaused        memory ran out, or such a race ended with this fault
-use Rattle.std.specs.Prelude.{◌≡◌, ◌⊎◌, ℕ, Bool, List, length, map}
+--     AppendsHeld     the writer got such a text
+--     IsCausedIn      a fault that a race has is caused by it
+use Rattle.std.specs.Prelude.{◌≡◌, ◌⊎◌, ℕ, Bool, Option, List, length, map}
 use Rattle.std.specs.List.{All}
+use Rattle.std.specs.Io.KnownBytes.{Appends}
+use Rattle.xa_xid.specs.declared.statement.Statement.{Statement}
 use Rattle.xa_server.specs.State.{no_state}
 use Rattle.xa_store.specs.Passes.{log_of, known_of}
 use Rattle.xa_store.specs.Legal.{LetsIn, Blames}
-use Rattle.xa_store.specs.Rounds.{BlamesRounds}
 use Rattle.xa_store.specs.declared.run.Run.{Run}
 use Rattle.xa_store.specs.declared.outcome.Outcome.{Outcome}
 use Rattle.xa_store.specs.declared.race_fault.RaceFault.{RaceFault}
+use Rattle.xa_lines.specs.Script.{lines_of}
 use Rattle.xa_lines.specs.declared.script_fault.ScriptFault.{ScriptFault}
-use Rattle.xa_lines.specs.declared.script_fault.ScriptFault.TheVariants.{NoMemory}
-use Rattle.xa_races.specs.Race.{AreRuns}
-use Rattle.xa_races.specs.Outcome.{IsHeld, outcome_text, script_fault_of}
-use Rattle.xa_races.specs.RaceKind.{room_of}
-use Rattle.xa_races.specs.declared.race_kind.RaceKind.{RaceKind}
-use Rattle.xa_races.specs.declared.race_kind.RaceKind.TheVariants.{OneLog, Rounds}
+use Rattle.xa_lines.specs.declared.script_fault.ScriptFault.TheVariants.{Read, TooLong, Write, NoMemory, Full, GateShut, ThreadRefused}
+use Rattle.xa_races.specs.Race.{AreRuns, IsReadable}
+use Rattle.xa_races.specs.Outcome.{IsHeld, AreLists, outcome_text, script_fault_of}
+use Rattle.xa_endless_races.specs.LongRace.{IsLongRace, BlamesRace}
+use Rattle.xa_endless_races.specs.declared.long_outcome.LongOutcome.{LongOutcome}
 
 -- the log to which the runs belong has room for this number of entries
 abbrev pub HaveRoom : ℕ → List Run → Type 0
 HaveRoom capacity runs = All (λ run. (log_of run.pass).capacity ≡ capacity) runs
 
--- the gate can shut a run's statement, or a statement has no room, as the fault says
-abbrev pub Blamed : RaceKind → (ℕ → ℕ → Bool → Type 0) → List Run → RaceFault → Type 0
-Blamed OneLog gate runs fault = Blames gate no_state runs fault
-Blamed Rounds gate runs fault = BlamesRounds gate (map (λ run. run.lines.items) runs) fault
-
--- the text of an outcome of a race of the script's runs, in logs with that room, with a gate that can let in
+-- the text of an outcome of a race of the script's runs, in a log with that room, with a gate that can let in
 -- each of their statements
-pub record IsHeldOn (race_kind : RaceKind) (gate : ℕ → ℕ → Bool → Type 0) (capacity : ℕ) (lines : List (List ℕ)) (text : List ℕ) : Type 0 where
+pub record IsHeldInLog (gate : ℕ → ℕ → Bool → Type 0) (capacity : ℕ) (lines : List (List ℕ)) (text : List ℕ) : Type 0 where
   pub runs : List Run
   pub outcome : Outcome
   pub are_runs : AreRuns lines runs
   pub room : HaveRoom capacity runs
   pub opened : All (λ run. LetsIn gate (known_of run.pass).number (length run.lines.items)) runs
-  pub held : IsHeld (room_of race_kind capacity) runs outcome
-  pub text_is : text ≡ outcome_text lines outcome
+  pub held : IsHeld capacity runs outcome
+  pub text_is : text ≡ outcome_text lines outcome.history.items (map (λ answers. answers.items) outcome.answers.items)
 
--- a race of the script's runs, in logs with that room, ended with this fault, which has its cause
-pub record EndsBy (race_kind : RaceKind) (gate : ℕ → ℕ → Bool → Type 0) (capacity : ℕ) (lines : List (List ℕ)) (fault : ScriptFault) : Type 0 where
+-- the same over a store without an end, whose ring has so many rows
+pub record IsHeldEndless (gate : ℕ → ℕ → Bool → Type 0) (rows : ℕ) (lines : List (List ℕ)) (text : List ℕ) : Type 0 where
+  pub lists : List (List Statement)
+  pub are_lists : AreLists lines lists
+  pub outcome : LongOutcome
+  pub held : IsLongRace gate rows lists outcome
+  pub text_is : text ≡ outcome_text lines outcome.history.items (map (λ answers. answers.items) outcome.answers.items)
+
+-- a race of the script's runs, in a log with that room, ended with this fault, which has its cause
+pub record EndsInLog (gate : ℕ → ℕ → Bool → Type 0) (capacity : ℕ) (lines : List (List ℕ)) (fault : ScriptFault) : Type 0 where
   pub runs : List Run
   pub raced : RaceFault
   pub are_runs : AreRuns lines runs
   pub room : HaveRoom capacity runs
   pub told : fault ≡ script_fault_of raced
-  pub blamed : Blamed race_kind gate runs raced
+  pub blamed : Blames gate no_state runs raced
+
+-- a race of what the script's sessions give, over a store without an end, ended with this fault, which has its cause
+pub record EndsEndless (gate : ℕ → ℕ → Bool → Type 0) (lines : List (List ℕ)) (fault : ScriptFault) : Type 0 where
+  pub lists : List (List Statement)
+  pub are_lists : AreLists lines lists
+  pub raced : RaceFault
+  pub told : fault ≡ script_fault_of raced
+  pub blamed : BlamesRace gate lists raced
 
 -- NoMemory may come from anywhere; each other fault comes from such a race
-abbrev pub IsCaused : RaceKind → (ℕ → ℕ → Bool → Type 0) → ℕ → List (List ℕ) → ScriptFault → Type 0
-IsCaused race_kind gate capacity lines fault = (fault ≡ NoMemory) ⊎ EndsBy race_kind gate capacity lines fault
+abbrev pub IsCaused : (ScriptFault → Type 0) → ScriptFault → Type 0
+IsCaused Ends fault = (fault ≡ NoMemory) ⊎ Ends fault
+
+-- the writer got the text of such a race
+abbrev pub AppendsHeld : (List (List ℕ) → List ℕ → Type 0) → List ℕ → Option (List ℕ) → Option (List ℕ) → Type 0
+AppendsHeld IsHeldText script old new = IsReadable script → (text : List ℕ) × IsHeldText (lines_of script) text × Appends old new text
+
+-- a fault of a stream isn't a race's, and memory may be missing anywhere; each other fault comes from such a race
+abbrev pub IsCausedIn : (List (List ℕ) → ScriptFault → Type 0) → List ℕ → ScriptFault → Type 0
+IsCausedIn Ends script Read = Unit {0}
+IsCausedIn Ends script TooLong = Unit {0}
+IsCausedIn Ends script Write = Unit {0}
+IsCausedIn Ends script NoMemory = Unit {0}
+IsCausedIn Ends script Full = Ends (lines_of script) Full
+IsCausedIn Ends script GateShut = Ends (lines_of script) GateShut
+IsCausedIn Ends script ThreadRefused = Ends (lines_of script) ThreadRefused

@@ -1,4 +1,3 @@
 pub mod Race
 pub mod Outcome
-pub mod RaceKind
 pub mod HeldOn

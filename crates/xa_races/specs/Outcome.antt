@@ -1,11 +1,13 @@
 -- What a race of a script writes.
--- Every rule here is the project's own: docs/COMMANDS.md#race and docs/COMMANDS.md#race-in-rounds.
--- `room` is `Some` number of entries for a race in one log, and `None` for a race in rounds, whose history
--- has any length.
+-- Every rule here is the project's own: docs/COMMANDS.md#race and docs/COMMANDS.md#race-without-an-end.
+-- `room` is `Some` number of entries for a race in one log, and `None` for a race over a store without an end, whose
+-- history has any length.
 --     history_text, answers_text   how a history and the answers are printed
 --     outcome_text                 how an outcome is printed
---     Explains, IsHeld             one history explains all answers;  what a race of runs gives
---     IsRaced                      a text is what is written for a race that was held
+--     IsHeld                       what a race of runs in one log gives
+--     AreLists                     the statements of the sessions 1 to the last
+--     IsRacedInLog, IsRacedOn      a text is what is written for a race in one log;  over a store without an end
+--     IsRaced                      one of the two
 --     IsRaceText                   a text is what is written for a script
 --     AppendsRace, AppendsRacePrefix      the writer got that text, or a prefix of it
 --     script_fault_of              the fault that is returned for a race's fault
@@ -17,7 +19,8 @@ use Rattle.xa_words.specs.Entry.{Entry}
 use Rattle.xa_server.specs.State.{no_state}
 use Rattle.decision_log.specs.Known.{AllOf}
 use Rattle.xa_session.specs.declared.answer.Answer.{Answer}
-use Rattle.xa_store.specs.Legal.{IsOutcome, Legal}
+use Rattle.xa_xid.specs.declared.statement.Statement.{Statement}
+use Rattle.xa_store.specs.Legal.{IsOutcome}
 use Rattle.xa_store.specs.declared.run.Run.{Run}
 use Rattle.xa_store.specs.declared.outcome.Outcome.{Outcome}
 use Rattle.xa_store.specs.declared.race_fault.RaceFault.{RaceFault}
@@ -26,7 +29,8 @@ use Rattle.xa_lines.specs.declared.script_fault.ScriptFault.{ScriptFault}
 use Rattle.xa_lines.specs.declared.script_fault.ScriptFault.TheVariants.{Write, NoMemory, Full, GateShut, ThreadRefused}
 use Rattle.xa_lines.specs.Script.{lines_of}
 use Rattle.xa_lines.specs.Printed.{reply_text, converts}
-use Rattle.xa_races.specs.Race.{AreRuns, IsReadable, faults_text, part_at, statements_of}
+use Rattle.xa_endless_races.specs.LongRace.{AllAnswered}
+use Rattle.xa_races.specs.Race.{AreRuns, IsReadable, last_session, faults_text, part_at, statements_of}
 use Rattle.xa_lines.specs.Transcript.{AppendsPrefix}
 
 -- place, session and canonical text of an entry
@@ -63,28 +67,48 @@ answers_text session lines (answers ∷ others) =
     session_text session (map converts (statements_of session lines)) answers ++ answers_text (session + 1) lines others
 
 -- the history, and then all answers
-abbrev pub outcome_text : List (List ℕ) → Outcome → List ℕ
-outcome_text lines outcome = history_text outcome.history.items ++ answers_text 1 lines (map (λ answers. answers.items) outcome.answers.items)
+abbrev pub outcome_text : List (List ℕ) → List Entry → List (List Answer) → List ℕ
+outcome_text lines history answers = history_text history ++ answers_text 1 lines answers
 
--- one history explains all answers. In one log it is what the last pass has seen, and has no more entries
--- than there is room for
-abbrev pub Explains : Option ℕ → List Run → Outcome → Type 0
-Explains (Some capacity) runs outcome = IsOutcome no_state runs outcome × (length outcome.history.items ≤ capacity)
-Explains None runs outcome = Legal no_state outcome.history.items runs (map (λ answers. answers.items) outcome.answers.items)
-
--- what a race of runs gives: a history that begins with an empty store, has only entries of their sessions,
--- and explains all answers
-pub record IsHeld (room : Option ℕ) (runs : List Run) (outcome : Outcome) : Type 0 where
-  pub explained : Explains room runs outcome
+-- what a race of runs in one log gives: a history that begins with an empty store, has no more entries than there is room for, only entries of the
+-- runs' sessions, and explains all answers
+pub record IsHeld (capacity : ℕ) (runs : List Run) (outcome : Outcome) : Type 0 where
+  pub explained : IsOutcome no_state runs outcome
+  pub within : length outcome.history.items ≤ capacity
   pub own : AllOf (length runs) outcome.history.items
 
 -- the text of an outcome of a race of the script's runs
-pub record IsRaced (room : Option ℕ) (lines : List (List ℕ)) (text : List ℕ) : Type 0 where
+pub record IsRacedInLog (capacity : ℕ) (lines : List (List ℕ)) (text : List ℕ) : Type 0 where
   pub runs : List Run
   pub outcome : Outcome
   pub are_runs : AreRuns lines runs
-  pub held : IsHeld room runs outcome
-  pub text_is : text ≡ outcome_text lines outcome
+  pub held : IsHeld capacity runs outcome
+  pub text_is : text ≡ outcome_text lines outcome.history.items (map (λ answers. answers.items) outcome.answers.items)
+
+-- what consecutive sessions give, this one first
+abbrev pub AreListsFrom : ℕ → List (List ℕ) → List (List Statement) → Type 0
+AreListsFrom session lines [] = Unit {0}
+AreListsFrom session lines (statements ∷ lists) = (statements ≡ statements_of session lines) × AreListsFrom (session + 1) lines lists
+
+-- what the sessions 1 to the greatest give that a line names (own rule)
+pub record AreLists (lines : List (List ℕ)) (lists : List (List Statement)) : Type 0 where
+  pub count : length lists ≡ last_session lines
+  pub each : AreListsFrom 1 lines lists
+
+-- one history of any length, of a store that begins empty, explains all answers, and has only entries of the script's sessions
+pub record IsRacedOn (lines : List (List ℕ)) (text : List ℕ) : Type 0 where
+  pub lists : List (List Statement)
+  pub are_lists : AreLists lines lists
+  pub history : List Entry
+  pub answers : List (List Answer)
+  pub legal : AllAnswered no_state history 1 lists answers
+  pub own : AllOf (length lists) history
+  pub text_is : text ≡ outcome_text lines history answers
+
+-- the text of an outcome
+abbrev pub IsRaced : Option ℕ → List (List ℕ) → List ℕ → Type 0
+IsRaced (Some capacity) lines text = IsRacedInLog capacity lines text
+IsRaced None lines text = IsRacedOn lines text
 
 -- if no line is faulty, a race is held; else only the faulty lines are written
 abbrev pub IsRaceTold : List ℕ → Option ℕ → List (List ℕ) → List ℕ → Type 0

@@ -1,30 +1,27 @@
-//! Holds a race of the runs of a script.
-ghost use Rattle.std.specs.Prelude.{◌≡◌, ◌≤◌, ◌+◌, ℕ, List, length, map, max, slice_get, vec_len, Some, None, IfOk, IfErr, OnOk};
+//! Holds a race of what a script's sessions give.
+ghost use Rattle.std.specs.Prelude.{◌≡◌, ◌≤◌, ◌+◌, ℕ, List, length, map, max, vec_len, Some, None, IfOk, IfErr};
 ghost use Rattle.std.specs.List.{All, zip};
 ghost use Rattle.decision_log.specs.Opens.{IsCapacity};
+ghost use Rattle.ring_log.specs.RingOpens.{AreRows};
 ghost use Rattle.xa_server.specs.State.{no_state};
-ghost use Rattle.xa_store.specs.Passes.{identity_of, log_of, known_of};
-ghost use Rattle.xa_store.specs.Legal.{LetsIn};
-ghost use Rattle.xa_store.specs.Rounds.{AreFresh};
-ghost use Rattle.xa_store.specs.declared.race_fault.RaceFault.{RaceFault};
+ghost use Rattle.xa_store.specs.Passes.{identity_of, log_of};
 ghost use Rattle.xa_lines.specs.Script.{lines_of};
 ghost use Rattle.xa_lines.specs.Limits.{script_bytes};
 ghost use Rattle.xa_races.specs.Race.{AreRuns, IsGiven, IsReadable, last_session};
-ghost use Rattle.xa_races.specs.Outcome.{IsHeld, IsRaced, IsRaceText, IsOfRace, IsOfText, script_fault_of};
-ghost use Rattle.xa_races.specs.HeldOn.{Blamed, IsHeldOn, IsCaused};
-ghost use Rattle.xa_races.specs.RaceKind.{room_of};
+ghost use Rattle.xa_races.specs.Outcome.{IsRacedInLog, IsRacedOn, IsRaceText, IsOfRace, IsOfText};
+ghost use Rattle.xa_races.specs.HeldOn.{IsHeldInLog, IsHeldEndless, EndsInLog, EndsEndless, IsCaused};
 
 use crate::asked::asked_of;
 use crate::given::RaceScript;
 use crate::race_fault::script_fault;
-use crate::race_kind::RaceKind;
 use crate::race_lines::read_race;
 use crate::race_text::print_outcome;
 use std::alloc::{AllocError, Global};
 use std::sync::Wait;
 use std::thread::Threads;
+use xa_endless_races::hold_long_race;
 use xa_lines::ScriptFault;
-use xa_store::{Gate, Outcome, Pass, Run, Store, race, race_in_rounds};
+use xa_store::{Gate, Pass, Run, Store, race};
 use xa_xid::{NoMemory, Statement};
 
 /// The runs of these passes, each with its list of statements.
@@ -42,78 +39,6 @@ fn runs_of(
     Ok(runs)
 }
 
-/// Holds a race in one log.
-fn hold_in_one_log<G: Gate + Sync, R: Threads + Wait + Sync>(
-    rt: &R,
-    alloc: Global,
-    store: Store,
-    runs: Vec<Run>,
-    gate: &G,
-) -> Result<Outcome, ScriptFault>
-    requires belongs { All (λ run. log_of run.pass ≡ identity_of store.log) runs.items }
-    requires sessions { (identity_of store.log).sessions ≡ max (length runs.items) 1 }
-    requires empty { store.base ≡ no_state }
-    ensures held { IfOk result (λ outcome. IsHeld (Some (identity_of store.log).capacity) runs.items outcome) }
-    ensures opened { OnOk result (All (λ run. LetsIn (G.may_answer gate.now) (known_of run.pass).number (length run.lines.items)) runs.items) }
-    ensures fault { IfErr result (IsOfRace (Some (identity_of store.log).capacity)) }
-    ensures blamed { IfErr result
-        (λ fault. (raced : RaceFault) × (fault ≡ script_fault_of raced) × Blamed RaceKind.OneLog (G.may_answer gate.now) runs.items raced) }
-{
-    match race(rt, alloc, &store, runs, gate) {
-        Ok(outcome) => Ok(outcome),
-        Err(fault) => Err(script_fault(fault)),
-    }
-}
-
-/// Holds a race in rounds.
-fn hold_in_rounds<G: Gate + Sync, R: Threads + Wait + Sync>(
-    rt: &R,
-    alloc: Global,
-    store: Store,
-    runs: Vec<Run>,
-    gate: &G,
-) -> Result<Outcome, ScriptFault>
-    requires belongs { All (λ run. log_of run.pass ≡ identity_of store.log) runs.items }
-    requires fresh { AreFresh (map (λ run. run.pass) runs.items) }
-    requires sessions { (identity_of store.log).sessions ≡ max (length runs.items) 1 }
-    requires empty { store.base ≡ no_state }
-    ensures held { IfOk result (λ outcome. IsHeld None runs.items outcome) }
-    ensures opened { OnOk result (All (λ run. LetsIn (G.may_answer gate.now) (known_of run.pass).number (length run.lines.items)) runs.items) }
-    ensures fault { IfErr result (IsOfRace None) }
-    ensures blamed { IfErr result
-        (λ fault. (raced : RaceFault) × (fault ≡ script_fault_of raced) × Blamed RaceKind.Rounds (G.may_answer gate.now) runs.items raced) }
-{
-    match race_in_rounds(rt, alloc, store, runs, gate) {
-        Ok((_, outcome)) => Ok(outcome),
-        Err(fault) => Err(script_fault(fault)),
-    }
-}
-
-/// Holds a race of this kind.
-fn hold_runs<G: Gate + Sync, R: Threads + Wait + Sync>(
-    rt: &R,
-    alloc: Global,
-    store: Store,
-    runs: Vec<Run>,
-    race_kind: RaceKind,
-    gate: &G,
-) -> Result<Outcome, ScriptFault>
-    requires belongs { All (λ run. log_of run.pass ≡ identity_of store.log) runs.items }
-    requires fresh { AreFresh (map (λ run. run.pass) runs.items) }
-    requires sessions { (identity_of store.log).sessions ≡ max (length runs.items) 1 }
-    requires empty { store.base ≡ no_state }
-    ensures held { IfOk result (λ outcome. IsHeld (room_of race_kind (identity_of store.log).capacity) runs.items outcome) }
-    ensures opened { OnOk result (All (λ run. LetsIn (G.may_answer gate.now) (known_of run.pass).number (length run.lines.items)) runs.items) }
-    ensures fault { IfErr result (IsOfRace (room_of race_kind (identity_of store.log).capacity)) }
-    ensures blamed { IfErr result
-        (λ fault. (raced : RaceFault) × (fault ≡ script_fault_of raced) × Blamed race_kind (G.may_answer gate.now) runs.items raced) }
-{
-    match race_kind {
-        RaceKind::OneLog => hold_in_one_log(rt, alloc, store, runs, gate),
-        RaceKind::Rounds => hold_in_rounds(rt, alloc, store, runs, gate),
-    }
-}
-
 /// A new store with room for `capacity` entries, and the runs of the sessions 1 to `greatest`.
 fn entered(
     alloc: Global,
@@ -125,7 +50,6 @@ fn entered(
     requires within { greatest ≤ 16 }
     requires all { vec_len lists ≡ 16 }
     ensures belongs { IfOk result (λ both. All (λ run. log_of run.pass ≡ identity_of both.0.log) both.1.items) }
-    ensures fresh { IfOk result (λ both. AreFresh (map (λ run. run.pass) both.1.items)) }
     ensures sessions { IfOk result (λ both. (identity_of both.0.log).sessions ≡ max (length both.1.items) 1) }
     ensures room { IfOk result (λ both. (identity_of both.0.log).capacity ≡ capacity) }
     ensures empty { IfOk result (λ both. both.0.base ≡ no_state) }
@@ -140,14 +64,13 @@ fn entered(
     Ok((store, runs))
 }
 
-/// Holds a race of the sessions 1 to `greatest` in a store of their own, and gives the text of its outcome.
-fn hold<G: Gate + Sync, R: Threads + Wait + Sync>(
+/// Holds a race of the sessions 1 to `greatest` in one log of their own, and gives the text of its outcome.
+fn hold_in_log<G: Gate + Sync, R: Threads + Wait + Sync>(
     rt: &R,
     alloc: Global,
     greatest: u64,
     lists: Vec<Vec<Statement>>,
     capacity: u64,
-    race_kind: RaceKind,
     gate: &G,
 ) -> Result<Vec<u8>, ScriptFault>
     requires capacity { IsCapacity capacity }
@@ -156,52 +79,91 @@ fn hold<G: Gate + Sync, R: Threads + Wait + Sync>(
     ensures raced { (lines : List (List ℕ))
         → greatest ≡ last_session lines
         → IsGiven lines (map (λ list. list.items) lists.items)
-        → IfOk result (λ text. IsRaced (room_of race_kind capacity) lines text.items) }
-    ensures on { (lines : List (List ℕ))
+        → IfOk result (λ text. IsRacedInLog capacity lines text.items) }
+    ensures held { (lines : List (List ℕ))
         → greatest ≡ last_session lines
         → IsGiven lines (map (λ list. list.items) lists.items)
-        → IfOk result (λ text. IsHeldOn race_kind (G.may_answer gate.now) capacity lines text.items) }
-    ensures fault { IfErr result (IsOfRace (room_of race_kind capacity)) }
+        → IfOk result (λ text. IsHeldInLog (G.may_answer gate.now) capacity lines text.items) }
+    ensures fault { IfErr result (IsOfRace (Some capacity)) }
     ensures cause { (lines : List (List ℕ))
         → greatest ≡ last_session lines
         → IsGiven lines (map (λ list. list.items) lists.items)
-        → IfErr result (IsCaused race_kind (G.may_answer gate.now) capacity lines) }
+        → IfErr result (IsCaused (EndsInLog (G.may_answer gate.now) capacity lines)) }
 {
     let asked = asked_of(alloc, lists.as_slice())?;
     let both = entered(alloc, greatest, lists, capacity)?;
     let (store, runs) = both;
-    let outcome = hold_runs(rt, alloc, store, runs, race_kind, gate)?;
-    let text = print_outcome(alloc, asked.as_slice(), &outcome)?;
-    Ok(text)
+    match race(rt, alloc, &store, runs, gate) {
+        Ok(outcome) => {
+            let history = outcome.history.as_slice();
+            let answers = outcome.answers.as_slice();
+            let text = print_outcome(alloc, asked.as_slice(), history, answers)?;
+            Ok(text)
+        }
+        Err(fault) => Err(script_fault(fault)),
+    }
 }
 
-/// Gives what is written for a script: its faulty lines, or the outcome of a race of its runs.
+/// Holds a race of the sessions 1 to `greatest` over a store of their own without an end, and gives the text of its
+/// outcome.
+fn hold_endless<G: Gate + Sync, R: Threads + Wait + Sync>(
+    rt: &R,
+    alloc: Global,
+    greatest: u64,
+    mut lists: Vec<Vec<Statement>>,
+    rows: u64,
+    gate: &G,
+) -> Result<Vec<u8>, ScriptFault>
+    requires rows { AreRows rows }
+    requires within { greatest ≤ 16 }
+    requires all { vec_len lists ≡ 16 }
+    ensures raced { (lines : List (List ℕ))
+        → greatest ≡ last_session lines
+        → IsGiven lines (map (λ list. list.items) lists.items)
+        → IfOk result (λ text. IsRacedOn lines text.items) }
+    ensures held { (lines : List (List ℕ))
+        → greatest ≡ last_session lines
+        → IsGiven lines (map (λ list. list.items) lists.items)
+        → IfOk result (λ text. IsHeldEndless (G.may_answer gate.now) rows lines text.items) }
+    ensures fault { IfErr result (IsOfRace None) }
+    ensures cause { (lines : List (List ℕ))
+        → greatest ≡ last_session lines
+        → IsGiven lines (map (λ list. list.items) lists.items)
+        → IfErr result (IsCaused (EndsEndless (G.may_answer gate.now) lines)) }
+{
+    let asked = asked_of(alloc, lists.as_slice())?;
+    lists.truncate(greatest as usize);
+    match hold_long_race(rt, alloc, rows, lists, gate) {
+        Ok(outcome) => {
+            let entries = outcome.history.as_slice();
+            let lists = outcome.answers.as_slice();
+            let printed = print_outcome(alloc, asked.as_slice(), entries, lists)?;
+            Ok(printed)
+        }
+        Err(fault) => Err(script_fault(fault)),
+    }
+}
+
+/// Gives what is written for a script: its faulty lines, or the outcome of a race of its sessions in one log.
 ///
-/// `capacity` is the number of entries for which one log has room, in `[1, 1024]`. If a line is faulty, no
-/// race is held.
-/// Errors: `NoMemory` if an allocation failed. Only if no line is faulty: `GateShut` and `ThreadRefused`, and
-/// in one log also `Full`, as the race returns them.
+/// `capacity` is the number of entries for which the log has room, in `[1, 1024]`. If a line is faulty, no race is held.
+/// Errors: `NoMemory` if an allocation failed. Only if no line is faulty: `GateShut`, `Full` and `ThreadRefused`, as the
+/// race returns them.
 /// May return `NoMemory`. Waits for its threads.
 /// Own rule: docs/COMMANDS.md#race.
-pub fn text_of_race<G: Gate + Sync, R: Threads + Wait + Sync>(
+pub fn text_in_log<G: Gate + Sync, R: Threads + Wait + Sync>(
     rt: &R,
     alloc: Global,
     script: &[u8],
     capacity: u64,
-    race_kind: RaceKind,
     gate: &G,
 ) -> Result<Vec<u8>, ScriptFault>
     requires capacity { IsCapacity capacity }
     requires short { length script.now ≤ script_bytes }
-    ensures text { IfOk result (λ text. IsRaceText (room_of race_kind capacity) script.now text.items) }
-    // Proved (races, script-held-as-asked): A race of a script is held in logs with the room that was asked
-    //   for, and its gate can let in each statement. After `GateShut` the gate can shut a statement of one of
-    //   the script's runs; after `Full` such a statement has no room in the log.
-    ensures on { IsReadable script.now → IfOk result
-        (λ text. IsHeldOn race_kind (G.may_answer gate.now) capacity (lines_of script.now) text.items) }
-    ensures fault { IfErr result (IsOfText (room_of race_kind capacity) script.now) }
-    // Proved (races, script-held-as-asked)
-    ensures cause { IfErr result (IsCaused race_kind (G.may_answer gate.now) capacity (lines_of script.now)) }
+    ensures text { IfOk result (λ text. IsRaceText (Some capacity) script.now text.items) }
+    ensures on { IsReadable script.now → IfOk result (λ text. IsHeldInLog (G.may_answer gate.now) capacity (lines_of script.now) text.items) }
+    ensures fault { IfErr result (IsOfText (Some capacity) script.now) }
+    ensures cause { IfErr result (IsCaused (EndsInLog (G.may_answer gate.now) capacity (lines_of script.now))) }
 {
     let given = read_race(alloc, script)?;
     let RaceScript {
@@ -210,7 +172,40 @@ pub fn text_of_race<G: Gate + Sync, R: Threads + Wait + Sync>(
         lists,
     } = given;
     if faults.is_empty() {
-        hold(rt, alloc, greatest, lists, capacity, race_kind, gate)
+        hold_in_log(rt, alloc, greatest, lists, capacity, gate)
+    } else {
+        Ok(faults)
+    }
+}
+
+/// Gives what is written for a script: its faulty lines, or the outcome of a race of its sessions over a store without
+/// an end, whose ring has `rows` rows, in `[1, 65536]`.
+///
+/// Otherwise as `text_in_log`, but the fault is never `Full`.
+/// May return `NoMemory`. Waits for its threads.
+/// Own rule: docs/COMMANDS.md#race-without-an-end.
+pub fn text_endless<G: Gate + Sync, R: Threads + Wait + Sync>(
+    rt: &R,
+    alloc: Global,
+    script: &[u8],
+    rows: u64,
+    gate: &G,
+) -> Result<Vec<u8>, ScriptFault>
+    requires rows { AreRows rows }
+    requires short { length script.now ≤ script_bytes }
+    ensures text { IfOk result (λ text. IsRaceText None script.now text.items) }
+    ensures on { IsReadable script.now → IfOk result (λ text. IsHeldEndless (G.may_answer gate.now) rows (lines_of script.now) text.items) }
+    ensures fault { IfErr result (IsOfText None script.now) }
+    ensures cause { IfErr result (IsCaused (EndsEndless (G.may_answer gate.now) (lines_of script.now))) }
+{
+    let given = read_race(alloc, script)?;
+    let RaceScript {
+        faults,
+        greatest,
+        lists,
+    } = given;
+    if faults.is_empty() {
+        hold_endless(rt, alloc, greatest, lists, rows, gate)
     } else {
         Ok(faults)
     }

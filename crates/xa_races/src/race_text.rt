@@ -7,7 +7,6 @@ use std::alloc::Global;
 use xa_lines::{push_number, push_reply};
 use xa_session::Answer;
 use xa_statement::write_statement;
-use xa_store::Outcome;
 use xa_words::Entry;
 use xa_xid::NoMemory;
 
@@ -121,14 +120,15 @@ fn push_answers(
 pub fn print_outcome(
     alloc: Global,
     asked: &[Vec<bool>],
-    outcome: &Outcome,
+    history: &[Entry],
+    answers: &[Vec<Answer>],
 ) -> Result<Vec<u8>, NoMemory>
     ensures { (lines : List (List ℕ))
         → AreAsked lines (map (λ list. list.items) asked.now)
-        → IfOk result (λ text. text.items ≡ outcome_text lines outcome.now) }
+        → IfOk result (λ text. text.items ≡ outcome_text lines history.now (map (λ answers. answers.items) answers.now)) }
 {
     let mut text = Vec::new(alloc);
-    push_history(alloc, &mut text, outcome.history.as_slice())?;
-    push_answers(alloc, &mut text, asked, outcome.answers.as_slice())?;
+    push_history(alloc, &mut text, history)?;
+    push_answers(alloc, &mut text, asked, answers)?;
     Ok(text)
 }

@@ -6,9 +6,9 @@ ghost use Rattle.xa_lines.specs.Calls.{Completes, Stops};
 ghost use Rattle.xa_lines.specs.Limits.{script_bytes, script_reads};
 ghost use Rattle.xa_lines.specs.Transcript.{ConsumesMoreThan};
 ghost use Rattle.xa_races.specs.Outcome.{AppendsRace, AfterRaceFault, IsRaceText, IsOfText};
+ghost use Rattle.xa_races.specs.HeldOn.{IsHeldInLog, EndsInLog, AppendsHeld, IsCausedIn};
 
-use crate::holding::text_of_race;
-use crate::race_kind::RaceKind;
+use crate::holding::text_in_log;
 use std::alloc::Global;
 use std::sync::Wait;
 use std::thread::Threads;
@@ -46,6 +46,13 @@ pub fn race_script<I: PieceReader, O: PieceWriter, G: Gate + Sync, R: Threads + 
     //   history begins with an empty store, has only entries of these sessions, no more than the log has room
     //   for, and explains every answer.
     ensures written { OnOk result (IfSome (I.remaining reader.old) (λ script. AppendsRace (Some capacity) script (O.contents writer.old) (O.contents writer.new))) }
+    // Proved (races, script-held-as-asked): A race of a script is held in a log with the room, or over a ring with
+    //   the rows, that was asked for, and the gate can let in each statement. After `GateShut` the gate can shut a
+    //   statement of one of the script's runs; after `Full` such a statement has no room in the log.
+    ensures held { OnOk result (IfSome (I.remaining reader.old) (λ script.
+        AppendsHeld (IsHeldInLog (G.may_answer gate.now) capacity) script (O.contents writer.old) (O.contents writer.new))) }
+    // Proved (races, script-held-as-asked)
+    ensures caused { IfErr result (λ fault. IfSome (I.remaining reader.old) (λ script. IsCausedIn (EndsInLog (G.may_answer gate.now) capacity) script fault)) }
     // Proved (races, script-length): A script that was raced in one log has at most 1,048,576 bytes.
     ensures short { OnOk result (IfSome (I.remaining reader.old) (λ script. length script ≤ script_bytes)) }
 
@@ -64,13 +71,6 @@ pub fn race_script<I: PieceReader, O: PieceWriter, G: Gate + Sync, R: Threads + 
         (λ fault. Stops I.gives I.fails O.takes O.refuses script_reads script_bytes (IsRaceText (Some capacity)) (IsOfText (Some capacity)) fault reader.old reader.new writer.old writer.new) }
 {
     let script = read_all(alloc, reader)?;
-    let text = text_of_race(
-        rt,
-        alloc,
-        script.as_slice(),
-        capacity,
-        RaceKind::OneLog,
-        gate,
-    )?;
+    let text = text_in_log(rt, alloc, script.as_slice(), capacity, gate)?;
     write_whole(writer, text.as_slice())
 }

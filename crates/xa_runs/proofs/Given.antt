@@ -1,18 +1,17 @@
 -- What sessions give, list by list.
 use Rattle.std.proofs.Common.{◌≡◌, ℕ, zero, suc, ◌+◌, ◌<◌, ◌≤◌, List, [], ◌∷◌, ◌++◌, length, map, take, get_or, Vec, Global, refl, ap, sym, ◌∙◌, subst, inl, inr, arith}
-use Rattle.std.specs.Prelude.{slice_get, Option, Some, None}
+use Rattle.std.specs.Prelude.{Option, Some, None}
 use Rattle.std.specs.List.{zip, cons_option}
 use Rattle.std.specs.Option.{option_to_list}
 use Rattle.std.proofs.lemmas.Bool.{cases_lt}
-use Rattle.std.proofs.lemmas.Option.{none-some, same_Some}
 use Rattle.std.proofs.lemmas.List.{take_more, map-append, length-map}
 use Rattle.std.proofs.lemmas.List.Elements.{All-weaker, All-more, filter_map-append}
 use Rattle.xa_xid.specs.declared.statement.Statement.{Statement}
-use Rattle.xa_store.specs.Passes.{Pass}
-use Rattle.xa_store.specs.declared.run.Run.{Run}
+use Rattle.xa_endless.specs.declared.session.EndlessSession.{EndlessSession}
+use Rattle.xa_endless_races.specs.declared.long_run.LongRun.{LongRun}
 use Rattle.xa_orders.specs.Orders.{Told, IsSession}
 use Rattle.xa_runs.specs.Raced.{statement_by, statements_of}
-use Rattle.xa_runs.specs.Held.{list_at, AreWithin}
+use Rattle.xa_runs.specs.Held.{list_at, AreWithin, AreRunsOf}
 
 -- one line more
 pub statements_more : (session : ℕ) (lines : List Told) (index : ℕ) (told : Told) (old new : List Statement) → index < length lines
@@ -56,44 +55,32 @@ within_greater old new lines least within =
     All-weaker (λ (one : Told). IsSession one.session × (one.session ≤ old)) (λ (one : Told). IsSession one.session × (one.session ≤ new))
     (λ one both. (both.0, omega (arith, both.1, least))) lines within
 
-abbrev head_or : {A : Type 0} → List A → A → A
+abbrev pub head_or : {A : Type 0} → List A → A → A
 head_or [] d = d
 head_or (x ∷ xs) d = x
 
-abbrev tail_of : {A : Type 0} → List A → List A
+abbrev pub tail_of : {A : Type 0} → List A → List A
 tail_of [] = []
 tail_of (x ∷ xs) = xs
 
--- the runs of passes and lists
-pub runs_given : (n : ℕ) (lines : List Told) (runs : List Run) (passes : List Pass) (lists : List (Vec Statement Global))
-    → map (λ run. (run.pass, run.lines)) runs ≡ zip passes lists
+-- the runs of sessions and lists
+pub runs_given : (n : ℕ) (lines : List Told) (runs : List LongRun) (sessions : List EndlessSession) (lists : List (Vec Statement Global))
+    → map (λ run. (run.session, run.lines)) runs ≡ zip sessions lists → length sessions ≤ length lists
     → ((index : ℕ) → index < length lists → list_at (map (λ list. list.items) lists) index ≡ statements_of (index + n) lines)
-    → (index : ℕ) (run : Run) → slice_get runs index ≡ Some run → run.lines.items ≡ statements_of (index + n) lines
-runs_given n lines [] passes lists zipped given index run found = absurd (none-some run found)
-runs_given n lines (one ∷ runs) [] lists zipped given index run found = absurd cc
-runs_given n lines (one ∷ runs) (pass ∷ passes) [] zipped given index run found = absurd cc
-runs_given n lines (one ∷ runs) (pass ∷ passes) (list ∷ lists) zipped given zero run found =
-    ap (λ (r : Run). r.lines.items) (sym (same_Some one run found))
-    ∙ ap (λ (l : List (Pass × Vec Statement Global)). (head_or {A = Pass × Vec Statement Global} l (one.pass, one.lines)).1.items) zipped ∙ given 0 (omega arith)
-runs_given n lines (one ∷ runs) (pass ∷ passes) (list ∷ lists) zipped given (suc index) run found =
-    runs_given (n + 1) lines runs passes lists (ap (λ (l : List (Pass × Vec Statement Global)). tail_of {A = Pass × Vec Statement Global} l) zipped)
-    (λ k below. given (suc k) (omega (arith, below)) ∙ ap (λ m. statements_of m lines) (let same : suc k + n ≡ k + (n + 1) = omega arith in same)) index run found
-    ∙ ap (λ m. statements_of m lines) (let same : index + (n + 1) ≡ suc index + n = omega arith in same)
-
--- their passes are the passes, where there is a list for each
-pub passes_given : (runs : List Run) (passes : List Pass) (lists : List (Vec Statement Global)) → map (λ run. (run.pass, run.lines)) runs ≡ zip passes lists
-    → length passes ≤ length lists
-    → map (λ run. run.pass) runs ≡ passes
-passes_given [] [] lists zipped enough = refl
-passes_given [] (pass ∷ passes) [] zipped enough = absurd (omega arith)
-passes_given [] (pass ∷ passes) (list ∷ lists) zipped enough = absurd cc
-passes_given (run ∷ runs) [] lists zipped enough = absurd cc
-passes_given (run ∷ runs) (pass ∷ passes) [] zipped enough = absurd cc
-passes_given (run ∷ runs) (pass ∷ passes) (list ∷ lists) zipped enough =
-    ap (λ (p : Pass). p ∷ map (λ (r : Run). r.pass) runs)
-    (ap (λ (l : List (Pass × Vec Statement Global)). (head_or {A = Pass × Vec Statement Global} l (run.pass, run.lines)).0) zipped)
-    ∙ ap (λ l. pass ∷ l)
-    (passes_given runs passes lists (ap (λ (l : List (Pass × Vec Statement Global)). tail_of {A = Pass × Vec Statement Global} l) zipped) (omega (arith, enough)))
+    → AreRunsOf n lines sessions runs
+runs_given n lines [] [] lists zipped enough given = tt
+runs_given n lines [] (session ∷ sessions) [] zipped enough given = absurd (omega (arith, enough))
+runs_given n lines [] (session ∷ sessions) (list ∷ lists) zipped enough given = absurd cc
+runs_given n lines (run ∷ runs) [] lists zipped enough given = absurd cc
+runs_given n lines (run ∷ runs) (session ∷ sessions) [] zipped enough given = absurd cc
+runs_given n lines (run ∷ runs) (session ∷ sessions) (list ∷ lists) zipped enough given = (
+  ap (λ (l : List (EndlessSession × Vec Statement Global)). (head_or {A = EndlessSession × Vec Statement Global} l (run.session, run.lines)).0) zipped,
+  ap (λ (l : List (EndlessSession × Vec Statement Global)). (head_or {A = EndlessSession × Vec Statement Global} l (run.session, run.lines)).1.items) zipped
+      ∙ given 0 (omega arith) ∙ ap (λ m. statements_of m lines) (let none : 0 + n ≡ n = omega arith in none),
+  runs_given (n + 1) lines runs sessions lists
+      (ap (λ (l : List (EndlessSession × Vec Statement Global)). tail_of {A = EndlessSession × Vec Statement Global} l) zipped) (omega (arith, enough))
+      (λ k below. given (suc k) (omega (arith, below)) ∙ ap (λ m. statements_of m lines) (let same : suc k + n ≡ k + (n + 1) = omega arith in same)),
+)
 
 pub statements_first : (session : ℕ) (statements : List Statement) → statements ≡ [] → statements ≡ statements_of session []
 unfolding statements_of

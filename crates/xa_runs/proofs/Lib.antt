@@ -7,7 +7,10 @@ pub mod Raced
 pub mod Reading
 pub mod Counting
 pub mod Counted
+pub mod Entering
+pub mod Earlier
 pub mod Stores
 pub mod Given
+pub mod Ended
 pub mod Whole
 pub mod Written

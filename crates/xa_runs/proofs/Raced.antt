@@ -1,40 +1,22 @@
--- What a race of runs returns is what a race of their lines gives.
-use Rattle.std.proofs.Common.{◌≡◌, ℕ, zero, suc, ◌+◌, ◌-◌, ◌<◌, ◌≤◌, ◌==◌, false, cond, Some, None, Option, List, [], ◌∷◌, length, refl, ap, sym, ◌∙◌, subst, inl, inr, arith, add-one}
-use Rattle.std.specs.Prelude.{slice_get}
-use Rattle.std.specs.List.{All, AllZip, concat, cons_option}
+-- What a race of sessions returns is what a race of their lines gives.
+use Rattle.std.proofs.Common.{◌≡◌, ℕ, zero, suc, ◌-◌, ◌<◌, ◌≤◌, ◌==◌, false, cond, None, Option, List, [], ◌∷◌, length, refl, ap, sym, ◌∙◌, subst, inl, inr, arith}
+use Rattle.std.specs.List.{All, concat, cons_option}
 use Rattle.std.proofs.lemmas.Bool.{cases_lt}
-use Rattle.std.proofs.lemmas.Option.{none-some, same_Some}
 use Rattle.std.proofs.lemmas.List.Elements.{All-head, All-tail, All-weaker}
-use Rattle.std.proofs.lemmas.Slice.Zip.{AllZip-long}
 use Rattle.xa_xid.specs.declared.statement.Statement.{Statement}
 use Rattle.xa_statement.specs.Reading.{read_of}
 use Rattle.xa_words.specs.Entry.{Entry}
 use Rattle.xa_server.specs.State.{State}
-use Rattle.decision_log.specs.declared.known.Known.{Known}
 use Rattle.decision_log.specs.History.{entries_of}
 use Rattle.decision_log.specs.Known.{AllOf, newcomer}
 use Rattle.xa_session.specs.Replay.{state_after}
 use Rattle.xa_session.specs.declared.answer.Answer.{Answer}
-use Rattle.xa_store.specs.Passes.{known_of}
-use Rattle.xa_store.specs.Legal.{IsLegal, Legal}
-use Rattle.xa_store.specs.declared.run.Run.{Run}
+use Rattle.xa_store.specs.Legal.{IsLegal}
 use Rattle.xa_orders.specs.Orders.{Told, IsSession}
 use Rattle.xa_runs.specs.Raced.{statement_in, statements_of, laid_texts, IsReadLine, GivesRaced}
-use Rattle.xa_runs.specs.Held.{list_at, answers_of, AreWithin, AreRunsOf}
-use Rattle.xa_runs.proofs.Tests.{apart_test, get_within}
+use Rattle.xa_runs.specs.Held.{list_at, answers_of, AreWithin}
+use Rattle.xa_runs.proofs.Tests.{apart_test}
 use Rattle.xa_runs.proofs.Histories.{entries_of-other}
-
-zip_at : {A B : Type 0} (R : A → B → Type 0) (xs : List A) (ys : List B) (place : ℕ) (x : A) (y : B) → AllZip R xs ys → slice_get xs place ≡ Some x
-    → slice_get ys place ≡ Some y → R x y
-zip_at R [] ys place x y all at there = absurd (none-some x at)
-zip_at R (a ∷ xs) [] place x y all at there = absurd (none-some y there)
-zip_at R (a ∷ xs) (b ∷ ys) zero x y all at there = subst (λ v. R v y) (same_Some a x at) (subst (R a) (same_Some b y there) all.0)
-zip_at R (a ∷ xs) (b ∷ ys) (suc place) x y all at there = zip_at R xs ys place x y all.1 at there
-
-list_found : {A : Type 0} (lists : List (List A)) (index : ℕ) (list : List A) → slice_get lists index ≡ Some list → list_at lists index ≡ list
-list_found [] index list found = absurd (none-some list found)
-list_found (one ∷ lists) zero list found = same_Some one list found
-list_found (one ∷ lists) (suc index) list found = list_found lists index list found
 
 list_past : {A : Type 0} (lists : List (List A)) (index : ℕ) → length lists ≤ index → list_at lists index ≡ []
 list_past [] index past = refl
@@ -62,27 +44,15 @@ none_of count session (entry ∷ list) within above =
 pred : (index : ℕ) → suc index - 1 ≡ index
 pred index = omega arith
 
-module _ (base new : State) (history : List Entry) (lines : List Told) (runs : List Run) (answers : List (List Answer)) (count : ℕ) (few : count ≤ 16)
-    (long : length runs ≡ count) (are : AreRunsOf lines runs) (within : AreWithin count lines) (read : All IsReadLine lines) (own : AllOf count history)
-    (legal : Legal base history runs answers) (is : new ≡ state_after base history) where
-  legal_at : (index : ℕ) → index < length runs → IsLegal base history (newcomer (suc index)) (statements_of (suc index) lines) (list_at answers index)
-  legal_at index below =
-      let run = get_within runs index below in
-      let given = get_within answers index (omega (arith, AllZip-long _ runs answers legal, below)) in
-      let one = are index run.0 run.1 in
-      let there : IsLegal base history (known_of run.0.pass) run.0.lines.items given.0 =
-      zip_at (λ r. IsLegal base history (known_of r.pass) r.lines.items) runs answers index run.0 given.0 legal run.1 given.1 in
-      let number : index + 1 ≡ suc index = add-one index in
-      subst (λ (a : List Answer). IsLegal base history (newcomer (suc index)) (statements_of (suc index) lines) a) (sym (list_found answers index given.0 given.1))
-      (subst (λ (n : ℕ). IsLegal base history (newcomer n) (statements_of n lines) given.0) number
-      (subst (λ (k : Known). IsLegal base history k (statements_of (index + 1) lines) given.0) one.fresh
-      (subst (λ (s : List Statement). IsLegal base history (known_of run.0.pass) s given.0) one.statements there)))
-
-  legal_past : (index : ℕ) → length runs ≤ index → IsLegal base history (newcomer (suc index)) (statements_of (suc index) lines) (list_at answers index)
+module _ (base new : State) (history : List Entry) (lines : List Told) (answers : List (List Answer)) (count : ℕ) (few : count ≤ 16)
+    (long : length answers ≡ count) (within : AreWithin count lines) (read : All IsReadLine lines) (own : AllOf count history)
+    (legal_at : (index : ℕ) → index < count → IsLegal base history (newcomer (suc index)) (statements_of (suc index) lines) (list_at answers index))
+    (is : new ≡ state_after base history) where
+  legal_past : (index : ℕ) → count ≤ index → IsLegal base history (newcomer (suc index)) (statements_of (suc index) lines) (list_at answers index)
   legal_past index past =
-      let above : count < suc index = omega (arith, long, past) in
+      let above : count < suc index = omega (arith, past) in
       subst (λ (a : List Answer). IsLegal base history (newcomer (suc index)) (statements_of (suc index) lines) a)
-      (sym (list_past answers index (omega (arith, AllZip-long _ runs answers legal, past))))
+      (sym (list_past answers index (omega (arith, long, past))))
       (subst (λ (s : List Statement). IsLegal base history (newcomer (suc index)) s []) (sym (given_none count (suc index) lines within above))
       (record { seen = refl; answered = tt; mine = none_of count (suc index) history own above }))
 
@@ -90,7 +60,7 @@ module _ (base new : State) (history : List Entry) (lines : List Told) (runs : L
   all_legal zero is_session = absurd (omega (arith, is_session.0))
   all_legal (suc index) is_session =
       subst (λ (n : ℕ). IsLegal base history (newcomer (suc index)) (statements_of (suc index) lines) (list_at answers n)) (sym (pred index))
-      (elim (cases_lt index (length runs)) [ inl below ↦ legal_at index below | inr past ↦ legal_past index past ])
+      (elim (cases_lt index count) [ inl below ↦ legal_at index below | inr past ↦ legal_past index past ])
 
   pub gives_raced : (text : List ℕ) → text ≡ concat (laid_texts [] (answers_of answers) lines) → GivesRaced base lines text new
   gives_raced text text_is = (

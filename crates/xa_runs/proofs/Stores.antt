@@ -1,115 +1,144 @@
--- The passes and the runs of a race, and its faults.
-use Rattle.std.proofs.Common.{◌≡◌, ℕ, zero, suc, ◌+◌, ◌<◌, true, false, Bool, List, [], ◌∷◌, length, map, Some, refl, ap, sym, ◌∙◌, subst, arith}
-use Rattle.std.specs.Prelude.{slice_get}
+-- The sessions and the runs of a race, and its faults.
+use Rattle.std.proofs.Common.{◌≡◌, ℕ, zero, suc, ◌+◌, ◌<◌, ◌≤◌, Bool, List, [], ◌∷◌, ◌++◌, length, map, refl, ap, sym, ◌∙◌, subst, arith}
 use Rattle.std.specs.List.{All, AllZip}
-use Rattle.std.proofs.lemmas.Option.{none-some, same_Some}
 use Rattle.std.proofs.lemmas.List.Elements.{All-nil, All-cons, All-head, All-tail}
-use Rattle.std.proofs.lemmas.Slice.Zip.{AllZip-long}
-use Rattle.xa_words.specs.Entry.{Entry}
 use Rattle.xa_xid.specs.declared.statement.Statement.{Statement}
-use Rattle.decision_log.specs.Known.{LogIdentity, AllOf}
-use Rattle.decision_log.specs.Opens.{Opens}
-use Rattle.xa_store.specs.Passes.{Pass, log_of, known_of}
-use Rattle.xa_store.specs.Gathered.{IsTakenIn, last_known}
-use Rattle.xa_store.specs.Renewal.{AreGathered}
-use Rattle.xa_store.specs.Legal.{IsReturned}
-use Rattle.xa_store.specs.Rounds.{AreFresh, BlamesRounds}
-use Rattle.xa_store.specs.declared.run.Run.{Run}
+use Rattle.xa_words.specs.Entry.{Entry}
+use Rattle.xa_server.specs.State.{no_state}
+use Rattle.decision_log.specs.Known.{newcomer}
+use Rattle.decision_log.specs.History.{Begins}
+use Rattle.decision_log.proofs.Histories.{begins_through}
+use Rattle.xa_session.specs.Replay.{state_after}
+use Rattle.xa_session.specs.declared.answer.Answer.{Answer}
+use Rattle.xa_endless.specs.declared.session.EndlessSession.{EndlessSession}
+use Rattle.xa_endless.specs.declared.store.EndlessStore.{EndlessStore}
+use Rattle.xa_store.specs.Legal.{IsLegal}
 use Rattle.xa_store.specs.declared.race_fault.RaceFault.{RaceFault}
 use Rattle.xa_store.specs.declared.race_fault.RaceFault.TheVariants.{GateShut, Full, NoMemory, ThreadRefused}
+use Rattle.xa_endless_races.specs.Long.{known_in, HoldsAll, BlamesLong}
 use Rattle.xa_races.specs.Outcome.{script_fault_of}
-use Rattle.xa_races.proofs.RaceRuns.{own_sessions}
+use Rattle.xa_endless_races.specs.declared.long_run.LongRun.{LongRun}
 use Rattle.xa_orders.specs.Orders.{Told}
 use Rattle.xa_runs.specs.Raced.{statements_of}
-use Rattle.xa_runs.specs.Held.{AreRunsOf}
+use Rattle.xa_runs.specs.Held.{list_at, AreNumbered, AreRunsOf}
 use Rattle.xa_runs.specs.Came.{IsOfRace}
+use Rattle.xa_runs.proofs.Earlier.{earlier, legal_earlier}
 
-belong_passes : (identity : LogIdentity) (history : List Entry) (runs : List Run) (passes : List Pass) → All (λ run. log_of run.pass ≡ identity) runs
-    → AllZip (IsReturned history) runs passes → All (λ pass. log_of pass ≡ identity) passes
-belong_passes identity history [] [] belong zip = All-nil (λ (pass : Pass). log_of pass ≡ identity)
-belong_passes identity history [] (pass ∷ passes) belong zip = absurd zip
-belong_passes identity history (run ∷ runs) [] belong zip = absurd zip
-belong_passes identity history (run ∷ runs) (pass ∷ passes) belong zip =
-    let Belongs : Run → Type 0 = λ r. log_of r.pass ≡ identity in
-    All-cons (λ (p : Pass). log_of p ≡ identity) pass passes (zip.0.belongs ∙ All-head Belongs run runs belong)
-    (belong_passes identity history runs passes (All-tail Belongs run runs belong) zip.1)
+pub race_fault : (gate : ℕ → ℕ → Bool → Type 0) (renews : Bool) (runs : List LongRun) (fault : RaceFault) → BlamesLong gate runs fault
+    → IsOfRace renews (script_fault_of fault)
+race_fault gate renews runs (GateShut session line) blamed = tt
+race_fault gate renews runs (Full session line) blamed = absurd blamed
+race_fault gate renews runs NoMemory blamed = tt
+race_fault gate renews runs ThreadRefused blamed = tt
 
-taken_passes : (history : List Entry) (runs : List Run) (passes : List Pass) → AllZip (IsReturned history) runs passes
-    → All (λ pass. IsTakenIn history (known_of pass)) passes
-taken_passes history [] [] zip = All-nil (λ (pass : Pass). IsTakenIn history (known_of pass))
-taken_passes history [] (pass ∷ passes) zip = absurd zip
-taken_passes history (run ∷ runs) [] zip = absurd zip
-taken_passes history (run ∷ runs) (pass ∷ passes) zip =
-    All-cons (λ (p : Pass). IsTakenIn history (known_of p)) pass passes zip.0.taken_in (taken_passes history runs passes zip.1)
+-- the runs are of the store that the sessions are of
+pub runs_mine : (store : EndlessStore) (n : ℕ) (lines : List Told) (sessions : List EndlessSession) (runs : List LongRun) → AreRunsOf n lines sessions runs
+    → All (λ session. session.store.value ≡ store) sessions → All (λ run. run.session.store.value ≡ store) runs
+runs_mine store n lines [] [] are all = All-nil (λ (run : LongRun). run.session.store.value ≡ store)
+runs_mine store n lines [] (run ∷ runs) are all = absurd are
+runs_mine store n lines (session ∷ sessions) [] are all = absurd are
+runs_mine store n lines (session ∷ sessions) (run ∷ runs) are all =
+    let Mine : EndlessSession → Type 0 = λ s. s.store.value ≡ store in
+    All-cons (λ (r : LongRun). r.session.store.value ≡ store) run runs
+    (ap (λ (s : EndlessSession). s.store.value) are.0 ∙ All-head Mine session sessions all)
+    (runs_mine store (n + 1) lines sessions runs are.2 (All-tail Mine session sessions all))
 
--- the passes of a race in one log, as a store takes them that is carried over
-pub gathered : (identity : LogIdentity) (history : List Entry) (runs : List Run) (passes : List Pass) → 0 < length runs
-    → All (λ run. log_of run.pass ≡ identity) runs
-    → AllZip (IsReturned history) runs passes → history ≡ (last_known (map known_of passes)).seen → AreGathered identity passes
-gathered identity history runs passes some belong zip is = record {
-  some = omega (arith, AllZip-long _ runs passes zip, some);
-  belongs = belong_passes identity history runs passes belong zip;
-  whole = subst (λ (h : List Entry). All (λ pass. IsTakenIn h (known_of pass)) passes) is (taken_passes history runs passes zip);
-}
+-- and so are the sessions that come back
+pub sessions_mine : (store : EndlessStore) (runs : List LongRun) (sessions : List EndlessSession) → All (λ run. run.session.store.value ≡ store) runs
+    → AllZip (λ run session. (session.store.value ≡ run.session.store.value) × ((known_in session).number ≡ (known_in run.session).number)) runs sessions
+    → All (λ session. session.store.value ≡ store) sessions
+sessions_mine store [] [] all zip = All-nil (λ (session : EndlessSession). session.store.value ≡ store)
+sessions_mine store [] (session ∷ sessions) all zip = absurd zip
+sessions_mine store (run ∷ runs) [] all zip = absurd zip
+sessions_mine store (run ∷ runs) (session ∷ sessions) all zip =
+    let Mine : LongRun → Type 0 = λ r. r.session.store.value ≡ store in
+    All-cons (λ (s : EndlessSession). s.store.value ≡ store) session sessions (zip.0.0 ∙ All-head Mine run runs all)
+    (sessions_mine store runs sessions (All-tail Mine run runs all) zip.1)
 
--- the history has entries of the log's sessions alone
-pub own_entries : (identity : LogIdentity) (history : List Entry) (runs : List Run) (passes : List Pass) → 0 < length runs
-    → length runs ≡ identity.sessions → All (λ run. log_of run.pass ≡ identity) runs
-    → AllZip (IsReturned history) runs passes → history ≡ (last_known (map known_of passes)).seen → AllOf identity.sessions history
-own_entries identity history runs passes some count belong zip is =
-    subst (λ (n : ℕ). AllOf n history) count (own_sessions identity history runs passes (omega (arith, some, count)) belong zip is)
+-- each has its number
+pub sessions_numbered : (n : ℕ) (lines : List Told) (before : List EndlessSession) (runs : List LongRun) (sessions : List EndlessSession)
+    → AreRunsOf n lines before runs → AreNumbered n before
+    → AllZip (λ run session. (session.store.value ≡ run.session.store.value) × ((known_in session).number ≡ (known_in run.session).number)) runs sessions
+    → AreNumbered n sessions
+sessions_numbered n lines [] [] [] are numbered zip = tt
+sessions_numbered n lines [] [] (session ∷ sessions) are numbered zip = absurd zip
+sessions_numbered n lines [] (run ∷ runs) sessions are numbered zip = absurd are
+sessions_numbered n lines (one ∷ before) [] sessions are numbered zip = absurd are
+sessions_numbered n lines (one ∷ before) (run ∷ runs) [] are numbered zip = absurd zip
+sessions_numbered n lines (one ∷ before) (run ∷ runs) (session ∷ sessions) are numbered zip = (
+  zip.0.1 ∙ ap (λ (s : EndlessSession). (known_in s).number) are.0 ∙ numbered.0,
+  sessions_numbered (n + 1) lines before runs sessions are.2 numbered.1 zip.1,
+)
 
-pub rounds_fault : (gate : ℕ → ℕ → Bool → Type 0) (lines : List (List Statement)) (fault : RaceFault) → BlamesRounds gate lines fault
-    → IsOfRace true (script_fault_of fault)
-rounds_fault gate lines (GateShut session line) blamed = tt
-rounds_fault gate lines (Full session line) blamed = absurd blamed
-rounds_fault gate lines NoMemory blamed = tt
-rounds_fault gate lines ThreadRefused blamed = tt
+-- there are as many
+pub sessions_long : (n : ℕ) (lines : List Told) (before : List EndlessSession) (runs : List LongRun) (sessions : List EndlessSession)
+    → AreRunsOf n lines before runs
+    → AllZip (λ run session. (session.store.value ≡ run.session.store.value) × ((known_in session).number ≡ (known_in run.session).number)) runs sessions
+    → length sessions ≡ length before
+sessions_long n lines [] [] [] are zip = refl
+sessions_long n lines [] [] (session ∷ sessions) are zip = absurd zip
+sessions_long n lines [] (run ∷ runs) sessions are zip = absurd are
+sessions_long n lines (one ∷ before) [] sessions are zip = absurd are
+sessions_long n lines (one ∷ before) (run ∷ runs) [] are zip = absurd zip
+sessions_long n lines (one ∷ before) (run ∷ runs) (session ∷ sessions) are zip = ap suc (sessions_long (n + 1) lines before runs sessions are.2 zip.1)
 
-pub log_fault : (fault : RaceFault) → IsOfRace false (script_fault_of fault)
-log_fault (GateShut session line) = tt
-log_fault (Full session line) = refl
-log_fault NoMemory = tt
-log_fault ThreadRefused = tt
+-- no run has a number above that of the last
+pub runs_low : (n count : ℕ) (lines : List Told) (sessions : List EndlessSession) (runs : List LongRun) → AreRunsOf n lines sessions runs → AreNumbered n sessions
+    → n + length sessions ≤ count + 1 → All (λ run. (known_in run.session).number ≤ count) runs
+runs_low n count lines [] [] are numbered few = All-nil (λ (run : LongRun). (known_in run.session).number ≤ count)
+runs_low n count lines [] (run ∷ runs) are numbered few = absurd are
+runs_low n count lines (session ∷ sessions) [] are numbered few = absurd are
+runs_low n count lines (session ∷ sessions) (run ∷ runs) are numbered few =
+    let number : (known_in run.session).number ≡ n = ap (λ (s : EndlessSession). (known_in s).number) are.0 ∙ numbered.0 in
+    All-cons (λ (r : LongRun). (known_in r.session).number ≤ count) run runs (omega (arith, number, few))
+    (runs_low (n + 1) count lines sessions runs are.2 numbered.1 (omega (arith, few)))
 
-all_of_mapped : {A B : Type 0} (P : B → Type 0) (f : A → B) (xs : List A) → All P (map f xs) → All (λ x. P (f x)) xs
-all_of_mapped P f [] all = All-nil (λ x. P (f x))
-all_of_mapped P f (x ∷ xs) all = All-cons (λ y. P (f y)) x xs (All-head P (f x) (map f xs) all) (all_of_mapped P f xs (All-tail P (f x) (map f xs) all))
+-- each session's answers are legal in what was added, after the state before
+pub legal_each : (first second : List Entry) (n : ℕ) (lines : List Told) (sessions : List EndlessSession) (runs : List LongRun) (answers : List (List Answer))
+    → AreRunsOf n lines sessions runs → AreNumbered n sessions → All (λ session. HoldsAll first (known_in session)) sessions
+    → AllZip (λ run answers. IsLegal no_state (first ++ second) (known_in run.session) run.lines.items answers) runs answers
+    → (index : ℕ) → index < length sessions
+    → IsLegal (state_after no_state first) second (newcomer (index + n)) (statements_of (index + n) lines)
+    (list_at (map (map (earlier (length first))) answers) index)
+legal_each first second n lines [] [] answers are numbered holds legal index below = absurd (omega (arith, below))
+legal_each first second n lines [] (run ∷ runs) answers are numbered holds legal index below = absurd are
+legal_each first second n lines (session ∷ sessions) [] answers are numbered holds legal index below = absurd are
+legal_each first second n lines (session ∷ sessions) (run ∷ runs) [] are numbered holds legal index below = absurd legal
+legal_each first second n lines (session ∷ sessions) (run ∷ runs) (own ∷ answers) are numbered holds legal zero below =
+    let Holds : EndlessSession → Type 0 = λ s. HoldsAll first (known_in s) in
+    let none : n ≡ 0 + n = omega arith in
+    let number : (known_in run.session).number ≡ 0 + n = ap (λ (s : EndlessSession). (known_in s).number) are.0 ∙ numbered.0 ∙ none in
+    let is =
+    legal_earlier no_state first second (known_in run.session) run.lines.items own (subst Holds (sym are.0) (All-head Holds session sessions holds)) legal.0 in
+    subst (λ (m : ℕ). IsLegal (state_after no_state first) second (newcomer m) (statements_of (0 + n) lines) (map (earlier (length first)) own)) number
+    (subst (λ (l : List Statement). IsLegal (state_after no_state first) second (newcomer (known_in run.session).number) l (map (earlier (length first)) own))
+    (are.1 ∙ ap (λ m. statements_of m lines) none) is)
+legal_each first second n lines (session ∷ sessions) (run ∷ runs) (own ∷ answers) are numbered holds legal (suc index) below =
+    let Holds : EndlessSession → Type 0 = λ s. HoldsAll first (known_in s) in
+    let next : index + (n + 1) ≡ suc index + n = omega arith in
+    subst (λ (m : ℕ). IsLegal (state_after no_state first) second (newcomer m) (statements_of m lines) (list_at (map (map (earlier (length first))) answers) index))
+    next
+    (legal_each first second (n + 1) lines sessions runs answers are.2 numbered.1 (All-tail Holds session sessions holds) legal.1 index (omega (arith, below)))
 
-run_at : (runs : List Run) (passes : List Pass) (index : ℕ) (run : Run) → map (λ r. r.pass) runs ≡ passes → slice_get runs index ≡ Some run
-    → slice_get passes index ≡ Some run.pass
-run_at runs passes index run are found = subst (λ (l : List Pass). slice_get l index ≡ Some run.pass) are (there runs index run found)
-  where
-    there : (runs : List Run) (index : ℕ) (run : Run) → slice_get runs index ≡ Some run → slice_get (map (λ r. r.pass) runs) index ≡ Some run.pass
-    there [] index run found = absurd (none-some run found)
-    there (one ∷ runs) zero run found = ap (λ (r : Run). Some r.pass) (same_Some one run found)
-    there (one ∷ runs) (suc index) run found = there runs index run found
+pub answers_long : (first second : List Entry) (n : ℕ) (lines : List Told) (sessions : List EndlessSession) (runs : List LongRun) (answers : List (List Answer))
+    → AreRunsOf n lines sessions runs
+    → AllZip (λ run answers. IsLegal no_state (first ++ second) (known_in run.session) run.lines.items answers) runs answers → length answers ≡ length sessions
+answers_long first second n lines [] [] [] are legal = refl
+answers_long first second n lines [] [] (own ∷ answers) are legal = absurd legal
+answers_long first second n lines [] (run ∷ runs) answers are legal = absurd are
+answers_long first second n lines (session ∷ sessions) [] answers are legal = absurd are
+answers_long first second n lines (session ∷ sessions) (run ∷ runs) [] are legal = absurd legal
+answers_long first second n lines (session ∷ sessions) (run ∷ runs) (own ∷ answers) are legal =
+    ap suc (answers_long first second (n + 1) lines sessions runs answers are.2 legal.1)
 
--- the runs of a store's new passes
-pub are_runs : (capacity sessions : ℕ) (identity : LogIdentity) (passes : List Pass) (runs : List Run) (lines : List Told)
-    → Opens log_of known_of capacity sessions identity passes
-    → map (λ run. run.pass) runs ≡ passes
-    → ((index : ℕ) (run : Run) → slice_get runs index ≡ Some run → run.lines.items ≡ statements_of (index + 1) lines) → AreRunsOf lines runs
-are_runs capacity sessions identity passes runs lines opens are given index run found =
-    record { fresh = opens.numbers index run.pass (run_at runs passes index run are found); statements = given index run found }
-
-pub runs_belong : (identity : LogIdentity) (passes : List Pass) (runs : List Run) → map (λ run. run.pass) runs ≡ passes
-    → All (λ pass. log_of pass ≡ identity) passes
-    → All (λ run. log_of run.pass ≡ identity) runs
-runs_belong identity passes runs are belong =
-    let Belongs : Pass → Type 0 = λ pass. log_of pass ≡ identity in
-    let AllBelong : List Pass → Type 0 = λ list. All Belongs list in
-    all_of_mapped Belongs (λ run. run.pass) runs (subst AllBelong (sym are) belong)
-
-pub runs_long : (passes : List Pass) (runs : List Run) → map (λ run. run.pass) runs ≡ passes → length runs ≡ length passes
-runs_long passes runs are = sym (long runs) ∙ ap length are
-  where
-    long : (runs : List Run) → length (map (λ r. r.pass) runs) ≡ length runs
-    long [] = refl
-    long (one ∷ runs) = ap suc (long runs)
-
--- a store's new passes have seen nothing
-pub are_fresh : (capacity sessions : ℕ) (identity : LogIdentity) (passes : List Pass) (runs : List Run)
-    → Opens log_of known_of capacity sessions identity passes
-    → map (λ run. run.pass) runs ≡ passes → AreFresh (map (λ run. run.pass) runs)
-are_fresh capacity sessions identity passes runs opens are = subst AreFresh (sym are) opens.numbers
+-- the whole history begins with what all sessions had seen
+pub whole_begins : (first whole : List Entry) (n : ℕ) (lines : List Told) (sessions : List EndlessSession) (runs : List LongRun) (answers : List (List Answer))
+    → 0 < length sessions → AreRunsOf n lines sessions runs → All (λ session. HoldsAll first (known_in session)) sessions
+    → AllZip (λ run answers. IsLegal no_state whole (known_in run.session) run.lines.items answers) runs answers → Begins first whole
+whole_begins first whole n lines [] runs answers some are holds legal = absurd (omega (arith, some))
+whole_begins first whole n lines (session ∷ sessions) [] answers some are holds legal = absurd are
+whole_begins first whole n lines (session ∷ sessions) (run ∷ runs) [] some are holds legal = absurd legal
+whole_begins first whole n lines (session ∷ sessions) (run ∷ runs) (own ∷ answers) some are holds legal =
+    let Holds : EndlessSession → Type 0 = λ s. HoldsAll first (known_in s) in
+    let held = subst Holds (sym are.0) (All-head Holds session sessions holds) in
+    begins_through first (known_in run.session).seen whole held.seen legal.0.seen

@@ -2,13 +2,15 @@
 --     list_at            the list at a place
 --     answers_of         the answers of a session
 --     AreWithin          lines of the sessions up to a number
---     AreRunsOf          the runs of the sessions from 1 on
-use Rattle.std.specs.Prelude.{◌≡◌, ◌≤◌, ◌+◌, ◌-◌, ℕ, zero, suc, List, [], ◌∷◌, Some, slice_get}
+--     AreNumbered        sessions of consecutive numbers
+--     numbers_from       so many consecutive numbers
+--     AreRunsOf          the runs of these sessions
+use Rattle.std.specs.Prelude.{◌≡◌, ◌≤◌, ◌+◌, ◌-◌, ℕ, zero, suc, List, [], ◌∷◌}
 use Rattle.std.specs.List.{All}
-use Rattle.decision_log.specs.Known.{newcomer}
 use Rattle.xa_session.specs.declared.answer.Answer.{Answer}
-use Rattle.xa_store.specs.Passes.{known_of}
-use Rattle.xa_store.specs.declared.run.Run.{Run}
+use Rattle.xa_endless.specs.declared.session.EndlessSession.{EndlessSession}
+use Rattle.xa_endless_races.specs.Long.{known_in}
+use Rattle.xa_endless_races.specs.declared.long_run.LongRun.{LongRun}
 use Rattle.xa_orders.specs.Orders.{Told, IsSession}
 use Rattle.xa_runs.specs.Raced.{statements_of}
 
@@ -26,10 +28,20 @@ answers_of lists session = list_at lists (session - 1)
 abbrev pub AreWithin : ℕ → List Told → Type 0
 AreWithin sessions lines = All (λ told. IsSession told.session × (told.session ≤ sessions)) lines
 
--- the run of a session that has seen nothing, with the statements that it gives
-pub record IsRunOf (session : ℕ) (lines : List Told) (run : Run) : Type 0 where
-  pub fresh : known_of run.pass ≡ newcomer session
-  pub statements : run.lines.items ≡ statements_of session lines
+-- sessions of consecutive numbers, this one first
+abbrev pub AreNumbered : ℕ → List EndlessSession → Type 0
+AreNumbered number [] = Unit {0}
+AreNumbered number (session ∷ sessions) = ((known_in session).number ≡ number) × AreNumbered (number + 1) sessions
 
-abbrev pub AreRunsOf : List Told → List Run → Type 0
-AreRunsOf lines runs = (index : ℕ) (run : Run) → slice_get runs index ≡ Some run → IsRunOf (index + 1) lines run
+-- so many consecutive numbers, this one first
+abbrev pub numbers_from : ℕ → ℕ → List ℕ
+numbers_from number zero = []
+numbers_from number (suc count) = number ∷ numbers_from (number + 1) count
+
+-- each run is of the session at its place, with the statements that it gives
+abbrev pub AreRunsOf : ℕ → List Told → List EndlessSession → List LongRun → Type 0
+AreRunsOf number lines [] [] = Unit {0}
+AreRunsOf number lines [] (run ∷ runs) = ⊥
+AreRunsOf number lines (session ∷ sessions) [] = ⊥
+AreRunsOf number lines (session ∷ sessions) (run ∷ runs) =
+    (run.session ≡ session) × (run.lines.items ≡ statements_of number lines) × AreRunsOf (number + 1) lines sessions runs

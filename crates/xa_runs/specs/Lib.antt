@@ -1,4 +1,5 @@
 pub mod Raced
 pub mod Came
 pub mod Held
+pub mod Bases
 pub mod Tallied

@@ -52,13 +52,13 @@ pub fn race_parts<G: Gate + Sync, R: Threads + Wait + Sync>(
     let mut text = Vec::new(alloc);
     let first = Opened::new(alloc, capacity, sessions_of(script))?;
     let before = script.before.as_slice();
-    let opened = race_each(rt, alloc, first, before, renews, &mut text)?;
+    let opened = race_each(rt, alloc, first, before, capacity, renews, &mut text)?;
     let beside = script.beside.as_slice();
-    let raced = race_lines(rt, alloc, opened, beside, renews, gate)?;
+    let raced = race_lines(rt, alloc, opened, beside, capacity, renews, gate)?;
     let (behind, answers) = raced;
     text.extend_from_slice(answers.as_slice())?;
     let later = script.later.as_slice();
-    match race_each(rt, alloc, behind, later, renews, &mut text) {
+    match race_each(rt, alloc, behind, later, capacity, renews, &mut text) {
         Ok(_) => Ok(text),
         Err(fault) => Err(fault),
     }

@@ -179,7 +179,7 @@ abbrev pub IsRunsOf : (runs : Option Text) → Option ℕ → Type 0
 IsRunsOf runs None = (count : ℕ) → IsSomeAnd runs (IsLimitText count) → ⊥
 IsRunsOf runs (Some count) = IsSomeAnd runs (IsLimitText count)
 
--- the job is a race of the capacity that a value's text is, in the schedule that two others give, in rounds where a fourth says so, and as often as a fifth says
+-- the job is a race of the capacity that a value's text is, in the schedule that two others give, over a store without an end where a fourth says so, and as often as a fifth says
 abbrev pub IsRaceOf : (capacity together shuffle renew runs : Option Text) → Job → Type 0
 IsRaceOf capacity together shuffle renew runs Run = ⊥
 IsRaceOf capacity together shuffle renew runs (Race room schedule renews count) =

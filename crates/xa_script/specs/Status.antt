@@ -84,7 +84,7 @@ abbrev pub AppendsOutcomes : (limit status : ℕ) → Option (List ℕ) → Opti
 AppendsOutcomes limit status input old new =
     (ended : Ended) × (status ≡ status_of_end ended) × IfSome input (λ script. AppendsExplored limit ended script old new)
 
--- the writer got what a race of the script writes: in rounds where it renews, else in one history of at most this capacity
+-- the writer got what a race of the script writes: over a store without an end where it renews, else in one history of at most this capacity
 abbrev pub AppendsRaceBy : Bool → (capacity : ℕ) → List ℕ → Option (List ℕ) → Option (List ℕ) → Type 0
 AppendsRaceBy true capacity script old new = AppendsRace None script old new
 AppendsRaceBy false capacity script old new = AppendsRace (Some capacity) script old new

@@ -24,7 +24,7 @@ pub enum Job {
         capacity: u64,
         /// How the sessions come to their lines.
         schedule: Schedule,
-        /// Whether the race goes on in rounds of that capacity when the history is full.
+        /// Whether the race goes on over a store without an end, whose ring has so many rows.
         renews: bool,
         /// How often the script is raced to count its outcomes, in `[1, 1_000_000]`, if it is.
         runs: Option<u64>,

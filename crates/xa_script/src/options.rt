@@ -74,12 +74,12 @@ pub fn shuffle_option<'a>(alloc: Global) -> Arg<'a>
         .value_parser(value_parser!(u64))
 }
 
-/// Returns the option `--renew`: a race goes on in rounds.
+/// Returns the option `--renew`: a race goes on over a store without an end.
 pub fn renew_option<'a>(alloc: Global) -> Arg<'a>
     ensures rule { rule_of result ≡ renew_rule }
     ensures global { result.global ≡ false }
 {
-    let help = "Goes on when the history is full, in rounds of N entries each";
+    let help = "Goes on when the history has N entries: uses their memory again, for the next ones";
     flag_option(alloc, "renew", help)
 }
 

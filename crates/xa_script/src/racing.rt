@@ -12,7 +12,7 @@ use xa_lines::ScriptFault;
 use xa_races::{race_script, race_script_in_rounds};
 use xa_store::{Gate, OpenGate, ShuffledGate, TogetherGate};
 
-/// Races a script at a gate, in rounds if `renews`.
+/// Races a script at a gate, over a store without an end if `renews`.
 fn race_behind<I: Read, O: Write, G: Gate + Sync, R: Alloc<A = Global> + Threads + Wait + Sync>(
     rt: &R,
     input: &mut I,
@@ -31,7 +31,7 @@ fn race_behind<I: Read, O: Write, G: Gate + Sync, R: Alloc<A = Global> + Threads
     }
 }
 
-/// Races a script at the gate of a schedule, in rounds if `renews`.
+/// Races a script at the gate of a schedule, over a store without an end if `renews`.
 ///
 /// `capacity` is in `[1, 1024]`.
 /// Errors: as `race_script` and `race_script_in_rounds`. Waits.

@@ -15,7 +15,7 @@ use xa_lines::ScriptFault;
 use xa_runs::{ReshuffledGate, runs_script};
 use xa_store::{Gate, OpenGate, TogetherGate};
 
-/// Races a script `runs` times at a gate, in rounds if `renews`.
+/// Races a script `runs` times at a gate, with no limit on its entries if `renews`.
 fn run_behind<I: Read, O: Write, G: Gate + Sync, R: Alloc<A = Global> + Threads + Wait + Sync>(
     rt: &R,
     input: &mut I,
@@ -37,7 +37,7 @@ fn run_behind<I: Read, O: Write, G: Gate + Sync, R: Alloc<A = Global> + Threads 
 /// Races a script `runs` times at the gate of a schedule, writes which outcomes came, or its faulty lines,
 /// and returns the exit status for it.
 ///
-/// `capacity` is in `[1, 1024]`, `runs` in `[1, 1_000_000]`. If `renews`, each race goes on in rounds. If the
+/// `capacity` is in `[1, 1024]`, `runs` in `[1, 1_000_000]`. If `renews`, no race has a limit on its entries. If the
 /// schedule is shuffled, each race takes the seed after the last one's.
 /// Errors: as `runs_script`. After `Write` a prefix of the text was written, after any other error nothing.
 /// May return `NoMemory`. Waits.

@@ -4,8 +4,3 @@ pub mod Spreading
 pub mod Telling
 pub mod Races
 pub mod Leaves
-pub mod RoundLists
-pub mod Later
-pub mod OnTheRound
-pub mod InRounds
-pub mod RoundByRound

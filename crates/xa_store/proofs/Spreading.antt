@@ -1,9 +1,9 @@
--- Three lists side by side, and a run that is one of more.
+-- Lists side by side, and a run that is one of more.
 use Rattle.std.proofs.Common.{◌≡◌, ℕ, zero, suc, List, [], ◌∷◌, ◌++◌, length, map, refl, ap, subst, Some, None, Result, Ok, Err}
 use Rattle.std.specs.Prelude.{slice_get}
 use Rattle.std.specs.List.{AllZip, AllByRecursion}
 use Rattle.std.specs.Result.{IfOk, IfErr}
-use Rattle.xa_store.specs.Spread.{HasStopped, AllThree}
+use Rattle.xa_store.specs.Spread.{HasStopped}
 use Rattle.xa_store.specs.declared.race_fault.RaceFault.{RaceFault}
 
 pub when_ok : {T E : Type 0} (r : Result T E) (P : T → Type 0) (x : T) → IfOk r P → r ≡ Ok x → P x
@@ -13,15 +13,6 @@ when_ok (Err e) P x is same = absurd (cc)
 pub when_err : {T E : Type 0} (r : Result T E) (P : E → Type 0) (x : E) → IfErr r P → r ≡ Err x → P x
 when_err (Ok y) P x is same = absurd (cc)
 when_err (Err e) P x is same = let here : e ≡ x = cc in subst P here is
-
-pub three_more : {A B C : Type 0} (R : A → B → C → Type 0) (xs : List A) (ys : List B) (zs : List C) (x : A) (y : B) (z : C) → AllThree R xs ys zs → R x y z
-    → AllThree R (xs ++ x ∷ []) (ys ++ y ∷ []) (zs ++ z ∷ [])
-three_more R [] [] [] x y z all is = (is, tt)
-three_more R [] [] (c ∷ zs) x y z all is = absurd all
-three_more R [] (b ∷ ys) zs x y z all is = absurd all
-three_more R (a ∷ xs) [] zs x y z all is = absurd all
-three_more R (a ∷ xs) (b ∷ ys) [] x y z all is = absurd all
-three_more R (a ∷ xs) (b ∷ ys) (c ∷ zs) x y z all is = (all.0, three_more R xs ys zs x y z all.1 is)
 
 -- the second becomes a third
 pub zip_chain : {A B C : Type 0} (Z : A → B → Type 0) (R : B → C → Type 0) (Q : A → C → Type 0) → ((a : A) (b : B) (c : C) → Z a b → R b c → Q a c)
@@ -50,6 +41,14 @@ zip_first K P keep [] [] zip = tt
 zip_first K P keep [] (b ∷ ys) zip = absurd zip
 zip_first K P keep (a ∷ xs) [] zip = absurd zip
 zip_first K P keep (a ∷ xs) (b ∷ ys) zip = (keep a b zip.0, zip_first K P keep xs ys zip.1)
+
+-- what holds of each first holds of each second
+pub zip_all : {A B : Type 0} (K : A → B → Type 0) (P : A → Type 0) (Q : B → Type 0) → ((a : A) (b : B) → K a b → P a → Q b) → (xs : List A) (ys : List B)
+    → AllZip K xs ys → AllByRecursion P xs → AllByRecursion Q ys
+zip_all K P Q keep [] [] zip is = tt
+zip_all K P Q keep [] (b ∷ ys) zip is = absurd zip
+zip_all K P Q keep (a ∷ xs) [] zip is = absurd zip
+zip_all K P Q keep (a ∷ xs) (b ∷ ys) zip is = (keep a b zip.0 is.0, zip_all K P Q keep xs ys zip.1 is.1)
 
 pub zip_unmapped : {A B C : Type 0} (K : B → C → Type 0) (f : A → B) (xs : List A) (ys : List C) → AllZip K (map f xs) ys → AllZip (λ x y. K (f x) y) xs ys
 zip_unmapped K f [] [] zip = tt

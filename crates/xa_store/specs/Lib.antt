@@ -6,5 +6,3 @@ pub mod Faults
 pub mod Spread
 pub mod Lowest
 pub mod Closed
-pub mod Rounds
-pub mod Held

@@ -3,8 +3,7 @@
 --     HasRun          HasAnswered, with the same log and the same base
 --     HasStopped      one of some runs stops
 --     StopsSome       why not all of some runs were answered
---     AllThree        a relation holds of three lists, place by place
-use Rattle.std.specs.Prelude.{◌≡◌, ◌⊎◌, ℕ, Bool, List, [], ◌∷◌, length, slice_get, Some}
+use Rattle.std.specs.Prelude.{◌≡◌, ◌⊎◌, ℕ, Bool, List, length, slice_get, Some}
 use Rattle.xa_xid.specs.declared.statement.Statement.{Statement}
 use Rattle.xa_server.specs.State.{State}
 use Rattle.decision_log.specs.Known.{LogIdentity}
@@ -37,12 +36,3 @@ pub record HasStopped {Run : Type 0} (stops : Run → RaceFault → Type 0) (run
 -- there is no memory or no thread, or else one of the runs stops
 abbrev pub StopsSome : {Run : Type 0} → (Run → RaceFault → Type 0) → List Run → RaceFault → Type 0
 StopsSome stops runs fault = (fault ≡ NoMemory) ⊎ (fault ≡ ThreadRefused) ⊎ HasStopped stops runs fault
-
--- three lists of one length, each three elements of one place related
-abbrev pub AllThree : {A B C : Type 0} → (A → B → C → Type 0) → List A → List B → List C → Type 0
-AllThree R [] [] [] = Unit {0}
-AllThree R [] [] (z ∷ zs) = ⊥
-AllThree R [] (y ∷ ys) zs = ⊥
-AllThree R (x ∷ xs) [] zs = ⊥
-AllThree R (x ∷ xs) (y ∷ ys) [] = ⊥
-AllThree R (x ∷ xs) (y ∷ ys) (z ∷ zs) = R x y z × AllThree R xs ys zs

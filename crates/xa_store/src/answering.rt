@@ -22,7 +22,7 @@ fn unanswered(session: SessionNo, line: u64, fault: Fault) -> RaceFault
 }
 
 /// Asks the gate, then executes the session's statement at `line`.
-pub(crate) fn answer_one<L: DecisionLog, G: Gate, R: Wait>(
+fn answer_one<L: DecisionLog, G: Gate, R: Wait>(
     rt: &R,
     session: &mut Session<'_, L>,
     line: u64,

@@ -12,7 +12,7 @@ use xa_session::Session;
 use xa_words::Entry;
 use xa_xid::NoMemory;
 
-/// The result of a race or a round: its history, and for each session its pass and its answers.
+/// The result of a race: its history, and for each session its pass and its answers.
 #[derive(Drop)]
 pub(crate) struct Closed<D> {
     pub(crate) history: Vec<Entry>,

@@ -6,11 +6,11 @@ use crate::RaceFault;
 
 /// A fault, and the session whose run had it. Of several faults that of the lowest session is returned.
 #[derive(Clone, Copy, Drop)]
-pub(crate) struct FirstFault {
+pub struct FirstFault {
     /// The session's number. It is above all numbers if no run had the fault.
     session: u64,
     /// The fault.
-    pub(crate) fault: RaceFault,
+    pub fault: RaceFault,
 }
 
 impl FirstFault {

@@ -31,7 +31,7 @@ fn leave_all(
 impl Store {
     /// Closes these sessions: returns their history, as `history` does, and their passes, in order.
     ///
-    /// If at least one session is given, the passes are as `renew` and `carry_over` take them.
+    /// If at least one session is given, the passes are as `renew` takes them.
     /// Errors: `NoMemory`, if an allocation fails. The sessions then come back, and may have seen more.
     /// May return `NoMemory`. Doesn't wait.
     /// Own rule: docs/RATTLE.md#stores.

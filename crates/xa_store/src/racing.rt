@@ -65,7 +65,7 @@ fn start_all<'a, G: Gate>(
 }
 
 /// How many runs have a statement.
-pub(crate) fn count_speakers(runs: &[Run]) -> u64
+fn count_speakers(runs: &[Run]) -> u64
     ensures { result ≡ count_by speaks runs.now }
 {
     runs.iter().filter(|run| !run.lines.is_empty()).count() as u64
@@ -96,8 +96,8 @@ pub fn race<G: Gate + Sync, R: Threads + Wait + Sync>(
     // Proved (stores, race-history-has-all): The history of a race is what the last pass has seen in the end.
     //   It begins with what each pass has seen, and its entries of each pass's number are that pass's own.
     ensures legal { IfOk result (λ outcome. IsOutcome store.now.base runs.items outcome) }
-    // Proved (stores, race-gate-opened): If all runs of a race are answered, in one log or in rounds, the
-    //   gate can let in each of their statements.
+    // Proved (stores, race-gate-opened): If all runs of a race are answered, the gate can let in each of their
+    //   statements.
     ensures opened { OnOk result (All (λ run. LetsIn (G.may_answer gate.now) (known_of run.pass).number (length run.lines.items)) runs.items) }
     // Proved (stores, race-fault-cause): A fault `GateShut` or `Full` of a race names one statement of a run.
     //   Those before it were answered, and a history explains their answers.

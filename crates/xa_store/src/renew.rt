@@ -28,11 +28,7 @@ fn disconnect_all(mut server: Server, sessions: u64) -> Server
 
 impl Store {
     /// The store with this base and an empty log of this store's sizes, and the log's passes.
-    pub(crate) fn reopened(
-        &self,
-        alloc: Global,
-        base: Server,
-    ) -> Result<(Store, Vec<Pass>), NoMemory>
+    fn reopened(&self, alloc: Global, base: Server) -> Result<(Store, Vec<Pass>), NoMemory>
         ensures base { IfOk result (λ opened. opened.0.base ≡ base) }
         ensures ok { IfOk result
             (λ opened. Opens log_of known_of (identity_of self.now.log).capacity (identity_of self.now.log).sessions (identity_of opened.0.log)

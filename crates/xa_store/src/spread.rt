@@ -85,18 +85,25 @@ where
     }
 }
 
-/// Gives each task a thread of its own, and waits for all of them.
+/// Gives each task a thread of its own, and waits for all of them. Returns what they returned, in their order.
 ///
-/// Errors: of all faults that of the lowest session. What the others returned is dropped then.
-pub(crate) fn run_all<T: Task + Send + Drop, R: Threads + Wait + Sync>(
+/// Errors: of all faults that of the lowest session; `NoMemory` of no session only if no task has a fault. What the
+/// others returned is dropped then. May return `NoMemory`. Waits for its threads, which may wait.
+/// Own rule: docs/RATTLE.md#races.
+pub fn run_all<T: Task + Send + Drop, R: Threads + Wait + Sync>(
     rt: &R,
     alloc: Global,
     tasks: Vec<T>,
 ) -> Result<Vec<T::Gain>, FirstFault>
 where
     T::Gain: Send + Drop,
+    // Proved (stores, tasks-each-done): Running tasks returns what each has done, in their order.
     ensures ok { IfOk result (λ all. AllZip T.gains tasks.items all.items) }
+    // Proved (stores, tasks-lowest-fault): The fault of tasks is that of the lowest session that has one. A task of
+    //   it stops with that fault, or has no thread. Memory is missing outside of the tasks only if each has done its
+    //   part.
     ensures err { IfErr result (λ first_fault. StopsSome T.stops tasks.items first_fault.fault) }
+    // Proved (stores, tasks-lowest-fault)
     ensures lowest { IfErr result (IsTold T.number_of T.gains T.stops tasks.items) }
 {
     thread::scope(

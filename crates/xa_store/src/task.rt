@@ -9,8 +9,10 @@ use xa_session::Session;
 use xa_xid::SessionNo;
 
 /// The part of a race that one thread has: statements of one session.
-pub(crate) trait Task {
-    /// The part of a race that one thread does: statements of one session.
+///
+/// `race` has tasks over a store of one log. A race over another store has tasks of its own, for `run_all`.
+pub trait Task {
+    /// What the thread returns if it does its part.
     type Gain;
 
     // the number of its session
@@ -22,11 +24,15 @@ pub(crate) trait Task {
     // why it stops
     ghost stops: { Self → RaceFault → Type 0 };
 
-    /// The session's number.
+    /// Returns the session's number, in `[1, 16]`.
+    ///
+    /// Takes no memory. Doesn't wait.
     fn number(&self) -> SessionNo
         ensures { result ≡ number_of self.now };
 
     /// Does the part.
+    ///
+    /// Errors: the reason for which it stops. May wait.
     fn work<R: Wait>(self, rt: &R) -> Result<Self::Gain, RaceFault>
         ensures ok { IfOk result (gains self) }
         ensures fault { IfErr result (stops self) };

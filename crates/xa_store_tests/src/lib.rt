@@ -27,8 +27,6 @@ mod renewal;
 #[cfg(test)]
 mod replay;
 #[cfg(test)]
-mod rounds;
-#[cfg(test)]
 mod runs;
 #[cfg(test)]
 mod sixteen;

@@ -1,4 +1,4 @@
-//! Races of runs, in one history and in rounds, and the gates that let them pass.
+//! Races of runs, and the gates that let them pass.
 ghost use Rattle.std.specs.Prelude.{◌≡◌};
 ghost use Rattle.std.specs.List.{All};
 ghost use Rattle.xa_store.specs.Passes.{identity_of, log_of};
@@ -15,7 +15,6 @@ use xa_server::{Reply, XaError};
 use xa_session::{Answer, Session};
 use xa_store::{
     Gate, Log, OpenGate, Outcome, RaceFault, Run, ShuffledGate, Store, TogetherGate, race,
-    race_in_rounds,
 };
 use xa_xid::{SessionNo, Statement};
 
@@ -74,10 +73,6 @@ fn race_without_runs_gives_nothing(rt: HostRuntime) {
         panic!(rt; "a fault")
     };
     assert!(rt; is_nothing(&outcome));
-    let Ok((_, outcome)) = race_in_rounds(&rt, alloc, store, Vec::new(alloc), &OpenGate) else {
-        panic!(rt; "a fault")
-    };
-    assert!(rt; is_nothing(&outcome));
 }
 
 /// The fault of a race of one session.
@@ -90,19 +85,6 @@ fn fault_of_one<G: Gate + Sync, R: Abort + Threads + Wait + Sync>(
 ) -> Option<RaceFault> {
     let (store, runs) = entered(rt, alloc, capacity, 1, script);
     race(rt, alloc, &store, runs, gate).err()
-}
-
-/// The fault of a race in rounds.
-fn fault_in_rounds<G: Gate + Sync, R: Abort + Threads + Wait + Sync>(
-    rt: &R,
-    alloc: Global,
-    capacity: u64,
-    sessions: u64,
-    script: &[u8],
-    gate: &G,
-) -> Option<RaceFault> {
-    let (store, runs) = entered(rt, alloc, capacity, sessions, script);
-    race_in_rounds(rt, alloc, store, runs, gate).err()
 }
 
 #[test]
@@ -193,9 +175,6 @@ fn fault_of_the_lowest_session_is_told(rt: HostRuntime) {
 
     let (store, runs) = entered(&rt, alloc, 8, 2, SHUT);
     shuts_first(&rt, alloc, &store, runs, &ShutsFirst { others: 0 });
-
-    let fault = fault_in_rounds(&rt, alloc, 8, 2, SHUT, &ShutsFirst { others: 0 });
-    assert!(rt; is_first_shut(fault));
 }
 
 /// Sessions 1 and 2 have four statements and three, session 3 none.
@@ -225,16 +204,6 @@ fn gate_is_told_once_and_asked_before_each_line_until_it_says_no(rt: HostRuntime
     is_asked_in_order(&rt, rt.alloc(), u64::MAX, [4, 3]);
     is_asked_in_order(&rt, rt.alloc(), 0, [1, 1]);
     is_asked_in_order(&rt, rt.alloc(), 2, [3, 3]);
-}
-
-#[test]
-fn gate_of_a_race_in_rounds_is_told_once(rt: HostRuntime) {
-    for (capacity, is_odd) in [(8, false), (1, true)] {
-        let gate = KeepsAccount::new(u64::MAX);
-        let fault = fault_in_rounds(&rt, rt.alloc(), capacity, 3, SPEAKERS, &gate);
-        assert!(rt; fault.is_none() && gate.is_told_of_two());
-        assert_eq!(rt; gate.odd.load(Ordering::SeqCst) > 0, is_odd);
-    }
 }
 
 /// Both sessions come to the gate before either is let past its first line, in one race and in another one

@@ -62,8 +62,6 @@ pub(crate) enum Way {
     Renew,
     /// It is renewed, once session 1 was dropped.
     Drop,
-    /// It is carried over, with the open branches.
-    CarryOver,
 }
 
 /// Asks for the store to be renewed; it is back with its passes if there was no memory.
@@ -79,39 +77,6 @@ fn renewing(
     match store.renew(alloc, passes) {
         Ok(opened) => Ok(opened),
         Err(refused) => Err((refused.0, refused.1)),
-    }
-}
-
-/// Asks for the store to be carried over; it is back with its passes if there was no memory.
-fn carrying(
-    alloc: Global,
-    store: Store,
-    passes: Vec<Pass>,
-) -> Result<(Store, Vec<Pass>), (Store, Vec<Pass>)>
-    requires { AreGathered (identity_of store.log) passes.items }
-    ensures opened { IfOk result (λ opened. All (λ pass. log_of pass ≡ identity_of opened.0.log) opened.1.items) }
-    ensures kept { IfErr result (λ kept. All (λ pass. log_of pass ≡ identity_of kept.0.log) kept.1.items) }
-{
-    match store.carry_over(alloc, passes) {
-        Ok(opened) => Ok(opened),
-        Err(refused) => Err((refused.0, refused.1)),
-    }
-}
-
-/// Asks for the store to go on.
-fn going_on(
-    alloc: Global,
-    way: Way,
-    store: Store,
-    passes: Vec<Pass>,
-) -> Result<(Store, Vec<Pass>), (Store, Vec<Pass>)>
-    requires { AreGathered (identity_of store.log) passes.items }
-    ensures opened { IfOk result (λ opened. All (λ pass. log_of pass ≡ identity_of opened.0.log) opened.1.items) }
-    ensures kept { IfErr result (λ kept. All (λ pass. log_of pass ≡ identity_of kept.0.log) kept.1.items) }
-{
-    match way {
-        Way::CarryOver => carrying(alloc, store, passes),
-        _ => renewing(alloc, store, passes),
     }
 }
 
@@ -186,11 +151,11 @@ pub(crate) fn gone_on<R: Abort + Wait>(
     requires { AreGathered (identity_of store.log) passes.items }
     ensures { All (λ pass. log_of pass ≡ identity_of result.0.log) result.1.items }
 {
-    match going_on(alloc, way, store, passes) {
+    match renewing(alloc, store, passes) {
         Ok(opened) => opened,
         Err((store, passes)) => {
             let passes = generation(rt, alloc, way, &store, passes, still);
-            let Ok(opened) = going_on(alloc, way, store, passes) else {
+            let Ok(opened) = renewing(alloc, store, passes) else {
                 panic!(rt; "refused twice")
             };
             opened
@@ -300,30 +265,6 @@ const ENDS: &[u8] = b"1 XA RECOVER CONVERT XID = 0 ROWS 1|1 1 0 0x61
 #[test]
 fn what_a_dropped_session_prepared_stays(rt: HostRuntime) {
     goes_on(&rt, rt.alloc(), 16, Way::Drop, [DROPPED, ENDS, b""], b"");
-}
-
-/// Session 1 fills a history of two entries, with a branch open. Session 2 has no room.
-const OPEN: &[u8] = b"1 XA START 'a' = 0 OK
-1 PUT 'k','v' = 1 OK
-2 XA START 'b' = FULL
-";
-
-/// Session 1 ends and prepares its branch in the next history, which is then full.
-const ENDED: &[u8] = b"2 PUT 'k','x' = 0 ERROR 3572 (HY000): row locked by another branch
-2 XA RECOVER = 0 ROWS 0
-1 XA END 'a' = 0 OK
-1 XA PREPARE 'a' = 1 OK
-2 XA RECOVER = 2 ROWS 1|1 1 0 a
-";
-
-/// Session 2 commits it in the one after that.
-const LAST: &[u8] = b"2 XA COMMIT 'a' = 0 OK
-2 GET 'k' = 1 VALUE 0x76
-";
-
-#[test]
-fn open_branch_goes_on_in_the_next_history(rt: HostRuntime) {
-    goes_on(&rt, rt.alloc(), 2, Way::CarryOver, [OPEN, ENDED, LAST], b"");
 }
 
 #[test]

@@ -2,7 +2,6 @@
 ghost use Rattle.std.specs.Prelude.{◌≡◌, map};
 ghost use Rattle.std.specs.List.{All};
 ghost use Rattle.xa_store.specs.Passes.{identity_of, log_of};
-ghost use Rattle.xa_store.specs.Rounds.{AreFresh};
 
 use crate::stores::pushed;
 use std::alloc::Global;
@@ -58,8 +57,7 @@ pub(crate) fn entered(
     sessions: u64,
     script: &[u8],
 ) -> (Store, Vec<Run>)
-    ensures belongs { All (λ run. log_of run.pass ≡ identity_of result.0.log) result.1.items }
-    ensures fresh { AreFresh (map (λ run. run.pass) result.1.items) }
+    ensures { All (λ run. log_of run.pass ≡ identity_of result.0.log) result.1.items }
 {
     let Ok((store, passes)) = Store::open(alloc, capacity, sessions) else {
         panic!(rt; "not opened")

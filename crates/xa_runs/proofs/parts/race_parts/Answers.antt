@@ -3,14 +3,15 @@ use Rattle.xa_orders.specs.Orders.{Told, told_text, told_state}
 use Rattle.xa_orders.specs.Scripts.{parts_of}
 use Rattle.xa_orders.specs.Kept.{read_kept}
 use Rattle.xa_runs.specs.Raced.{GivesRaced}
+use Rattle.xa_runs.specs.Bases.{base_of}
 use Rattle.xa_runs.proofs.Whole.{come_whole}
 use Rattle.xa_runs.proofs.parts.race_parts.Goals as goal
 
 pub returns-in-Ok-clause-come : goal.returns-in-Ok-clause-come
 returns-in-Ok-clause-come g c =
-    let base = c.in_ok-first.first.store.base in
-    let first = c.in_ok-opened.opened.store.base in
-    let behind = c.in_ok-raced.raced.0.store.base in
+    let base = base_of c.in_ok-first.first in
+    let first = base_of c.in_ok-opened.opened in
+    let behind = base_of c.in_ok-raced.raced.0 in
     let answers = c.in_ok-raced.raced.1.items in
     come_whole (parts_of (read_kept c.args.script.now)) base first behind c.race_each.new.text.items answers c.extend_from_slice.new.self.items
     c.race_each-2.new.text.items c.in_ok-first.ensures.base

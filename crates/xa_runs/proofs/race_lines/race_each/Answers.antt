@@ -1,6 +1,6 @@
-use Rattle.std.proofs.Common.{◌≡◌, ℕ, ◌+◌, ◌-◌, ◌≤◌, ◌++◌, List, [], ◌∷◌, take, drop, sym, ap, ◌∙◌, subst, append-nil, rules}
+use Rattle.std.proofs.Common.{◌≡◌, ℕ, ◌+◌, ◌-◌, ◌≤◌, ◌++◌, List, [], ◌∷◌, length, take, drop, sym, ap, ◌∙◌, subst, append-nil, rules}
 use Rattle.std.specs.List.{All}
-use Rattle.xa_store.specs.Passes.{identity_of}
+use Rattle.xa_runs.specs.Bases.{base_of}
 use Rattle.xa_orders.specs.Orders.{Told, IsSession, told_text, told_state}
 use Rattle.xa_runs.specs.Raced.{IsReadLine}
 use Rattle.xa_runs.specs.Held.{AreWithin}
@@ -13,10 +13,10 @@ race_lines-requires-clause-within g c =
     let place = c.loop-place.place in
     let at = some_at lines place c.loop-place-test.true in
     let one : take (place + 1 - place) (drop place lines) ≡ at.0 ∷ [] = one_there lines place at.0 c.loop-place-test.true at.1 in
-    let within : AreWithin (identity_of c.loop-place.opened.store.log).sessions lines =
+    let within : AreWithin (length c.loop-place.opened.sessions.items) lines =
     subst (λ n. AreWithin n lines) (sym c.loop-place.invariant.sessions) c.requires.within in
-    let alone : AreWithin (identity_of c.loop-place.opened.store.log).sessions (take (place + 1 - place) (drop place lines)) =
-    all_of_one (λ (t : Told). IsSession t.session × (t.session ≤ (identity_of c.loop-place.opened.store.log).sessions)) lines
+    let alone : AreWithin (length c.loop-place.opened.sessions.items) (take (place + 1 - place) (drop place lines)) =
+    all_of_one (λ (t : Told). IsSession t.session × (t.session ≤ (length c.loop-place.opened.sessions.items))) lines
     (take (place + 1 - place) (drop place lines)) place at.0 c.loop-place-test.true at.1 one within in
     search rules
 
@@ -36,16 +36,16 @@ loop-place-preserved g c =
     let place = c.loop-place.place in
     let at = some_at lines place c.loop-place-test.true in
     let one : take (place + 1 - place) (drop place lines) ≡ at.0 ∷ [] = one_there lines place at.0 c.loop-place-test.true at.1 in
-    let base = c.loop-place.opened.store.base in
-    let new = c.in_ok-raced.raced.0.store.base in
+    let base = base_of c.loop-place.opened in
+    let new = base_of c.in_ok-raced.raced.0 in
     let answer = c.in_ok-raced.raced.1.items in
     let line = one_raced base new (take (place + 1 - place) (drop place lines)) at.0 answer one c.in_ok-raced.ensures.raced in
     record {
       text =
-          each_step lines place at.0 base new answer (c.args.text.now.items ++ told_text c.args.opened.store.base lines) c.loop-place.text.items
+          each_step lines place at.0 base new answer (c.args.text.now.items ++ told_text (base_of c.args.opened) lines) c.loop-place.text.items
           c.extend_from_slice.new.self.items c.loop-place-test.true at.1 line.0 line.1
           (c.in_ok-extend_from_slice.ensures.items ∙ ap (λ (t : List ℕ). c.loop-place.text.items ++ t) c.as_slice.ensures.value) c.loop-place.invariant.text;
-      state = state_step lines place at.0 base new (told_state c.args.opened.store.base lines) c.loop-place-test.true at.1 line.1 c.loop-place.invariant.state;
+      state = state_step lines place at.0 base new (told_state (base_of c.args.opened) lines) c.loop-place-test.true at.1 line.1 c.loop-place.invariant.state;
       sessions = c.in_ok-raced.ensures.sessions ∙ c.loop-place.invariant.sessions;
     }
 
@@ -53,9 +53,9 @@ pub returns-clause-text : goal.returns-clause-text
 returns-clause-text g c =
     sym
     (c.loop-place.invariant.text
-    ∙ ap (λ (t : List ℕ). c.loop-place.text.items ++ t) (each_end c.args.lines.now c.loop-place.place c.loop-place.opened.store.base c.loop-place-test.false)
+    ∙ ap (λ (t : List ℕ). c.loop-place.text.items ++ t) (each_end c.args.lines.now c.loop-place.place (base_of c.loop-place.opened) c.loop-place-test.false)
     ∙ append-nil c.loop-place.text.items)
 
 pub returns-clause-state : goal.returns-clause-state
 returns-clause-state g c =
-    sym (c.loop-place.invariant.state ∙ state_end c.args.lines.now c.loop-place.place c.loop-place.opened.store.base c.loop-place-test.false)
+    sym (c.loop-place.invariant.state ∙ state_end c.args.lines.now c.loop-place.place (base_of c.loop-place.opened) c.loop-place-test.false)

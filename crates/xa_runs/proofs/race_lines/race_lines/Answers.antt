@@ -1,35 +1,57 @@
-use Rattle.std.proofs.Common.{◌≡◌, List, [], map, Vec, Global, ap, ◌∙◌, rules}
-use Rattle.std.specs.List.{All, concat}
+use Rattle.std.proofs.Common.{◌≡◌, List, [], length, map, Vec, Global, ap, ◌∙◌}
+use Rattle.std.specs.List.{concat}
 use Rattle.xa_session.specs.declared.answer.Answer.{Answer}
-use Rattle.xa_store.specs.Passes.{identity_of, log_of}
-use Rattle.xa_store.specs.declared.run.Run.{Run}
+use Rattle.xa_endless.specs.declared.session.EndlessSession.{EndlessSession}
+use Rattle.xa_endless_races.specs.Long.{seen_by_last}
 use Rattle.xa_runs.specs.Raced.{laid_texts}
 use Rattle.xa_runs.specs.Held.{answers_of}
-use Rattle.xa_runs.proofs.Raced.{gives_raced}
-use Rattle.xa_runs.proofs.Stores.{are_runs, runs_belong, runs_long}
+use Rattle.xa_runs.proofs.Entering.{numbered, numbers_are}
+use Rattle.xa_runs.proofs.Stores.{runs_mine}
+use Rattle.xa_runs.proofs.Ended.{ended_mine, ended_long, ended_few, ended_numbers, ended_holds, ended_raced}
 use Rattle.xa_runs.proofs.race_lines.race_lines.Goals as goal
 
-pub race_runs-requires-clause-belongs : goal.race_runs-requires-clause-belongs
-race_runs-requires-clause-belongs g c =
+pub race_runs-requires-after_bounds : goal.race_runs-requires-after_bounds
+race_runs-requires-after_bounds g c κs within =
+    runs_mine c.args.opened.store.value 1 c.args.lines.now c.args.opened.sessions.items c.in_ok-runs.runs.items c.in_ok-runs.ensures c.args.opened.mine
+
+pub invariant_of-result : goal.invariant_of-result
+invariant_of-result g c =
     let opened = c.args.opened in
-    let belong : All (λ (run : Run). log_of run.pass ≡ identity_of opened.store.log) c.in_ok-runs.runs.items =
-    runs_belong (identity_of opened.store.log) opened.passes.items c.in_ok-runs.runs.items c.in_ok-runs.ensures.passes opened.opens.belongs in
-    search rules
+    let gate = g.G.Gate.may_answer c.args.gate.now in
+    let from = c.count_seen-from.result in
+    let lines = c.args.lines.now in
+    let runs = c.in_ok-runs.runs.items in
+    let are = c.in_ok-runs.ensures in
+    let outcome = c.in_ok-outcome.outcome in
+    let is = c.in_ok-outcome.ensures.outcome in
+    let before = opened.sessions.items in
+    record {
+      mine = ended_mine gate from lines before runs outcome are is opened.store.value opened.mine;
+      few = ended_few gate from lines before runs outcome are is opened.few;
+      numbers = numbers_are 1 outcome.sessions.items (ended_numbers gate from lines before runs outcome are is (numbered 1 before opened.numbers));
+      holds = ended_holds gate from lines before runs outcome are is;
+    }
 
 pub returns-clause-raced : goal.returns-clause-raced
 returns-clause-raced g c =
     let opened = c.args.opened in
-    let identity = identity_of opened.store.log in
+    let gate = g.G.Gate.may_answer c.args.gate.now in
+    let from = c.count_seen-from.result in
+    let lines = c.args.lines.now in
     let runs = c.in_ok-runs.runs.items in
-    let passes = opened.passes.items in
-    let outcome = c.in_ok-ended.ended.1 in
-    let lists : List (List Answer) = map (λ (answers : Vec Answer Global). answers.items) outcome.answers.items in
-    gives_raced opened.store.base c.in_ok-behind.behind.store.base outcome.history.items c.args.lines.now runs lists identity.sessions
-    opened.opens.sessions_fit.1
-    (runs_long passes runs c.in_ok-runs.ensures.passes ∙ opened.opens.count)
-    (are_runs identity.capacity identity.sessions identity passes runs c.args.lines.now opened.opens c.in_ok-runs.ensures.passes c.in_ok-runs.ensures.given)
-    c.requires.within c.requires.read c.in_ok-ended.ensures.own c.in_ok-ended.ensures.legal (c.in_ok-behind.ensures.base ∙ c.in_ok-ended.ensures.state)
-    c.in_ok-text.text.items
+    let are = c.in_ok-runs.ensures in
+    let outcome = c.in_ok-outcome.outcome in
+    let is = c.in_ok-outcome.ensures.outcome in
+    let before = opened.sessions.items in
+    let seen : from ≡ length (seen_by_last before) =
+    c.count_seen-from.ensures ∙ ap (λ (l : List EndlessSession). length (seen_by_last l)) c.as_slice.ensures.value in
+    ended_raced gate from lines before runs outcome are is opened.few (numbered 1 before opened.numbers) opened.holds seen c.in_ok-text.text.items
+    c.requires.within c.requires.read
     (c.in_ok-text.ensures
-    ∙ ap (λ (l : List (Vec Answer Global)). concat (laid_texts [] (answers_of (map (λ (answers : Vec Answer Global). answers.items) l)) c.args.lines.now))
-    c.as_slice.ensures.value)
+    ∙ ap (λ (l : List (Vec Answer Global)). concat (laid_texts [] (answers_of (map (λ (answers : Vec Answer Global). answers.items) l)) lines))
+    c.as_slice-2.ensures.value)
+
+pub returns-clause-sessions : goal.returns-clause-sessions
+returns-clause-sessions g c =
+    ended_long (g.G.Gate.may_answer c.args.gate.now) c.count_seen-from.result c.args.lines.now c.args.opened.sessions.items c.in_ok-runs.runs.items
+    c.in_ok-outcome.outcome c.in_ok-runs.ensures c.in_ok-outcome.ensures.outcome

@@ -9,8 +9,7 @@ use Rattle.xa_store.specs.declared.run.Run.{Run}
 use Rattle.xa_store.specs.Lowest.{TellsLowest}
 use Rattle.xa_store.proofs.Races.{legal_in, blames}
 use Rattle.xa_store.proofs.Telling.{tells}
-use Rattle.xa_store.proofs.Spreading.{zip_chain, zip_ended, zip_first, zip_unmapped, zip_get, map_twice}
-use Rattle.xa_store.proofs.RoundLists.{zip_all}
+use Rattle.xa_store.proofs.Spreading.{zip_chain, zip_ended, zip_first, zip_all, zip_unmapped, zip_get, map_twice}
 use Rattle.xa_store.proofs.racing.race.Goals as goal
 
 pub close_all-requires : goal.close_all-requires

@@ -1,0 +1,5 @@
+pub mod Statements
+pub mod Gathering
+pub mod Places
+pub mod Ends
+pub mod NewRuns

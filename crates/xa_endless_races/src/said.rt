@@ -1,0 +1,11 @@
+//! What a session was answered in a race, and what it added.
+
+use crate::added::Added;
+use xa_session::Answer;
+
+/// What a session was answered so far, and what it has added so far, both in order.
+#[derive(Drop)]
+pub struct Said {
+    pub(crate) answers: Vec<Answer>,
+    pub(crate) added: Vec<Added>,
+}

@@ -1,0 +1,147 @@
+//! Races of lists of statements over stores without an end, whose rings are small.
+ghost use Rattle.std.specs.Prelude.{◌≡◌, ◌≤◌, length, IfSome};
+ghost use Rattle.ring_log.specs.RingOpens.{AreRows};
+
+use std::alloc::Global;
+use std::process::Abort;
+use std::sync::Wait;
+use std::thread::Threads;
+use xa_endless::{EndlessSession, EndlessStore};
+use xa_endless_races::{LongOutcome, LongRun, hold_long_race, race_on};
+use xa_server::Reply;
+use xa_session::Answer;
+use xa_store::{Gate, OpenGate, RaceFault};
+use xa_words::Entry;
+use xa_xid::{Bytes, Key, SessionNo, Statement};
+
+/// A statement that writes a row.
+fn write(letter: u8) -> Option<Statement> {
+    let mut key = Bytes::new();
+    key.push(letter);
+    Some(Statement::Put(Key::of(key)?, Bytes::new()))
+}
+
+/// So many statements that write a row.
+fn writes(alloc: Global, letter: u8, count: u64) -> Option<Vec<Statement>> {
+    let mut list = Vec::new(alloc);
+    for _ in 0..count {
+        list.push(write(letter)?).ok()?;
+    }
+    Some(list)
+}
+
+/// Such a list for each of three sessions.
+fn three_lists(alloc: Global, count: u64) -> Option<Vec<Vec<Statement>>>
+    ensures { IfSome result (λ lists. length lists.items ≤ 3) }
+{
+    let first = writes(alloc, b'a', count)?;
+    let second = writes(alloc, b'b', count)?;
+    let third = writes(alloc, b'c', count)?;
+    vec![in alloc; first, second, third].ok()
+}
+
+/// Whether an answer is OK, and the entry at its place is of the session.
+fn is_there(history: &[Entry], session: u64, answer: &Answer) -> bool {
+    let is_ok = matches!(answer.reply, Reply::Ok);
+    match history.get(answer.place as usize) {
+        Some(entry) => is_ok && entry.session().get() == session,
+        None => false,
+    }
+}
+
+/// Whether each answer of a session stands at a place of its own, behind those before it.
+fn are_there(history: &[Entry], session: u64, answers: &[Answer]) -> bool {
+    let mut least = 0;
+    for answer in answers {
+        if answer.place < least || !is_there(history, session, answer) {
+            return false;
+        }
+        least = answer.place.saturating_add(1);
+    }
+    true
+}
+
+/// Whether each of three sessions has written so many rows, each an entry of one history.
+fn is_whole(outcome: &LongOutcome, count: u64) -> bool {
+    let [first, second, third] = outcome.answers.as_slice() else {
+        return false;
+    };
+    let history = outcome.history.as_slice();
+    let lengths = [first.len() as u64, second.len() as u64, third.len() as u64];
+    lengths == [count, count, count]
+        && history.len() as u64 == count.saturating_mul(3)
+        && are_there(history, 1, first.as_slice())
+        && are_there(history, 2, second.as_slice())
+        && are_there(history, 3, third.as_slice())
+}
+
+/// Whether a race of three sessions gives that.
+fn races<R: Threads + Wait + Sync>(rt: &R, alloc: Global, rows: u64, count: u64) -> bool
+    requires { AreRows rows }
+{
+    let Some(lists) = three_lists(alloc, count) else {
+        return false;
+    };
+    match hold_long_race(rt, alloc, rows, lists, &OpenGate) {
+        Ok(outcome) => is_whole(&outcome, count),
+        Err(_) => false,
+    }
+}
+
+#[test]
+fn history_is_whole_after_many_laps(rt: HostRuntime) {
+    assert!(rt; races(&rt, rt.alloc(), 1, 60));
+    assert!(rt; races(&rt, rt.alloc(), 3, 200));
+    assert!(rt; races(&rt, rt.alloc(), 64, 600));
+    assert!(rt; races(&rt, rt.alloc(), 1_024, 100));
+}
+
+#[test]
+fn race_of_no_lists_gives_nothing(rt: HostRuntime) {
+    let alloc = rt.alloc();
+    let Ok(outcome) = hold_long_race(&rt, alloc, 4, Vec::new(alloc), &OpenGate) else {
+        panic!(rt; "a fault")
+    };
+    assert!(rt; outcome.history.is_empty() && outcome.answers.is_empty());
+}
+
+/// A gate that stops each session before its third statement.
+struct LetsTwo;
+
+impl Gate for LetsTwo {
+    fn enter(&self, _session: SessionNo, line: u64) -> bool {
+        line < 2
+    }
+}
+
+/// A session of a store, with four statements.
+fn run(alloc: Global, session: EndlessSession, letter: u8) -> Option<LongRun>
+    ensures { IfSome result (λ run. run.session ≡ session) }
+{
+    let lines = writes(alloc, letter, 4)?;
+    Some(LongRun { session, lines })
+}
+
+/// The fault of a race of two sessions that are stopped, and where a third session then finds the end of the history.
+fn stopped<R: Threads + Wait + Sync>(rt: &R, alloc: Global) -> Option<(RaceFault, u64)> {
+    let store = EndlessStore::open(alloc, 2, 3).ok()?;
+    let first = run(alloc, EndlessStore::take(&store, 1).ok()?, b'a')?;
+    let second = run(alloc, EndlessStore::take(&store, 2).ok()?, b'b')?;
+    let mut third = EndlessStore::take(&store, 3).ok()?;
+    let runs = vec![in alloc; first, second].ok()?;
+    let fault = race_on(rt, alloc, &store, 0, runs, &LetsTwo).err()?;
+    let answer = third
+        .execute(rt, &Statement::Recover { convert: false })
+        .ok()?;
+    Some((fault, answer.place))
+}
+
+#[test]
+fn session_that_stops_adds_nothing_more(rt: HostRuntime) {
+    let session = SessionNo::of(1).unwrap();
+    let Some((fault, place)) = stopped(&rt, rt.alloc()) else {
+        panic!(rt; "no fault")
+    };
+    assert_eq!(rt; fault, RaceFault::GateShut { session, line: 2 });
+    assert_eq!(rt; place, 4);
+}
