@@ -268,18 +268,23 @@ def json_of(found):
     return json.dumps({"globals": transactions, **counts}, separators=(",", ":")) + "\n"
 
 
+def written(faults, found, options):
+    """What is written with these options, and the status."""
+    if faults:
+        lines = [f"STORE {store} LINE {line} ERROR 1064 (42000): syntax fault at byte {place}\n"
+                 for store, line, place in faults]
+        return "".join(lines), 6
+    status = 0 if all(verdict == "ATOMIC" for *_, verdict in found) else 9
+    if "--json" in options:
+        return json_of(found), status  # as it is with --text too, and with --quiet
+    return ("" if "--quiet" in options else text_of(found, "--text" in options)) + last_line(found), status
+
+
 def main(words):
     options = {word for word in words if word.startswith("--")}
-    faults, found = audit([Path(word).read_bytes() for word in words if not word.startswith("--")])
-    if faults:
-        sys.stdout.write("".join(f"STORE {store} LINE {line} ERROR 1064 (42000): syntax fault at byte {place}\n" for store, line, place in faults))
-        return 6
-    is_text = "--text" in options
-    if "--json" in options:
-        sys.stdout.write(json_of(found))  # as it is with --text too, and with --quiet
-    else:
-        sys.stdout.write(("" if "--quiet" in options else text_of(found, is_text)) + last_line(found))
-    return 0 if all(verdict == "ATOMIC" for *_, verdict in found) else 9
+    text, status = written(*audit([Path(word).read_bytes() for word in words if not word.startswith("--")]), options)
+    sys.stdout.write(text)
+    return status
 
 
 if __name__ == "__main__":

@@ -6,3 +6,5 @@ pub mod Groups
 pub mod Stores
 pub mod Taking
 pub mod Verdicts
+pub mod Failing
+pub mod Mixing

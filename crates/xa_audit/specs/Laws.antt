@@ -1,14 +1,19 @@
 -- Words of the laws of audits.
 --     is_commit     a deed is an accepted XA COMMIT
 --     took_in       some life of the branch is COMMITTED in a history
-use Rattle.std.specs.Prelude.{Bool, true, false, List, ℕ}
-use Rattle.std.specs.List.{list_any}
+--     DropsWrites   the last life of a branch wrote, and was rolled back
+--     failed_in     the branch failed in the history of a store
+--     HasCommitted, HasDropped     a branch of a global transaction was committed;  one's writes were dropped
+use Rattle.std.specs.Prelude.{◌≡◌, Bool, true, false, List, ◌∷◌, ◌++◌, ℕ}
+use Rattle.std.specs.List.{list_any, list_all, Contains}
 use Rattle.std.specs.Option.{option_map_or}
 use Rattle.xa_xid.specs.declared.xid.Xid.{Xid}
 use Rattle.xa_audit.specs.declared.deed.Deed.{Deed}
 use Rattle.xa_audit.specs.declared.deed.Deed.TheVariants.{Starts, Writes, Prepares, Commits, RollsBack}
-use Rattle.xa_audit.specs.Branches.{lives_in}
-use Rattle.xa_audit.specs.Globals.{is_committed}
+use Rattle.xa_audit.specs.declared.global.GlobalName.{GlobalName}
+use Rattle.xa_audit.specs.Branches.{lives_in, branch_in}
+use Rattle.xa_audit.specs.Deeds.{deeds_in, deeds_about}
+use Rattle.xa_audit.specs.Globals.{is_committed, failed, global_of}
 use Rattle.xa_audit.specs.Lives.{ends_in}
 
 abbrev pub is_commit : Deed → Bool
@@ -21,3 +26,52 @@ is_commit RollsBack = false
 -- some life of the branch is COMMITTED
 abbrev pub took_in : List ℕ → Xid → Bool
 took_in history xid = option_map_or (λ lives. list_any is_committed (ends_in lives)) (lives_in history xid) false
+
+abbrev pub is_write : Deed → Bool
+is_write Starts = false
+is_write Writes = true
+is_write Prepares = false
+is_write Commits = false
+is_write RollsBack = false
+
+-- the deed neither begins nor ends a life
+abbrev pub is_within : Deed → Bool
+is_within Starts = false
+is_within Writes = true
+is_within Prepares = true
+is_within Commits = false
+is_within RollsBack = false
+
+-- the last life wrote, and was rolled back: none begins or ends after it
+pub record DropsWrites (deeds : List Deed) : Type 0 where
+  pub before : List Deed
+  pub life : List Deed
+  pub later : List Deed
+  pub cut : deeds ≡ before ++ (Starts ∷ (life ++ (RollsBack ∷ later)))
+  pub within : list_all is_within life ≡ true
+  pub wrote : list_any is_write life ≡ true
+  pub last : list_all is_within later ≡ true
+
+-- the branch failed in the history of the store of this number
+abbrev pub failed_in : ℕ → List ℕ → Xid → Bool
+failed_in store history xid = option_map_or (λ lives. failed (branch_in store (xid, lives))) (lives_in history xid) false
+
+-- no `XA COMMIT` of the branch was accepted, and the last life of it wrote, and was rolled back
+abbrev pub FailsBy : List Deed → Type 0
+FailsBy deeds = (list_any is_commit deeds ≡ false) × DropsWrites deeds
+
+-- in some history an `XA COMMIT` of a branch of this global transaction was accepted
+pub record HasCommitted (histories : List (List ℕ)) (name : GlobalName) : Type 0 where
+  pub history : List ℕ
+  pub xid : Xid
+  pub one : Contains histories history
+  pub own : global_of xid ≡ name
+  pub committed : list_any is_commit (deeds_about xid (deeds_in history)) ≡ true
+
+-- in some history the writes of a branch of this global transaction were dropped
+pub record HasDropped (histories : List (List ℕ)) (name : GlobalName) : Type 0 where
+  pub history : List ℕ
+  pub xid : Xid
+  pub one : Contains histories history
+  pub own : global_of xid ≡ name
+  pub dropped : FailsBy (deeds_about xid (deeds_in history))

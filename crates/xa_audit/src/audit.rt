@@ -1,11 +1,16 @@
 //! What is kept of histories that are audited.
-ghost use Rattle.std.specs.Prelude.{◌≡◌, ◌<◌, ◌+◌, ◌++◌, ◌∷◌, [], ℕ, List, OnOk};
+ghost use Rattle.std.specs.Prelude.{◌≡◌, ◌<◌, ◌+◌, ◌++◌, ◌∷◌, [], ℕ, List, OnOk, map};
+ghost use Rattle.std.specs.BTreeMap as tree;
+ghost use Rattle.xa_xid.specs.Xid.{xid_cmp};
+ghost use Rattle.xa_audit.specs.Branches.{branch_in};
 
 use crate::branches::{Branches, push_branches};
 use crate::faults::push_faults;
+use crate::lives::Lives;
 use crate::store::lives_of;
 use std::alloc::Global;
-use xa_xid::NoMemory;
+use std::collections::BTreeMap;
+use xa_xid::{NoMemory, Xid};
 
 /// What is kept of the histories of stores 1, 2, .., each as it was read.
 #[derive(Drop)]
@@ -35,6 +40,16 @@ impl Audit {
         }
     }
 
+    /// Takes the branches of the store that was counted last, which have these lives.
+    fn push_lives(&mut self, alloc: Global, lives: &BTreeMap<Xid, Lives>) -> Result<(), NoMemory>
+        ensures added { OnOk result (self.new.branches ≡ self.old.branches ++ map (branch_in self.old.stores) lives.now.entries) }
+        ensures ordered { tree.IsOrdered xid_cmp lives.now }
+        ensures stores { self.new.stores ≡ self.old.stores }
+        ensures faults { self.new.faults ≡ self.old.faults }
+    {
+        push_branches(alloc, &mut self.branches, self.stores, lives)
+    }
+
     /// Takes the history of the next store. At most 64 are taken.
     ///
     /// After `NoMemory` the audit is of no use.
@@ -49,7 +64,7 @@ impl Audit {
         push_faults(&mut self.faults, self.stores, history)?;
         if self.faults.is_empty() {
             let lives = lives_of(alloc, history)?;
-            push_branches(alloc, &mut self.branches, self.stores, &lives)?;
+            self.push_lives(alloc, &lives)?;
         }
         Ok(())
     }

@@ -43,6 +43,14 @@ fn known_lives(alloc: Global, found: Option<Lives>) -> Lives
     }
 }
 
+/// Takes out the lives of a branch that are known.
+fn take_lives(alloc: Global, lives: &mut BTreeMap<Xid, Lives>, xid: &Xid) -> Lives
+    ensures known { result ≡ unwrap_or (tree.get xid_cmp lives.old xid.now) no_lives }
+    ensures taken { (other : XidSeen) → tree.get xid_cmp lives.new other ≡ cond (tree.is_at (xid_cmp xid.now) other) None (tree.get xid_cmp lives.old other) }
+{
+    known_lives(alloc, lives.remove(xid))
+}
+
 /// Takes note of a deed on a branch.
 fn note(
     alloc: Global,
@@ -52,7 +60,7 @@ fn note(
 ) -> Result<(), NoMemory>
     ensures { OnOk result (PutsAt xid_cmp lives.old xid (noted (unwrap_or (tree.get xid_cmp lives.old xid) no_lives) deed) lives.new) }
 {
-    let mut known = known_lives(alloc, lives.remove(&xid));
+    let mut known = take_lives(alloc, lives, &xid);
     known.note(deed)?;
     lives.insert(xid, known)?;
     Ok(())

@@ -5,7 +5,8 @@ from collections.abc import Iterable, Sequence
 from dataclasses import dataclass
 
 HOLD = 600  # seconds that a statement is held while its manager is killed
-PAUSE = 1.5  # seconds that a statement is held while somebody else rolls its branch back
+# Seconds that a statement is held while somebody else rolls its branch back. If that came too late, the next is tried.
+PAUSES = (1.5, 6, 24)
 OUTAGE = 0.3  # seconds that a store is away while it is restarted
 
 LOST, UNANSWERED, KILLED_BEFORE, KILLED_AFTER, ROLLED_BACK, RESTARTED = (
@@ -15,7 +16,7 @@ FAULTS = {
     UNANSWERED: "close-after",
     KILLED_BEFORE: f"stall {HOLD}",
     KILLED_AFTER: f"stall-after {HOLD}",
-    ROLLED_BACK: f"stall {PAUSE}",
+    ROLLED_BACK: f"stall {PAUSES[0]}",
     RESTARTED: f"outage {OUTAGE}",
 }
 KILLS = (KILLED_BEFORE, KILLED_AFTER)
@@ -30,7 +31,7 @@ MOST = 100  # statements of a kind that are counted at a store
 
 # How the server tells that it held a statement: its store, kind and number, and the statement.
 TOLD = re.compile(r"store (\d+), .*?the fault ([A-Z]+(?: [A-Z]+)?) (\d+) stall(?: 0)?, at (.*): held before it")
-HELD = re.compile(rf"the fault .* stall(?:-after)? (?:{HOLD}|{PAUSE}), at .*: held (?:before|after) it$")
+HELD = re.compile(rf"the fault .* stall(?:-after)? (?:{'|'.join(map(str, (HOLD, *PAUSES)))}), at .*: held (?:before|after) it$")
 
 
 @dataclass(frozen=True)
@@ -54,9 +55,11 @@ class Point:
     def __str__(self) -> str:
         return f"{self.site}, {self.action}"
 
-    def line(self) -> str:
-        """The server's line for it."""
+    def line(self, pause: float = PAUSES[0]) -> str:
+        """The server's line for it, with the pause for a rollback."""
         what = FAULTS.get(self.action) or f"error {self.action.removeprefix('refused ')}"
+        if self.action == ROLLED_BACK:
+            what = f"stall {pause}"
         return f"STORE {self.site.store} {self.site.kind} {self.site.fault} {what}"
 
     def is_wanted(self, only: Sequence[str]) -> bool:

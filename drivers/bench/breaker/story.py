@@ -12,7 +12,7 @@ from pathlib import Path
 from typing import TYPE_CHECKING
 from urllib.parse import quote_plus
 
-from .points import HOLD, MARKED, PAUSE
+from .points import HOLD, MARKED, PAUSES
 
 if TYPE_CHECKING:
     from .trial import Outcome
@@ -57,7 +57,7 @@ class Step:
 
     def passes(self) -> bool:
         """Whether the store gets the statement of this fault after it."""
-        return self.what == "stall" and float(self.number) in (0, PAUSE)
+        return self.what == "stall" and float(self.number) in (0, *PAUSES)
 
     def is_of(self, statement: Step) -> bool:
         """Whether this fault is at that statement. A server may ask its store for a list in another form than its
@@ -84,6 +84,14 @@ def steps_of(record: str) -> list[Step]:
             calls[found[1]].reply = found[2]
     refused = {(it.text, f"ERROR {it.number}") for it in steps if it.what == "error"}
     return [it for it in steps if it.what or (it.text, it.reply.partition(" (")[0]) not in refused]
+
+
+def is_late(record: str) -> bool:
+    """Whether a statement that was held for somebody else's rollback was accepted all the same."""
+    steps = steps_of(record)
+    held = [place for place, it in enumerate(steps) if it.what == "stall" and float(it.number) in PAUSES]
+    got = (next((it for it in steps[place:] if steps[place].is_of(it)), None) for place in held)
+    return any(it is not None and it.reply == "OK" for it in got)
 
 
 def merged(log: Sequence[str], stores: Sequence[list[Step]]) -> Iterator[tuple[int, Step]]:

@@ -11,7 +11,7 @@ FOLDER = HERE.parent
 BENCH = FOLDER / "bench"
 PROGRAM = os.environ["XA_SCRIPT"]
 PYTHON = "/usr/bin/python3"
-JOBS = os.environ.get("JOBS", str(os.cpu_count() or 1))
+JOBS = os.environ.get("JOBS", str(min(len(os.sched_getaffinity(0)), 4)))
 IS_LONG = os.environ.get("LONG") == "1"
 
 sys.path.insert(0, str(FOLDER))

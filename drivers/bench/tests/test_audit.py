@@ -96,7 +96,21 @@ class Audit(unittest.TestCase):
                 for number in range(draw.randint(1, 4)):
                     paths.append(Path(folder) / f"history.{number + 1}")
                     paths[-1].write_bytes(drawn(draw, draw.randint(0, 60), draw.choice([0, 0, 0.05])))
+                account = reference_audit.audit([path.read_bytes() for path in paths])
                 for options in ([], ["--json"], ["--quiet"], ["--text"], ["--json", "--text"], ["--json", "--quiet"]):
                     ran = subprocess.run([PROGRAM, "audit", *options, *paths], stdout=subprocess.PIPE)
-                    mine = subprocess.run([reference_audit.__file__, *options, *paths], stdout=subprocess.PIPE)
-                    self.assertEqual((ran.stdout, ran.returncode), (mine.stdout, mine.returncode), f"seed {seed} {options}")
+                    text, status = reference_audit.written(*account, options)
+                    self.assertEqual((ran.stdout, ran.returncode), (text.encode(), status), f"seed {seed} {options}")
+
+    def test_the_command(self):
+        """The reference as a program: what it writes of three histories, and its status."""
+        counts = "GLOBALS {} ATOMIC 0 MIXED 0 IN DOUBT 0 OPEN {}\n"
+        cases = ((b"", [], counts.format(0, 0), 0),
+                 (b"1 XA START 'a'\n", ["--text"], "GLOBAL 1 'a'\nSTORE 1 '' OPEN\nOPEN\n" + counts.format(1, 1), 9),
+                 (b"1 GET k\n", ["--json"], "STORE 1 LINE 1 ERROR 1064 (42000): syntax fault at byte 4\n", 6))
+        with tempfile.TemporaryDirectory() as folder:
+            path = Path(folder) / "history"
+            for history, options, wanted, status in cases:
+                path.write_bytes(history)
+                ran = subprocess.run([reference_audit.__file__, *options, path], stdout=subprocess.PIPE, text=True)
+                self.assertEqual((ran.stdout, ran.returncode), (wanted, status), history)

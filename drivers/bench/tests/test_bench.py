@@ -3,8 +3,11 @@ import contextlib
 import html
 import importlib.machinery
 import importlib.util
+import json
+import random
 import re
 import shlex
+import shutil
 import signal
 import socket
 import subprocess
@@ -29,6 +32,16 @@ def running(words):
             if path.read_bytes().replace(b"\0", b" ").decode(errors="replace").startswith(words):
                 found.append(path.parent.name)
     return found
+
+
+def neighbours():
+    """Two free ports next to each other, below those that the system gives to others; the first."""
+    while True:
+        port = random.randrange(20_000, 30_000)
+        with contextlib.suppress(OSError), socket.socket() as one, socket.socket() as other:
+            one.bind(("127.0.0.1", port))
+            other.bind(("127.0.0.1", port + 1))
+            return port
 
 
 def of_manager(record):
@@ -63,6 +76,10 @@ class Reports(unittest.TestCase):
             tap = Path(f"{folder}/t.tap").read_text().splitlines()
             self.assertEqual(tap[:2], ["TAP version 13", f"1..{len(points)}"])
             self.assertEqual(sum(line.startswith("not ok ") for line in tap), len(wrong))
+            if shutil.which("prove"):  # Perl's own reader of this form
+                read = subprocess.run(["prove", "-e", "cat", f"{folder}/t.tap"], stdout=subprocess.PIPE,
+                                      stderr=subprocess.STDOUT, text=True)
+                self.assertIn(f"Tests: {len(points)} Failed: {len(wrong)})", read.stdout)
             kept = Path(folder) / "kept" / "store-2-XA-COMMIT-1-manager-killed-before"
             self.assertLessEqual({"faults", "record.1", "record.2", "history.1", "history.2", "server.log", "run.out", "recovery1.out", "work", "story.calls", "story.html"}, {path.name for path in kept.iterdir()})
             self.assertIn("STORE 2 XA COMMIT 1 stall 600\n", (kept / "faults").read_text())
@@ -82,11 +99,17 @@ class Reports(unittest.TestCase):
         self.assertEqual(sum(line.startswith("store 3 ") for line in lines), len(lines) // 3)
 
     def test_repeat_and_side_by_side(self):
-        for jobs in ("1", "3"):
-            _, points = bench(*manager("reference.py"), "--only", "store 1 XA PREPARE 1", "--only", "redo store 1 XA RECOVER 1, answer lost", "--repeat", "2", "--jobs", jobs, status=0)
-            names = [name_of(point) for point in points[1:]]
-            self.assertEqual(names[:len(names) // 2], names[len(names) // 2:])
-            self.assertIn("redo store 1 XA RECOVER 1, answer lost", names)
+        """The same points in the same order each time, however many run side by side. What each time left is kept."""
+        chosen = ["store 1 XA PREPARE 1, answer lost", "store 2 XA COMMIT 1, branch rolled back",
+                  "redo store 1 XA RECOVER 1, answer lost"]
+        only = [word for point in chosen for word in ("--only", point)]
+        with tempfile.TemporaryDirectory() as folder:
+            for jobs, keep in (("1", []), ("3", ["--keep", folder])):
+                _, points = bench(*manager("reference.py"), *only, "--repeat", "2", "--jobs", jobs, *keep, status=0)
+                self.assertEqual([name_of(point) for point in points[1:]], chosen * 2)
+            kept = sorted(str(path.relative_to(folder)) for path in Path(folder).glob("[12]/*"))
+            folders = [point.replace(",", "").replace(" ", "-") for point in chosen]
+            self.assertEqual(kept, sorted(f"{turn}/{name}" for turn in "12" for name in folders))
 
     def test_a_name_that_no_point_has(self):
         """It is told in one line, before anything else, with names that are near to it. What can be no name is told before the manager is run."""
@@ -134,19 +157,23 @@ class Reports(unittest.TestCase):
 
 class Servers(unittest.TestCase):
     def test_which_is_taken(self):
-        """The one that is named; else the server in Rust if it is built, and the gateway if it isn't. The help says so."""
+        """The one that is named; else a release's, or a clone's that is built, and without one it says what to do. The help says so."""
         loader = importlib.machinery.SourceFileLoader("bench", str(BENCH))
         module = importlib.util.module_from_spec(importlib.util.spec_from_loader("bench", loader))
         loader.exec_module(module)
         words = ["--run", "true", "--recover", "true", "--program", PROGRAM]
         with tempfile.NamedTemporaryFile() as built:
             Path(built.name).chmod(0o755)
-            for path, wanted in ((Path(built.name), [built.name]), (Path("/nowhere"), [sys.executable, str(module.GATEWAY), PROGRAM])):
-                module.RUST_SERVER = path
-                self.assertEqual(module.server_of(module.parser_of().parse_args(words)), wanted)
+            for paths in ((Path(built.name), Path("/nowhere")), (Path("/nowhere"), Path(built.name)), (Path("/nowhere"),)):
+                module.SERVERS = paths
+                if len(paths) == 2:
+                    self.assertEqual(module.server_of(module.parser_of().parse_args(words)), [built.name])
+                else:
+                    with self.assertRaisesRegex(module.Fails, "no server at /nowhere: build it by server/build"):
+                        module.server_of(module.parser_of().parse_args(words))
                 self.assertEqual(module.server_of(module.parser_of().parse_args([*words, "--server", "a 'b c'"])), ["a", "b c"])
         said = subprocess.run([PYTHON, BENCH, "--help"], stdout=subprocess.PIPE, text=True, check=True).stdout
-        self.assertRegex(re.sub(r"\s+", " ", said), "by default server/target/release/nigbaru- ?server, and drivers/mysql/serve if that isn't built")
+        self.assertRegex(re.sub(r"\s+", " ", said), "by default bin/nigbaru-server of a release, or server/target/release/nigbaru- ?server of a clone")
 
 
 class Managers(unittest.TestCase):
@@ -185,13 +212,29 @@ class Managers(unittest.TestCase):
         self.assertEqual((points[1]["verdict"], len(points[1]["statuses"])), ("IN DOUBT", 4))
 
     def test_fixed_ports(self):
-        with socket.socket() as one:
-            one.bind(("127.0.0.1", 0))
-            port = one.getsockname()[1]
-        port = port if port < 65_000 else 20_000
+        port = neighbours()
         run = f"PORTS='{port} {port + 1}' {REFERENCE}"
         _, points = bench("--run", f"{run} run 90", "--recover", f"{run} recover", "--port", str(port), "--only", "store 2 XA COMMIT 1, answer lost", status=0)
         self.assertEqual(points[1]["verdict"], "atomic")
+
+    def test_a_rollback_that_comes_too_late(self):
+        """A point at which somebody else rolls back is tried again, with more time, if the branch was committed first."""
+        gateway = f"{PYTHON} {FOLDER.parent}/mysql/serve {PROGRAM}"
+        usual = "PAUSES = (1.5, 6, 24)\n"
+        for pauses, verdict in (("(0.001,)", "atomic"), ("(0.001, 5)", "heuristic, told")):
+            with tempfile.TemporaryDirectory() as folder:
+                shutil.copy(BENCH, folder)
+                shutil.copytree(FOLDER / "breaker", f"{folder}/breaker")
+                points = Path(folder) / "breaker/points.py"
+                text = points.read_text()
+                self.assertEqual(text.count(usual), 1)
+                points.write_text(text.replace(usual, f"PAUSES = {pauses}\n"))
+                words = [*manager("reference.py"), "--only", "store 1 XA COMMIT 1, branch rolled back", "--json", f"{folder}/it"]
+                ran = subprocess.run([PYTHON, f"{folder}/bench", "--program", PROGRAM, "--server", gateway, *words],
+                                     stdout=subprocess.PIPE, stderr=subprocess.STDOUT, text=True)
+                self.assertEqual(ran.returncode, 0, ran.stdout)
+                found = json.loads(Path(f"{folder}/it").read_text())["points"]
+                self.assertEqual(found[1]["verdict"], verdict, ran.stdout)
 
     def test_a_folder(self):
         """Each point has a copy of its own, so that no journal is seen twice."""

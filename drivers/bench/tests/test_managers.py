@@ -9,7 +9,7 @@ import tempfile
 import unittest
 from pathlib import Path
 
-from rules import RULES, TOLD, Rule, told
+from rules import COMMIT, LOST, RESTARTED, RULES, TOLD, Rule, is_at, is_refused, told
 from support import FOLDER, HERE, IS_LONG, bench, found, manager, name_of, verdicts
 
 sys.path.insert(0, str(FOLDER / "managers"))
@@ -17,6 +17,9 @@ from wrong import WRONG  # noqa: E402
 
 WITHOUT = "without a fault"
 RIGHT = Rule("It is atomic at each point, and says so where somebody else ends a branch.", lambda _: False)
+SHELL = FOLDER / "managers/shell/transfer.sh"
+IN_SHELL = ["--run", f"sh {SHELL.name} 90", "--recover", f"sh {SHELL.name}"]
+OVER = "# The run is over."  # where the page plants a fault
 SITES = [f"store {store} XA {verb} 1" for store in (1, 2) for verb in ("PREPARE", "COMMIT")]
 PART = [word for site in SITES for word in ("--only", site)]
 JARS = ":".join(f"/usr/share/java/{jar}.jar"
@@ -55,6 +58,32 @@ class Right(unittest.TestCase):
             self.check(["--run", f"{program} run 90", "--recover", f"{program} recover"], IS_LONG)
 
 
+    def test_the_one_in_shell(self):
+        with tempfile.TemporaryDirectory() as folder:
+            shutil.copy(SHELL, folder)
+            self.check([*IN_SHELL, "--folder", folder], IS_LONG)
+
+
+class Planted(unittest.TestCase):
+    """What the page plants into the manager in shell: it forgets its decision when the run ends."""
+
+    def test_it_is_found(self):
+        """At each commit that is given up, where the branch stays prepared and the other store commits; and at no other."""
+        wanted = {str(point): "MIXED" if is_given_up(point) else "atomic" for point in RIGHT.points()}
+        wanted.update({name: TOLD for name in told(RIGHT.points())})
+        chosen = [] if IS_LONG else ["--only", "store 2 XA COMMIT 1", "--only", "store 1 XA COMMIT 1, answer lost",
+                                     "--only", "store 1 XA COMMIT 1, refused 1399", "--only", "store 2 XA PREPARE 1, answer lost"]
+        with tempfile.TemporaryDirectory() as folder:
+            text = SHELL.read_text()
+            self.assertEqual(text.count(OVER), 1)
+            (Path(folder) / SHELL.name).write_text(text.replace(OVER, "rm -f decided"))
+            said, points = bench(*IN_SHELL, "--folder", folder, *chosen, status=1)
+        seen = verdicts(points)
+        self.assertEqual(seen.pop(WITHOUT), "atomic")
+        self.assertEqual(seen, wanted if IS_LONG else {name: wanted[name] for name in seen}, said)
+        self.assertEqual(len(seen), len(wanted) if IS_LONG else 9 + 3)
+
+
 class Wrong(unittest.TestCase):
     def test_each_has_a_rule(self):
         self.assertEqual(set(WRONG), set(RULES))
@@ -75,6 +104,11 @@ class Wrong(unittest.TestCase):
         same = [{one, other} for one in RULES for other in RULES
                 if one < other and RULES[one].found() == RULES[other].found()]
         self.assertEqual(same, [{"never-decides", "recovery-rolls-back-all"}])
+
+
+def is_given_up(point):
+    """The commit doesn't reach the store, and the manager in shell doesn't try again in the same run."""
+    return is_at(point, COMMIT) and (point.action in (LOST, RESTARTED) or is_refused(point))
 
 
 def test_of(name):

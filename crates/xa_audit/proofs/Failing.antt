@@ -1,0 +1,291 @@
+-- A branch fails by writes that were dropped.
+use Rattle.std.proofs.Common.{◌≡◌, ◌↔◌, List, [], ◌∷◌, ◌++◌, refl, ap, sym, ◌∙◌, subst, Bool, true, false, append_assoc, append-nil}
+use Rattle.std.specs.Prelude.{Option, Some, None, ◌||◌, ◌&&◌, not}
+use Rattle.std.specs.List.{list_any, list_all}
+use Rattle.std.specs.Option.{option_map, option_map_or, unwrap_or}
+use Rattle.std.proofs.lemmas.List.Folds.{list_all-append, list_any-append}
+use mathlib.Core.Bool.{true≢false}
+use Rattle.xa_audit.specs.declared.deed.Deed.{Deed}
+use Rattle.xa_audit.specs.declared.deed.Deed.TheVariants.{Starts, Writes, Prepares, Commits, RollsBack}
+use Rattle.xa_audit.specs.declared.ends.End.{End}
+use Rattle.xa_audit.specs.declared.ends.End.TheVariants.{Committed, RolledBack, Empty, InDoubt, Open}
+use Rattle.xa_audit.specs.declared.lives.Life.{Life}
+use Rattle.xa_audit.specs.declared.lives.Lives.{Lives}
+use Rattle.xa_audit.specs.Globals.{is_committed, is_rolled_back, last_end}
+use Rattle.xa_audit.specs.Laws.{is_write, is_within, DropsWrites, FailsBy}
+use Rattle.xa_audit.specs.Lives.{no_lives, noted, dropped, dropped_by, written_life, prepared_life, left_by, left_going, ends_in, lives_after}
+use Rattle.xa_audit.proofs.Lists.{last_more}
+use Rattle.xa_audit.proofs.Taking.{took_by}
+
+-- Of deeds: a life goes on at their end, in which the branch wrote or didn't.
+record GoesOn (wrote : Bool) (deeds : List Deed) : Type 0 where
+  before : List Deed
+  life : List Deed
+  cut : deeds ≡ before ++ (Starts ∷ life)
+  within : list_all is_within life ≡ true
+  total : list_any is_write life ≡ wrote
+
+-- what the lives after these deeds say of the deeds
+Tells : Option Life → List End → List Deed → Type 0
+Tells None over deeds = last_end over ≡ Some RolledBack → DropsWrites deeds
+Tells (Some life) over deeds = GoesOn life.wrote deeds
+
+and_true : (a b : Bool) → a ≡ true → b ≡ true → (a && b) ≡ true
+and_true true b p q = q
+and_true false b p q = absurd (true≢false (sym p))
+
+and_left : (a b : Bool) → (a && b) ≡ true → a ≡ true
+and_left true b p = refl
+and_left false b p = absurd (true≢false (sym p))
+
+and_right : (a b : Bool) → (a && b) ≡ true → b ≡ true
+and_right true b p = p
+and_right false b p = absurd (true≢false (sym p))
+
+not_false : (a : Bool) → not a ≡ true → a ≡ false
+not_false true p = absurd (true≢false (sym p))
+not_false false p = refl
+
+or_true : (a : Bool) → (a || true) ≡ true
+or_true true = refl
+or_true false = refl
+
+or_false : (a : Bool) → (a || false) ≡ a
+or_false true = refl
+or_false false = refl
+
+one_within : (deed : Deed) → is_within deed ≡ true → list_all is_within (deed ∷ []) ≡ true
+one_within deed is = and_true (is_within deed) true is refl
+
+within_more : (life : List Deed) (deed : Deed) → list_all is_within life ≡ true → is_within deed ≡ true → list_all is_within (life ++ deed ∷ []) ≡ true
+within_more life deed all is =
+    list_all-append is_within life (deed ∷ []) ∙ and_true (list_all is_within life) (list_all is_within (deed ∷ [])) all (one_within deed is)
+
+-- a deed more within a life that goes on
+on_more : (wrote now : Bool) (deeds : List Deed) (deed : Deed) → is_within deed ≡ true → (wrote || (is_write deed || false)) ≡ now → GoesOn wrote deeds
+    → GoesOn now (deeds ++ deed ∷ [])
+on_more wrote now deeds deed is sum on = record {
+  before = on.before;
+  life = on.life ++ deed ∷ [];
+  cut = ap (λ l. l ++ deed ∷ []) on.cut ∙ append_assoc on.before (Starts ∷ on.life) (deed ∷ []);
+  within = within_more on.life deed on.within is;
+  total = list_any-append is_write on.life (deed ∷ []) ∙ ap (λ b. b || (is_write deed || false)) on.total ∙ sum;
+}
+
+-- a deed more after a life that was rolled back, which begins and ends none
+drops_more : (deeds : List Deed) (deed : Deed) → is_within deed ≡ true → DropsWrites deeds → DropsWrites (deeds ++ deed ∷ [])
+drops_more deeds deed is drops = record {
+  before = drops.before;
+  life = drops.life;
+  later = drops.later ++ deed ∷ [];
+  cut =
+      ap (λ l. l ++ deed ∷ []) drops.cut ∙ append_assoc drops.before (Starts ∷ (drops.life ++ (RollsBack ∷ drops.later))) (deed ∷ [])
+      ∙ ap (λ l. drops.before ++ (Starts ∷ l)) (append_assoc drops.life (RollsBack ∷ drops.later) (deed ∷ []));
+  within = drops.within;
+  wrote = drops.wrote;
+  last = within_more drops.later deed drops.last is;
+}
+
+-- a life that wrote is rolled back
+now_dropped : (deeds : List Deed) → GoesOn true deeds → DropsWrites (deeds ++ RollsBack ∷ [])
+now_dropped deeds on = record {
+  before = on.before;
+  life = on.life;
+  later = [];
+  cut = ap (λ l. l ++ RollsBack ∷ []) on.cut ∙ append_assoc on.before (Starts ∷ on.life) (RollsBack ∷ []);
+  within = on.within;
+  wrote = on.total;
+  last = refl;
+}
+
+-- the last life didn't end so
+other_last : (over : List End) (end : End) (deeds : List Deed) → (Some end ≡ Some RolledBack → ⊥) → last_end (over ++ end ∷ []) ≡ Some RolledBack → DropsWrites deeds
+other_last over end deeds apart is = absurd (apart (sym (last_more over end) ∙ is))
+
+writes_step : (going : Option Life) (over : List End) (deeds : List Deed) → Tells going over deeds → Tells (option_map written_life going) over (deeds ++ Writes ∷ [])
+unfolding Tells
+writes_step None over deeds tells = λ is. drops_more deeds Writes refl (tells is)
+writes_step (Some life) over deeds tells = on_more life.wrote true deeds Writes refl (or_true life.wrote) tells
+
+prepares_step : (going : Option Life) (over : List End) (deeds : List Deed) → Tells going over deeds
+    → Tells (option_map prepared_life going) over (deeds ++ Prepares ∷ [])
+unfolding Tells
+prepares_step None over deeds tells = λ is. drops_more deeds Prepares refl (tells is)
+prepares_step (Some life) over deeds tells = on_more life.wrote life.wrote deeds Prepares refl (or_false life.wrote) tells
+
+by_wrote : (wrote : Bool) (over : List End) (deeds : List Deed) → GoesOn wrote deeds → last_end (over ++ dropped_by wrote ∷ []) ≡ Some RolledBack
+    → DropsWrites (deeds ++ RollsBack ∷ [])
+by_wrote true over deeds on is = now_dropped deeds on
+by_wrote false over deeds on is = other_last over Empty (deeds ++ RollsBack ∷ []) (λ e. absurd (cc)) is
+
+rolls_step : (going : Option Life) (over : List End) (deeds : List Deed) → Tells going over deeds → Tells None (over ++ dropped going ∷ []) (deeds ++ RollsBack ∷ [])
+unfolding Tells
+rolls_step None over deeds tells = λ is. other_last over Empty (deeds ++ RollsBack ∷ []) (λ e. absurd (cc)) is
+rolls_step (Some life) over deeds tells = λ is. by_wrote life.wrote over deeds tells is
+
+-- one more deed
+step : (lives : Lives) (deeds : List Deed) (deed : Deed) → Tells lives.going lives.over deeds
+    → Tells (noted lives deed).going (noted lives deed).over (deeds ++ deed ∷ [])
+unfolding Tells
+step lives deeds Starts tells = record { before = deeds; life = []; cut = refl; within = refl; total = refl }
+step lives deeds Writes tells = writes_step lives.going lives.over deeds tells
+step lives deeds Prepares tells = prepares_step lives.going lives.over deeds tells
+step lives deeds Commits tells = λ is. other_last lives.over Committed (deeds ++ Commits ∷ []) (λ e. absurd (cc)) is
+step lives deeds RollsBack tells = rolls_step lives.going lives.over deeds tells
+
+TellsAll : Option Lives → List Deed → Type 0
+TellsAll lives deeds = Tells (unwrap_or lives no_lives).going (unwrap_or lives no_lives).over deeds
+
+steps : (deeds before : List Deed) (lives : Option Lives) → TellsAll lives before → TellsAll (lives_after lives deeds) (before ++ deeds)
+unfolding lives_after TellsAll
+steps [] before lives tells = subst (λ (l : List Deed). TellsAll lives l) (sym (append-nil before)) tells
+steps (deed ∷ deeds) before lives tells =
+    subst (λ (l : List Deed). TellsAll (lives_after (Some (noted (unwrap_or lives no_lives) deed)) deeds) l) (append_assoc before (deed ∷ []) deeds)
+    (steps deeds (before ++ deed ∷ []) (Some (noted (unwrap_or lives no_lives) deed)) (step (unwrap_or lives no_lives) before deed tells))
+
+from_none : TellsAll None []
+unfolding TellsAll Tells
+from_none = λ is. absurd (cc)
+
+tells_of : (deeds : List Deed) (lives : Lives) → lives_after None deeds ≡ Some lives → Tells lives.going lives.over deeds
+unfolding TellsAll
+tells_of deeds lives is = subst (λ (l : Option Lives). TellsAll l deeds) is (steps deeds [] None from_none)
+
+rolled : (end : Option End) → option_map_or is_rolled_back end false ≡ true → end ≡ Some RolledBack
+rolled None is = absurd (true≢false (sym is))
+rolled (Some Committed) is = absurd (true≢false (sym is))
+rolled (Some RolledBack) is = refl
+rolled (Some Empty) is = absurd (true≢false (sym is))
+rolled (Some InDoubt) is = absurd (true≢false (sym is))
+rolled (Some Open) is = absurd (true≢false (sym is))
+
+left_apart : (prepared : Bool) → Some (left_by prepared) ≡ Some RolledBack → ⊥
+left_apart true e = absurd (cc)
+left_apart false e = absurd (cc)
+
+drops_by : (going : Option Life) (over : List End) (deeds : List Deed) → Tells going over deeds → last_end (over ++ left_going going) ≡ Some RolledBack
+    → DropsWrites deeds
+unfolding Tells
+drops_by None over deeds tells is = tells (ap last_end (sym (append-nil over)) ∙ is)
+drops_by (Some life) over deeds tells is = absurd (left_apart life.prepared (sym (last_more over (left_by life.prepared)) ∙ is))
+
+-- a branch that failed
+pub fails_by : (deeds : List Deed) (lives : Lives) → lives_after None deeds ≡ Some lives
+    → (not (list_any is_committed (ends_in lives)) && option_map_or is_rolled_back (last_end (ends_in lives)) false) ≡ true → FailsBy deeds
+fails_by deeds lives is failed = (
+  sym (took_by deeds) ∙ ap (λ l. option_map_or (λ (x : Lives). list_any is_committed (ends_in x)) l false) is
+      ∙ not_false (list_any is_committed (ends_in lives)) (and_left _ _ failed),
+  drops_by lives.going lives.over deeds (tells_of deeds lives is) (rolled (last_end (ends_in lives)) (and_right _ _ failed)),
+)
+
+-- The other way.
+after_more : (lives : Option Lives) (xs ys : List Deed) → lives_after lives (xs ++ ys) ≡ lives_after (lives_after lives xs) ys
+unfolding lives_after
+after_more lives [] ys = refl
+after_more lives (x ∷ xs) ys = after_more (Some (noted (unwrap_or lives no_lives) x)) xs ys
+
+-- a life goes on, in which the branch wrote or didn't
+Goes : Bool → Option Life → Type 0
+Goes wrote None = ⊥
+Goes wrote (Some life) = life.wrote ≡ wrote
+
+wrote_now : (wrote : Bool) (going : Option Life) → Goes wrote going → Goes true (option_map written_life going)
+unfolding Goes
+wrote_now wrote None goes = goes
+wrote_now wrote (Some life) goes = refl
+
+prepared_now : (wrote : Bool) (going : Option Life) → Goes wrote going → Goes wrote (option_map prepared_life going)
+unfolding Goes
+prepared_now wrote None goes = goes
+prepared_now wrote (Some life) goes = goes
+
+-- lives after the deeds of one of them
+record Lived (lives : Lives) (wrote : Bool) (deeds : List Deed) : Type 0 where
+  now : Lives
+  after : lives_after (Some lives) deeds ≡ Some now
+  goes : Goes wrote now.going
+
+lived : (life : List Deed) (lives : Lives) (wrote : Bool) → Goes wrote lives.going → list_all is_within life ≡ true → Lived lives (wrote || list_any is_write life) life
+unfolding lives_after
+lived [] lives wrote goes within = record { now = lives; after = refl; goes = subst (λ (b : Bool). Goes b lives.going) (sym (or_false wrote)) goes }
+lived (Starts ∷ life) lives wrote goes within = absurd (true≢false (sym within))
+lived (Writes ∷ life) lives wrote goes within =
+    let rest = lived life (noted lives Writes) true (wrote_now wrote lives.going goes) within in
+    record { now = rest.now; after = rest.after; goes = subst (λ (b : Bool). Goes b rest.now.going) (sym (or_true wrote)) rest.goes }
+lived (Prepares ∷ life) lives wrote goes within =
+    let rest = lived life (noted lives Prepares) wrote (prepared_now wrote lives.going goes) within in
+    record { now = rest.now; after = rest.after; goes = rest.goes }
+lived (Commits ∷ life) lives wrote goes within = absurd (true≢false (sym within))
+lived (RollsBack ∷ life) lives wrote goes within = absurd (true≢false (sym within))
+
+dropped_then : (going : Option Life) → Goes true going → dropped going ≡ RolledBack
+unfolding Goes
+dropped_then None goes = absurd goes
+dropped_then (Some life) goes = ap dropped_by goes
+
+-- lives of which none goes on, and the last was rolled back
+record Ended (lives : Option Lives) : Type 0 where
+  now : Lives
+  is : lives ≡ Some now
+  going : now.going ≡ None
+  last : last_end now.over ≡ Some RolledBack
+
+still : (later : List Deed) (lives : Lives) → lives.going ≡ None → last_end lives.over ≡ Some RolledBack → list_all is_within later ≡ true
+    → Ended (lives_after (Some lives) later)
+unfolding lives_after
+still [] lives none last within = record { now = lives; is = refl; going = none; last = last }
+still (Starts ∷ later) lives none last within = absurd (true≢false (sym within))
+still (Writes ∷ later) lives none last within = still later (noted lives Writes) (ap (option_map written_life) none) last within
+still (Prepares ∷ later) lives none last within = still later (noted lives Prepares) (ap (option_map prepared_life) none) last within
+still (Commits ∷ later) lives none last within = absurd (true≢false (sym within))
+still (RollsBack ∷ later) lives none last within = absurd (true≢false (sym within))
+
+-- lives after a life that wrote and was rolled back
+ended_after : (deeds : List Deed) → DropsWrites deeds → Ended (lives_after None deeds)
+unfolding lives_after Goes
+ended_after deeds drops =
+    let begun : Lives = noted (unwrap_or (lives_after None drops.before) no_lives) Starts in
+    let life = lived drops.life begun false refl drops.within in
+    let end : Lives = noted life.now RollsBack in
+    let rolled_back = last_more life.now.over (dropped life.now.going)
+    ∙ ap (λ e. Some e) (dropped_then life.now.going (subst (λ (b : Bool). Goes b life.now.going) drops.wrote life.goes)) in
+    let ended = still drops.later end refl rolled_back drops.last in
+    subst (λ (l : Option Lives). Ended l)
+    (sym (ap (lives_after None) drops.cut ∙ after_more None drops.before (Starts ∷ (drops.life ++ (RollsBack ∷ drops.later)))
+    ∙ after_more (Some begun) drops.life (RollsBack ∷ drops.later)
+    ∙ ap (λ l. lives_after l (RollsBack ∷ drops.later)) life.after))
+    ended
+
+ended_is : (lives now : Lives) → Some lives ≡ Some now → lives ≡ now
+ended_is lives now is = cc
+
+-- a branch whose writes were dropped fails
+pub failed_by : (deeds : List Deed) (lives : Lives) → lives_after None deeds ≡ Some lives → FailsBy deeds
+    → (not (list_any is_committed (ends_in lives)) && option_map_or is_rolled_back (last_end (ends_in lives)) false) ≡ true
+failed_by deeds lives is (none, drops) =
+    let ended = ended_after deeds drops in
+    let same : ended.now ≡ lives = ended_is ended.now lives (sym ended.is ∙ is) in
+    let going : lives.going ≡ None = ap (λ (l : Lives). l.going) (sym same) ∙ ended.going in
+    let last : last_end (ends_in lives) ≡ Some RolledBack =
+    ap (λ g. last_end (lives.over ++ left_going g)) going ∙ ap last_end (append-nil lives.over)
+    ∙ ap (λ (l : Lives). last_end l.over) (sym same) ∙ ended.last in
+    let untaken : list_any is_committed (ends_in lives) ≡ false =
+    sym (ap (λ l. option_map_or (λ (x : Lives). list_any is_committed (ends_in x)) l false) is) ∙ took_by deeds ∙ none in
+    and_true (not (list_any is_committed (ends_in lives))) (option_map_or is_rolled_back (last_end (ends_in lives)) false)
+    (ap not untaken) (ap (λ e. option_map_or is_rolled_back e false) last)
+
+-- whether the branch failed, by its lives
+abbrev has_failed : Lives → Bool
+has_failed lives = not (list_any is_committed (ends_in lives)) && option_map_or is_rolled_back (last_end (ends_in lives)) false
+
+fails_of : (deeds : List Deed) (lives : Option Lives) → lives_after None deeds ≡ lives → option_map_or has_failed lives false ≡ true → FailsBy deeds
+fails_of deeds None is failed = absurd (true≢false (sym failed))
+fails_of deeds (Some lives) is failed = fails_by deeds lives is failed
+
+failed_of : (deeds : List Deed) (lives : Option Lives) → lives_after None deeds ≡ lives → FailsBy deeds → option_map_or has_failed lives false ≡ true
+failed_of deeds None is (none, drops) = absurd (cc (sym is ∙ (ended_after deeds drops).is))
+failed_of deeds (Some lives) is fails = failed_by deeds lives is fails
+
+-- a branch fails if, and only if, its writes were dropped
+pub fails_iff : (deeds : List Deed) → (option_map_or has_failed (lives_after None deeds) false ≡ true) ↔ FailsBy deeds
+fails_iff deeds = (fails_of deeds (lives_after None deeds) refl, failed_of deeds (lives_after None deeds) refl)
