@@ -6,7 +6,7 @@ use crate::channel::End;
 use crate::chatter::{Other, Settings};
 use crate::login;
 use crate::packets::status;
-use crate::pool::Lent;
+use crate::pool::{Lent, Need};
 use crate::statements::{write_literal, Kind, Statement};
 use crate::status::table_of;
 use crate::store::{lock, Connection, Prepared, Rows, Store};
@@ -97,11 +97,11 @@ impl Guest {
     // the store
 
     /// A session: the one that the client has, or one that is free soon enough. The refusal where all are lent.
-    fn borrow(&mut self) -> Result<Result<Lent, Refusal>, End> {
+    fn borrow(&mut self, need: Need) -> Result<Result<Lent, Refusal>, End> {
         if let Some(lent) = self.lent.take() {
             return Ok(Ok(lent));
         }
-        match self.store.pool.take(self.place, self.store.wait) {
+        match self.store.pool.take(self.place, self.store.wait, need) {
             Ok(Some(lent)) => {
                 self.place = lent.place;
                 Ok(Ok(lent))
@@ -122,20 +122,36 @@ impl Guest {
 
     /// Asks the store, and answers. A session that is borrowed is kept until `settle`.
     fn ask(&mut self, text: &[u8], kind: Option<Kind>, converts: bool) -> Result<Answer, End> {
-        let mut lent = match self.borrow()? {
+        let need = if kind == Some(Kind::Start) { Need::Branch } else { Need::Statement };
+        let mut lent = match self.borrow(need)? {
             Ok(lent) => lent,
             Err(refused) => return Ok(refused.into()),
         };
         let state = if kind == Some(Kind::OnePhase) && self.state == State::Free { "PREPARED" } else { self.state.name() };
-        let reply = match &self.store.record {
-            None => lent.execute(text),
-            Some(record) => record.ask(&mut lent, text, state),
+        let reply = match self.hold_history(kind) {
+            Err(fault) => Err(fault),
+            Ok(()) => match &self.store.record {
+                None => lent.execute(text),
+                Some(record) => record.ask(&mut lent, self.store.follower.as_ref(), text, state),
+            },
         };
         self.lent = Some(lent);
         if self.store.stop.is_over() && self.store.stop.why().is_some() {
             return Err(End::Over);
         }
         self.answer(reply, kind, converts, state)
+    }
+
+    /// Waits until what is logged and isn't kept yet is little enough for one statement more.
+    fn hold_history(&self, kind: Option<Kind>) -> Result<(), Error> {
+        let follower = match &self.store.follower {
+            Some(follower) if kind != Some(Kind::Recover) => follower,
+            _ => return Ok(()),
+        };
+        follower.before_a_call().map_err(|lost| {
+            self.store.fail(lost);
+            Error::NoMemory
+        })
     }
 
     fn answer(&self, reply: Result<Reply, Error>, kind: Option<Kind>, converts: bool, state: &str) -> Result<Answer, End> {
@@ -268,7 +284,7 @@ impl Guest {
     /// Lets who watches see the branch.
     fn show(&self, xid: &[u8], state: &'static str, is_new: bool) {
         let mut look = lock(&self.connection.look);
-        look.session = self.lent.as_ref().map(|it| it.number());
+        look.session = self.lent.as_ref().map(|it| it.number);
         look.branch = Some((xid.to_vec(), state));
         if is_new {
             look.since = Instant::now();
@@ -286,7 +302,7 @@ impl Guest {
         let mut name = Vec::new();
         write_literal(&mut name, &[&b"local "[..], &random].concat());
         name.extend(b",X'',1");
-        let answer = self.ask(&[&b"XA START "[..], &name].concat(), None, false)?;
+        let answer = self.ask(&[&b"XA START "[..], &name].concat(), Some(Kind::Start), false)?;
         if let Answer::Refused(_) = answer {
             return Ok(Some(answer));
         }
@@ -393,9 +409,9 @@ impl Guest {
     /// Writes a refusal into the record that the store didn't give, as the client saw it.
     pub fn record_wrong(&mut self, it: &Statement, wrong: &Refusal) -> Result<(), End> {
         if self.store.record.is_some() {
-            if let Ok(lent) = self.borrow()? {
+            if let Ok(lent) = self.borrow(Need::Statement)? {
                 if let Some(record) = &self.store.record {
-                    record.wrong(lent.number(), &it.text, wrong.number, wrong.sqlstate, &wrong.text);
+                    record.wrong(lent.number, &it.text, wrong.number, wrong.sqlstate, &wrong.text);
                 }
                 self.lent = Some(lent);
             }

@@ -6,6 +6,7 @@ mod channel;
 mod chatter;
 mod conversation;
 mod faults;
+mod follower;
 mod guest;
 mod hash;
 mod login;
@@ -172,6 +173,10 @@ impl<'a> Server<'a> {
             thread::sleep(TICK);
             if let Some(plans) = self.watch.changed() {
                 self.set_faults(&plans);
+            }
+            for store in &self.stores {
+                store.hand_over();
+                store.refresh();
             }
             // A port that is out closes once its thread is woken.
             self.ports.iter().filter(|port| port.store.outage().is_some()).for_each(|port| port.wake());

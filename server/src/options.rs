@@ -31,7 +31,7 @@ Usage: nigbaru-server [OPTIONS]
   --patience SECONDS     how long a login, the rest of a packet, and a client that takes no answers are waited for [10]
   --idle SECONDS         how long the next command is waited for; 0: for ever [0]
   --max-packet BYTES     the longest packet that is read, 1024 to 16777214 [65536]
-  --capacity N           entries after which a store's history is renewed, 1 to 1024 [1024]
+  --rows N               how many of the last entries of its history a store keeps, 64 to 65536 [1024]
   --help, --version
 ";
 
@@ -53,7 +53,7 @@ pub struct Options {
     pub logins: usize,
     pub wait: Duration,
     pub limits: Limits,
-    pub capacity: u64,
+    pub rows: u64,
 }
 
 pub enum Wanted {
@@ -88,7 +88,7 @@ const NAMES: [&str; 21] = [
     "patience",
     "idle",
     "max-packet",
-    "capacity",
+    "rows",
 ];
 
 impl Words {
@@ -186,7 +186,7 @@ pub fn read(words: impl Iterator<Item = String>) -> Result<Wanted, String> {
         logins: words.number("max-logins", 1, 100_000, connections)? as usize,
         wait: words.seconds("wait", 0.0, 5.0)?,
         limits: limits_of(&words)?,
-        capacity: words.number("capacity", 1, 1_024, 1_024)?,
+        rows: words.number("rows", 64, 65_536, 1_024)?,
     })))
 }
 

@@ -1,9 +1,11 @@
 //! What clients saw, as a record for `judge` (docs/HISTORIES.md), and what was logged, as a script for `run`.
 use crate::answers::digits;
+use crate::follower::{Follower, Keeper};
 use crate::mirror::Mirror;
+use crate::pool::Lent;
 use crate::statements::write_literal;
 use crate::stop::Stop;
-use nigbaru::{Error, Keeper, Reply, Session};
+use nigbaru::{Error, Reply};
 use std::fs::{self, File};
 use std::io::{self, BufWriter, Write};
 use std::path::{Path, PathBuf};
@@ -67,35 +69,33 @@ impl Record {
         })
     }
 
-    /// What the store has to give its entries to, if the record goes on in pieces.
+    /// Who has to be given the store's entries, if the record goes on in pieces.
     pub fn keeper(&self) -> Option<Keeper> {
         let mirror = Arc::clone(&self.pieces.as_ref()?.mirror);
         Some(Box::new(move |session, text| locked(&mirror).apply(session, text)))
     }
 
     /// Asks the store, and writes call and return.
-    pub fn ask(&self, session: &mut Session, text: &[u8], state: &str) -> Result<Reply, Error> {
-        // While a history is renewed nobody is answered. Sixteen calls that are open all that time take `judge` long, and say nothing.
-        session.catch_up()?;
+    pub fn ask(&self, session: &mut Lent, follower: Option<&Follower>, text: &[u8], state: &str) -> Result<Reply, Error> {
         if self.is_full.load(Ordering::Relaxed) {
-            self.go_on(session);
+            self.go_on(follower);
         }
         let _open = self.gate.read().unwrap_or_else(|poisoned| poisoned.into_inner());
-        self.call(session.number(), text);
+        self.call(session.number, text);
         let reply = session.execute(text);
-        self.returned(session.number(), &reply, state);
+        self.returned(session.number, &reply, state);
         reply
     }
 
     /// Begins the next piece, unless somebody else has: its state is what all entries of the history until now lead to.
-    fn go_on(&self, session: &mut Session) {
+    fn go_on(&self, follower: Option<&Follower>) {
         let _alone = self.gate.write().unwrap_or_else(|poisoned| poisoned.into_inner());
-        let pieces = match &self.pieces {
-            Some(pieces) if self.is_full.load(Ordering::Relaxed) => pieces,
+        let (pieces, follower) = match (&self.pieces, follower) {
+            (Some(pieces), Some(follower)) if self.is_full.load(Ordering::Relaxed) => (pieces, follower),
             _ => return,
         };
-        // Without memory the piece gets longer, and the next statement tries again.
-        if session.hand_over().is_ok() {
+        // (where something is lost, the server ends)
+        if follower.hand_over().is_ok() {
             let state = locked(&pieces.mirror).text();
             if let Err(fault) = self.begin_piece(&state) {
                 self.fail(&fault);
@@ -186,7 +186,7 @@ impl History {
         Ok(History { file: Arc::new(Mutex::new(BufWriter::new(File::create(path)?))), stop, store })
     }
 
-    /// What the store gives its entries to.
+    /// Who is given the store's entries.
     pub fn keeper(&self) -> Keeper {
         let history = self.clone();
         Box::new(move |session, text| history.with(|file| file.write_all(&[session.to_string().as_bytes(), b" ", text, b"\n"].concat())))

@@ -1,6 +1,7 @@
 //! What a store does just now, for who watches: as a table of SHOW NIGBARU STATUS, and in JSON.
 use crate::answers::Table;
 use crate::packets::{Column, Value};
+use crate::pool::Need;
 use crate::statements::write_literal;
 use crate::store::{lock, Rows, Store, KINDS};
 use nigbaru::{Reply, Xid};
@@ -24,7 +25,7 @@ pub struct Seen {
     strangers: usize,
     lent: usize,
     waiting: usize,
-    renewals: u64,
+    entries: u64,
     is_out: bool,
     branches: Vec<Branch>,
     statements: [u64; KINDS.len()],
@@ -74,7 +75,7 @@ pub fn look(store: &Store) -> Seen {
         strangers: store.strangers.load(Ordering::Relaxed),
         lent,
         waiting,
-        renewals: store.pool.renewals(),
+        entries: store.pool.entries(),
         is_out: store.outage().is_some(),
         branches,
         statements,
@@ -83,7 +84,7 @@ pub fn look(store: &Store) -> Seen {
 }
 
 fn prepared(store: &Store) -> Vec<Branch> {
-    let listed = match store.pool.take(0, Duration::ZERO) {
+    let listed = match store.pool.take(0, Duration::ZERO, Need::Statement) {
         Ok(Some(mut lent)) => match lent.execute("XA RECOVER") {
             Ok(Reply::List(xids)) => Some(xids.iter().map(canonical).collect::<Vec<_>>()),
             _ => None,
@@ -133,7 +134,7 @@ pub fn table_of(store: &Store) -> Table {
     row("connections", "not logged in", seen.strangers.to_string());
     row("sessions", "lent", seen.lent.to_string());
     row("sessions", "waited for", seen.waiting.to_string());
-    row("history", "renewals", seen.renewals.to_string());
+    row("history", "entries", seen.entries.to_string());
     for (kind, count) in KINDS.iter().zip(seen.statements) {
         row("statements", kind, count.to_string());
     }
@@ -150,8 +151,8 @@ pub fn table_of(store: &Store) -> Table {
 pub fn json_of(store: &Store) -> String {
     let seen = look(store);
     let mut it = format!(
-        "{{\"name\":\"{}\",\"out\":{},\"connections\":{},\"strangers\":{},\"lent\":{},\"waiting\":{},\"renewals\":{},\"statements\":{{",
-        store.name, seen.is_out, seen.connections, seen.strangers, seen.lent, seen.waiting, seen.renewals
+        "{{\"name\":\"{}\",\"out\":{},\"connections\":{},\"strangers\":{},\"lent\":{},\"waiting\":{},\"entries\":{},\"statements\":{{",
+        store.name, seen.is_out, seen.connections, seen.strangers, seen.lent, seen.waiting, seen.entries
     );
     it += &KINDS.iter().zip(seen.statements).map(|(kind, count)| format!("\"{}\":{}", kind, count)).collect::<Vec<_>>().join(",");
     it += "},\"refusals\":{";

@@ -1,12 +1,12 @@
 //! A store, and what the server knows of its clients.
 use crate::channel::Stream;
 use crate::faults::{Fault, Faults, Plan, Point};
+use crate::follower::{Follower, Keeper, Lost};
 use crate::options::{path_of, Options};
 use crate::pool::{Pool, SESSIONS};
 use crate::record::{History, Record};
 use crate::statements::Kind;
 use crate::stop::Stop;
-use nigbaru::Keeper;
 use std::collections::{BTreeMap, HashMap};
 use std::io::Write;
 use std::net::Shutdown;
@@ -22,6 +22,9 @@ pub fn say(text: &str) {
 pub fn lock<T>(mutex: &Mutex<T>) -> MutexGuard<'_, T> {
     mutex.lock().unwrap_or_else(|poisoned| poisoned.into_inner())
 }
+
+/// How long sessions that idle are brought up to date at a time.
+const REFRESHES: Duration = Duration::from_millis(1);
 
 /// Which rows a branch holds, and whether exclusively.
 pub type Rows = BTreeMap<Vec<u8>, bool>;
@@ -95,8 +98,12 @@ pub struct Prepared {
 pub struct Store {
     pub name: String,
     pub pool: Pool,
+    /// How many of the last entries of its history it keeps.
+    rows: u64,
     pub record: Option<Record>,
     history: Option<History>,
+    /// Who hands out what is logged, if that is kept anywhere.
+    pub follower: Option<Follower>,
     pub stop: Arc<Stop>,
     pub wait: Duration,
     faults: Mutex<Faults>,
@@ -109,17 +116,6 @@ pub struct Store {
     pub past: Counts,
     /// Until when the store is out, if it is.
     outage: Mutex<Option<Instant>>,
-}
-
-/// Who has to be given the store's entries, if anybody has.
-fn keeper(history: Option<&History>, record: Option<&Record>) -> Option<Keeper> {
-    match (history.map(History::keeper), record.and_then(Record::keeper)) {
-        (Some(mut one), Some(mut other)) => Some(Box::new(move |session, text| {
-            one(session, text);
-            other(session, text);
-        })),
-        (one, other) => one.or(other),
-    }
 }
 
 impl Store {
@@ -135,15 +131,22 @@ impl Store {
             Some(path) => Some(History::create(&path, number, Arc::clone(stop)).map_err(|fault| told(&path, fault))?),
             None => None,
         };
-        let store = match keeper(history.as_ref(), record.as_ref()) {
-            Some(keeper) => nigbaru::Store::open_kept(options.capacity, SESSIONS as u64, keeper),
-            None => nigbaru::Store::open(options.capacity, SESSIONS as u64),
+        let store = nigbaru::Store::open(options.rows, SESSIONS as u64).map_err(|fault| fault.to_string())?;
+        let pool = Pool::new(store, SESSIONS);
+        let keepers: Vec<Keeper> = history.as_ref().map(History::keeper).into_iter().chain(record.as_ref().and_then(Record::keeper)).collect();
+        let follower = if keepers.is_empty() {
+            None
+        } else {
+            let last = pool.session(SESSIONS - 1).map_err(|fault| fault.to_string())?;
+            Some(Follower::new(last, keepers, options.rows))
         };
         Ok(Store {
             name: format!("store {}", number),
-            pool: Pool::new(store.map_err(|fault| fault.to_string())?, SESSIONS),
+            pool,
+            rows: options.rows,
             record,
             history,
+            follower,
             stop: Arc::clone(stop),
             wait: options.wait,
             faults: Mutex::default(),
@@ -244,14 +247,26 @@ impl Store {
 
     // history
 
-    /// Writes what was logged and isn't in the history's file yet, if a session is free.
+    /// Hands out what was logged to who keeps it. If something is lost, the server ends, since its files would be wrong.
+    pub fn hand_over(&self) {
+        if let Some(Err(lost)) = self.follower.as_ref().map(Follower::hand_over) {
+            self.fail(lost);
+        }
+    }
+
+    pub fn fail(&self, lost: Lost) {
+        self.stop.fail(format!("{}'s history has lost {} entries", self.name, lost.0));
+    }
+
+    /// Brings sessions up to date that idle.
+    pub fn refresh(&self) {
+        self.pool.refresh(self.rows, REFRESHES);
+    }
+
+    /// Has the history in its file.
     pub fn write_history(&self) {
+        self.hand_over();
         if let Some(history) = &self.history {
-            if let Ok(Some(mut lent)) = self.pool.take(0, Duration::ZERO) {
-                if let Err(fault) = lent.hand_over() {
-                    say(&format!("{}: its history waits: {}", self.name, fault));
-                }
-            }
             history.flush();
         }
     }

@@ -7,7 +7,7 @@ import threading
 from pathlib import Path
 
 import pymysql
-from support import PYTHON, Case
+from support import PYTHON, Case, wait_for
 
 HERE = Path(__file__).resolve().parent
 # What each program prints for a cycle: XA RECOVER's first row, the value's bytes, the refusals' numbers, the value of a local transaction, that of a prepared statement, and of thirty connections how
@@ -27,13 +27,13 @@ UNPREPARED = CYCLE.replace("prepared 700a27\n", "")
 class Clients(Case):
     def setUp(self):
         super().setUp()
-        self.gate = self.gateway("--wait", "60")
+        self.server = self.serve("--wait", "60")
         self.folder = Path(self.ends.enter_context(tempfile.TemporaryDirectory()))
 
     def cycle(self, *words, expected=CYCLE, env=None):
-        ran = subprocess.run([*map(str, words), str(self.gate.port)], stdout=subprocess.PIPE, stderr=subprocess.STDOUT, text=True, timeout=180, cwd=self.folder, env=env)
-        self.assertEqual((ran.stdout, ran.returncode), (expected, 0), "\n".join(self.gate.log))
-        self.assertEqual(self.gate.verdicts(), ["LEGAL"])
+        ran = subprocess.run([*map(str, words), str(self.server.port)], stdout=subprocess.PIPE, stderr=subprocess.STDOUT, text=True, timeout=180, cwd=self.folder, env=env)
+        self.assertEqual((ran.stdout, ran.returncode), (expected, 0), "\n".join(self.server.log))
+        self.assertEqual(self.server.verdicts(), ["LEGAL"])
 
     def test_mysqlclient(self):
         """Python's over MariaDB's library in C. It has no prepared statements."""
@@ -86,7 +86,7 @@ class Clients(Case):
 
         def work(number):
             try:
-                connection = pymysql.connect(host="127.0.0.1", port=self.gate.port, user="root", autocommit=True)
+                connection = pymysql.connect(host="127.0.0.1", port=self.server.port, user="root", autocommit=True)
                 with connection, connection.cursor() as cursor:
                     barrier.wait(60)
                     for turn in range(10):
@@ -104,7 +104,7 @@ class Clients(Case):
         for thread in threads:
             thread.join()
         self.assertEqual(faults, [])
-        self.assertEqual(self.gate.verdicts(), ["LEGAL"])
+        self.assertEqual(self.server.verdicts(), ["LEGAL"])
 
 
 class Java(Case):
@@ -121,15 +121,22 @@ class Java(Case):
 
     def test_hikari_and_mariadb(self):
         for pool in ("hikari", "mariadb"):
-            gateway = self.gateway("--wait", "60")
-            self.assertIn("committed 300", self.says("Pool", gateway.port, pool))
-            self.assertEqual(gateway.verdicts(), ["LEGAL"])
+            server = self.serve("--wait", "60")
+            self.assertIn("committed 300", self.says("Pool", server.port, pool))
+            self.assertEqual(server.verdicts(), ["LEGAL"])
 
     def test_bitronix(self):
-        gateway = self.gateway("--wait", "60", stores=2)
-        self.assertIn("committed 300", self.says("Transfers", None, *gateway.ports))
-        self.assertEqual(gateway.verdicts(), ["LEGAL", "LEGAL"])
+        server = self.serve("--wait", "60", stores=2)
+        self.assertIn("committed 300", self.says("Transfers", None, *server.ports))
+        self.assertEqual(server.verdicts(), ["LEGAL", "LEGAL"])
         for store in (0, 1):
-            client = self.client(gateway, store)
+            client = self.client(server, store)
             self.assertEqual(client.ask("XA RECOVER").rows, [])
             self.assertEqual({self.value(client, f"row {number}") for number in range(30)}, {b"9"})
+
+    def test_connections_that_were_closed_while_they_idled(self):
+        """What docs/CLIENTS.md says of pools: which of them find out before a statement fails."""
+        server = self.serve("--idle", "0.5")
+        said = self.says("Idle", None, server.port, 2_000)
+        self.assertEqual(said, "hikari: ok\nhikari with a query: ok\nmariadb: ok\nbitronix: refused\nbitronix with a query: ok\n")
+        wait_for(lambda: server.logged("no command for 0.5 seconds"), "it is told why")

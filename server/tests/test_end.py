@@ -15,68 +15,68 @@ class End(Case):
         """Statements that were called are answered or not, the record is whole and LEGAL, the history is written, and the status is 0."""
         for number in (signal.SIGTERM, signal.SIGINT):
             folder = Path(self.ends.enter_context(tempfile.TemporaryDirectory()))
-            gateway = self.gateway("--history", folder / "history", stores=2)
-            workers = [Worker(gateway, number, 100_000) for number in range(20)]
+            server = self.serve("--history", folder / "history", stores=2)
+            workers = [Worker(server, number, 100_000) for number in range(20)]
             for worker in workers:
                 worker.start()
             wait_for(lambda: sum(worker.ended for worker in workers) > 200, "they work")
-            gateway.process.send_signal(number)
-            self.assertEqual(gateway.process.wait(20), 0)
+            server.process.send_signal(number)
+            self.assertEqual(server.process.wait(20), 0)
             for worker in workers:
                 worker.join()
                 self.assertIsInstance(worker.fault, (Closed, ConnectionError, AssertionError))
-            self.assertEqual(gateway.verdicts(), ["LEGAL", "EMPTY"])
-            calls = [line for line in gateway.records()[0].read_text().splitlines() if " > " in line]
-            returns = [line for line in gateway.records()[0].read_text().splitlines() if " < " in line]
+            self.assertEqual(server.verdicts(), ["LEGAL", "EMPTY"])
+            calls = [line for line in server.records()[0].read_text().splitlines() if " > " in line]
+            returns = [line for line in server.records()[0].read_text().splitlines() if " < " in line]
             self.assertEqual(len(calls), len(returns))
             self.assertGreater((folder / "history.1").stat().st_size, 10_000)
 
     def test_a_signal_while_a_statement_is_held(self):
-        gateway = self.gateway(faults=["XA PREPARE 1 stall 600"])
-        client = self.client(gateway)
+        server = self.serve(faults=["XA PREPARE 1 stall 600"])
+        client = self.client(server)
         self.ok(client, "XA START 'a'", "PUT 'k','v'", "XA END 'a'")
         client.send(b"\x03XA PREPARE 'a'")
-        wait_for(lambda: gateway.logged("held before it"), "it is held")
-        gateway.process.terminate()
-        self.assertEqual(gateway.process.wait(20), 0)
-        self.assertEqual(gateway.verdicts(), ["LEGAL"])
-        self.assertNotIn("XA PREPARE 0x61,X'',1\n", gateway.record.read_text())
+        wait_for(lambda: server.logged("held before it"), "it is held")
+        server.process.terminate()
+        self.assertEqual(server.process.wait(20), 0)
+        self.assertEqual(server.verdicts(), ["LEGAL"])
+        self.assertNotIn("XA PREPARE 0x61,X'',1\n", server.record.read_text())
 
     def test_a_signal_while_a_branch_waits_for_a_session(self):
-        gateway = self.gateway("--wait", "600")
-        clients = [self.client(gateway) for _ in range(17)]
+        server = self.serve("--wait", "600")
+        clients = [self.client(server) for _ in range(17)]
         for number, client in enumerate(clients[:16]):
             self.ok(client, f"XA START '{number}'")
         clients[16].send(b"\x03XA START 'late'")
         time.sleep(0.3)
         began = time.monotonic()
-        self.assertEqual(gateway.end(), 0)
+        self.assertEqual(server.end(), 0)
         self.assertLess(time.monotonic() - began, 5)
-        self.assertEqual(gateway.verdicts(), ["LEGAL"])
+        self.assertEqual(server.verdicts(), ["LEGAL"])
 
     def test_a_signal_during_an_outage(self):
-        gateway = self.gateway(faults=["NOW outage 600"])
-        wait_for(lambda: gateway.logged("is out for 600 seconds"), "it is out")
-        gateway.process.terminate()
-        self.assertEqual(gateway.process.wait(20), 0)
+        server = self.serve(faults=["NOW outage 600"])
+        wait_for(lambda: server.logged("is out for 600 seconds"), "it is out")
+        server.process.terminate()
+        self.assertEqual(server.process.wait(20), 0)
 
 
 class Files(Case):
-    def ends_with(self, gateway, said):
-        self.assertEqual(gateway.process.wait(20), 1)
-        gateway.end()
-        self.assertTrue(gateway.logged(said), gateway.log)
+    def ends_with(self, server, said):
+        self.assertEqual(server.process.wait(20), 1)
+        server.end()
+        self.assertTrue(server.logged(said), server.log)
 
     def test_a_history_that_cant_be_written(self):
-        gateway = self.gateway("--history", "/dev/full")
-        self.ok(self.client(gateway), "PUT 'k','v'")
-        self.ends_with(gateway, "store 1's history can't be written: No space left on device")
+        server = self.serve("--history", "/dev/full")
+        self.ok(self.client(server), "PUT 'k','v'")
+        self.ends_with(server, "store 1's history can't be written: No space left on device")
 
     def test_a_comment_of_a_fault_that_cant_be_written(self):
-        gateway = self.gateway("--record", "/dev/full", record=False, faults=["GET 1 stall 0.1"])
+        server = self.serve("--record", "/dev/full", record=False, faults=["GET 1 stall 0.1"])
         with self.assertRaises((Closed, ConnectionError)):
-            self.client(gateway).ask("GET 'k'")
-        self.ends_with(gateway, "store 1's record can't be written: No space left on device")
+            self.client(server).ask("GET 'k'")
+        self.ends_with(server, "store 1's record can't be written: No space left on device")
 
 
 class Status(Case):
@@ -84,15 +84,16 @@ class Status(Case):
         return client.ask("SHOW NIGBARU STATUS").rows
 
     def test_as_a_table(self):
-        gateway = self.gateway()
-        one, two = self.client(gateway), self.client(gateway)
+        server = self.serve()
+        one, two = self.client(server), self.client(server)
         self.prepare(one, "'a','b',7", "k", "v")
         self.ok(one, "XA START 'c'", "PUT 'm','v'")
         self.assertIsNone(self.value(one, "l"))
         two.ask("PUT 'k','w'")
         rows = {(name.decode(), of.decode()): value.decode() for name, of, value in self.seen(two)}
         self.assertEqual(rows["connections", "logged in"], "2")
-        self.assertEqual(rows["sessions", "lent"], "1")
+        self.assertEqual((rows["sessions", "lent"], rows["sessions", "waited for"]), ("1", "0"))
+        self.assertEqual(rows["history", "entries"], "7")  # four of the branch that is prepared, three of the other
         self.assertEqual((rows["statements", "XA START"], rows["statements", "PUT"], rows["refusals", "3572"]), ("2", "3", "1"))
         self.assertRegex(rows["branch", "0x61,0x62,7"], r"\APREPARED, connection 1, [0-9.]+ s, holds 0x6b\Z")
         self.assertRegex(rows["branch", "0x63,X'',1"], r"\AACTIVE, connection 1 from 127.0.0.1:\d+, session \d+, [0-9.]+ s, shares 0x6c, holds 0x6d\Z")
@@ -103,8 +104,8 @@ class Status(Case):
 
     def test_as_a_file(self):
         folder = Path(self.ends.enter_context(tempfile.TemporaryDirectory()))
-        gateway = self.gateway("--status", folder / "status", stores=2)
-        client = self.client(gateway, 1)
+        server = self.serve("--status", folder / "status", stores=2)
+        client = self.client(server, 1)
         self.ok(client, "XA START 'a'", "PUT 'k','v'")
         wait_for((folder / "status").exists, "it is written")
         wait_for(lambda: self.branches(folder) == [[], [("0x61,X'',1", "ACTIVE", {"0x6b": "HOLDS"})]], "the branch is there")

@@ -14,23 +14,23 @@ CONNECTIONS, CYCLES = 30, 60
 HELD = "each of the store's 16 sessions has a branch"
 
 
-def memory(gateway):
+def memory(server):
     """Kilobytes that are resident."""
-    with open(f"/proc/{gateway.process.pid}/status") as status:
+    with open(f"/proc/{server.process.pid}/status") as status:
         return next(int(line.split()[1]) for line in status if line.startswith("VmRSS"))
 
 
 class Worker(threading.Thread):
     """A client of a pool: cycles over rows that others want too."""
 
-    def __init__(self, gateway, number, cycles=CYCLES):
+    def __init__(self, server, number, cycles=CYCLES):
         super().__init__()
-        self.gateway, self.number, self.cycles, self.draw = gateway, number, cycles, random.Random(number)
+        self.server, self.number, self.cycles, self.draw = server, number, cycles, random.Random(number)
         self.ended, self.fault, self.refusals = 0, None, {}
 
     def run(self):
         try:
-            with self.gateway.client() as client:
+            with self.server.client() as client:
                 while self.ended < self.cycles:
                     self.cycle(client, f"'{self.number} {self.ended}','b',7")
                     self.ended += 1
@@ -59,8 +59,8 @@ class Worker(threading.Thread):
 
 
 class Lending(Case):
-    def work(self, gateway, count, cycles):
-        workers = [Worker(gateway, number, cycles) for number in range(count)]
+    def work(self, server, count, cycles):
+        workers = [Worker(server, number, cycles) for number in range(count)]
         for worker in workers:
             worker.start()
         for worker in workers:
@@ -70,12 +70,12 @@ class Lending(Case):
 
     def test_a_pool_of_thirty(self):
         """The record, in which calls overlap, is LEGAL."""
-        gateway = self.gateway("--wait", "60")
-        self.work(gateway, CONNECTIONS, CYCLES)
-        with gateway.client() as client:
+        server = self.serve("--wait", "60")
+        self.work(server, CONNECTIONS, CYCLES)
+        with server.client() as client:
             self.assertEqual(client.ask("XA RECOVER").rows, [])
-        self.assertEqual(gateway.verdicts(), ["LEGAL"])
-        self.assertTrue(self.overlaps(gateway.record.read_text()))
+        self.assertEqual(server.verdicts(), ["LEGAL"])
+        self.assertTrue(self.overlaps(server.record.read_text()))
 
     def overlaps(self, record):
         """Whether some call stands between another's call and its return."""
@@ -87,13 +87,13 @@ class Lending(Case):
         return False
 
     def test_two_hundred_at_once(self):
-        gateway = self.gateway("--wait", "60")
-        self.work(gateway, 200, 5)
-        self.assertEqual(gateway.verdicts(), ["LEGAL"])
+        server = self.serve("--wait", "60")
+        self.work(server, 200, 5)
+        self.assertEqual(server.verdicts(), ["LEGAL"])
 
     def test_a_seventeenth_branch_waits(self):
-        gateway = self.gateway("--wait", "20")
-        clients = [self.client(gateway) for _ in range(17)]
+        server = self.serve("--wait", "20")
+        clients = [self.client(server) for _ in range(17)]
         for number, client in enumerate(clients[:16]):
             self.ok(client, f"XA START '{number}'")
         clients[16].send(b"\x03XA START 'late'")
@@ -103,12 +103,12 @@ class Lending(Case):
         self.assertEqual(clients[16].read(clients[16].packet()).kind, "ok")
         self.ok(clients[16], "XA END 'late'", "XA ROLLBACK 'late'")
         self.ok(clients[3], "XA COMMIT '3'")
-        self.assertEqual(gateway.verdicts(), ["LEGAL"])
+        self.assertEqual(server.verdicts(), ["LEGAL"])
 
     def test_a_seventeenth_branch_is_refused(self):
         for seconds in ("0.2", "0"):
-            gateway = self.gateway("--wait", seconds)
-            clients = [self.client(gateway) for _ in range(17)]
+            server = self.serve("--wait", seconds)
+            clients = [self.client(server) for _ in range(17)]
             for number, client in enumerate(clients[:16]):
                 self.ok(client, f"XA START '{number}'")
             began = time.monotonic()
@@ -121,37 +121,37 @@ class Lending(Case):
             self.refused(clients[0], "GET 'k'", 1040, "08004")
             # what needs no session is answered
             self.ok(clients[0], "SET NAMES utf8", "BEGIN", "COMMIT")
-            self.assertEqual(gateway.verdicts(), ["LEGAL"])
+            self.assertEqual(server.verdicts(), ["LEGAL"])
 
     def test_a_client_that_leaves_gives_its_session_back(self):
-        gateway = self.gateway("--wait", "20")
+        server = self.serve("--wait", "20")
         for _ in range(3):
-            clients = [self.client(gateway) for _ in range(16)]
+            clients = [self.client(server) for _ in range(16)]
             for number, client in enumerate(clients):
                 self.ok(client, f"XA START '{_} {number}'", f"PUT '{number}','v'")
             for client in clients:
                 client.close()
-            with gateway.client() as other:
+            with server.client() as other:
                 wait_for(lambda: all(other.ask(f"PUT '{number}','w'").kind == "ok" for number in range(16)), "the rows are free")
-        self.assertEqual(gateway.verdicts(), ["LEGAL"])
+        self.assertEqual(server.verdicts(), ["LEGAL"])
 
     def test_more_connections_than_are_let_in(self):
-        gateway = self.gateway("--max-connections", "3")
-        clients = [self.client(gateway) for _ in range(3)]
-        refused = self.client(gateway)
+        server = self.serve("--max-connections", "3")
+        clients = [self.client(server) for _ in range(3)]
+        refused = self.client(server)
         self.assertEqual((refused.welcome.number, refused.welcome.sqlstate), (1040, "08004"))
         self.assertIn("--max-connections", refused.welcome.text)
         clients[0].quit()
-        wait_for(lambda: self.client(gateway).welcome.kind == "ok", "a place is free")
+        wait_for(lambda: self.client(server).welcome.kind == "ok", "a place is free")
 
     def test_a_thousand_that_come_at_once(self):
         """All of them ask to connect before one is heard, and each is let in and answered."""
-        gateway = self.gateway("--patience", "60", record=False)
+        server = self.serve("--patience", "60", record=False)
         sockets = [self.ends.enter_context(socket.socket()) for _ in range(1000)]
         began = time.monotonic()
         for each in sockets:
             each.setblocking(False)
-            each.connect_ex(("127.0.0.1", gateway.port))
+            each.connect_ex(("127.0.0.1", server.port))
         for each in sockets:
             each.settimeout(60)
             self.assertEqual(self.packet(each)[0], 10)
@@ -174,13 +174,13 @@ class Lending(Case):
 
     def test_a_thousand_that_idle(self):
         """They cost less than 100 MB, and another is answered as before."""
-        gateway = self.gateway("--max-connections", "1100", record=False)
-        before = memory(gateway)
-        idle = [self.client(gateway) for _ in range(1000)]
+        server = self.serve("--max-connections", "1100", record=False)
+        before = memory(server)
+        idle = [self.client(server) for _ in range(1000)]
         self.assertEqual({client.welcome.kind for client in idle}, {"ok"})
         for client in idle[::50]:
             self.ok(client, "PUT 'k','v'")
-        took = memory(gateway) - before
+        took = memory(server) - before
         print(f"\n1,000 idle connections: {took} kB")
         self.assertLess(took, 100_000)
 
@@ -188,20 +188,20 @@ class Lending(Case):
 class History(Case):
     def test_a_history_is_a_script(self):
         """`run` carries out each of its lines, and gives the rows that the store has, also those of branches that were cut off."""
-        for capacity in ("7", "1024"):
-            gateway = self.gateway("--history", self.folder_of() / "history", "--capacity", capacity, "--wait", "60")
-            workers = [Worker(gateway, number, 20) for number in range(20)]
+        for rows in ("64", "4096"):
+            server = self.serve("--history", self.folder_of() / "history", "--rows", rows, "--wait", "60")
+            workers = [Worker(server, number, 20) for number in range(20)]
             for worker in workers:
                 worker.start()
             for worker in workers:
                 worker.join()
-            with gateway.client() as client:
+            with server.client() as client:
                 client.ask("XA START 'cut'")
                 client.ask("PUT 'cut','v'")
-            with gateway.client() as client:
+            with server.client() as client:
                 wait_for(lambda: client.ask("PUT 'cut','w'").kind == "ok", "the branch is rolled back")
                 rows = {key: self.value(client, key) for key in [*map(str, range(12)), "cut"]}
-            gateway.end()
+            server.end()
             script = (self.folder / "history").read_bytes()
             self.assertGreater(script.count(b"\n"), 1_500)
             asked = script + b"".join(b"1 GET '%s'\n" % key.encode() for key in rows)

@@ -30,11 +30,11 @@ class Logins(Case):
         if has_tls():
             cert, key = certificate(folder)
             words += ["--tls-cert", cert, "--tls-key", key]
-        gateway = self.gateway(*words)
-        witness = self.ends.enter_context(Client(gateway.port, b"root", b"secret"))
+        server = self.serve(*words)
+        witness = self.ends.enter_context(Client(server.port, b"root", b"secret"))
         ends = {"closed": 0, 1045: 0}
         for _ in range(COUNT):
-            with Client(gateway.port, log_in=False) as client:
+            with Client(server.port, log_in=False) as client:
                 client.greeted()
                 end = self.end_of(client, self.mutated(draw, draw.choice(LOGINS)))
                 ends[end] = ends.get(end, 0) + 1
@@ -42,7 +42,7 @@ class Logins(Case):
         # Without the password nobody is let in, whatever is sent.
         self.assertEqual(set(ends), {"closed", 1045, 1153})
         self.assertGreater(min(ends["closed"], ends[1045]), COUNT // 20)
-        self.assertEqual(gateway.verdicts(), ["EMPTY"])
+        self.assertEqual(server.verdicts(), ["EMPTY"])
 
     @staticmethod
     def mutated(draw, payload):

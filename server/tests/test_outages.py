@@ -1,4 +1,4 @@
-"""Faults that the gateway hasn't: connects and logins, local transactions, one phase, every nth, chances, outages, and a file that is read again."""
+"""Further faults: connects and logins, local transactions, one phase, every nth, chances, outages, and a file that is read again."""
 import random
 import threading
 import time
@@ -14,75 +14,75 @@ class Faults(Case):
         with self.assertRaises((Closed, ConnectionError)):
             call(*words)
 
-    def legal(self, gateway, noted):
-        self.assertEqual(gateway.verdicts(), ["LEGAL"])
-        self.assertIn(noted, gateway.record.read_text())
-        self.assertTrue(gateway.logged(noted), gateway.log)
+    def legal(self, server, noted):
+        self.assertEqual(server.verdicts(), ["LEGAL"])
+        self.assertIn(noted, server.record.read_text())
+        wait_for(lambda: server.logged(noted), noted)
 
     def begin(self, client, xid=XID):
         self.ok(client, f"XA START {xid}", "PUT 'k','v'", f"XA END {xid}")
 
     def test_one_phase_apart_from_commit(self):
-        gateway = self.gateway(faults=["ONE PHASE 1 close-after", "XA COMMIT 1 close-before"])
-        client = self.client(gateway)
+        server = self.serve(faults=["ONE PHASE 1 close-after", "XA COMMIT 1 close-before"])
+        client = self.client(server)
         self.begin(client)
         self.cut(client.ask, f"XA COMMIT {XID} ONE PHASE")
-        client = self.client(gateway)
+        client = self.client(server)
         self.assertEqual(self.value(client, "k"), b"v")
         self.begin(client)
         self.ok(client, f"XA PREPARE {XID}")
         self.cut(client.ask, f"XA COMMIT {XID}")
-        self.ok(self.client(gateway), f"XA COMMIT {XID}")
-        self.legal(gateway, "the fault ONE PHASE 1 close-after")
+        self.ok(self.client(server), f"XA COMMIT {XID}")
+        self.legal(server, "the fault ONE PHASE 1 close-after")
 
     def test_local_transactions(self):
-        gateway = self.gateway(faults=["BEGIN 2 close-before", "COMMIT 1 close-after", "COMMIT 2 close-before", "ROLLBACK 1 error 1213"])
-        client = self.client(gateway)
+        server = self.serve(faults=["BEGIN 2 close-before", "COMMIT 1 close-after", "COMMIT 2 close-before", "ROLLBACK 1 error 1213"])
+        client = self.client(server)
         self.ok(client, "BEGIN", "PUT 'k','v'")
         self.cut(client.ask, "COMMIT")
-        client = self.client(gateway)
+        client = self.client(server)
         self.assertEqual(self.value(client, "k"), b"v")
         self.cut(client.ask, "BEGIN")
-        client = self.client(gateway)
+        client = self.client(server)
         self.ok(client, "BEGIN", "PUT 'k','w'")
         self.cut(client.ask, "COMMIT")
-        client = self.client(gateway)
+        client = self.client(server)
         self.assertEqual(self.value(client, "k"), b"v")
         self.ok(client, "BEGIN", "PUT 'k','x'")
         self.refused(client, "ROLLBACK", 1213, "40001")
         self.ok(client, "ROLLBACK")
-        self.legal(gateway, "the fault COMMIT 2 close-before, at COMMIT: cut before it")
+        self.legal(server, "the fault COMMIT 2 close-before, at COMMIT: cut before it")
 
     def test_connects_and_logins(self):
-        gateway = self.gateway(faults=["CONNECT 1 close-before", "CONNECT 2 error 1040", "CONNECT 3 close-after", "LOGIN 1 close-before", "LOGIN 2 close-after", "LOGIN 3 error 1045", "LOGIN 4 stall-after 0.3"])
-        self.cut_off(gateway)
-        with Client(gateway.port, log_in=False) as client:
+        server = self.serve(faults=["CONNECT 1 close-before", "CONNECT 2 error 1040", "CONNECT 3 close-after", "LOGIN 1 close-before", "LOGIN 2 close-after", "LOGIN 3 error 1045", "LOGIN 4 stall-after 0.3"])
+        self.cut_off(server)
+        with Client(server.port, log_in=False) as client:
             self.assertEqual(client.read(client.packet()).number, 1040)
         for _ in range(3):
-            self.cut_off(gateway)
-        self.assertEqual(self.client(gateway).welcome.number, 1045)
+            self.cut_off(server)
+        self.assertEqual(self.client(server).welcome.number, 1045)
         began = time.monotonic()
-        self.ok(self.client(gateway), "PUT 'k','v'")
+        self.ok(self.client(server), "PUT 'k','v'")
         self.assertGreater(time.monotonic() - began, 0.3)
-        self.legal(gateway, "the fault CONNECT 3 close-after")
+        self.legal(server, "the fault CONNECT 3 close-after")
 
-    def cut_off(self, gateway):
-        with Client(gateway.port, log_in=False) as client:
+    def cut_off(self, server):
+        with Client(server.port, log_in=False) as client:
             self.cut(client.log_in, b"root", b"", b"mysql_native_password")
 
     def test_every_nth_and_chances(self):
-        gateway = self.gateway(faults=["GET every 5 error 1205", "PUT chance 0.2 seed 7 error 1205"])
-        client = self.client(gateway)
+        server = self.serve(faults=["GET every 5 error 1205", "PUT chance 0.2 seed 7 error 1205"])
+        client = self.client(server)
         self.assertEqual([client.ask("GET 'k'").kind for _ in range(10)], (["table"] * 4 + ["error"]) * 2)
         said = [client.ask("PUT 'k','v'").kind for _ in range(200)]
         self.assertTrue(20 < said.count("error") < 60)
-        again = self.client(self.gateway(faults=["PUT chance 0.2 seed 7 error 1205"]))
+        again = self.client(self.serve(faults=["PUT chance 0.2 seed 7 error 1205"]))
         self.assertEqual([again.ask("PUT 'k','v'").kind for _ in range(200)], said)
 
     def test_an_outage(self):
         """Whoever is there is cut, nobody comes in, and afterwards what was prepared is there, and nothing else."""
-        gateway = self.gateway(faults=["STORE 1 GET 2 outage 1"], stores=2)
-        prepared, active, cut, other = self.client(gateway), self.client(gateway), self.client(gateway), self.client(gateway, 1)
+        server = self.serve(faults=["STORE 1 GET 2 outage 1"], stores=2)
+        prepared, active, cut, other = self.client(server), self.client(server), self.client(server), self.client(server, 1)
         self.prepare(prepared, XID, "k", "v")
         self.ok(active, "XA START 'active'", "PUT 'l','v'")
         self.assertIsNone(self.value(cut, "k"))
@@ -90,52 +90,54 @@ class Faults(Case):
         self.cut(cut.ask, "GET 'k'")
         for client in (prepared, active):
             self.cut(client.ask, "XA RECOVER")
-        wait_for(lambda: self.is_refused(gateway), "the port is closed")
+        wait_for(lambda: self.is_refused(server), "the port is closed")
         self.assertIsNone(self.value(other, "k"))
-        wait_for(lambda: not self.is_refused(gateway), "the port is open again")
+        wait_for(lambda: not self.is_refused(server), "the port is open again")
         self.assertTrue(0.9 < time.monotonic() - began < 10)
-        client = self.client(gateway)
+        client = self.client(server)
         self.assertEqual(client.ask("XA RECOVER").rows, [(b"1", b"1", b"1", b"gb")])
         self.ok(client, "PUT 'l','w'", f"XA COMMIT {XID}")
         self.assertEqual(self.value(client, "k"), b"v")
-        self.assertTrue(gateway.logged("store 1 is back"))
-        self.assertEqual(gateway.verdicts(), ["LEGAL", "LEGAL"])
-        self.assertIn("out for 1 seconds: the fault GET 2 outage 1", gateway.records()[0].read_text())
+        wait_for(lambda: server.logged("store 1 is back"), "it is back")
+        self.assertEqual(server.verdicts(), ["LEGAL", "LEGAL"])
+        self.assertIn("out for 1 seconds: the fault GET 2 outage 1", server.records()[0].read_text())
 
     @staticmethod
-    def is_refused(gateway):
+    def is_refused(server):
         try:
-            with Client(gateway.port, log_in=False) as client:
+            with Client(server.port, log_in=False) as client:
                 client.log_in(b"root", b"", b"mysql_native_password")
                 return False
         except (Closed, ConnectionError):
             return True
 
-    def change(self, gateway, *lines):
-        (gateway.folder / "faults").write_text("".join(f"{line}\n" for line in lines))
+    def change(self, server, *lines):
+        """Puts another file in its place, so that the server reads one of the two."""
+        (server.folder / "next").write_text("".join(f"{line}\n" for line in lines))
+        (server.folder / "next").rename(server.folder / "faults")
 
     def test_a_file_that_is_read_again(self):
-        gateway = self.gateway(faults=["GET 2 error 1205"])
-        client = self.client(gateway)
+        server = self.serve(faults=["GET 2 error 1205"])
+        client = self.client(server)
         self.assertEqual([client.ask("GET 'k'").kind for _ in range(3)], ["table", "error", "table"])
-        self.change(gateway, "GET 1 error 1213", "PUT 1 error 1205")
-        wait_for(lambda: gateway.logged("read again: 2 of all stores"), "the file is read")
+        self.change(server, "GET 1 error 1213", "PUT 1 error 1205")
+        wait_for(lambda: server.logged("read again: 2 of all stores"), "the file is read")
         self.assertEqual([client.ask("GET 'k'").number for _ in range(2)], [1213, None])
-        self.change(gateway, "GET 1 error 1213", "PUT nonsense")
-        wait_for(lambda: gateway.logged("the faults stay as they were"), "the file is refused")
+        self.change(server, "GET 1 error 1213", "PUT nonsense")
+        wait_for(lambda: server.logged("the faults stay as they were"), "the file is refused")
         self.assertEqual(client.ask("PUT 'k','v'").number, 1205)
-        self.change(gateway, "NOW outage 0.5")
-        wait_for(lambda: gateway.logged("store 1 is out for 0.5 seconds: it is told so"), "it goes out")
-        wait_for(lambda: gateway.logged("store 1 is back"), "it is back")
-        self.ok(self.client(gateway), "PUT 'k','v'")
+        self.change(server, "NOW outage 0.5")
+        wait_for(lambda: server.logged("store 1 is out for 0.5 seconds: it is told so"), "it goes out")
+        wait_for(lambda: server.logged("store 1 is back"), "it is back")
+        self.ok(self.client(server), "PUT 'k','v'")
 
 
 class Worker(threading.Thread):
     """A client that goes through cycles while it is cut at any place, and then commits what may be prepared."""
 
-    def __init__(self, gateway, number, cycles):
+    def __init__(self, server, number, cycles):
         super().__init__()
-        self.gateway, self.number, self.cycles, self.draw = gateway, number, cycles, random.Random(number)
+        self.server, self.number, self.cycles, self.draw = server, number, cycles, random.Random(number)
         self.cut, self.fault, self.client = 0, None, None
 
     def run(self):
@@ -153,7 +155,7 @@ class Worker(threading.Thread):
         if self.client:
             self.client.close()
         while True:
-            self.client = Client(self.gateway.port, log_in=False) if self.is_open() else None
+            self.client = Client(self.server.port, log_in=False) if self.is_open() else None
             if self.client:
                 try:
                     self.client.log_in(b"root", b"", b"mysql_native_password")
@@ -166,7 +168,7 @@ class Worker(threading.Thread):
 
     def is_open(self):
         try:
-            with Client(self.gateway.port, log_in=False):
+            with Client(self.server.port, log_in=False):
                 return True
         except ConnectionError:
             return False
@@ -207,18 +209,18 @@ class Storm(Case):
         """Thirty clients, cut at any place and shut out again and again: each is served in the end, nothing is left, and the record is LEGAL."""
         points = ["XA START", "XA END", "XA PREPARE", "XA COMMIT", "XA ROLLBACK", "PUT", "GET", "LOGIN", "CONNECT"]
         lines = [f"{point} chance 0.02 seed {seed} {what}" for seed, (point, what) in enumerate((point, what) for point in points for what in ("close-before", "close-after", "stall 0.01", "stall-after 0.01"))]
-        gateway = self.gateway("--wait", "60", faults=[*lines, "XA PREPARE every 300 outage 0.2"])
-        workers = [Worker(gateway, number, 40) for number in range(30)]
+        server = self.serve("--wait", "60", faults=[*lines, "XA PREPARE every 300 outage 0.2"])
+        workers = [Worker(server, number, 40) for number in range(30)]
         for worker in workers:
             worker.start()
         for worker in workers:
             worker.join()
         self.assertEqual([worker.fault for worker in workers if worker.fault], [])
         self.assertGreater(sum(worker.cut for worker in workers), 100)
-        self.assertGreater(sum("is back" in line for line in gateway.log), 1)
-        (gateway.folder / "faults").write_text("")
-        wait_for(lambda: gateway.logged("read again: 0 of all stores"), "there are no faults any more")
-        client = self.client(gateway)
+        self.assertGreater(sum("is back" in line for line in server.log), 1)
+        (server.folder / "faults").write_text("")
+        wait_for(lambda: server.logged("read again: 0 of all stores"), "there are no faults any more")
+        client = self.client(server)
         wait_for(lambda: client.ask("XA RECOVER").rows == [], "nothing is prepared")
         wait_for(lambda: all(client.ask(f"PUT '{key}','free'").kind == "ok" for key in range(12)), "no row is held")
-        self.assertEqual(gateway.verdicts(), ["LEGAL"])
+        self.assertEqual(server.verdicts(), ["LEGAL"])

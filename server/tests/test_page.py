@@ -26,10 +26,10 @@ class Page(Case):
         super().setUp()
         self.folder = Path(self.ends.enter_context(tempfile.TemporaryDirectory()))
 
-    def write(self, name, gateway=None):
-        """Writes the block that is a file of this name, with the gateway's ports."""
+    def write(self, name, server=None):
+        """Writes the block that is a file of this name, with the server's ports."""
         text = block(f"{'//' if name.endswith('.java') else '#'} {name}\n")
-        for usual, port in zip(("3306", "3307"), gateway.ports if gateway else ()):
+        for usual, port in zip(("3306", "3307"), server.ports if server else ()):
             text = text.replace(usual, str(port))
         (self.folder / name).write_text(text)
 
@@ -41,10 +41,10 @@ class Page(Case):
     def test_start(self):
         """Two stores, and what the server says of them."""
         says = block("store 1 listens on 127.0.0.1:3306\n")
-        gateway = self.gateway(stores=2)
-        for usual, port in zip(("3306", "3307"), gateway.ports):
+        server = self.serve(stores=2)
+        for usual, port in zip(("3306", "3307"), server.ports):
             says = says.replace(usual, str(port))
-        self.assertEqual("".join(f"{line}\n" for line in gateway.log), says)
+        self.assertEqual("".join(f"{line}\n" for line in server.log), says)
 
     def test_java(self):
         """The program starts a server of its own, from the folder that NIGBARU names."""
@@ -57,14 +57,14 @@ class Page(Case):
         self.assertTrue(said.endswith(block("3 tests passed")), said)
 
     def test_command_line(self):
-        gateway = self.gateway()
-        words = block("mariadb --no-defaults").replace("3306", str(gateway.port)).split()
+        server = self.serve()
+        words = block("mariadb --no-defaults").replace("3306", str(server.port)).split()
         self.assertEqual(self.run_here(*words, text=block("XA START 'transfer'")), block("formatID\t"))
-        self.assertEqual(self.value(self.client(gateway), "alice"), b"90")
+        self.assertEqual(self.value(self.client(server), "alice"), b"90")
 
     def test_pymysql(self):
-        gateway = self.gateway()
-        self.write("branch.py", gateway)
+        server = self.serve()
+        self.write("branch.py", server)
         self.assertEqual(self.run_here(PYTHON, "branch.py"), "(b'80',)\n")
         self.assertIn("It prints `(b'80',)`", PAGE)
 
@@ -76,16 +76,16 @@ class Page(Case):
 
     def test_bitronix(self):
         """A commit; and then the crash and the recovery, as the page tells them."""
-        gateway = self.gateway(stores=2, faults=[block("STORE 1 XA COMMIT 2 stall 600").strip()])
+        server = self.serve(stores=2, faults=[block("STORE 1 XA COMMIT 2 stall 600").strip()])
         for name in ("Transfer.java", "run.sh"):
-            self.write(name, gateway)
+            self.write(name, server)
         self.assertEqual(self.run_here("sh", "run.sh", "90"), "recovered: 0 committed, 0 rolled back\ncommitted\n")
         process = subprocess.Popen(["sh", "run.sh", "80"], cwd=self.folder, stdout=subprocess.PIPE, start_new_session=True)
         self.ends.callback(process.stdout.close)
-        wait_for(lambda: gateway.logged("held before it"), "the commit is held", 60)
+        wait_for(lambda: server.logged("held before it"), "the commit is held", 60)
         os.killpg(process.pid, signal.SIGKILL)
         process.wait(30)
-        one, two = self.client(gateway, 0), self.client(gateway, 1)
+        one, two = self.client(server, 0), self.client(server, 1)
         self.assertEqual((len(one.ask("XA RECOVER").rows), self.value(one, "alice"), self.value(two, "bob")), (1, b"90", b"80"))
         self.assertEqual(self.run_here("sh", "run.sh"), "recovered: 1 committed, 0 rolled back\n")
         self.assertEqual((self.value(one, "alice"), self.value(two, "bob")), (b"80", b"80"))
@@ -96,7 +96,7 @@ class Page(Case):
         part = PAGE.partition("\n## Crash points\n")[2].partition("\n## ")[0]
         lines = [it for row in part.split("\n") if row.startswith("| ") for it in re.findall(r"`([A-Z][A-Z0-9 ]* [0-9]+ [a-z][^`]*)`", row)]
         self.assertGreater(len(lines), 15)
-        self.client(self.gateway(faults=lines, stores=2))
+        self.client(self.serve(faults=lines, stores=2))
         self.assertEqual({re.search(r"[0-9] ([a-z-]+)", line)[1] for line in lines}, FAULTS)
 
     def test_the_table_of_clients(self):

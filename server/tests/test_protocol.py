@@ -1,4 +1,4 @@
-"""What the server answers beside the gateway's tests: counts, quoted faults, other users, and texts of clients."""
+"""What the server answers: counts, quoted faults, other users, and texts of clients."""
 import hashlib
 import random
 import re
@@ -18,8 +18,8 @@ SHA2 = b"caching_sha2_password"
 class Protocol(Case):
     def setUp(self):
         super().setUp()
-        self.gate = self.gateway()
-        self.one = self.client(self.gate)
+        self.server = self.serve()
+        self.one = self.client(self.server)
 
     def affected(self, text):
         self.one.send(b"\x03" + text.encode())
@@ -41,16 +41,53 @@ class Protocol(Case):
                      "SET sql_mode='ANSI', @x = (1, 2)", "START TRANSACTION READ WRITE", "START TRANSACTION WITH CONSISTENT SNAPSHOT", "COMMIT"):
             self.ok(self.one, text)
         self.assertEqual(self.one.ask("SELECT CONNECTION_ID()").rows, [(b"1",)])
-        self.assertEqual(self.client(self.gate).ask("SELECT CONNECTION_ID() AS id").names, ["id"])
+        self.assertEqual(self.client(self.server).ask("SELECT CONNECTION_ID() AS id").names, ["id"])
         self.assertEqual(self.one.ask("SELECT 1 FROM DUAL").rows, [(b"1",)])
         self.assertEqual(self.one.ask("SHOW VARIABLES LIKE 'lower%'").rows, [(b"lower_case_table_names", b"0")])
+
+    def test_forms_of_settings(self):
+        """Each form of SET that docs or drivers have is taken, with any name of a character set, quoted or not."""
+        for name in ("utf8mb4", "'utf8mb4'", '"latin1"', "`koi8r`", "binary", "DEFAULT", "'any name'", "nobody_knows"):
+            for text in ("SET NAMES {}", "set names {};", "SET NAMES {} COLLATE utf8_bin", "SET NAMES {} COLLATE 'x'", "SET CHARACTER SET {}", "SET CHARSET {}", "/* c */ SET  NAMES\n{} -- x"):
+                self.ok(self.one, text.format(name))
+        levels = ("READ UNCOMMITTED", "READ COMMITTED", "REPEATABLE READ", "SERIALIZABLE")
+        for scope in ("", "SESSION ", "LOCAL "):
+            for level in levels:
+                for access in ("", ", READ WRITE"):
+                    self.ok(self.one, f"SET {scope}TRANSACTION ISOLATION LEVEL {level}{access}")
+            self.ok(self.one, f"SET {scope}TRANSACTION READ WRITE, ISOLATION LEVEL {levels[0]}")
+        for text in ("START TRANSACTION", "START TRANSACTION READ ONLY", "START TRANSACTION READ WRITE", "START TRANSACTION WITH CONSISTENT SNAPSHOT", "START TRANSACTION WITH CONSISTENT SNAPSHOT, READ ONLY"):
+            self.ok(self.one, text, "ROLLBACK")
+        for text in ("DO 1", "DO SLEEP(0)", "USE db", "SET @@session.autocommit = ON", "SET autocommit=1", "SET LOCAL autocommit = TRUE", "SET @a := 1", "SET sql_mode = DEFAULT, @@session.time_zone = '+00:00'"):
+            self.ok(self.one, text)
+        for text in ("SET", "SET NAMES", "SET CHARACTER SET", "SET TRANSACTION", "SET TRANSACTION ISOLATION LEVEL", "SET TRANSACTION ISOLATION LEVEL ANY", "SET autocommit", "DO", "START TRANSACTION READ", "SET nothing_known = 1"):
+            self.refused(self.one, text, 1064, "42000")
+
+    def test_what_can_be_bound(self):
+        """As docs/CLIENTS.md has it: types of parameters, and their bytes, of a statement that the server prepares."""
+        put, _, _ = self.one.prepare("PUT 'k',?")
+        for kind, data, value in ((253, b"\x02ab", b"ab"), (252, b"\0", b""), (8, struct.pack("<q", -7), b"-7"), (3, struct.pack("<i", 7), b"7"), (1, b"\x07", b"7"),
+                                  (6, b"", 1064), (5, struct.pack("<d", 7.5), 1210), (4, struct.pack("<f", 7.5), 1210), (246, b"\x037.5", 1210), (12, b"\x04\xea\x07\x0b\x1b", 1210)):
+            self.one.send(b"\x17" + struct.pack("<IBI", put, 0, 1) + b"\0\x01" + bytes((kind, 0)) + data)
+            answer = self.one.read(self.one.packet(), is_binary=True)
+            if isinstance(value, int):
+                self.assertEqual(answer.number, value, kind)
+            else:
+                self.assertEqual((answer.kind, self.value(self.one, "k")), ("ok", value), kind)
+        start, _, _ = self.one.prepare("XA START 'a','b',?")
+        for value, number in ((2 ** 31, 1064), (-1, 1064), (b"x", 1064), (7, None)):
+            self.assertEqual(self.one.execute(start, value).number, number, value)
+        self.ok(self.one, "XA END 'a','b',7", "XA ROLLBACK 'a','b',7")
+        self.assertEqual(self.one.execute(start, b"2147483647").kind, "ok")
+        for text in ("PUT 'k',7", "PUT 7,'v'", "GET 7", "XA START 'a','b','7'", "PUT 'k',7.5", "PUT 'k',NULL"):
+            self.refused(self.one, text, 1064, "42000")
 
     def test_a_transaction_that_only_reads(self):
         self.ok(self.one, "PUT 'k','v'", "START TRANSACTION READ ONLY")
         self.assertEqual(self.value(self.one, "k"), b"v")
         self.refused(self.one, "PUT 'k','w'", 1792, "25006")
         self.ok(self.one, "COMMIT", "PUT 'k','w'")
-        self.assertEqual(self.gate.verdicts(), ["LEGAL"])
+        self.assertEqual(self.server.verdicts(), ["LEGAL"])
 
     def test_sessions_that_only_read(self):
         """SET SESSION is for each transaction from then on, of each kind; SET for the next one alone, which is refused within one."""
@@ -76,7 +113,7 @@ class Protocol(Case):
         self.ok(self.one, "PUT 'k','z'", "SET tx_read_only=1")
         self.assertEqual(self.one.command(b"\x1f").kind, "ok")
         self.ok(self.one, "PUT 'k','reset'")
-        self.assertEqual(self.gate.verdicts(), ["LEGAL"])
+        self.assertEqual(self.server.verdicts(), ["LEGAL"])
 
     def test_prepared_texts_of_clients(self):
         for text, columns in (("SELECT 1", 1), ("SELECT @@version, CONNECTION_ID()", 2), ("BEGIN", 0), ("SET NAMES utf8", 0)):
@@ -114,7 +151,7 @@ class Protocol(Case):
                 begun += 1
                 self.one.command(b"\x1f")
         self.assertGreater(min(begun, 100 * len(expected) // len(texts)), 20)
-        called = [line.split(b" > ", 1)[1] for line in self.gate.record.read_bytes().split(b"\n") if b" > " in line]
+        called = [line.split(b" > ", 1)[1] for line in self.server.record.read_bytes().split(b"\n") if b" > " in line]
         asked = [text for text in called if text != b"DISCONNECT"]
         for text in asked:
             self.assertRegex(text, rb"\A[A-Za-z0-9', ]+\Z")
@@ -131,7 +168,7 @@ class Protocol(Case):
         answer = self.one.command(b"\x11judy\0\0db\0\x2d\0mysql_native_password\0")
         self.assertEqual((answer.kind, answer.status), ("ok", 2))
         self.ok(self.one, "XA START 'a'", "PUT 'k','w'")
-        self.assertEqual(self.gate.verdicts(), ["LEGAL"])
+        self.assertEqual(self.server.verdicts(), ["LEGAL"])
 
 
 class Passwords(Case):
@@ -148,9 +185,9 @@ class Passwords(Case):
     def test_caching_sha2_password(self):
         """A right proof is answered by the fast path; a wrong one by 1045, without a further question."""
         for auth in (b"mysql_native_password", SHA2):
-            gateway = self.gateway("--user", "judy", "--password-file", self.secret, "--auth", auth.decode())
+            server = self.serve("--user", "judy", "--password-file", self.secret, "--auth", auth.decode())
             for password, is_right in ((b"right", True), (b"wrong", False)):
-                with Client(gateway.port, log_in=False) as client:
+                with Client(server.port, log_in=False) as client:
                     scramble = client.greeted()
                     client.send(client.login_packet(b"judy", self.sha2_proof(password, scramble), SHA2), 1)
                     packet = client.packet()
@@ -162,9 +199,9 @@ class Passwords(Case):
                         self.assertEqual(client.read(packet).number, 1045)
 
     def test_another_user(self):
-        gateway = self.gateway("--user", "judy", "--password-file", self.secret)
+        server = self.serve("--user", "judy", "--password-file", self.secret)
         for password, number in ((b"right", None), (b"wrong", 1045)):
-            with Client(gateway.port, b"judy", b"right") as client:
+            with Client(server.port, b"judy", b"right") as client:
                 proof = proof_of(password, client.scramble)
                 answer = client.command(b"\x11judy\0" + bytes((len(proof),)) + proof + b"db\0\x2d\0mysql_native_password\0")
                 self.assertEqual(answer.number, number)
@@ -175,8 +212,8 @@ class Passwords(Case):
 
     def test_a_client_without_plugins(self):
         """It names no plugin, and its proof is the native one."""
-        gateway = self.gateway("--user", "judy", "--password-file", self.secret)
-        with Client(gateway.port, log_in=False) as client:
+        server = self.serve("--user", "judy", "--password-file", self.secret)
+        with Client(server.port, log_in=False) as client:
             proof = proof_of(b"right", client.greeted())
             client.send(struct.pack("<IIB23x", CAN & ~0x80000, 1 << 24, 45) + b"judy\0" + bytes((len(proof),)) + proof, 1)
             self.assertEqual(client.read(client.packet()).kind, "ok")
@@ -185,8 +222,8 @@ class Passwords(Case):
 class Patience(Case):
     def test_time_limits(self):
         """A client that is idle, one that stops in a packet, and one that doesn't log in are closed when their time is over; the one that asks goes on."""
-        gateway = self.gateway("--idle", "1", "--patience", "0.5")
-        asks, idle, half, silent = self.client(gateway), self.client(gateway), self.client(gateway), self.ends.enter_context(Client(gateway.port, log_in=False))
+        server = self.serve("--idle", "1", "--patience", "0.5")
+        asks, idle, half, silent = self.client(server), self.client(server), self.client(server), self.ends.enter_context(Client(server.port, log_in=False))
         self.ok(idle, "XA START 'a'", "PUT 'k','v'")
         half.socket.sendall(b"\x10\0\0\0\x03XA")
         for _ in range(20):
@@ -194,15 +231,33 @@ class Patience(Case):
             time.sleep(0.1)
         for client, words in ((idle, "no command for 1 seconds"), (half, "half a packet, and nothing more for 0.5 seconds"), (silent, "silent for 0.5 seconds")):
             self.assertTrue(client.is_closed())
-            wait_for(lambda: gateway.logged(words), words)
+            wait_for(lambda: server.logged(words), words)
         self.ok(asks, "PUT 'k','w'")
-        self.assertEqual(gateway.verdicts(), ["LEGAL"])
+        self.assertEqual(server.verdicts(), ["LEGAL"])
+
+    def test_a_client_that_drips(self):
+        """One that sends a byte now and then is closed when the time for its packet is over, however little it was silent."""
+        server = self.serve("--patience", "1")
+        for log_in in (True, False):
+            with Client(server.port, log_in=log_in) as client:
+                if not log_in:
+                    client.greeted()
+                packet = (60).to_bytes(3, "little") + b"\0\x03" + b" " * 59
+                began = time.monotonic()
+                with self.assertRaises(ConnectionError):
+                    for byte in packet:
+                        client.socket.sendall(bytes((byte,)))
+                        time.sleep(0.1)
+                    client.socket.sendall(b" " * 10)
+                self.assertLess(time.monotonic() - began, 5)
+        wait_for(lambda: server.logged("half a packet, and nothing more for 1 seconds") and server.logged("silent for 1 seconds"), "both are logged")
+        self.ok(self.client(server), "PUT 'k','v'")
 
     def test_a_client_whose_machine_may_be_gone_is_asked(self):
         """The system's timer of the server's side is that of keepalive (2 in the table's fourth column)."""
-        gateway = self.gateway()
-        client = self.client(gateway)
-        ends = ["%08X:%04X" % (0x0100007F, port) for port in (gateway.port, client.socket.getsockname()[1])]
+        server = self.serve()
+        client = self.client(server)
+        ends = ["%08X:%04X" % (0x0100007F, port) for port in (server.port, client.socket.getsockname()[1])]
 
         def timers():
             return [line.split()[5].split(":")[0] for line in Path("/proc/net/tcp").read_text().splitlines()[1:] if line.split()[1:3] == ends]
@@ -210,8 +265,8 @@ class Patience(Case):
         wait_for(lambda: timers() == ["02"], "the timer is that of keepalive")
 
     def test_longer_packets(self):
-        gateway = self.gateway("--max-packet", "16777214")
-        client = self.client(gateway)
+        server = self.serve("--max-packet", "16777214")
+        client = self.client(server)
         self.ok(client, "PUT 'k','v'" + " " * 10_000_000)
         self.assertEqual(client.ask("SHOW VARIABLES LIKE '" + "%a" * 1_000_000 + "'").number, 1064)
         client.send(b"\x03" + b"x" * ((1 << 24) - 2))
@@ -236,8 +291,8 @@ class CommandLine(Case):
         self.assertEqual((status, "--max-connections" in text), (0, True))
 
     def test_a_port_that_is_taken(self):
-        gateway = self.gateway()
-        status, text = self.said("--port", str(gateway.port))
+        server = self.serve()
+        status, text = self.said("--port", str(server.port))
         self.assertEqual(status, 1)
         self.assertIn("doesn't start", text)
         status, text = self.said("--port", "0", "--record", "/none/record")
@@ -246,13 +301,13 @@ class CommandLine(Case):
 
     def test_a_socket(self):
         folder = Path(self.ends.enter_context(tempfile.TemporaryDirectory()))
-        gateway = self.gateway("--socket", folder / "socket")
+        server = self.serve("--socket", folder / "socket")
         for _ in range(2):
             ran = subprocess.run(["mariadb", "--no-defaults", f"--socket={folder / 'socket'}", "--user=root"], input="PUT 'k','v';\nGET 'k';\n", stdout=subprocess.PIPE, text=True, timeout=60)
             self.assertEqual(ran.stdout, "value\nv\n")
-        self.assertEqual(self.value(self.client(gateway), "k"), b"v")
-        gateway.process.kill()
-        gateway.process.wait(20)
-        again = self.gateway("--socket", folder / "socket")
+        self.assertEqual(self.value(self.client(server), "k"), b"v")
+        server.process.kill()
+        server.process.wait(20)
+        again = self.serve("--socket", folder / "socket")
         self.assertEqual(again.end(), 0)
         self.assertFalse((folder / "socket").exists())

@@ -13,8 +13,8 @@ SIZE = 4096
 
 
 class Pieces(Case):
-    def server(self, *words, **options):
-        return self.gateway("--record-size", str(SIZE), "--wait", "60", *words, **options)
+    def piecewise(self, *words, **options):
+        return self.serve("--record-size", str(SIZE), "--wait", "60", *words, **options)
 
     def fill(self, client, record):
         """Statements until a piece is full and the next statement begins another."""
@@ -24,8 +24,8 @@ class Pieces(Case):
 
     def test_the_state(self):
         """Branches in each phase, shared rows, deletions, empty values, in the order of the rules: what was done stands in the state as `show` would list it."""
-        gateway = self.server()
-        one, two, three = (self.client(gateway) for _ in range(3))
+        server = self.piecewise()
+        one, two, three = (self.client(server) for _ in range(3))
         self.ok(one, "PUT 'a','1'", "PUT 'b',X''", "PUT 'gone','x'", "DEL 'gone'", "PUT 'c','1'")
         self.prepare(one, "'p','q',3", "a", "2")
         self.ok(two, "XA START 'i'")
@@ -34,8 +34,8 @@ class Pieces(Case):
         self.ok(two, "DEL 'c'", "XA END 'i'")
         self.ok(three, "XA START 'h'", "PUT 'd',X''")
         self.assertEqual(self.value(three, "d"), b"")
-        self.fill(one, gateway.record)
-        state = Path(f"{gateway.record}.1.state").read_text()
+        self.fill(one, server.record)
+        state = Path(f"{server.record}.1.state").read_text()
         sessions = re.findall(r"SESSION (\d+)", state)
         self.assertEqual(len(set(sessions)), 2)
         self.assertEqual(state, f"""\
@@ -56,22 +56,22 @@ class Pieces(Case):
         self.ok(two, "XA COMMIT 'i' ONE PHASE")
         self.ok(three, "XA END 'h'", "XA PREPARE 'h'", "XA COMMIT 'h'", "XA ROLLBACK 'p','q',3")
         self.assertEqual([self.value(one, key) for key in "abcd"], [b"1", b"", None, b""])
-        self.fill(one, gateway.record)
-        self.assertEqual(Path(f"{gateway.record}.2.state").read_text(), "  ROW 0x61 VALUE 0x31\n  ROW 0x62 VALUE X''\n  ROW 0x64 VALUE X''\n  ROW 0x66696c6c VALUE 0x78\n")
-        self.assertEqual(verdicts(gateway.record), ["LEGAL"] * 3)
+        self.fill(one, server.record)
+        self.assertEqual(Path(f"{server.record}.2.state").read_text(), "  ROW 0x61 VALUE 0x31\n  ROW 0x62 VALUE X''\n  ROW 0x64 VALUE X''\n  ROW 0x66696c6c VALUE 0x78\n")
+        self.assertEqual(verdicts(server.record), ["LEGAL"] * 3)
 
     def test_pieces_of_many_connections(self):
         """Each piece is LEGAL from its state. What `show` lists, once the calls in front of it are carried out, is the state: its branches as they stand there, and each row's value."""
-        gateway = self.server()
-        workers = [Worker(gateway, number, 40) for number in range(20)]
+        server = self.piecewise()
+        workers = [Worker(server, number, 40) for number in range(20)]
         for worker in workers:
             worker.start()
         for worker in workers:
             worker.join()
         self.assertEqual([worker.fault for worker in workers if worker.fault], [])
-        pieces = pieces_of(gateway.record)
+        pieces = pieces_of(server.record)
         self.assertGreater(len(pieces), 10)
-        self.assertEqual(verdicts(gateway.record), ["LEGAL"] * (len(pieces) + 1))
+        self.assertEqual(verdicts(server.record), ["LEGAL"] * (len(pieces) + 1))
         with_branches = 0
         for piece in pieces:
             state = Path(f"{piece}.state").read_text()
@@ -88,14 +88,14 @@ class Pieces(Case):
 
     def test_a_wrong_state_is_seen(self):
         """A state with another value, without a branch, or of the piece before makes a piece ILLEGAL."""
-        gateway = self.server()
-        one, two = self.client(gateway), self.client(gateway)
+        server = self.piecewise()
+        one, two = self.client(server), self.client(server)
         self.ok(one, "PUT 'k','1'")
         self.prepare(two, "'p'", "m", "2")
-        self.fill(one, gateway.record)
+        self.fill(one, server.record)
         self.assertEqual(self.value(one, "k"), b"1")
         self.ok(two, "XA COMMIT 'p'")
-        piece = Path(f"{gateway.record}.1")
+        piece = Path(f"{server.record}.1")
         state = Path(f"{piece}.state")
         right = state.read_text()
         self.assertEqual(verdict(from_state.whole(piece).encode()), "LEGAL")
@@ -106,26 +106,26 @@ class Pieces(Case):
 
     def test_with_a_history_and_several_stores(self):
         folder = Path(self.ends.enter_context(tempfile.TemporaryDirectory()))
-        gateway = self.server("--history", folder / "history", "--capacity", "50", stores=2)
+        server = self.piecewise("--history", folder / "history", "--rows", "64", stores=2)
         draw = random.Random(7)
-        for store, record in enumerate(gateway.records()):
-            client = self.client(gateway, store)
+        for store, record in enumerate(server.records()):
+            client = self.client(server, store)
             while len(pieces_of(record)) < 3:
                 self.ok(client, f"PUT '{draw.randrange(30)}','{draw.randrange(9)}'")
             self.assertEqual(verdicts(record), ["LEGAL"] * 4)
-        self.assertEqual(gateway.end(), 0)
-        for store, record in enumerate(gateway.records()):
+        self.assertEqual(server.end(), 0)
+        for store, record in enumerate(server.records()):
             ran = subprocess.run([PROGRAM, "run"], input=(folder / f"history.{store + 1}").read_bytes(), stdout=subprocess.PIPE)
             calls = sum(path.read_text().count(" < OK") for path in [record, *pieces_of(record)])
             self.assertEqual(ran.stdout.count(b"OK\n"), calls)
 
     def test_an_error_on_purpose_and_notes(self):
         """They stand in pieces as they do in a record in one file."""
-        gateway = self.server(faults=["GET every 3 error 1205"])
-        client = self.client(gateway)
+        server = self.piecewise(faults=["GET every 3 error 1205"])
+        client = self.client(server)
         for number in range(400):
             self.assertEqual(client.ask("GET 'k'").number, 1205 if number % 3 == 2 else None)
-        texts = [path.read_text() for path in [gateway.record, *pieces_of(gateway.record)]]
+        texts = [path.read_text() for path in [server.record, *pieces_of(server.record)]]
         self.assertGreater(len(texts), 2)
         for text in texts:
             lines = [line for line in text.splitlines() if not line.startswith("#")]
@@ -153,12 +153,12 @@ class Pieces(Case):
 
     def test_a_piece_that_cant_be_written(self):
         """The server ends, and says why."""
-        gateway = self.server()
-        client = self.client(gateway)
-        (gateway.folder / "record.1.state").mkdir()
+        server = self.piecewise()
+        client = self.client(server)
+        (server.folder / "record.1.state").mkdir()
         with self.assertRaises(Exception):
             for _ in range(1000):
                 self.ok(client, "PUT 'k','v'")
-        self.assertEqual(gateway.process.wait(20), 1)
-        gateway._reader.join()
-        self.assertTrue(gateway.logged("record can't be written"))
+        self.assertEqual(server.process.wait(20), 1)
+        server._reader.join()
+        self.assertTrue(server.logged("record can't be written"))

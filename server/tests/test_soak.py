@@ -20,38 +20,38 @@ class Soak(Case):
         self.journal = self.ends.enter_context(tempfile.TemporaryDirectory())
         subprocess.run(["javac", "-d", self.classes, "-cp", JARS, HERE / "clients" / "Soak.java"], check=True)
 
-    def java(self, gateway, what):
-        words = ["java", "-Xshare:auto", "-XX:TieredStopAtLevel=1", "-cp", f"{JARS}:{self.classes}", "Soak", self.journal, *map(str, gateway.ports), what]
+    def java(self, server, what):
+        words = ["java", "-Xshare:auto", "-XX:TieredStopAtLevel=1", "-cp", f"{JARS}:{self.classes}", "Soak", self.journal, *map(str, server.ports), what]
         return subprocess.Popen(words, stderr=subprocess.DEVNULL)
 
     def test_a_manager_that_is_killed(self):
         draw = random.Random(62)
-        gateway = self.gateway("--wait", "60", "--record-size", str(SIZE), stores=2)
+        server = self.serve("--wait", "60", "--record-size", str(SIZE), stores=2)
         moved = 0
         for _ in range(KILLS):
-            before = self.size(gateway)
-            process = self.java(gateway, "move")
+            before = self.size(server)
+            process = self.java(server, "move")
             deadline = time.monotonic() + 60
-            while self.size(gateway) < before + 20_000 and time.monotonic() < deadline:
+            while self.size(server) < before + 20_000 and time.monotonic() < deadline:
                 time.sleep(0.02)
             time.sleep(draw.uniform(SECONDS / 4, SECONDS))
             process.kill()
             process.wait(30)
-            moved += self.size(gateway) > before
+            moved += self.size(server) > before
         self.assertEqual(moved, KILLS)
-        self.assertEqual(self.java(gateway, "recover").wait(120), 0)
-        clients = [self.client(gateway, store) for store in (0, 1)]
+        self.assertEqual(self.java(server, "recover").wait(120), 0)
+        clients = [self.client(server, store) for store in (0, 1)]
         for client in clients:
             self.assertEqual(client.ask("XA RECOVER").rows, [])
         sums = [sum(int(self.value(client, str(account)) or b"0") for account in range(10)) for client in clients]
         self.assertLess(sums[0], 0)
         self.assertEqual(sum(sums), 0)
-        for record in gateway.records():
+        for record in server.records():
             found = verdicts(record)
             self.assertGreater(len(found), 2)
             self.assertEqual(set(found), {"LEGAL"})
 
     @staticmethod
-    def size(gateway):
+    def size(server):
         """Bytes of the records: how much was done."""
-        return sum(path.stat().st_size for record in gateway.records() for path in [record, *pieces_of(record)])
+        return sum(path.stat().st_size for record in server.records() for path in [record, *pieces_of(record)])

@@ -36,10 +36,10 @@ class Tls(Case):
         super().setUp()
         self.folder = Path(self.ends.enter_context(tempfile.TemporaryDirectory()))
         self.cert, key = certificate(self.folder)
-        self.gate = self.gateway("--tls-cert", self.cert, "--tls-key", key)
+        self.server = self.serve("--tls-cert", self.cert, "--tls-key", key)
 
     def asked(self, *words, text="SHOW STATUS LIKE 'Ssl_version'; SELECT @@have_ssl"):
-        ran = subprocess.run(["mariadb", "--no-defaults", "--host=127.0.0.1", f"--port={self.gate.port}", "--user=root", "--skip-column-names", *words, "-e", text],
+        ran = subprocess.run(["mariadb", "--no-defaults", "--host=127.0.0.1", f"--port={self.server.port}", "--user=root", "--skip-column-names", *words, "-e", text],
                              stdout=subprocess.PIPE, stderr=subprocess.STDOUT, encoding="utf-8", errors="surrogateescape", timeout=60)
         return ran.returncode, ran.stdout
 
@@ -50,10 +50,10 @@ class Tls(Case):
         cycle = "XA START 'a'; PUT 'k',X'000a27ff5c'; XA END 'a'; XA PREPARE 'a'; XA RECOVER; XA COMMIT 'a'; GET 'k'"
         self.assertEqual(self.asked("--ssl", text=cycle), (0, "1\t1\t0\ta\n\\0\\n'\udcff\\\\\n"))
         self.assertEqual(self.asked("--skip-ssl"), (0, "Ssl_version\t\nYES\n"))
-        self.assertEqual(self.gate.verdicts(), ["LEGAL"])
+        self.assertEqual(self.server.verdicts(), ["LEGAL"])
 
     def connect(self, **words):
-        return pymysql.connect(host="127.0.0.1", port=self.gate.port, user="root", autocommit=True, **words)
+        return pymysql.connect(host="127.0.0.1", port=self.server.port, user="root", autocommit=True, **words)
 
     def test_pymysql(self):
         with self.connect(ssl={"ca": str(self.cert), "check_hostname": True}) as connection, connection.cursor() as cursor:
@@ -74,7 +74,7 @@ class Tls(Case):
             cursor.execute("XA RECOVER")
             self.assertEqual(len(cursor.fetchall()), 300)
             cursor.execute("PUT 'k','v'" + " " * 60_000)
-        self.assertEqual(self.gate.verdicts(), ["LEGAL"])
+        self.assertEqual(self.server.verdicts(), ["LEGAL"])
 
     def test_a_certificate_that_isnt_the_servers(self):
         other, _ = certificate(self.folder, "ec")
@@ -85,17 +85,17 @@ class Tls(Case):
 
     def test_a_key_of_a_curve(self):
         cert, key = certificate(self.folder, "ec")
-        gateway = self.gateway("--tls-cert", cert, "--tls-key", key)
-        with pymysql.connect(host="127.0.0.1", port=gateway.port, user="root", ssl={"ca": str(cert)}) as connection:
+        server = self.serve("--tls-cert", cert, "--tls-key", key)
+        with pymysql.connect(host="127.0.0.1", port=server.port, user="root", ssl={"ca": str(cert)}) as connection:
             connection.ping()
 
     def test_passwords(self):
         secret = self.folder / "secret"
         secret.write_text("right\n")
         for auth in ("mysql_native_password", "caching_sha2_password"):
-            gateway = self.gateway("--tls-cert", self.cert, "--tls-key", self.folder / "rsa.key", "--user", "judy", "--password-file", secret, "--auth", auth)
+            server = self.serve("--tls-cert", self.cert, "--tls-key", self.folder / "rsa.key", "--user", "judy", "--password-file", secret, "--auth", auth)
             for password, is_right in (("right", True), ("wrong", False)):
-                words = {"host": "127.0.0.1", "port": gateway.port, "user": "judy", "password": password, "ssl": {"ca": str(self.cert)}}
+                words = {"host": "127.0.0.1", "port": server.port, "user": "judy", "password": password, "ssl": {"ca": str(self.cert)}}
                 if is_right:
                     pymysql.connect(**words).close()
                 else:
@@ -104,11 +104,11 @@ class Tls(Case):
 
     @unittest.skipUnless(LONG, "server/test has it with --long")
     def test_a_thousand_that_idle(self):
-        gateway = self.gateway("--tls-cert", self.cert, "--tls-key", self.folder / "rsa.key", "--max-connections", "1100", record=False)
-        before = memory(gateway)
+        server = self.serve("--tls-cert", self.cert, "--tls-key", self.folder / "rsa.key", "--max-connections", "1100", record=False)
+        before = memory(server)
         context = ssl.create_default_context(cafile=str(self.cert))
-        idle = [pymysql.connect(host="127.0.0.1", port=gateway.port, user="root", ssl=context) for _ in range(1000)]
-        took = memory(gateway) - before
+        idle = [pymysql.connect(host="127.0.0.1", port=server.port, user="root", ssl=context) for _ in range(1000)]
+        took = memory(server) - before
         print(f"\n1,000 idle connections over TLS: {took} kB")
         self.assertLess(took, 100_000)
         for each in idle:
@@ -117,25 +117,25 @@ class Tls(Case):
     def test_connector_j(self):
         """With the certificate verified; its XAResource goes through a cycle."""
         jar = "/usr/share/java/mariadb-java-client.jar"
-        ran = subprocess.run(["java", "-Xshare:auto", "-XX:TieredStopAtLevel=1", "-cp", jar, HERE / "clients" / "Secure.java", str(self.gate.port), self.cert],
+        ran = subprocess.run(["java", "-Xshare:auto", "-XX:TieredStopAtLevel=1", "-cp", jar, HERE / "clients" / "Secure.java", str(self.server.port), self.cert],
                              stdout=subprocess.PIPE, stderr=subprocess.STDOUT, text=True, timeout=120)
         self.assertRegex(ran.stdout, r"\ATLSv1\.[23]\nlisted 1\nvalue 000a27ff5c\n\Z")
-        self.assertEqual(self.gate.verdicts(), ["LEGAL"])
+        self.assertEqual(self.server.verdicts(), ["LEGAL"])
 
     def test_a_login_in_the_clear_behind_the_request(self):
         """What is sent in the clear behind the request is no login, even in the same piece, so nobody between can put in a word."""
-        with Client(self.gate.port, log_in=False) as client:
+        with Client(self.server.port, log_in=False) as client:
             client.greeted()
             login = client.login_packet(b"root", b"", b"mysql_native_password")
             client.socket.sendall(len(REQUEST).to_bytes(3, "little") + b"\1" + REQUEST + len(login).to_bytes(3, "little") + b"\2" + login)
             self.assertTrue(client.is_closed())
-        wait_for(lambda: self.gate.logged("no TLS: "), "it is told why")
+        wait_for(lambda: self.server.logged("no TLS: "), "it is told why")
 
     def test_noise_in_the_place_of_tls(self):
         draw = random.Random(7)
         good = self.connect(ssl={"ca": str(self.cert)})
         for number in range(200):
-            with Client(self.gate.port, log_in=False) as client:
+            with Client(self.server.port, log_in=False) as client:
                 client.greeted()
                 client.send(REQUEST, 1)
                 client.socket.sendall(bytes([22, 3, 1])[:number % 4] + draw.randbytes(draw.randrange(400)))
@@ -144,11 +144,11 @@ class Tls(Case):
         wait_for(lambda: self.connect(ssl={"ca": str(self.cert)}).ping() is None, "it lives")
 
     def test_a_handshake_that_stops(self):
-        gateway = self.gateway("--tls-cert", self.cert, "--tls-key", self.folder / "rsa.key", "--patience", "0.5")
-        with Client(gateway.port, log_in=False) as client:
+        server = self.serve("--tls-cert", self.cert, "--tls-key", self.folder / "rsa.key", "--patience", "0.5")
+        with Client(server.port, log_in=False) as client:
             client.greeted()
             client.send(REQUEST, 1)
-            wait_for(lambda: gateway.logged("silent for 0.5 seconds"), "it is closed")
+            wait_for(lambda: server.logged("silent for 0.5 seconds"), "it is closed")
             self.assertTrue(client.is_closed())
 
     def test_files(self):

@@ -150,6 +150,11 @@ def judge(pool, question):
     return {**ran, "picture": picture(record, ran["output"].encode("latin-1"), lambda text: run(text)["output"].encode("latin-1"))}
 
 
+def server(pool, _):
+    """What the server that is watched does just now; nothing where none is."""
+    return pool.status.look() if pool.status else {}
+
+
 def program(pool, _):
     """The program's version, and the help that lists its jobs."""
     seconds = pool.limits.answer_seconds
@@ -163,4 +168,4 @@ def end(pool, question):
     return {}
 
 
-JOBS = {"talk": talk, "calls": calls, "sequence": sequence, "stops": stops, "race": race, "outcomes": outcomes, "judge": judge, "program": program, "end": end}
+JOBS = {"talk": talk, "calls": calls, "sequence": sequence, "stops": stops, "race": race, "outcomes": outcomes, "judge": judge, "server": server, "program": program, "end": end}

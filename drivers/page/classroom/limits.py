@@ -14,6 +14,7 @@ class Limits:
     probe_seconds: float = 3        # for which a diagram asks how many statements its calls make; the page asks again for the rest
     judge_seconds: float = 60       # for a verdict
     output_bytes: int = 8 << 20     # of what a child may answer to one request
+    status_bytes: int = 8 << 20     # of the file of a server that is watched
     runs: int = 200                 # of a race
     ways: int = 10_000              # that may be kept at once where the outcomes of a race's script are listed
     batch: int = 25                 # runs of a race for one request, so that the page can show how far it is

@@ -7,8 +7,8 @@ from .probe import Counts
 
 
 class Pool:
-    def __init__(self, program, limits):
-        self.program, self.limits = program, limits
+    def __init__(self, program, limits, status=None):
+        self.program, self.limits, self.status = program, limits, status
         self.counts = Counts()
         self._lock = threading.Lock()
         self._children = set()

@@ -8,6 +8,7 @@ from pathlib import Path
 from .examples import examples
 from .handler import Handler
 from .pool import Pool
+from .status import Status
 from .tables import tables
 
 STATIC = Path(__file__).resolve().parent.parent / "static"
@@ -29,11 +30,11 @@ class Classroom(ThreadingHTTPServer):
     daemon_threads = True
     block_on_close = False
 
-    def __init__(self, program, root, port, limits, host="127.0.0.1"):
+    def __init__(self, program, root, port, limits, host="127.0.0.1", status=None):
         self.limits = limits
         self.files = files(root)
         self._places = threading.BoundedSemaphore(limits.connections)
-        self.pool = Pool(program, limits)
+        self.pool = Pool(program, limits, status and Status(status, limits.status_bytes))
         super().__init__((host, port), Handler)
         self.host, self.is_open = host, not host.startswith("127.")
         here = "127.0.0.1" if host == "0.0.0.0" else host

@@ -36,8 +36,8 @@ def help_of(*words):
 class Page:
     """A page that is served by a process of its own, as a person starts it."""
 
-    def __init__(self, program=PROGRAM):
-        self.process = subprocess.Popen([PAGE / "serve", "--port", "0", "--program", program, "--memory", MEMORY], stdout=subprocess.PIPE)
+    def __init__(self, *words, program=PROGRAM):
+        self.process = subprocess.Popen([PAGE / "serve", "--port", "0", "--program", program, "--memory", MEMORY, *words], stdout=subprocess.PIPE)
         self.address = self.process.stdout.readline().decode().strip()
         assert self.address.startswith("http://127.0.0.1:"), self.address
         self.port = int(self.address.split(":")[2].strip("/"))
@@ -70,10 +70,10 @@ def children_of(pid):
 
 
 @contextlib.contextmanager
-def room(program=PROGRAM, **limits):
+def room(program=PROGRAM, status=None, **limits):
     """A page within this process, with limits of its own."""
     limits.setdefault("memory_kib", MEMORY if MEMORY == "unlimited" else int(MEMORY) << 10)
-    with Classroom(program, ROOT, 0, Limits(**limits)) as served:
+    with Classroom(program, ROOT, 0, Limits(**limits), status=status) as served:
         thread = threading.Thread(target=served.serve_forever, args=(0.05,))
         thread.start()
         try:

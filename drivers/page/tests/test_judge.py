@@ -22,7 +22,7 @@ class Verdicts(View):
         folder = tempfile.TemporaryDirectory()
         cls.addClassCleanup(folder.cleanup)
         cls.judging = Judging(folder.name)
-        cls.page = Page(cls.judging.program)
+        cls.page = Page(program=cls.judging.program)
         cls.addClassCleanup(cls.page.end)
         cls.browser = the_browser()
         cls.addClassCleanup(cls.browser.leave)

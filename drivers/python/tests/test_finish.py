@@ -10,8 +10,7 @@ import transaction
 
 from nigbaru import Branch, OperationalError, Remote, Server
 
-SERVE = Path(__file__).resolve().parents[2] / "mysql" / "serve"
-PYTHON = "/usr/bin/python3"
+SERVER = os.environ["NIGBARU_SERVER"]
 STORES = (1, 2)
 TRIES = 4  # of a commit
 
@@ -42,7 +41,7 @@ class Finish(unittest.TestCase):
         folder = tempfile.TemporaryDirectory()
         self.addCleanup(folder.cleanup)
         (Path(folder.name) / "faults").write_text(faults)
-        words = [PYTHON, SERVE, "--port", "0", "--stores", "2", "--fault", f"{folder.name}/faults", os.environ["XA_SCRIPT"]]
+        words = [SERVER, "--port", "0", "--stores", "2", "--fault", f"{folder.name}/faults"]
         process = subprocess.Popen(words, stderr=subprocess.PIPE, text=True)
         self.addCleanup(process.stderr.close)
         self.addCleanup(process.wait)

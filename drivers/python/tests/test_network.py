@@ -7,8 +7,7 @@ from pathlib import Path
 
 from nigbaru import Error, IntegrityError, OperationalError, ProgrammingError, Remote, Xid
 
-SERVE = Path(__file__).resolve().parents[2] / "mysql" / "serve"
-PYTHON = "/usr/bin/python3"
+SERVER = os.environ["NIGBARU_SERVER"]
 
 
 class Network(unittest.TestCase):
@@ -16,7 +15,7 @@ class Network(unittest.TestCase):
         folder = tempfile.TemporaryDirectory()
         self.addCleanup(folder.cleanup)
         (Path(folder.name) / "faults").write_text(faults)
-        process = subprocess.Popen([PYTHON, SERVE, "--port", "0", "--fault", f"{folder.name}/faults", *words, os.environ["XA_SCRIPT"]], stderr=subprocess.PIPE, text=True)
+        process = subprocess.Popen([SERVER, "--port", "0", "--fault", f"{folder.name}/faults", *words], stderr=subprocess.PIPE, text=True)
         self.addCleanup(process.stderr.close)
         self.addCleanup(process.wait)
         self.addCleanup(process.terminate)

@@ -1,4 +1,4 @@
-// The page: four views, of which the address says which is shown and in which state.
+// The page: five views, of which the address says which is shown and in which state.
 import * as address from "./address.js";
 import { ask, Failure, fetched } from "./api.js";
 import { Commit } from "./commit.js";
@@ -10,6 +10,7 @@ import { copy } from "./links.js";
 import { listen } from "./projector.js";
 import { Race } from "./race.js";
 import * as rules from "./rules.js";
+import { Server } from "./server.js";
 import { Sessions } from "./sessions.js";
 
 const FIRST = "sessions";
@@ -18,7 +19,7 @@ const TOO_LONG = "This is too long for an address, which has a million character
 
 class App {
   constructor() {
-    this.views = { sessions: new Sessions(this), race: new Race(this), commit: new Commit(this), judge: new Judge(this) };
+    this.views = { sessions: new Sessions(this), race: new Race(this), commit: new Commit(this), judge: new Judge(this), server: new Server(this) };
     this.current = null;
     addEventListener("hashchange", () => this.enter());
     listen(() => this.enter());

@@ -8,13 +8,13 @@ from support import Case
 class PyMySQL(Case):
     def setUp(self):
         super().setUp()
-        self.gate = self.gateway()
+        self.server = self.serve()
 
     def tearDown(self):
-        self.assertEqual(self.gate.verdicts(), ["LEGAL"])
+        self.assertEqual(self.server.verdicts(), ["LEGAL"])
 
     def connect(self, **options):
-        connection = pymysql.connect(host="127.0.0.1", port=self.gate.port, user="root", **options)
+        connection = pymysql.connect(host="127.0.0.1", port=self.server.port, user="root", **options)
         self.ends.callback(lambda: connection.open and connection.close())
         return connection
 

@@ -14,9 +14,9 @@ WITNESSES, ASKED = 3, 250
 class Worker(threading.Thread):
     """A client that goes through cycles: reads and writes rows which others want too, and prepares and ends the branch."""
 
-    def __init__(self, gateway, number):
+    def __init__(self, server, number):
         super().__init__()
-        self.gateway, self.number, self.draw = gateway, number, random.Random(number)
+        self.server, self.number, self.draw = server, number, random.Random(number)
         self.ended, self.cut, self.refused, self.wrong = 0, 0, 0, []
         self.client = None
 
@@ -40,7 +40,7 @@ class Worker(threading.Thread):
         """One transaction. Where its connection is cut, another one commits the branch, if it was prepared."""
         try:
             if self.client is None:
-                self.client = self.gateway.client()
+                self.client = self.server.client()
             self.ask(f"XA START {xid}")
             for _ in range(self.draw.randint(1, 3)):
                 key = self.draw.randrange(KEYS)
@@ -56,7 +56,7 @@ class Worker(threading.Thread):
         while True:
             self.cut += 1
             self.client.close()
-            self.client = self.gateway.client()
+            self.client = self.server.client()
             try:
                 self.ask(f"XA COMMIT {xid}", 1397)
                 return
@@ -68,8 +68,8 @@ class Cycles(Case):
     def test_ten_thousand(self):
         cuts = [f"{kind} {number * 40 + 7} {what}" for number in range(5) for kind in ("XA PREPARE", "XA COMMIT", "XA ROLLBACK") for what in ("close-before", "close-after")][::2]
         cuts += [f"XA COMMIT {number * 40 + 9} close-after" for number in range(5)]
-        gateway = self.gateway(faults=cuts)
-        workers = [Worker(gateway, number) for number in range(CLIENTS)]
+        server = self.serve(faults=cuts)
+        workers = [Worker(server, number) for number in range(CLIENTS)]
         for worker in workers:
             worker.start()
         for worker in workers:
@@ -77,16 +77,16 @@ class Cycles(Case):
         self.assertEqual([fault for worker in workers for fault in worker.wrong], [])
         self.assertGreater(sum(worker.cut for worker in workers), 10)
         self.assertGreater(sum(worker.refused for worker in workers), 100)
-        self.assertEqual(self.client(gateway).ask("XA RECOVER").rows, [])
-        self.assertEqual(gateway.verdicts(), ["LEGAL"])
+        self.assertEqual(self.client(server).ask("XA RECOVER").rows, [])
+        self.assertEqual(server.verdicts(), ["LEGAL"])
 
 
 class Witness(threading.Thread):
     """A client that writes down when it calls and what it is answered, in a list that all share; where it is cut, it is lost, and comes as another one."""
 
-    def __init__(self, gateway, numbers, record, lock, seed):
+    def __init__(self, server, numbers, record, lock, seed):
         super().__init__()
-        self.gateway, self.numbers, self.record, self.lock, self.draw = gateway, numbers, record, lock, random.Random(seed)
+        self.server, self.numbers, self.record, self.lock, self.draw = server, numbers, record, lock, random.Random(seed)
         self.fault, self.plan = None, []
 
     def note(self, *lines):
@@ -98,7 +98,7 @@ class Witness(threading.Thread):
             asked = 0
             while asked < ASKED:
                 self.number = next(self.numbers)
-                with self.gateway.client() as client:
+                with self.server.client() as client:
                     try:
                         while asked < ASKED:
                             asked += 1
@@ -135,9 +135,9 @@ class Witness(threading.Thread):
 
 class Witnesses(Case):
     def test_what_clients_saw(self):
-        gateway = self.gateway(faults=["XA COMMIT 20 close-after", "XA PREPARE 10 close-after", "PUT 30 close-before"])
+        server = self.serve(faults=["XA COMMIT 20 close-after", "XA PREPARE 10 close-after", "PUT 30 close-before"])
         record, lock, numbers = [], threading.Lock(), itertools.count(1)
-        witnesses = [Witness(gateway, numbers, record, lock, seed) for seed in range(WITNESSES)]
+        witnesses = [Witness(server, numbers, record, lock, seed) for seed in range(WITNESSES)]
         for witness in witnesses:
             witness.start()
         for witness in witnesses:
@@ -146,4 +146,4 @@ class Witnesses(Case):
         self.assertEqual(sum("LOST" in line for line in record), WITNESSES + 3)
         self.assertGreater(sum(line.endswith("< OK") for line in record), 200)
         self.assertEqual(verdict("\n".join(record).encode()), "LEGAL")
-        self.assertEqual(gateway.verdicts(), ["LEGAL"])
+        self.assertEqual(server.verdicts(), ["LEGAL"])

@@ -1,4 +1,4 @@
-"""What the tests share: the program, and a gateway over it in a process of its own, or the server of `server/` in its place, where NIGBARU_SERVER names it."""
+"""What the tests share: the server that NIGBARU_SERVER names, in a process of its own, and the program xa_script, for verdicts."""
 import contextlib
 import os
 import re
@@ -12,19 +12,18 @@ from pathlib import Path
 from wire import Client
 
 HERE = Path(__file__).resolve().parent
-SERVE = HERE.parent / "serve"
 PROGRAM = os.environ["XA_SCRIPT"]
-SERVER = os.environ.get("NIGBARU_SERVER")
+SERVER = os.environ["NIGBARU_SERVER"]
 LONG = bool(os.environ.get("NIGBARU_LONG"))
+SEED = int(os.environ.get("NIGBARU_SEED", "62"))
 PYTHON = "/usr/bin/python3"
 LISTENS = re.compile(r"store (\d+) listens on [^ ]*:(\d+)")
-of_gateway = unittest.skipIf(SERVER, "it tests the gateway's own parts")
 
 
-class Gateway:
-    """`drivers/mysql/serve` as a person starts it, at ports that are free; `log` is what it has said."""
+class Server:
+    """The server as a person starts it, at ports that are free; `log` is what it has said."""
 
-    def __init__(self, *words, stores=1, faults=(), program=PROGRAM, folder=None, record=True):
+    def __init__(self, *words, stores=1, faults=(), record=True):
         self._folder = tempfile.TemporaryDirectory()
         self.folder = Path(self._folder.name)
         self.record = self.folder / "record"
@@ -35,14 +34,13 @@ class Gateway:
         if faults:
             (self.folder / "faults").write_text("".join(f"{line}\n" for line in faults))
             words += ["--fault", self.folder / "faults"]
-        command = [SERVER, *words] if SERVER else [PYTHON, SERVE, *words, program]
-        self.process = subprocess.Popen(command, stderr=subprocess.PIPE, text=True)
+        self.process = subprocess.Popen([SERVER, *words], stderr=subprocess.PIPE, text=True)
         self.log = []
         self.ports = []
         while len(self.ports) < stores:
             line = self.process.stderr.readline()
             if not line:
-                raise AssertionError(f"the gateway doesn't start: {self.log}")
+                raise AssertionError(f"the server doesn't start: {self.log}")
             self.log.append(line.rstrip("\n"))
             found = LISTENS.fullmatch(self.log[-1])
             if found:
@@ -72,7 +70,7 @@ class Gateway:
         return any(words in line for line in self.log)
 
     def end(self):
-        """Ends the gateway by its signal; the status."""
+        """Ends the server by its signal; the status."""
         if self.process.poll() is None:
             self.process.terminate()
         status = self.process.wait(30)
@@ -89,13 +87,8 @@ class Gateway:
 
 
 def verdict(record):
-    ran = subprocess.run([PROGRAM, "judge"], input=record, stdout=subprocess.PIPE, timeout=300)
+    ran = subprocess.run([PROGRAM, "judge", "--quiet"], input=record, stdout=subprocess.PIPE, timeout=300)
     return ran.stdout.split(b"\n")[0].decode()
-
-
-def children_of(pid):
-    """The processes that this one started."""
-    return [int(word) for word in Path(f"/proc/{pid}/task/{pid}/children").read_text().split()]
 
 
 def wait_for(holds, what, seconds=90):
@@ -107,17 +100,17 @@ def wait_for(holds, what, seconds=90):
 
 
 class Case(unittest.TestCase):
-    """A test that may open gateways and clients, which end with it."""
+    """A test that may open servers and clients, which end with it."""
 
     def setUp(self):
         self.ends = contextlib.ExitStack()
         self.addCleanup(self.ends.close)
 
-    def gateway(self, *words, **options):
-        return self.ends.enter_context(Gateway(*words, **options))
+    def serve(self, *words, **options):
+        return self.ends.enter_context(Server(*words, **options))
 
-    def client(self, gateway, store=0):
-        return self.ends.enter_context(gateway.client(store))
+    def client(self, server, store=0):
+        return self.ends.enter_context(server.client(store))
 
     def ok(self, client, *texts):
         for text in texts:

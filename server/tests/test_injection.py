@@ -7,15 +7,15 @@ from support import Case
 class Injection(Case):
     def setUp(self):
         super().setUp()
-        self.gate = self.gateway()
-        self.one, self.two = self.client(self.gate), self.client(self.gate)
+        self.server = self.serve()
+        self.one, self.two = self.client(self.server), self.client(self.server)
         self.ok(self.two, "XA START 'victim'", "PUT 'k','v'", "XA END 'victim'")
 
     def tearDown(self):
         self.ok(self.two, "XA PREPARE 'victim'", "XA COMMIT 'victim'")
         self.assertEqual(self.value(self.two, "k"), b"v")
-        self.assertEqual(self.gate.verdicts(), ["LEGAL"])
-        record = self.gate.record.read_bytes()
+        self.assertEqual(self.server.verdicts(), ["LEGAL"])
+        record = self.server.record.read_bytes()
         self.assertNotIn(b"2 > XA ROLLBACK", record)
         self.assertRegex(record, rb"\A(?:[0-9]+ [<>] [ -~]*\n|[0-9]+ [0-9]+ [0-9]+ 0x[0-9a-f]*\n|#[ -~]*\n)*\Z")
 
@@ -39,7 +39,7 @@ class Injection(Case):
 
     def test_a_driver_that_quotes(self):
         """Every byte, as PyMySQL writes texts and bytes, comes back."""
-        connection = pymysql.connect(host="127.0.0.1", port=self.gate.port, user="u", autocommit=True)
+        connection = pymysql.connect(host="127.0.0.1", port=self.server.port, user="u", autocommit=True)
         with connection, connection.cursor() as cursor:
             for value in [bytes((byte,)) * 2 for byte in range(256)] + [b"'\n2 XA ROLLBACK 'victim'", b"\\';--\n", bytes(range(64))]:
                 cursor.execute("PUT %s,%s", (b"row", value))

@@ -5,13 +5,12 @@ import tempfile
 import unittest
 from pathlib import Path
 
-import support
 from mariadb import mariadb
-from support import Case
+from support import LONG, Case
 from wire import Client
 
 STAYS = "a prepared branch is listed"  # MariaDB's stays with its session, whose flag says so until the end
-LONG = "'" + "x" * 65 + "'"
+TOO_LONG = "'" + "x" * 65 + "'"
 # Each case: who says what. Rules in which the two differ are in docs/HISTORIES.md#records-of-mariadb; none of these meets one.
 CASES = {
     "a branch in one phase": ["1 XA START 'a'", "1 XA END 'a'", "1 XA COMMIT 'a' ONE PHASE", "1 XA RECOVER"],
@@ -23,7 +22,7 @@ CASES = {
     "wrong states of an idle one": ["1 XA START 'a'", "1 XA END 'a'", "1 XA START 'b'", "1 XA END 'a'", "1 XA COMMIT 'a'", "1 COMMIT", "1 WRITE", "1 XA PREPARE 'b'", "1 XA ROLLBACK 'a'"],
     "one identifier twice": ["1 XA START 'a'", "2 XA START 'a'", "1 XA END 'a'", "2 XA START 'a'", "1 XA ROLLBACK 'a'", "2 XA START 'a'", "2 XA END 'a'", "2 XA ROLLBACK 'a'"],
     "clauses that aren't supported": ["1 XA START 'a' JOIN", "1 XA START 'a'", "1 XA END 'a' SUSPEND", "1 XA END 'a' SUSPEND FOR MIGRATE", "1 XA END 'a'", "1 XA ROLLBACK 'a'"],
-    "what is no statement": [f"1 {text}" for text in (f"XA START {LONG}", "XA START 'a','b',2147483648", "XA START", "XA", "XA START 'a' ONE PHASE", "XA COMMIT 'a' ONE", "XA START 'a',", "XA RECOVER now",
+    "what is no statement": [f"1 {text}" for text in (f"XA START {TOO_LONG}", "XA START 'a','b',2147483648", "XA START", "XA", "XA START 'a' ONE PHASE", "XA COMMIT 'a' ONE", "XA START 'a',", "XA RECOVER now",
                                                       "NONSENSE", "XA START 'a','b','c'", "XA START a")],
     "spellings": [f"1 XA {verb} {xid}" for xid in (r"'it''s\n'", r'"say ""so"""', "X'4142'", "0x4142", "'a',''", "'a',X'',2147483647", "0x414") for verb in ("START", "END", "ROLLBACK")],
     "a transaction of statements": ["1 START TRANSACTION", "1 WRITE", "1 XA START 'a'", "1 XA END 'a'", "1 XA PREPARE 'a'", "1 XA COMMIT 'a'", "1 XA ROLLBACK 'a'", "1 COMMIT", "1 BEGIN", "1 WRITE", "1 ROLLBACK"],
@@ -44,15 +43,15 @@ def described(answer, flags):
 
 class Agreement(Case):
     def test_both_say_the_same(self):
-        gateway = self.gateway()
+        server = self.serve()
         with mariadb() as port:
             with Client(port) as client:
                 self.ok(client, "CREATE DATABASE db", "CREATE TABLE db.t (k VARBINARY(64) PRIMARY KEY, v VARBINARY(64)) ENGINE=InnoDB", "INSERT INTO db.t VALUES ('k','')")
             for name, steps in CASES.items():
                 with self.subTest(name):
                     flags = 2 if name == STAYS else 3
-                    self.assertEqual(self.said("nigbaru", gateway.port, steps, flags), self.said("mariadb", port, steps, flags))
-            with gateway.client() as ours, Client(port) as theirs:
+                    self.assertEqual(self.said("nigbaru", server.port, steps, flags), self.said("mariadb", port, steps, flags))
+            with server.client() as ours, Client(port) as theirs:
                 self.assertEqual(ours.ask("XA RECOVER").columns, theirs.ask("XA RECOVER").columns)
 
     def said(self, name, port, steps, flags):
@@ -105,17 +104,17 @@ SECONDS = 5
 
 
 class Speed(Case):
-    @unittest.skipIf(support.SERVER and not support.LONG, "server/test has it with --long")
+    @unittest.skipUnless(LONG, "server/test has it with --long")
     def test_round_trips(self):
         """Prints the ratios; none is a promise."""
-        gateway = self.gateway(record=False)
+        server = self.serve(record=False)
         folder = Path(self.ends.enter_context(tempfile.TemporaryDirectory()))
         for name, statement in TRIPS.items():
             (folder / f"{name}.lua").write_text(CYCLE.replace("STATEMENT", statement))
         with mariadb() as port:
             with Client(port) as client:
                 self.ok(client, "CREATE DATABASE db", "CREATE TABLE db.t (k VARBINARY(64) PRIMARY KEY, v VARBINARY(64)) ENGINE=InnoDB")
-            servers = [(folder / "nigbaru.lua", gateway.port), (folder / "mariadb.lua", port)]
+            servers = [(folder / "nigbaru.lua", server.port), (folder / "mariadb.lua", port)]
             for server in servers:
                 self.trips(*server, 4, seconds=1)  # nobody begins cold
             print("\nround trips a second:")

@@ -1,4 +1,6 @@
 """Java programs over Connector/J: the codes of its XAResource, and Bitronix over two stores, killed and disturbed."""
+import fcntl
+import os
 import subprocess
 import tempfile
 from pathlib import Path
@@ -52,32 +54,40 @@ what a pool asks OK
 """
 
 
+def compiled():
+    """The folder of the compiled programs, which all tests share: whichever comes first compiles them."""
+    folder = Path(os.environ["NIGBARU_CLASSES"])
+    with open(folder / "lock", "w") as lock:
+        fcntl.flock(lock, fcntl.LOCK_EX)
+        if not (folder / "done").exists():
+            subprocess.run(["javac", "-d", folder, "-cp", CLASSPATH, *(HERE / "java").glob("*.java")], check=True)
+            (folder / "done").touch()
+    return folder
+
+
 class Java(Case):
-    """Compiles the programs once, and runs them."""
-    @classmethod
-    def setUpClass(cls):
-        cls.classes = tempfile.TemporaryDirectory()
-        cls.addClassCleanup(cls.classes.cleanup)
-        subprocess.run(["javac", "-d", cls.classes.name, "-cp", CLASSPATH, *(HERE / "java").glob("*.java")], check=True)
+    """Runs the programs."""
 
     def java(self, *words):
-        process = subprocess.Popen(["java", "-Xshare:auto", "-XX:TieredStopAtLevel=1", "-Dfile.encoding=UTF-8", "-cp", f"{CLASSPATH}:{self.classes.name}", *map(str, words)],
+        process = subprocess.Popen(["java", "-Xshare:auto", "-XX:TieredStopAtLevel=1", "-Dfile.encoding=UTF-8", "-cp", f"{CLASSPATH}:{compiled()}", *map(str, words)],
                                    stdout=subprocess.PIPE, text=True, encoding="utf-8")
         self.ends.callback(process.stdout.close)
+        self.ends.callback(process.wait)
+        self.ends.callback(process.kill)
         return process
 
     def says(self, *words):
         process = self.java(*words)
-        said = process.communicate(timeout=120)[0]
+        said = process.communicate(timeout=300)[0]
         self.assertEqual(process.returncode, 0, said)
         return said
 
 
 class Codes(Java):
     def test_codes(self):
-        gateway = self.gateway()
-        self.assertEqual(self.says("Codes", gateway.port), CODES)
-        self.assertEqual(gateway.verdicts(), ["LEGAL"])
+        server = self.serve()
+        self.assertEqual(self.says("Codes", server.port), CODES)
+        self.assertEqual(server.verdicts(), ["LEGAL"])
 
 
 class Bitronix(Java):
@@ -85,16 +95,16 @@ class Bitronix(Java):
         super().setUp()
         self.journal = Path(self.ends.enter_context(tempfile.TemporaryDirectory()))
 
-    def transfer(self, gateway, what, value="new"):
-        return self.says("Transfer", self.journal, *gateway.ports, what, value)
+    def transfer(self, server, what, value="new"):
+        return self.says("Transfer", self.journal, *server.ports, what, value)
 
-    def prepared(self, gateway):
+    def prepared(self, server):
         """How many branches are prepared in each store."""
-        return [len(self.client(gateway, store).ask("XA RECOVER").rows) for store in (0, 1)]
+        return [len(self.client(server, store).ask("XA RECOVER").rows) for store in (0, 1)]
 
-    def outcome(self, gateway):
+    def outcome(self, server):
         """The row of both stores, which have to agree, once nothing is prepared in either."""
-        clients = [self.client(gateway, store) for store in (0, 1)]
+        clients = [self.client(server, store) for store in (0, 1)]
         for client in clients:
             self.assertEqual(client.ask("XA RECOVER").rows, [])
         one, two = [self.value(client, "k") for client in clients]
@@ -102,38 +112,38 @@ class Bitronix(Java):
         return one
 
     def test_commit_and_rollback(self):
-        gateway = self.gateway(stores=2)
-        self.assertIn("COMMITTED", self.transfer(gateway, "commit", "first"))
-        self.assertEqual(self.outcome(gateway), b"first")
-        self.assertIn("ROLLED BACK", self.transfer(gateway, "rollback", "second"))
-        self.assertEqual(self.outcome(gateway), b"first")
-        self.assertEqual(gateway.verdicts(), ["LEGAL", "LEGAL"])
+        server = self.serve(stores=2)
+        self.assertIn("COMMITTED", self.transfer(server, "commit", "first"))
+        self.assertEqual(self.outcome(server), b"first")
+        self.assertIn("ROLLED BACK", self.transfer(server, "rollback", "second"))
+        self.assertEqual(self.outcome(server), b"first")
+        self.assertEqual(server.verdicts(), ["LEGAL", "LEGAL"])
 
     def test_a_refused_row(self):
-        gateway = self.gateway(stores=2)
-        other = self.client(gateway, 1)
+        server = self.serve(stores=2)
+        other = self.client(server, 1)
         self.ok(other, "XA START 'other'", "PUT 'k','theirs'")
-        self.assertIn("REFUSED SQLTransientConnectionException", self.transfer(gateway, "commit"))
+        self.assertIn("REFUSED SQLTransientConnectionException", self.transfer(server, "commit"))
         self.ok(other, "XA END 'other'", "XA ROLLBACK 'other'")
-        self.assertIsNone(self.outcome(gateway))
-        self.assertEqual(gateway.verdicts(), ["LEGAL", "LEGAL"])
+        self.assertIsNone(self.outcome(server))
+        self.assertEqual(server.verdicts(), ["LEGAL", "LEGAL"])
 
-    def crash(self, gateway, words):
-        """Kills a process that commits once the gateway has said these words."""
-        process = self.java("Transfer", self.journal, *gateway.ports, "commit", "new")
-        wait_for(lambda: gateway.logged(words), words, 60)
+    def crash(self, server, words):
+        """Kills a process that commits once the server has said these words."""
+        process = self.java("Transfer", self.journal, *server.ports, "commit", "new")
+        wait_for(lambda: server.logged(words), words, 180)
         process.kill()
         process.wait(30)
 
     def killed_at(self, statement, prepared):
         """Kills the process while a store holds its statement, with so many branches prepared in each store; what a further process then makes of it."""
-        gateway = self.gateway(stores=2, faults=[f"{statement} stall 600"])
-        self.crash(gateway, "held before it")
-        wait_for(lambda: gateway.logged("while its statement was held"), "the gateway sees it")
-        self.assertEqual(self.prepared(gateway), prepared)
-        said = self.transfer(gateway, "recover")
-        self.assertEqual(gateway.verdicts(), ["LEGAL", "LEGAL"])
-        return said, self.outcome(gateway)
+        server = self.serve(stores=2, faults=[f"{statement} stall 600"])
+        self.crash(server, "held before it")
+        wait_for(lambda: server.logged("while its statement was held"), "the server sees it")
+        self.assertEqual(self.prepared(server), prepared)
+        said = self.transfer(server, "recover")
+        self.assertEqual(server.verdicts(), ["LEGAL", "LEGAL"])
+        return said, self.outcome(server)
 
     # Bitronix prepares the stores in their order, and commits them the other way round.
 
@@ -147,22 +157,22 @@ class Bitronix(Java):
         self.assertEqual(self.killed_at("STORE 1 XA COMMIT 1", [1, 0]), ("FOUND 1 0\n", b"new"))
 
     def test_stores_that_came_back_empty(self):
-        """A store ends with its gateway, and Bitronix counts the branch that it doesn't find as committed."""
-        gateway = self.gateway(stores=2, faults=["STORE 1 XA COMMIT 1 stall 600"])
-        self.crash(gateway, "held before it")
-        gateway.end()
-        empty = self.gateway(stores=2)
+        """A store ends with its server, and Bitronix counts the branch that it doesn't find as committed."""
+        server = self.serve(stores=2, faults=["STORE 1 XA COMMIT 1 stall 600"])
+        self.crash(server, "held before it")
+        server.end()
+        empty = self.serve(stores=2)
         self.assertEqual(self.transfer(empty, "recover"), "FOUND 1 0\n")
         self.assertIsNone(self.outcome(empty))
 
     def recovered(self, *faults):
         """Two processes that recover after a crash before the second commit, the first of them with faults: what each found, and both stores' rows."""
-        gateway = self.gateway(stores=2, faults=["STORE 1 XA COMMIT 1 stall 600", *faults])
-        self.crash(gateway, "held before it")
-        found = [self.transfer(gateway, "recover").strip() for _ in range(2)]
-        self.assertEqual(self.prepared(gateway), [0, 0])
-        self.assertEqual(gateway.verdicts(), ["LEGAL", "LEGAL"])
-        return found, [self.value(self.client(gateway, store), "k") for store in (0, 1)]
+        server = self.serve(stores=2, faults=["STORE 1 XA COMMIT 1 stall 600", *faults])
+        self.crash(server, "held before it")
+        found = [self.transfer(server, "recover").strip() for _ in range(2)]
+        self.assertEqual(self.prepared(server), [0, 0])
+        self.assertEqual(server.verdicts(), ["LEGAL", "LEGAL"])
+        return found, [self.value(self.client(server, store), "k") for store in (0, 1)]
 
     def test_a_list_that_is_cut(self):
         found, rows = self.recovered("STORE 1 XA RECOVER 3 close-before")
@@ -177,13 +187,13 @@ class Bitronix(Java):
 
     def disturbed(self, fault):
         """A transaction with a fault: what Bitronix says of it, and the row that both stores have in the end."""
-        gateway = self.gateway(stores=2, faults=[fault])
-        said = self.transfer(gateway, "commit").split("\n")[-2]
-        if any(self.prepared(gateway)):
-            self.transfer(gateway, "recover")
-        row = self.outcome(gateway)
+        server = self.serve(stores=2, faults=[fault])
+        said = self.transfer(server, "commit").split("\n")[-2]
+        if any(self.prepared(server)):
+            self.transfer(server, "recover")
+        row = self.outcome(server)
         if " error " not in fault:
-            self.assertEqual(gateway.verdicts(), ["LEGAL", "LEGAL"])
+            self.assertEqual(server.verdicts(), ["LEGAL", "LEGAL"])
         return said, row
 
     def test_faults_at_the_prepares(self):
@@ -207,14 +217,14 @@ class Bitronix(Java):
         """A fault, and then the process is killed at once: wherever that meets it, both stores agree once a further process has recovered."""
         for fault in [f"STORE {store} XA {verb} 1 {what}" for store, verb in ((1, "PREPARE"), (2, "PREPARE"), (1, "COMMIT"), (2, "COMMIT")) for what in ("close-before", "close-after", "stall-after 9", "error 1399")]:
             with self.subTest(fault):
-                gateway = self.gateway(stores=2, faults=[fault])
-                self.crash(gateway, "the fault")
-                self.transfer(gateway, "recover")
-                self.outcome(gateway)
+                server = self.serve(stores=2, faults=[fault])
+                self.crash(server, "the fault")
+                self.transfer(server, "recover")
+                self.outcome(server)
                 if " error " not in fault:
-                    self.assertEqual(gateway.verdicts(), ["LEGAL", "LEGAL"])
+                    self.assertEqual(server.verdicts(), ["LEGAL", "LEGAL"])
 
     def test_a_store_that_says_it_rolled_back(self):
         """A lie at the commit is a heuristic outcome, and Bitronix says so."""
-        gateway = self.gateway(stores=2, faults=["STORE 1 XA COMMIT 1 error 1402"])
-        self.assertIn("REFUSED BitronixHeuristicMixedException", self.transfer(gateway, "commit"))
+        server = self.serve(stores=2, faults=["STORE 1 XA COMMIT 1 error 1402"])
+        self.assertIn("REFUSED BitronixHeuristicMixedException", self.transfer(server, "commit"))

@@ -1,4 +1,4 @@
-"""A client of MySQL's protocol for tests, so small that each byte it sends is known, and independent of what the gateway reads with."""
+"""A client of MySQL's protocol for tests, so small that each byte it sends is known, and independent of what the server reads with."""
 import hashlib
 import select
 import socket

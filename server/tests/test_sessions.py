@@ -8,12 +8,12 @@ IN_TRANSACTION, AUTOCOMMIT = 1, 2
 class Sessions(Case):
     def setUp(self):
         super().setUp()
-        self.gate = self.gateway()
-        self.one, self.two = self.client(self.gate), self.client(self.gate)
+        self.server = self.serve()
+        self.one, self.two = self.client(self.server), self.client(self.server)
         self.verdict = "LEGAL"
 
     def tearDown(self):
-        self.assertEqual(self.gate.verdicts(), [self.verdict])
+        self.assertEqual(self.server.verdicts(), [self.verdict])
 
     def status(self, text, client=None):
         return self.ok(client or self.one, text).status
@@ -156,7 +156,7 @@ class Sessions(Case):
         self.assertEqual(self.value(self.one, "k"), b"abcd")
 
     def test_chatter(self):
-        self.verdict = "EMPTY"  # the gateway answers all of this itself
+        self.verdict = "EMPTY"  # the server answers all of this itself, and asks no store
         for text in ("/* hello */ SELECT 1", "select @@max_allowed_packet, @@session.autocommit AS c limit 1", "show databases;", "SHOW WARNINGS"):
             self.assertEqual(self.one.ask(text).kind, TABLE, text)
         self.assertEqual(self.one.ask("select @@max_allowed_packet, @@autocommit AS c").rows, [(b"65536", b"1")])

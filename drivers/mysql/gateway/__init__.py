@@ -1,1 +1,0 @@
-"""A gateway that speaks MySQL's client protocol in front of `xa_script serve`."""
