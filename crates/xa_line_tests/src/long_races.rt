@@ -1,13 +1,12 @@
 //! Races of lists of statements over stores without an end, whose rings are small.
-ghost use Rattle.std.specs.Prelude.{◌≡◌, ◌≤◌, length, IfSome};
+ghost use Rattle.std.specs.Prelude.{◌≤◌, length, IfSome};
 ghost use Rattle.ring_log.specs.RingOpens.{AreRows};
 
 use std::alloc::Global;
 use std::process::Abort;
 use std::sync::Wait;
 use std::thread::Threads;
-use xa_endless::{EndlessSession, EndlessStore};
-use xa_endless_races::{LongOutcome, LongRun, hold_long_race, race_on};
+use xa_endless_races::{LongOutcome, hold_long_race};
 use xa_server::Reply;
 use xa_session::Answer;
 use xa_store::{Gate, OpenGate, RaceFault};
@@ -114,34 +113,15 @@ impl Gate for LetsTwo {
     }
 }
 
-/// A session of a store, with four statements.
-fn run(alloc: Global, session: EndlessSession, letter: u8) -> Option<LongRun>
-    ensures { IfSome result (λ run. run.session ≡ session) }
-{
-    let lines = writes(alloc, letter, 4)?;
-    Some(LongRun { session, lines })
-}
-
-/// The fault of a race of two sessions that are stopped, and where a third session then finds the end of the history.
-fn stopped<R: Threads + Wait + Sync>(rt: &R, alloc: Global) -> Option<(RaceFault, u64)> {
-    let store = EndlessStore::open(alloc, 2, 3).ok()?;
-    let first = run(alloc, EndlessStore::take(&store, 1).ok()?, b'a')?;
-    let second = run(alloc, EndlessStore::take(&store, 2).ok()?, b'b')?;
-    let mut third = EndlessStore::take(&store, 3).ok()?;
-    let runs = vec![in alloc; first, second].ok()?;
-    let fault = race_on(rt, alloc, &store, 0, runs, &LetsTwo).err()?;
-    let answer = third
-        .execute(rt, &Statement::Recover { convert: false })
-        .ok()?;
-    Some((fault, answer.place))
+/// The fault of a race of three sessions that are stopped.
+fn stopped<R: Threads + Wait + Sync>(rt: &R, alloc: Global) -> Option<RaceFault> {
+    let lists = three_lists(alloc, 4)?;
+    hold_long_race(rt, alloc, 2, lists, &LetsTwo).err()
 }
 
 #[test]
-fn session_that_stops_adds_nothing_more(rt: HostRuntime) {
+fn fault_names_the_first_session_and_where_it_stopped(rt: HostRuntime) {
     let session = SessionNo::of(1).unwrap();
-    let Some((fault, place)) = stopped(&rt, rt.alloc()) else {
-        panic!(rt; "no fault")
-    };
-    assert_eq!(rt; fault, RaceFault::GateShut { session, line: 2 });
-    assert_eq!(rt; place, 4);
+    let fault = stopped(&rt, rt.alloc());
+    assert_eq!(rt; fault, Some(RaceFault::GateShut { session, line: 2 }));
 }
