@@ -1,5 +1,5 @@
 -- What is gathered from records stands in their order; and a list in order is the entries of the map that it makes.
-use Rattle.std.proofs.Common.{◌≡◌, List, [], ◌∷◌, refl, ap, sym, ◌∙◌, subst, Bool, true, false, inl, inr, map}
+use Rattle.std.proofs.Common.{◌≡◌, ◌≤◌, length, suc, arith, List, [], ◌∷◌, refl, ap, sym, ◌∙◌, subst, Bool, true, false, inl, inr, map}
 use mathlib.Core.Bool.{true≢false}
 use Rattle.std.specs.Prelude.{Option, Some, None, cond, ◌&&◌}
 use Rattle.std.specs.List.{AllByRecursion}
@@ -9,7 +9,7 @@ use Rattle.std.specs.declared.cmp.Ordering.{Ordering}
 use Rattle.std.specs.declared.cmp.Ordering.TheVariants.{Less, Equal, Greater}
 use Rattle.std.specs.Ordering.{eq_by_cmp, is_lt, is_eq}
 use Rattle.std.specs.Cmp.{IsTotalOrder, eq_by_cmp_equiv}
-use Rattle.std.specs.FinMap.{FinMap, find, is_sorted, from_sorted, from_entries, entries, same_map, get-from_entries, get-from_sorted, entries-from_sorted}
+use Rattle.std.specs.FinMap.{FinMap, len, len-entries, find, is_sorted, from_sorted, from_entries, entries, same_map, get-from_entries, get-from_sorted, entries-from_sorted}
 use Rattle.std.specs.FinMap.{get-entries, entries_sorted}
 use Rattle.std.specs.FinMap.Entries.{below_all}
 use Rattle.std.proofs.lemmas.Map.Lookups.{CmpEqualImpliesEq}
@@ -49,6 +49,20 @@ module _ {K V W : Type 0} where
   abbrev pub kept : (V → Option W) → List (K × V) → List (K × W)
   kept found [] = []
   kept found (e ∷ es) = with_kept e.0 (found e.1) (kept found es)
+
+module _ {K W : Type 0} where
+  length-with : (k : K) (here : Option W) (rest : List (K × W)) → length (with_kept k here rest) ≤ suc (length rest)
+  length-with k None rest = omega arith
+  length-with k (Some w) rest = omega arith
+
+module _ {K V W : Type 0} where
+  -- no more is found than there are records
+  pub length-kept : (found : V → Option W) (es : List (K × V)) → length (kept found es) ≤ length es
+  length-kept found [] = omega arith
+  length-kept found (e ∷ es) =
+      let here : length (with_kept e.0 (found e.1) (kept found es)) ≤ suc (length (kept found es)) = length-with e.0 (found e.1) (kept found es) in
+      let rest : length (kept found es) ≤ length es = length-kept found es in
+      omega arith
 
 module _ {K W : Type 0} (R : K → K → Ordering) where
   below_with : (k other : K) (here : Option W) (rest : List (K × W)) → is_lt (R k other) ≡ true → below_all R k rest ≡ true
@@ -120,6 +134,14 @@ module _ {K V W : Type 0} {R : K → K → Ordering} (total : IsTotalOrder R) (e
   -- what is gathered from records, in order
   pub entries-gather : (found : V → Option W) (records : FinMap R V) → entries (gather found records) ≡ kept found (entries records)
   entries-gather found records = ap entries (gather-kept found records) ∙ entries-from_sorted R (kept found (entries records)) (kept_T found records)
+
+  -- what is gathered from records has no more entries than these
+  pub len-gather : (found : V → Option W) (records : FinMap R V) → len (gather found records) ≤ len records
+  len-gather found records =
+      let gathered : len (gather found records) ≡ length (kept found (entries records)) = len-entries (gather found records) ∙ ap length (entries-gather found records) in
+      let all : len records ≡ length (entries records) = len-entries records in
+      let fewer : length (kept found (entries records)) ≤ length (entries records) = length-kept found (entries records) in
+      omega arith
 
 module _ {K V : Type 0} {R : K → K → Ordering} (total : IsTotalOrder R) (exact : CmpEqualImpliesEq R) where
   -- a record that stands before those in question doesn't matter

@@ -138,6 +138,13 @@ impl RowTable {
         self.alloc
     }
 
+    /// Returns how many rows have a record.
+    pub fn count(&self) -> usize
+        ensures { result ≡ map.len self.now }
+    {
+        self.by_key.len()
+    }
+
     /// Returns whether both have the same records.
     pub fn is_same(&self, other: &RowTable) -> bool
         ensures { result ≡ true → self.now ≡ other.now }

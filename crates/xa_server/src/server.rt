@@ -1,5 +1,5 @@
 //! The server: its records, and the state that they stand for.
-ghost use Rattle.std.specs.Prelude.{◌≡◌, ◌≢◌, [], true, false, cond, is_some, Some, None, OnOk, OnErr, IfOk};
+ghost use Rattle.std.specs.Prelude.{◌≡◌, ◌≢◌, ◌≤◌, [], true, false, cond, is_some, Some, None, OnOk, OnErr, IfOk};
 ghost use Rattle.std.specs.FinMap as map;
 ghost use Rattle.xa_server.specs.Tables.{with_record, without_last};
 
@@ -94,6 +94,16 @@ impl Server {
             branches: self.branches.copy()?,
             rows: self.rows.copy()?,
         })
+    }
+
+    /// Returns how many rows the server has a record of: all that have a value, and those that a branch holds.
+    ///
+    /// A copy takes time and memory for each. Takes no memory. Doesn't wait.
+    pub fn row_count(&self) -> usize
+        // Proved (server, row-count): A server counts at least the rows that have a value.
+        ensures { map.len self.now.rows ≤ result }
+    {
+        self.rows.count()
     }
 
     /// Returns whether both servers are known to have the same branches and rows.
