@@ -15,6 +15,9 @@ use atomic_table::Seat;
 use decision_log::SeatView;
 use xa_words::Entry;
 
+/// How many places are filled at once at most.
+const MOST_FILLED: u64 = 64;
+
 impl RingLog {
     /// The session of the entry of a place that the table has.
     pub(crate) fn column(&self, pass: &RingPass, place: u64) -> u64
@@ -73,7 +76,7 @@ impl RingLog {
     }
 
     /// Fills the table for the places from `first` to `count`, as far as its rows reach, from the newest entry back
-    /// along the links. Returns the place from which on the table then has the columns.
+    /// along the links; or for the newest alone, if there are many. Returns the place from which on the table then has the columns.
     pub(crate) fn fill(
         &self,
         seat: &mut Seat<Entry, SeatView>,
@@ -100,6 +103,11 @@ impl RingLog {
         }
         let top = count - 1;
         columns[(top % self.rows) as usize] = name_column(self.columns, newest);
+        // A pass that missed many may never read them, if its session goes on from a checkpoint. `reach` fills in what
+        // it does read.
+        if count - first > MOST_FILLED {
+            return top;
+        }
         let stop = walk_stop(self.rows, first, count);
         let reached = self.walk(seat, columns, top, newest, stop);
         // If all places between are known, the places below them that were known still are.
