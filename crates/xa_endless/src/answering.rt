@@ -27,7 +27,7 @@ impl EndlessStore {
             .attempt(&self.log, &mut member.pass, statement)
     }
 
-    /// Tries once to answer a statement, from a checkpoint if the session is behind.
+    /// Tries once to answer a statement, from a checkpoint if that is faster, or if the session is behind.
     fn answer(&self, member: &mut Member, statement: &Statement) -> Result<Answer, EndlessFault>
         requires { log_of member.old.pass ≡ identity_of self.now.log }
         ensures belongs { log_of member.new.pass ≡ log_of member.old.pass }
@@ -36,6 +36,7 @@ impl EndlessStore {
         ensures finds { Finds self.now.log statement.now result member.new.replica member.old.pass member.new.pass }
         ensures once { TriesOnce result (known_of member.old.pass) (known_of member.new.pass) }
     {
+        self.jump(member);
         let answered = self.try_once(member, statement);
         if !matches!(answered, Err(EndlessFault::Behind)) {
             return answered;
@@ -110,8 +111,8 @@ impl EndlessSession {
             let tended = self.member.tended;
             match self.attempt(statement) {
                 Ok(answer) => {
-                    // A checkpoint is up to date: threads that wait for a processor can look before the ring has gone
-                    // round.
+                    // Much of the ring is used up: threads that wait for a processor can look before it has gone round,
+                    // and find a checkpoint if they need one.
                     if self.member.tended != tended {
                         thread::yield_now();
                     }

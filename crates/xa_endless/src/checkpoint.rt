@@ -1,9 +1,9 @@
 //! A replica that no session owns.
-ghost use Rattle.std.specs.Prelude.{◌≡◌, ◌<◌, ◌≤◌, length, IfSome, IfNone};
+ghost use Rattle.std.specs.Prelude.{◌≡◌, ◌<◌, ◌≤◌, false, length, IfSome, IfNone};
 ghost use Rattle.std.specs.Coded.{Coded-set};
 ghost use Rattle.ring_log.specs.RingPass.{identity_of, log_of, known_of};
 ghost use Rattle.ring_log.specs.RingSpare.{spare_log_of, spare_known_of};
-ghost use Rattle.xa_endless.specs.Members.{Hears, Tends};
+ghost use Rattle.xa_endless.specs.Members.{Hears, Keeps, Serves, Tends};
 ghost use Rattle.xa_endless.specs.Replicas.{Stands};
 ghost use Rattle.xa_server.specs.Coding.{coded_state};
 ghost use Rattle.xa_server.specs.State.{no_state};
@@ -28,34 +28,64 @@ pub(crate) struct Checkpoint {
 }
 
 impl Checkpoint {
-    /// Shares the replica with a session, if it has replayed more than `least` entries, and can replay the next one.
+    /// How many entries the replica has replayed, if a session can go on from there: if it has replayed more than the
+    /// session's own, and can replay the next one.
+    pub(crate) fn offers(&self, log: &RingLog, member: &Member) -> Option<u64>
+        requires mine { spare_log_of self.now.spare ≡ identity_of log.now }
+        requires belongs { log_of member.now.pass ≡ identity_of log.now }
+        ensures { IfSome result (λ _. member.now.replica.replayed < self.now.replica.value.replayed) }
+    {
+        let replayed = self.replica.replayed;
+        // A replica of which entries are lost, too, is of no use.
+        let is_lost = replayed.saturating_add(log.rows()) <= log.length(&member.pass);
+        if replayed <= member.replica.replayed || is_lost {
+            None
+        } else {
+            Some(replayed)
+        }
+    }
+
+    /// Shares the replica with a session that can go on from there.
     ///
     /// The session has then seen all that the replica stands for.
-    pub(crate) fn share(
-        &mut self,
-        log: &RingLog,
-        member: &mut Member,
-        least: u64,
-    ) -> Option<Arc<Replica>>
+    pub(crate) fn share(&mut self, log: &RingLog, member: &mut Member) -> Option<Arc<Replica>>
         requires mine { spare_log_of self.old.spare ≡ identity_of log.now }
         requires belongs { log_of member.old.pass ≡ identity_of log.now }
         ensures mine { spare_log_of self.new.spare ≡ identity_of log.now }
         ensures belongs { log_of member.new.pass ≡ log_of member.old.pass }
         ensures hears { Hears member.old member.new }
-        ensures further { IfSome result (λ shared. least < shared.value.replayed) }
-        ensures stands { IfSome result (λ shared. Stands (known_of member.new.pass).seen shared.value) }
+        ensures serves { IfSome result (λ shared. Serves member.new shared.value) }
         ensures none { IfNone result (member.new ≡ member.old) }
     {
-        let replayed = self.replica.replayed;
-        // A replica of which entries are lost, too, is of no use, and a copy of it would take time.
-        let is_lost = replayed.saturating_add(log.rows()) <= log.length(&member.pass);
-        if replayed <= least || is_lost {
-            return None;
-        }
+        self.offers(log, member)?;
         let shared = Arc::try_clone(&self.replica).ok()?;
         // Both have seen first parts of one history, so what the replica has replayed begins what the session has seen.
         log.hear(&mut self.spare, &mut member.pass);
         Some(shared)
+    }
+
+    /// Exchanges the replica with that of a session that can go on from there, unless it is shared. Returns whether it
+    /// did.
+    pub(crate) fn exchange(&mut self, log: &RingLog, member: &mut Member) -> bool
+        requires mine { spare_log_of self.old.spare ≡ identity_of log.now }
+        requires belongs { log_of member.old.pass ≡ identity_of log.now }
+        ensures mine { spare_log_of self.new.spare ≡ identity_of log.now }
+        ensures belongs { log_of member.new.pass ≡ log_of member.old.pass }
+        ensures keeps { Keeps member.old member.new }
+        ensures no { result ≡ false → member.new ≡ member.old }
+    {
+        if self.offers(log, member).is_none() {
+            return false;
+        }
+        let Some(replica) = Arc::get_mut(&mut self.replica) else {
+            return false;
+        };
+        // Each has then seen what the other's replica stands for.
+        let spare = &mut self.spare;
+        log.hear(spare, &mut member.pass);
+        log.tell(&mut member.pass, spare);
+        mem::swap(replica, &mut member.replica);
+        true
     }
 
     /// Replays here what a session has seen, unless the replica is shared.

@@ -1,59 +1,48 @@
 //! How a session that is behind goes on from a checkpoint.
-ghost use Rattle.std.specs.Prelude.{◌≡◌, ◌<◌, false, length, None, IfOk, IfSome, IfNone, OnErr};
+ghost use Rattle.std.specs.Prelude.{◌≡◌, ◌<◌, false, length, IfOk, IfSome, OnErr};
 ghost use Rattle.ring_log.specs.RingPass.{identity_of, log_of, known_of};
-ghost use Rattle.xa_endless.specs.Members.{Hears, Keeps, Serves};
+ghost use Rattle.xa_endless.specs.Members.{Keeps};
 
-use crate::{EndlessStore, Member, Replica};
-use std::sync::Arc;
+use crate::{EndlessStore, Member};
 use xa_xid::NoMemory;
 
+/// How many entries a session replays rather than that it looks for a checkpoint.
+const LEAST_JUMP: u64 = 512;
+
 impl EndlessStore {
-    /// The replica of a checkpoint, if it has replayed more than the session's own and than `best`, or else `best`.
-    ///
-    /// The checkpoint is away from its place only for a few steps.
-    fn better(
-        &self,
-        index: usize,
-        member: &mut Member,
-        best: Option<Arc<Replica>>,
-    ) -> Option<Arc<Replica>>
+    /// How many entries the replica of a checkpoint has replayed, or 0 if a session can't go on from there, or if another
+    /// session has the checkpoint just now.
+    fn offered(&self, index: usize, member: &Member) -> u64
         requires index { index < length self.now.checkpoints.items }
-        requires belongs { log_of member.old.pass ≡ identity_of self.now.log }
-        requires best { IfSome best (λ shared. Serves member.old shared.value) }
-        ensures belongs { log_of member.new.pass ≡ log_of member.old.pass }
-        ensures hears { Hears member.old member.new }
-        ensures best { IfSome result (λ shared. Serves member.new shared.value) }
-        ensures none { IfNone result ((best ≡ None) × (member.new ≡ member.old)) }
+        requires belongs { log_of member.now.pass ≡ identity_of self.now.log }
     {
-        let Some(mut checkpoint) = self.take_checkpoint(index) else {
-            return best;
+        let Some(checkpoint) = self.take_checkpoint(index) else {
+            return 0;
         };
-        let least = match &best {
-            Some(found) => found.replayed,
-            None => member.replica.replayed,
-        };
-        let shared = checkpoint.share(&self.log, member, least);
+        let offered = checkpoint.offers(&self.log, member).unwrap_or(0);
         self.put_checkpoint(index, checkpoint);
-        if shared.is_some() { shared } else { best }
+        offered
     }
 
-    /// The replica that has replayed most, of the checkpoints that are in their places.
-    fn best(&self, member: &mut Member) -> Option<Arc<Replica>>
-        requires { log_of member.old.pass ≡ identity_of self.now.log }
-        ensures belongs { log_of member.new.pass ≡ log_of member.old.pass }
-        ensures hears { Hears member.old member.new }
-        ensures best { IfSome result (λ shared. Serves member.new shared.value) }
-        ensures none { IfNone result (member.new ≡ member.old) }
+    /// The checkpoint whose replica has replayed most, of those from which a session can go on.
+    fn best(&self, member: &Member) -> Option<usize>
+        requires { log_of member.now.pass ≡ identity_of self.now.log }
+        ensures { IfSome result (λ index. index < length self.now.checkpoints.items) }
     {
         let mut best = None;
+        let mut most = 0;
         for index in 0..self.checkpoints.len() {
-            best = self.better(index, member, best);
+            let offered = self.offered(index, member);
+            if offered > most {
+                most = offered;
+                best = Some(index);
+            }
         }
         best
     }
 
-    /// Has a session that is behind go on from a copy of a checkpoint's replica. Returns whether it does; if not,
-    /// nothing has changed.
+    /// Has a session that is behind go on from the replica of a checkpoint. Returns whether it does; if not, nothing has
+    /// changed.
     ///
     /// May return `NoMemory`.
     pub(crate) fn help(&self, member: &mut Member) -> Result<bool, NoMemory>
@@ -63,12 +52,76 @@ impl EndlessStore {
         ensures no { IfOk result (λ helped. helped ≡ false → member.new ≡ member.old) }
         ensures err { OnErr result (member.new.replica.replayed < length (known_of member.new.pass).seen) }
     {
-        let Some(shared) = self.best(member) else {
+        let Some(index) = self.best(member) else {
+            return Ok(false);
+        };
+        // A copy of many rows may take longer than the ring lasts. So the session takes the replica itself, and the
+        // sessions that go on make the next checkpoint.
+        if self.swap(index, member) {
+            return Ok(true);
+        }
+        self.copy(index, member)
+    }
+
+    /// Exchanges a session's replica for that of a checkpoint, if that has many rows. Returns whether it did.
+    fn swap(&self, index: usize, member: &mut Member) -> bool
+        requires index { index < length self.now.checkpoints.items }
+        requires belongs { log_of member.old.pass ≡ identity_of self.now.log }
+        ensures belongs { log_of member.new.pass ≡ log_of member.old.pass }
+        ensures keeps { Keeps member.old member.new }
+        ensures no { result ≡ false → member.new ≡ member.old }
+    {
+        let Some(mut checkpoint) = self.take_checkpoint(index) else {
+            return false;
+        };
+        let swaps = !self.copies_fast(&checkpoint.replica)
+            && checkpoint.exchange(&self.log, member);
+        self.put_checkpoint(index, checkpoint);
+        if swaps {
+            self.progress.forget_checkpoint();
+            // It makes a checkpoint after its next answer.
+            member.tended = 0;
+        }
+        swaps
+    }
+
+    /// Has a session go on from a copy of a checkpoint's replica. Returns whether it does.
+    fn copy(&self, index: usize, member: &mut Member) -> Result<bool, NoMemory>
+        requires index { index < length self.now.checkpoints.items }
+        requires belongs { log_of member.old.pass ≡ identity_of self.now.log }
+        ensures belongs { log_of member.new.pass ≡ log_of member.old.pass }
+        ensures keeps { Keeps member.old member.new }
+        ensures no { IfOk result (λ helped. helped ≡ false → member.new ≡ member.old) }
+        ensures err { OnErr result (member.new.replica.replayed < length (known_of member.new.pass).seen) }
+    {
+        let Some(mut checkpoint) = self.take_checkpoint(index) else {
+            return Ok(false);
+        };
+        let shared = checkpoint.share(&self.log, member);
+        self.put_checkpoint(index, checkpoint);
+        let Some(shared) = shared else {
             return Ok(false);
         };
         // The copy takes time for all rows. Meanwhile the checkpoint is in its place, and others can share it, too.
         member.replica = shared.copy()?;
         member.tended = member.replica.replayed;
+        self.progress
+            .tell(self.log.number(&member.pass).get(), member.tended);
         Ok(true)
+    }
+
+    /// Has a session go on from a checkpoint, if that takes less time than to replay the entries up to there.
+    pub(crate) fn jump(&self, member: &mut Member)
+        requires { log_of member.old.pass ≡ identity_of self.now.log }
+        ensures belongs { log_of member.new.pass ≡ log_of member.old.pass }
+        ensures keeps { Keeps member.old member.new }
+    {
+        let checkpoint = self.progress.checkpoint();
+        let ahead = checkpoint - member.replica.replayed.min(checkpoint);
+        if ahead < LEAST_JUMP || ahead < member.replica.row_count() {
+            return;
+        }
+        // Without memory for the copy it replays the entries.
+        let _jumped = self.help(member);
     }
 }

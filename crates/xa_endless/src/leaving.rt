@@ -10,7 +10,7 @@ impl EndlessSession {
     /// Leaves a checkpoint at the end of what the session has seen: others that are behind can go on from there.
     ///
     /// A session that ends and has added the last entry should do so, since nobody else will: sessions look after
-    /// checkpoints while they replay entries. Returns whether a checkpoint could be had. If not, others use them just
+    /// checkpoints after they have answered. Returns whether a checkpoint could be had. If not, others use them just
     /// now: try again. If memory runs out, the checkpoint may be older. Doesn't wait.
     /// Own rule: docs/RATTLE.md#a-store-without-an-end.
     pub fn leave_checkpoint(&mut self) -> bool

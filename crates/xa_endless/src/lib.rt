@@ -15,6 +15,7 @@ pub mod laws;
 mod leaving;
 mod member;
 mod opening;
+mod progress;
 mod replica;
 mod resting;
 mod rests;

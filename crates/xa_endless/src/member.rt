@@ -14,7 +14,7 @@ use ring_log::RingPass;
 pub struct Member {
     pub(crate) pass: RingPass,
     pub(crate) replica: Replica,
-    /// How many entries `next` has handed out, lost ones included.
+    /// How many entries `next_entry` has handed out, lost ones included.
     pub(crate) told: u64,
     /// How many entries its replica had replayed when it last looked after a checkpoint.
     pub(crate) tended: u64,

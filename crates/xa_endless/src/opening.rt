@@ -7,6 +7,7 @@ ghost use Rattle.ring_log.specs.RingSpare.{spare_log_of};
 ghost use Rattle.xa_endless.specs.Opens.{Opens};
 
 use crate::checkpoint::Checkpoint;
+use crate::progress::Progress;
 use crate::resting::{RestingCheckpoint, RestingMember};
 use crate::slot::Slot;
 use crate::{EndlessStore, Member, Replica};
@@ -69,7 +70,7 @@ impl EndlessStore {
     /// Opens a store with no branch and no row, for 1 to 16 sessions. Its ring has `rows` rows, in `[1, 65536]`.
     ///
     /// A session may sleep while fewer entries than `rows` are added, and then replays them. After more than that it
-    /// goes on from a checkpoint, which takes a copy of all rows. A row of the ring takes 184 bytes for each session and
+    /// goes on from a checkpoint: from a copy of all rows, or if these are many, from the checkpoint's own. A row of the ring takes 184 bytes for each session and
     /// each checkpoint; there are up to 4 checkpoints. Errors, in the order of test: `RowsOutOfRange`,
     /// `SessionsOutOfRange`, `NoMemory`. Doesn't wait.
     /// Own rule: docs/RATTLE.md#a-store-without-an-end.
@@ -88,11 +89,13 @@ impl EndlessStore {
         )?;
         let places = place_all(alloc, &log, passes)?;
         let checkpoints = place_checkpoints(alloc, &log, spares)?;
+        let progress = Progress::new(alloc, sessions)?;
         let store = EndlessStore {
             alloc,
             log,
             checkpoints,
             places,
+            progress,
         };
         match Arc::new(alloc, store) {
             Ok(shared) => Ok(shared),

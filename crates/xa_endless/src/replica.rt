@@ -42,6 +42,11 @@ impl Replica {
         })
     }
 
+    /// How many rows a copy has to take with it.
+    pub(crate) fn row_count(&self) -> u64 {
+        self.server.row_count() as u64
+    }
+
     /// Replays the next entry.
     ///
     /// May return `NoMemory`; the replica is then unchanged.

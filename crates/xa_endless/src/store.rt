@@ -5,6 +5,7 @@ ghost use Rattle.ring_log.specs.RingPass.{identity_of};
 ghost use Rattle.ring_log.specs.RingSpare.{spare_log_of};
 
 use crate::checkpoint::Checkpoint;
+use crate::progress::Progress;
 use crate::resting::{RestingCheckpoint, RestingMember};
 use crate::slot::Slot;
 use ring_log::RingLog;
@@ -21,6 +22,7 @@ pub struct EndlessStore {
     pub(crate) log: RingLog,
     pub(crate) checkpoints: Vec<Slot<RestingCheckpoint>>,
     pub(crate) places: Vec<Slot<RestingMember>>,
+    pub(crate) progress: Progress,
     ghost kept: { All (λ slot. identity_of slot.value ≡ identity_of log) checkpoints.items },
     ghost free: { All (λ slot. identity_of slot.value ≡ identity_of log) places.items },
 }

@@ -4,14 +4,46 @@ ghost use Rattle.ring_log.specs.RingPass.{identity_of, log_of};
 ghost use Rattle.xa_endless.specs.Members.{Tends};
 
 use crate::upkeep::Upkeep;
-use crate::{EndlessStore, Member};
+use crate::{EndlessStore, Member, Replica};
 use std::sync::Arc;
 
-/// How often a session looks for a checkpoint that no other session has. Each has one for a few steps only, so one of
+/// How often a session looks for a checkpoint that no other session has. Most have one for a few steps only, so one of
 /// them is in its place soon.
-pub(crate) const MOST_LOOKS: usize = 64;
+pub(crate) const MOST_LOOKS: usize = 256;
+
+/// How many rows are copied in any case, however small the ring is. A session that copies has a checkpoint for a few
+/// steps; one that replays has it for as long as that takes, and in a small ring others can't wait for it.
+const FEW_ROWS: u64 = 256;
+
+/// How many entries are replayed at least before the next copy.
+const FEW_ENTRIES: u64 = 1_024;
 
 impl EndlessStore {
+    /// How many entries the newest checkpoint can be behind at most.
+    fn most_behind(&self) -> u64 {
+        (self.log.rows() / 8).max(1)
+    }
+
+    /// Whether a replica is copied faster than another one replays what came since. Either takes about the same time for
+    /// a row and for an entry.
+    pub(crate) fn copies_fast(&self, replica: &Replica) -> bool {
+        replica.row_count() <= self.most_behind().max(FEW_ROWS)
+    }
+
+    /// How many entries a session replays before it sees to the checkpoints again.
+    fn pace(&self, replica: &Replica) -> u64 {
+        let most = self.most_behind();
+        if self.copies_fast(replica) {
+            replica
+                .row_count()
+                .saturating_mul(2)
+                .max(FEW_ENTRIES)
+                .min(most)
+        } else {
+            most
+        }
+    }
+
     /// Has a checkpoint replay what this session has seen.
     fn follow(&self, index: usize, member: &mut Member) -> Upkeep
         requires index { index < length self.now.checkpoints.items }
@@ -57,10 +89,10 @@ impl EndlessStore {
         false
     }
 
-    /// Brings a checkpoint up to date: the first from `first` on, round and round, at `most` looks, that no other session
-    /// has or copies now. If there is none, an old one becomes a copy of the session's replica. Returns whether one is up to
-    /// date.
-    pub(crate) fn tend(&self, member: &mut Member, first: usize, most: usize) -> bool
+    /// Has a checkpoint replay what this session has seen: the first from `first` on, round and round, at `most` looks,
+    /// that no other session has or copies now. If there is none, an old one becomes a copy of the session's replica.
+    /// Returns whether one is up to date.
+    fn bring_forward(&self, member: &mut Member, first: usize, most: usize) -> bool
         requires { log_of member.old.pass ≡ identity_of self.now.log }
         ensures belongs { log_of member.new.pass ≡ log_of member.old.pass }
         ensures tends { Tends member.old member.new }
@@ -84,7 +116,25 @@ impl EndlessStore {
         }
     }
 
-    /// Looks after a checkpoint, if the session has replayed a quarter of the ring since it did so last.
+    /// Brings a checkpoint up to date, in the cheaper of both ways. Returns whether one is.
+    pub(crate) fn tend(&self, member: &mut Member, first: usize, most: usize) -> bool
+        requires { log_of member.old.pass ≡ identity_of self.now.log }
+        ensures belongs { log_of member.new.pass ≡ log_of member.old.pass }
+        ensures tends { Tends member.old member.new }
+    {
+        let replayed = member.replica.replayed;
+        let is_tended = if self.copies_fast(&member.replica) {
+            self.leave_copy(member, first)
+        } else {
+            self.bring_forward(member, first, most)
+        };
+        if is_tended {
+            self.progress.tell_checkpoint(replayed);
+        }
+        is_tended
+    }
+
+    /// Looks after a checkpoint, if the session has replayed enough since it did so last, and some session may need one.
     pub(crate) fn tend_in_time(&self, member: &mut Member)
         requires { log_of member.old.pass ≡ identity_of self.now.log }
         ensures belongs { log_of member.new.pass ≡ log_of member.old.pass }
@@ -92,19 +142,35 @@ impl EndlessStore {
     {
         let replayed = member.replica.replayed;
         let since = replayed - member.tended.min(replayed);
-        let quarter = self.log.rows() / 4;
-        // A checkpoint has to replay entries before they are lost.
-        if since < quarter {
+        let pace = self.pace(&member.replica);
+        if since < pace {
             return;
         }
+        self.progress
+            .tell(self.log.number(&member.pass).get(), replayed);
+        let half = self.log.rows() / 2;
+        // While all sessions are near the end of the history, none can fall behind before this is asked again, and a
+        // checkpoint would save none much. In a ring of a few rows, near is the last half of it.
+        let lag = replayed - self.progress.least().min(replayed);
+        if lag < half && lag < pace.saturating_mul(2) {
+            member.tended = replayed;
+            return;
+        }
+        // Another session has just done it.
+        let checkpoint = self.progress.checkpoint();
+        if replayed < checkpoint.saturating_add(pace) {
+            member.tended = checkpoint;
+            return;
+        }
+        // Another session does it now, unless it is stopped.
+        if since < half && replayed < self.progress.begun().saturating_add(pace) {
+            return;
+        }
+        self.progress.begin(replayed);
         // Two are looked after in turn, so one of them is in its place while a session has the other, also if that is
         // stopped. If neither can be had for so long, a third has to do, though that may take a copy of all rows.
-        let first = (replayed / quarter.max(1) % 2) as usize;
-        let most = if since < self.log.rows() / 2 {
-            1
-        } else {
-            MOST_LOOKS
-        };
+        let first = (replayed / pace.max(1) % 2) as usize;
+        let most = if since < half { 1 } else { MOST_LOOKS };
         if self.tend(member, first, most) {
             member.tended = replayed;
         }

@@ -1,7 +1,7 @@
 use Rattle.std.proofs.Common.{◌≡◌}
 use Rattle.ring_log.specs.RingPass.{log_of}
 use Rattle.xa_endless.specs.Members.{Tends}
-use Rattle.xa_endless.proofs.store.EndlessStore.tend.Given as goal
+use Rattle.xa_endless.proofs.store.EndlessStore.bring_forward.Given as goal
 
 abbrev pub invariant-loop-step : goal.invariant-loop-step
 invariant-loop-step l = record {

@@ -1,0 +1,82 @@
+//! How far the sessions and the checkpoints of a store have come.
+ghost use Rattle.std.specs.Prelude.{◌≡◌};
+
+use std::alloc::{AllocError, Global};
+use std::sync::atomic::AtomicU64;
+use std::sync::atomic::Ordering::SeqCst;
+
+/// How many entries the sessions and the checkpoints had replayed when they told so last.
+///
+/// It tells when a checkpoint is worth its time. No answer depends on it.
+#[derive(Drop)]
+pub(crate) struct Progress {
+    /// What each session's replica had replayed.
+    sessions: Vec<AtomicU64>,
+    /// What the checkpoint had replayed that has replayed most.
+    checkpoint: AtomicU64,
+    /// What the session had replayed that began last to bring a checkpoint up to date.
+    begun: AtomicU64,
+}
+
+impl Progress {
+    /// No session has replayed an entry.
+    ///
+    /// May return `AllocError`.
+    pub(crate) fn new(alloc: Global, count: u64) -> Result<Progress, AllocError> {
+        let mut sessions = Vec::new(alloc);
+        for _ in 0..count {
+            sessions.push(AtomicU64::new(0))?;
+        }
+        Ok(Progress {
+            sessions,
+            checkpoint: AtomicU64::new(0),
+            begun: AtomicU64::new(0),
+        })
+    }
+
+    /// Tells how many entries the replica of a session has replayed. Sessions are numbered from 1 on.
+    pub(crate) fn tell(&self, session: u64, replayed: u64) {
+        for (index, told) in self.sessions.iter().enumerate() {
+            if index as u64 + 1 == session {
+                told.store(replayed, SeqCst);
+            }
+        }
+    }
+
+    /// How many entries each session's replica has replayed at least.
+    pub(crate) fn least(&self) -> u64 {
+        let mut least = u64::MAX;
+        for told in self.sessions.iter() {
+            least = least.min(told.load(SeqCst));
+        }
+        least
+    }
+
+    /// Tells how many entries a checkpoint has replayed.
+    pub(crate) fn tell_checkpoint(&self, replayed: u64) {
+        // If two threads do this at once, the lower number may stay: a checkpoint is then looked after too early.
+        if self.checkpoint.load(SeqCst) < replayed {
+            self.checkpoint.store(replayed, SeqCst);
+        }
+    }
+
+    /// Tells that a session took the replica of a checkpoint for its own.
+    pub(crate) fn forget_checkpoint(&self) {
+        self.checkpoint.store(0, SeqCst);
+    }
+
+    /// How many entries the checkpoint has replayed at least that has replayed most.
+    pub(crate) fn checkpoint(&self) -> u64 {
+        self.checkpoint.load(SeqCst)
+    }
+
+    /// Tells that a session that has replayed so many entries begins to bring a checkpoint up to date.
+    pub(crate) fn begin(&self, replayed: u64) {
+        self.begun.store(replayed, SeqCst);
+    }
+
+    /// How many entries the session had replayed that did so last.
+    pub(crate) fn begun(&self) -> u64 {
+        self.begun.load(SeqCst)
+    }
+}
