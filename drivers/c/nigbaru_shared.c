@@ -6,17 +6,16 @@
 #include <string.h>
 
 #define SEATS 16
-#define MOST_YIELDS 32
 #define ROUNDS 16 /* how often all places are looked at for a free one, since others move meanwhile */
 
 /* What a place's word has in its last bits; before them it counts how often the place was taken. */
 enum { FREE, TAKEN, CALLED, CLOSED, STATES };
 
-/* A session, which who has brought the word from FREE to TAKEN and then to CALLED uses alone. */
+/* A session. Only the thread that has brought the word from FREE to TAKEN, and then to CALLED, uses it. */
 struct place {
   atomic_uint_fast64_t word;
   nigbaru_session session;
-  uint64_t yielded; /* the place in the history at which the session let others go on last */
+  uint64_t yielded; /* the place in the history at which the session yielded its processor last */
   char apart[128]; /* so that no two places share a line of the cache */
 };
 
@@ -75,7 +74,7 @@ uint32_t nigbaru_shared_open(uint64_t rows, uint64_t sessions, nigbaru_shared **
   return NIGBARU_OK;
 }
 
-/* Brings so many free places from one state to another, or, where one isn't in it, none. */
+/* Brings so many places from one state to another, or none if one of them isn't in it. */
 static int brings_all(nigbaru_shared *shared, uint64_t count, unsigned from, unsigned to) {
   for (uint64_t index = 0; index < count; index++) {
     struct place *place = &shared->places[index];
@@ -142,17 +141,14 @@ static void end(const nigbaru_seat *seat, struct place *place, unsigned state) {
   atomic_store_explicit(&place->word, word_of(seat->turn, state), memory_order_release);
 }
 
-/* Has a statement answered in as many tries as it takes. A session that is behind needs a checkpoint, which others keep: it lets them go on for longer
-   each time, since they can't while it has the checkpoint in hand. */
+/* Has a statement answered in as many tries as it takes. A session that is behind needs a checkpoint, which others
+   make: it lets them go on. */
 static uint32_t run(nigbaru_session *session, const char *text, size_t length, nigbaru_answer *answer, nigbaru_xid *xids, size_t room) {
-  unsigned turns = 0;
   for (;;) {
     uint32_t status = nigbaru_run(session, text, length, answer, xids, room, 1);
     if (status != NIGBARU_OVERTAKEN && status != NIGBARU_BEHIND)
       return status;
-    if (status == NIGBARU_BEHIND && turns < MOST_YIELDS)
-      turns = 2 * turns + 1;
-    for (unsigned turn = 0; status == NIGBARU_BEHIND && turn < turns; turn++)
+    if (status == NIGBARU_BEHIND)
       sched_yield();
   }
 }
@@ -167,8 +163,9 @@ uint32_t nigbaru_seat_run(const nigbaru_seat *seat, const char *text, size_t len
   if (is_time)
     place->yielded = answer->place;
   end(seat, place, TAKEN);
-  /* In a quarter of the ring's rows the session has brought a checkpoint up to date: whoever waits for a processor can use it before the ring has gone
-     round. The seat is no longer in a call then, so that whoever shares it can have it. */
+  /* The history has grown by a quarter of the ring since the session yielded last. It yields again, so that whoever
+     waits for a processor gets one before the ring has gone round. The seat is no longer in a call, so whoever shares
+     it can use it meanwhile. */
   if (is_time)
     sched_yield();
   return status;

@@ -20,7 +20,8 @@ _Static_assert(sizeof(XID) % sizeof(unsigned long) == 0, "an XID is a whole numb
    branch that there was no memory to roll back when its thread ended. */
 enum state { FREE, USED, ACTIVE, IDLE, UNCLEAN, STATES };
 
-/* A session. Who has brought the word to USED, or has the branch that is ACTIVE, uses it alone; the branch is read by all. */
+/* A session. Only the thread that has brought the word to USED, or works in the branch that is ACTIVE, uses it. All
+   threads read the branch. */
 struct place {
   atomic_uint_fast64_t word;
   atomic_ulong branch[WORDS_OF_XID];

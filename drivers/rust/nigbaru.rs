@@ -10,7 +10,7 @@ use std::ptr;
 use std::sync::atomic::{AtomicU8, Ordering};
 use std::sync::Arc;
 
-/// A store's or a session's.
+/// The handle of a store or of a session.
 #[repr(C)]
 struct Handle {
     at: *mut c_void,
@@ -78,7 +78,7 @@ const BEHIND: u32 = 16;
 
 const RECOVER: &[u8] = b"XA RECOVER";
 
-/// What a statement was answered.
+/// The reply to a statement.
 #[derive(Clone, Debug, PartialEq, Eq)]
 pub enum Reply {
     /// It was carried out.
@@ -114,7 +114,8 @@ pub enum Error {
     NoMemory,
     /// [`Session::attempt`]: another session added to the history first.
     Overtaken,
-    /// [`Session::attempt`]: others have overwritten entries that the session needs, and just now it can't be had without them.
+    /// [`Session::attempt`]: others have overwritten entries that the session needs, and no checkpoint brought it to
+    /// the end of the history just then.
     Behind,
     /// A status that the call doesn't have.
     Unexpected(u32),
@@ -165,14 +166,13 @@ pub enum Next {
     End,
 }
 
-/// What a place is: free; free, but left with what may be a branch; free, but without memory for its DISCONNECT; somebody's.
+/// The states of a place: free; given back by `leave`, maybe with a branch; given back when there was no memory for its
+/// DISCONNECT; somebody's.
 const FREE: u8 = 0;
 const LEFT: u8 = 1;
 const UNCLEAN: u8 = 2;
 const TAKEN: u8 = 3;
 
-/// How often a session that is behind lets others go on before a try, at most.
-const MOST_YIELDS: u32 = 32;
 /// How often all places are looked at for a free one, since others move meanwhile.
 const ROUNDS: usize = 16;
 
@@ -187,7 +187,7 @@ struct Place {
 unsafe impl Sync for Place {}
 
 impl Place {
-    /// Takes the place, if it is in one of the states; in which it was.
+    /// Takes the place, if it is in one of the states, and returns which.
     fn take(&self, states: &[u8]) -> Option<u8> {
         let taken = |state: &&u8| self.state.compare_exchange(**state, TAKEN, Ordering::AcqRel, Ordering::Relaxed).is_ok();
         states.iter().find(taken).copied()
@@ -270,9 +270,9 @@ pub struct Session {
     index: usize,
     /// Of the last answer.
     place: u64,
-    /// At which place it let others go on last.
+    /// The place in the history at which it yielded its processor last.
     yielded: u64,
-    /// The state in which it leaves its place, if that is decided.
+    /// The state in which it leaves its place. None until `leave`: a session that is dropped disconnects.
     end: Option<u8>,
 }
 
@@ -296,8 +296,8 @@ impl Session {
         self.end = Some(LEFT);
     }
 
-    /// Sees what other sessions have added. A statement does so by itself; whoever lends sessions has idle ones catch up, so that none is behind later, and who
-    /// notes when statements begin calls this before, so that what others added doesn't count.
+    /// Sees what other sessions have added, by an `XA RECOVER`. Each statement does so, too. Call this for sessions
+    /// that idle, so that they aren't behind later, or before you measure how long a statement takes.
     pub fn catch_up(&mut self) -> Result<(), Error> {
         match self.answer(RECOVER, &mut [], true) {
             (LIST, _) => Ok(()),
@@ -358,19 +358,15 @@ impl Session {
         }
     }
 
-    /// The first status; where it goes on, the first that is neither `OVERTAKEN` nor `BEHIND`. A session that is behind needs a checkpoint, which others keep:
-    /// it lets them go on for longer each time, since they can't while it has the checkpoint in hand.
+    /// The status of the first try; if `goes_on`, the first that is neither `OVERTAKEN` nor `BEHIND`. A session that is
+    /// behind needs a checkpoint, which others make: it lets them go on.
     fn answer(&mut self, text: &[u8], xids: &mut [RawXid], goes_on: bool) -> (u32, RawAnswer) {
         let mut answer = RawAnswer::NONE;
-        let mut turns = 1;
         loop {
             let status = unsafe { nigbaru_raw_attempt(self.handle(), text.as_ptr(), text.len(), &mut answer, xids.as_mut_ptr(), xids.len()) };
             match status {
                 OVERTAKEN if goes_on => (),
-                BEHIND if goes_on => {
-                    (0..turns).for_each(|_| std::thread::yield_now());
-                    turns = MOST_YIELDS.min(2 * turns);
-                }
+                BEHIND if goes_on => std::thread::yield_now(),
                 OK..=REFUSED => {
                     self.place = answer.place;
                     self.yield_in_time(goes_on);
@@ -383,7 +379,8 @@ impl Session {
 }
 
 impl Session {
-    /// In a quarter of the ring's rows the session has brought a checkpoint up to date: whoever waits for a processor can use it before the ring has gone round.
+    /// Yields the processor once for each quarter of the ring by which the history has grown, so that whoever waits
+    /// for one gets it before the ring has gone round.
     fn yield_in_time(&mut self, goes_on: bool) {
         if goes_on && self.place >= self.yielded + self.shared.rows / 4 {
             self.yielded = self.place;

@@ -15,12 +15,12 @@
  * Threads. Sessions of one store may be on threads of their own, without a lock of yours. Each session
  * answers from its own copy of the rows, and adds to the one history that all share. A handle takes one call
  * at a time: a second call on it at the same time returns NIGBARU_BUSY. No call waits for another thread;
- * nigbaru_run without a limit tries again as long as other sessions are faster. A handle may be moved to
- * another thread between calls.
+ * nigbaru_run without a limit tries again as long as other sessions are faster, or its session is behind. A
+ * handle may be moved to another thread between calls.
  *
  * The history has no end. It is kept in a ring of `rows` entries: each new entry overwrites the oldest one. A
- * session that isn't used while others add more entries than that is behind. It then goes on by itself from
- * a copy of all rows, a checkpoint, which other sessions keep for it.
+ * session that isn't used while others add more entries than that is behind. Its next statement then goes on
+ * from a checkpoint, a copy of all rows that the other sessions keep near the end of the history.
  *
  * Memory. The library takes memory by malloc and realloc, and frees it. The ring doesn't grow.
  * nigbaru_follow, nigbaru_leave and nigbaru_close take no memory. A store is freed after it was closed and
@@ -93,9 +93,9 @@ typedef atomic_flag nigbaru_flag;
 /* A pointer is null that must not be, and the call did nothing. Not from nigbaru_raw_*. */
 #define NIGBARU_NO_POINTER   15
 /* Others have added so many entries since this session last answered that some which it needs are
- * overwritten, and no checkpoint can be had just now: call again. nigbaru_run does so by itself. From
- * nigbaru_follow: entry.lost entries were overwritten before they were handed out; call again for the entries
- * after them. */
+ * overwritten, and no checkpoint brought it to the end of the history just now: call again. nigbaru_run does
+ * so by itself. From nigbaru_follow: entry.lost entries were overwritten before they were handed out; call
+ * again for the entries after them. */
 #define NIGBARU_BEHIND       16
 
 /* What a store or a session is kept by. Its pointer is the library's. */
@@ -241,8 +241,8 @@ static inline uint32_t nigbaru_attempt(nigbaru_session *session, const char *tex
     return status;
 }
 
-/* Counts down, up to a tenth of a millisecond. A session that is behind needs a checkpoint, which others can't
- * bring up to date while it has the checkpoint in hand: so it lets them go on, for longer each time. */
+/* Counts down, up to a tenth of a millisecond. A session that is behind needs a checkpoint, which others
+ * make: so it lets them go on, for longer each time. */
 static inline void nigbaru_pause_(uint64_t tried) {
     volatile uint32_t left = UINT32_C(64) << (tried < 10 ? tried : 10);
     while (left != 0) left = left - 1;

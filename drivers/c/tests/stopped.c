@@ -1,9 +1,13 @@
 /* Stops one thread after another, each at a random instruction and for 200 ms at least: stopped STOPS ROWS STORE_ROWS [any]
 
-   A signal's handler waits. Meanwhile each other thread has to have a statement answered, also one that sleeps until the ring has gone round, and is
-   behind at each statement. Where one hasn't within ten seconds, somebody waits for the stopped thread. At the end each row is what its thread
-   committed last. The store has STORE_ROWS rows more, which nobody touches. With `any` it is enough that one other thread goes on: where a copy of all rows
-   takes longer than the ring lasts, a session may stay behind (docs/EMBEDDING.md#the-ring). */
+   A signal's handler waits. Meanwhile each other thread has to have a statement answered, also one that sleeps until
+   the ring has gone round, and is behind at each statement. One that hasn't within ten seconds counts as waiting for
+   the stopped thread. At the end each row is what its thread committed last. The store has STORE_ROWS rows more, which
+   nobody touches.
+
+   The allocator has to be one without locks, such as mimalloc: in glibc's, the stopped thread may hold the lock that
+   another needs in free (docs/EMBEDDING.md#threads). With `any`, for other allocators, it is enough that one other
+   thread goes on. */
 #include "nigbaru_shared.h"
 
 #include "check.h"
@@ -100,7 +104,8 @@ static void open_store(long store_rows) {
   }
 }
 
-/* Which thread but the stopped one has had no statement answered since, where that counts; else -1. */
+/* A thread other than the stopped one that has had no statement answered since; -1 if there is none, or if one goes on
+   and that is enough. */
 static int idle_of(int stopped, const unsigned long *before) {
   int idle = -1, going = 0;
   for (int index = 0; index < THREADS; index++) {
@@ -114,7 +119,7 @@ static int idle_of(int stopped, const unsigned long *before) {
   return is_any_enough && going > 0 ? -1 : idle;
 }
 
-/* Stops a thread for 200 ms, and longer where another has to show yet that it goes on. Returns who hasn't gone on, or -1. */
+/* Stops a thread for 200 ms, and longer while another hasn't gone on yet. Returns one that hasn't at the end, or -1. */
 static int stop(int stopped) {
   unsigned long before[THREADS];
   int idle, number = atomic_load(&stopped_at) + 1;

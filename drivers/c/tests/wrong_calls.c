@@ -1,4 +1,5 @@
-/* Null pointers, handles that hold nothing or the wrong thing, numbers and lengths out of their ranges, texts that are no statements. */
+/* Null pointers, handles that hold nothing or the wrong thing, numbers and lengths out of their ranges, texts that are
+   no statements; limits; sessions that are taken again; the history, and what of it is lost. */
 #include "nigbaru.h"
 
 #include "check.h"
