@@ -224,8 +224,9 @@ impl Pool {
         self.inner.places.iter().enumerate().filter_map(one).collect()
     }
 
-    /// Brings sessions up to date that idle, before the entries are gone that they haven't seen: `rows` are kept. One that is further behind is left alone,
-    /// since it would copy all rows, which it does if somebody needs it. Ends when it has taken as long as it may.
+    /// Brings sessions up to date that idle, before the entries are overwritten that they haven't seen: the last `rows`
+    /// are kept. One that misses most of these, or more, is left alone until somebody needs it, since all rows may have
+    /// to be copied for it. Ends when it has taken as long as it may.
     pub fn refresh(&self, rows: u64, most: Duration) {
         let began = Instant::now();
         let seen = self.seen();
