@@ -10,7 +10,7 @@ ghost use Rattle.chain_log.specs.ChainSeat.{IsSeat, IsOurs};
 use crate::ChainLog;
 use atomic_table::Seat;
 use decision_log::SeatView;
-use xa_words::{Entry, WORDS, decode, encode, is_behind_text};
+use xa_words::{Entry, WORDS, encode, is_behind_text, read_back};
 
 impl ChainLog {
     /// Returns the entry's word at `index` in the cell of an entry that was seen, if the words before it
@@ -79,7 +79,7 @@ impl ChainLog {
         ensures entry { slice_get (pass_view seat.old).known.seen row ≡ Some result }
     {
         let words = self.read_cell(seat, name);
-        decode(&words).unwrap()
+        read_back(&words).unwrap()
     }
 
     /// Writes a link and an entry's words into the pass's own cell, over what was stored there before.

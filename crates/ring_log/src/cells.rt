@@ -14,7 +14,7 @@ use crate::RingLog;
 use crate::layout::words_filled;
 use atomic_table::Seat;
 use decision_log::SeatView;
-use xa_words::{Entry, WORDS, decode, encode};
+use xa_words::{Entry, WORDS, encode, read_back};
 
 impl RingLog {
     /// Loads the entry's words at `[from, end)` in the cell that the pass reads.
@@ -97,7 +97,7 @@ impl RingLog {
         if self.check_name(seat, start) != name {
             return None;
         }
-        decode(&words)
+        read_back(&words)
     }
 
     /// Returns the link in the cell of a place that was seen, or `None` if the cell is another entry's now. The link is

@@ -37,27 +37,6 @@ parts_by p q k f a b i = record { kind = k i; format_id = f i; first = a i; seco
 pub entry_by : (left right : Entry) → left.session ≡ right.session → left.statement ≡ right.statement → left ≡ right
 entry_by left right s st i = record { session = s i; statement = st i }
 
-joined : (a b c d e : ℕ) (rest : List ℕ) (session : ℕ) (parts : Parts) → a ≡ session → b ≡ parts.kind → c ≡ length parts.first → d ≡ length parts.second
-    → e ≡ parts.format_id → rest ≡ text_words parts.first ++ text_words parts.second → a ∷ b ∷ c ∷ d ∷ e ∷ rest ≡ lay_out session parts
-joined a b c d e rest session parts ea eb ec ed ee er = cc
-
-all_eight : (xs : List ℕ) → length xs ≡ 8 → take 8 xs ≡ xs
-all_eight xs len = take_all 8 xs (omega arith)
-
-pub whole : (words : List ℕ) (session : ℕ) (parts : Parts) → Pieces words session parts → words ≡ lay_out session parts
-whole [] session parts p = absurd (omega (arith, p.all))
-whole (a ∷ []) session parts p = absurd (omega (arith, p.all))
-whole (a ∷ b ∷ []) session parts p = absurd (omega (arith, p.all))
-whole (a ∷ b ∷ c ∷ []) session parts p = absurd (omega (arith, p.all))
-whole (a ∷ b ∷ c ∷ d ∷ []) session parts p = absurd (omega (arith, p.all))
-whole (a ∷ b ∷ c ∷ d ∷ e ∷ rest) session parts p =
-    let len : length rest ≡ 16 = omega (arith, p.all) in
-    let back : length (drop 8 rest) ≡ 8 = omega (arith, length-drop 8 rest) in
-    let s : take 8 (drop 8 rest) ≡ text_words parts.second = p.second in
-    let whole_rest : rest ≡ text_words parts.first ++ text_words parts.second =
-    sym (take-append-drop 8 rest) ∙ ap (λ xs. xs ++ drop 8 rest) p.first ∙ ap (λ xs. text_words parts.first ++ xs) (sym (all_eight (drop 8 rest) back) ∙ s) in
-    joined a b c d e rest session parts p.session p.kind p.first_length p.second_length p.format_id whole_rest
-
 -- entries of the same words are one
 pub one_entry : (left right : Entry) → IsEntry left → IsEntry right → words_of left ≡ words_of right → left ≡ right
 unfolding words_of
@@ -142,18 +121,11 @@ pub pieces_of : (words : List ℕ) (entry : Entry) → words ≡ words_of entry 
 unfolding words_of
 pieces_of words entry same = pieces words entry.session (parts_of entry.statement) same
 
-pub whole_of : (words : List ℕ) (entry : Entry) → Pieces words entry.session (parts_of entry.statement) → words ≡ words_of entry
-unfolding words_of
-whole_of words entry p = whole words entry.session (parts_of entry.statement) p
-
 -- texts that were read from the words of an entry are its texts
-pub parts_read : (words : List ℕ) (entry : Entry) → IsEntry entry → words ≡ words_of entry → (first second : List ℕ) → IsText first → IsText second
-    → length first ≡ get_or words 2 0 → text_words first ≡ take 8 (drop 5 words) → length second ≡ get_or words 3 0 → text_words second ≡ take 8 (drop 13 words)
+pub parts_read : (words : List ℕ) (entry : Entry) → words ≡ words_of entry → (first second : List ℕ)
+    → first ≡ (parts_of entry.statement).first → second ≡ (parts_of entry.statement).second
     → parts_of entry.statement ≡ record { kind = get_or words 1 0; format_id = get_or words 4 0; first = first; second = second }
-parts_read words entry is same first second f g lf wf lg wg =
+parts_read words entry same first second one two =
     let p = pieces_of words entry same in
-    let w = within entry.statement is.kind is.limits in
     parts_by (parts_of entry.statement) (record { kind = get_or words 1 0; format_id = get_or words 4 0; first = first; second = second }) (sym p.kind)
-    (sym p.format_id)
-    (one_text (parts_of entry.statement).first first w.first f (sym p.first_length ∙ sym lf) (sym p.first ∙ sym wf))
-    (one_text (parts_of entry.statement).second second w.second g (sym p.second_length ∙ sym lg) (sym p.second ∙ sym wg))
+    (sym p.format_id) (sym one) (sym two)

@@ -1,7 +1,8 @@
 -- A text and its eight words: each gives the other back.
-use Rattle.std.proofs.Common.{◌≡◌, ℕ, zero, suc, ◌+◌, ◌*◌, ◌/◌, ◌%◌, ◌^◌, ◌<◌, ◌≤◌, ◌-◌, List, [], ◌∷◌, ◌++◌, length, get_or, refl, ap, sym, ◌∙◌, arith, lit<}
+use Rattle.std.proofs.Common.{◌≡◌, ℕ, zero, suc, ◌+◌, ◌*◌, ◌/◌, ◌%◌, ◌^◌, ◌<◌, ◌≤◌, ◌-◌, List, [], ◌∷◌, ◌++◌, length, get_or, take, refl, ap, sym, ◌∙◌, arith, lit<}
 use Rattle.std.specs.Int.{w64, from_be_bytes, to_be_bytes}
-use Rattle.std.proofs.lemmas.List.{ext_get_or, get_or_past, get_or_append_left, get_or-append_right}
+use Rattle.std.proofs.lemmas.List.{ext_get_or, get_or_past, get_or_append_left, get_or-append_right, get_or-take}
+use Rattle.std.proofs.Math.Seq.{take-append-add}
 use Rattle.std.proofs.lemmas.Nat.{from_be_bytes-to_be_bytes_8, be_bytes_8}
 use mathlib.Core.Logic.{dite}
 use native.Mathlib.Decide.{dec_lt}
@@ -62,24 +63,6 @@ one_text left right l r len same =
     ext_get_or 0 left right len
     (λ i below. sym (spread left l i (omega (arith, l.fits))) ∙ ap (λ ws. byte_of ws i) same ∙ spread right r i (omega (arith, l.fits)))
 
--- eight numbers of 64 bits whose bytes are those of a text are its words
-pub gathered : (words text : List ℕ) → length words ≡ 8 → ((i : ℕ) → get_or words i 0 < 2 ^ 64)
-    → ((place : ℕ) → place < 64 → byte_of words place ≡ get_or text place 0) → text_words text ≡ words
-unfolding byte_of text_word
-gathered words text len small bytes =
-    ext_get_or 0 (text_words text) words (sym len)
-    (λ index below.
-    let eight : index < 8 = below in
-    let these : eight_bytes text (8 * index) ≡ to_be_bytes w64 (get_or words index 0) =
-    ext_get_or 0 (eight_bytes text (8 * index)) (to_be_bytes w64 (get_or words index 0)) refl
-    (λ j less.
-    let q : (8 * index + j) / 8 ≡ index = omega (arith, less) in
-    let r : (8 * index + j) % 8 ≡ j = omega (arith, less) in
-    byte_at text (8 * index) j less ∙ sym (bytes (8 * index + j) (omega (arith, less)))
-    ∙ ap (λ n. get_or (to_be_bytes w64 (get_or words n 0)) ((8 * index + j) % 8) 0) q
-    ∙ ap (λ n. get_or (to_be_bytes w64 (get_or words index 0)) n 0) r) in
-    word_at text index eight ∙ ap (from_be_bytes w64) these ∙ from_be_bytes-to_be_bytes_8 (get_or words index 0) (small index))
-
 -- a word of a text is of 64 bits
 pub text_word-fits : (text : List ℕ) → IsText text → (place : ℕ) → text_word text place < 2 ^ 64
 unfolding text_word
@@ -117,6 +100,17 @@ one_word_more words text index size bytes place below =
     get_or-append_right text (to_be_bytes w64 (get_or words index 0)) (8 * index) place 0 size (omega (arith, size, behind))
     ∙ ap (λ n. get_or (to_be_bytes w64 (get_or words index 0)) n 0) r
     ∙ ap (λ n. get_or (to_be_bytes w64 (get_or words n 0)) (place % 8) 0) q)
+
+-- bytes of the first words, and some of the next one's
+pub some_bytes_more : (words text : List ℕ) (index count : ℕ) → length text ≡ 8 * index → count ≤ 8
+    → ((place : ℕ) → place < length text → get_or text place 0 ≡ byte_of words place)
+    → (place : ℕ) → place < 8 * index + count
+    → get_or (text ++ take count (to_be_bytes w64 (get_or words index 0))) place 0 ≡ byte_of words place
+some_bytes_more words text index count size few bytes place below =
+    let next = to_be_bytes w64 (get_or words index 0) in
+    ap (λ xs. get_or xs place 0) (sym (take-append-add text next count))
+    ∙ get_or-take (length text + count) (text ++ next) place 0 (omega (arith, size, below))
+    ∙ one_word_more words text index size bytes place (omega (arith, few, below))
 
 -- bytes that are those of the words of a text of the same length are that text
 pub only_text : (words text other : List ℕ) → IsText other → length text ≡ length other

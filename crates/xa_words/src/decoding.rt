@@ -1,128 +1,10 @@
-//! From words to an entry.
-ghost use Rattle.std.specs.Prelude.{◌≡◌, ◌<◌, ◌≤◌, ◌+◌, ◌++◌, ℕ, List, length, slice_index, Some, IfSome, IfNone, IsTrue};
-ghost use Rattle.xa_xid.specs.Limits.{text_bytes};
-ghost use Rattle.xa_words.specs.Entry.{IsText, IsEntry, KeepsLimits, may_be_entry};
-ghost use Rattle.xa_words.specs.Words.{parts_of, of_xid, of_texts, text_words, words_of, byte_of, RowParts};
-ghost use Rattle.xa_words.specs.Entry.{Entry};
-ghost use Rattle.xa_xid.specs.declared.statement.Statement.{Statement};
-ghost use Rattle.std.specs.Int.{w64, to_be_bytes};
+//! From any words to an entry, if they are one.
+ghost use Rattle.std.specs.Prelude.{◌≡◌, Some, IfSome};
+ghost use Rattle.xa_words.specs.Entry.{Entry, IsEntry};
+ghost use Rattle.xa_words.specs.Words.{words_of};
 
-use crate::layout::{MOST_BYTES, WORDS, text_words};
-use crate::{Entry, limits};
-use xa_xid::{Bytes, Key, SessionNo, Statement, Xid};
-
-/// Appends the eight bytes of a word.
-fn push_word(text: &mut Bytes, word: u64)
-    requires { length text.old.items + 8 ≤ text_bytes }
-    ensures { text.new.items ≡ text.old.items ++ to_be_bytes w64 word }
-{
-    text.try_extend_from_slice(&word.to_be_bytes()).unwrap();
-}
-
-/// Returns the first `size` bytes of eight words.
-fn bytes_of(words: &[u64], size: usize) -> Bytes
-    requires length { length words.now ≡ 8 }
-    requires fits { size ≤ text_bytes }
-    ensures size { length result.items ≡ size }
-    ensures bytes { (place : ℕ) → place < size → slice_index result.items place ≡ byte_of words.now place }
-{
-    let mut text = Bytes::new();
-    for index in 0..size.div_ceil(8) {
-        push_word(&mut text, words[index]);
-    }
-    text.truncate(size);
-    text
-}
-
-/// Returns the text of `size` bytes that eight words hold, or `None` if they hold none.
-fn text_of(words: &[u64], size: u64) -> Option<Bytes>
-    requires { length words.now ≡ 8 }
-    ensures text { IfSome result (λ text. IsText text.items) }
-    ensures read { IfSome result (λ text. (length text.items ≡ size) × (text_words text.items ≡ words.now)) }
-    ensures none { IfNone result ((text : List ℕ) → IsText text → length text ≡ size → text_words text ≡ words.now → ⊥) }
-{
-    if size > MOST_BYTES {
-        return None;
-    }
-    let text = bytes_of(words, size as usize);
-    if text_words(text.as_slice()).as_slice() != words {
-        return None;
-    }
-    limits::of_text(&text);
-    Some(text)
-}
-
-/// Returns the statement of a kind with an identifier, or `None` if there is no such kind.
-fn with_xid(kind: u64, xid: Xid) -> Option<Statement>
-    requires { kind ≤ 6 }
-    ensures some { IfSome result (λ statement. IsTrue (may_be_entry statement) × (parts_of statement ≡ of_xid kind xid)) }
-    ensures none { IfNone result (kind ≡ 0) }
-{
-    match kind {
-        1 => Some(Statement::Start(xid)),
-        2 => Some(Statement::End(xid)),
-        3 => Some(Statement::Prepare(xid)),
-        4 => Some(Statement::Commit {
-            xid,
-            one_phase: false,
-        }),
-        5 => Some(Statement::Commit {
-            xid,
-            one_phase: true,
-        }),
-        6 => Some(Statement::Rollback(xid)),
-        _ => None,
-    }
-}
-
-/// Returns the statement of a kind without an identifier, or `None` if none has these texts.
-fn with_texts(kind: u64, first: Bytes, second: Bytes) -> Option<Statement>
-    requires { 6 < kind }
-    ensures some { IfSome result (λ statement. IsTrue (may_be_entry statement) × (parts_of statement ≡ of_texts kind first.items second.items)) }
-    ensures none { IfNone result (RowParts (of_texts kind first.items second.items) → ⊥) }
-{
-    if kind == 10 {
-        let empty = first.is_empty() && second.is_empty();
-        return if empty {
-            Some(Statement::Disconnect)
-        } else {
-            None
-        };
-    }
-    let key = Key::of(first)?;
-    match kind {
-        7 if second.is_empty() => Some(Statement::Get(key)),
-        8 => Some(Statement::Put(key, second)),
-        9 if second.is_empty() => Some(Statement::Del(key)),
-        _ => None,
-    }
-}
-
-/// Returns the statement of these parts, or `None` if there is none.
-fn statement_of(kind: u64, format_id: u64, first: Bytes, second: Bytes) -> Option<Statement>
-    ensures some { IfSome result
-        (λ statement. IsTrue (may_be_entry statement)
-        × (parts_of statement ≡ record { kind = kind; format_id = format_id; first = first.items; second = second.items })) }
-    ensures none { IfNone result
-        ((statement : Statement)
-        → IsTrue (may_be_entry statement)
-        → KeepsLimits statement
-        → parts_of statement ≡ record { kind = kind; format_id = format_id; first = first.items; second = second.items }
-        → ⊥) }
-{
-    if kind <= 6 {
-        let xid = Xid {
-            format_id,
-            gtrid: first,
-            bqual: second,
-        };
-        with_xid(kind, xid)
-    } else if format_id == 0 {
-        with_texts(kind, first, second)
-    } else {
-        None
-    }
-}
+use crate::layout::WORDS;
+use crate::{Entry, encode, read_back};
 
 /// Returns the entry that these words spell, or `None` if they spell none.
 ///
@@ -134,9 +16,10 @@ pub fn decode(words: &[u64; WORDS]) -> Option<Entry>
     // Proved (log, one-spelling)
     ensures every { (entry : Entry) → IsEntry entry → words.now ≡ words_of entry → result ≡ Some entry }
 {
-    let session = SessionNo::of(words[0])?;
-    let first = text_of(&words[5..13], words[2])?;
-    let second = text_of(&words[13..21], words[3])?;
-    let statement = statement_of(words[1], words[4], first, second)?;
-    Some(Entry::entering(session, statement))
+    let entry = read_back(words)?;
+    // Words that no entry has are read back as one, too, but aren't its words: a byte past a text's end, say.
+    if encode(&entry) != *words {
+        return None;
+    }
+    Some(entry)
 }

@@ -10,8 +10,10 @@ mod entry;
 pub mod laws;
 mod layout;
 mod limits;
+mod reading;
 
 pub use decoding::decode;
 pub use encoding::encode;
 pub use entry::Entry;
 pub use layout::{WORDS, is_behind_text};
+pub use reading::read_back;

@@ -11,7 +11,7 @@ use super::TurnLog;
 use super::layout::ROWS;
 use crate::SeatView;
 use atomic_table::Seat;
-use xa_words::{Entry, WORDS, decode, encode};
+use xa_words::{Entry, WORDS, encode, read_back};
 
 impl TurnLog {
     /// Loads the words of the row of an entry that was seen.
@@ -42,7 +42,7 @@ impl TurnLog {
         ensures entry { slice_get (pass_view seat.old).known.seen place ≡ Some result }
     {
         let words = self.read_row(seat, place);
-        decode(&words).unwrap()
+        read_back(&words).unwrap()
     }
 
     /// Stores an entry's words into the row at the count.

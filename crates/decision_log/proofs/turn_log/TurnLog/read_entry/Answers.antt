@@ -7,10 +7,10 @@ pub unwrap-requires : goal.unwrap-requires
 unwrap-requires c =
     let e = there (pass_view c.args.seat.now).known.seen c.args.place c.requires.seen in
     let told = c.read_row-words.ensures.read e.0 e.1 in
-    rw (c.decode.ensures.every e.0 told.0 told.1) (search rules)
+    rw (c.read_back.ensures e.0 told.0 told.1) (search rules)
 
 pub returns-clause-entry : goal.returns-clause-entry
 returns-clause-entry c =
     let e = there (pass_view c.args.seat.now).known.seen c.args.place c.requires.seen in
     let told = c.read_row-words.ensures.read e.0 e.1 in
-    e.1 ∙ sym (c.decode.ensures.every e.0 told.0 told.1) ∙ c.unwrap.ensures
+    e.1 ∙ sym (c.read_back.ensures e.0 told.0 told.1) ∙ c.unwrap.ensures

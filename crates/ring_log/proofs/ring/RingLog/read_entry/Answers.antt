@@ -34,7 +34,7 @@ returns-clause-some c =
     (pass_view c.read_cell-words.new.seat) (pass_view c.check_name-2.new.seat) l.1 c.check_name.ensures.checked c.if-check_name-name.false
     c.read_cell-words.ensures.keeps c.check_name-2.ensures.checked c.if-check_name-name-2.false in
     let told = c.read_cell-words.ensures.read c.args.place l.0 b.0 b.1 in
-    subst (λ (result : Option Entry). IfSome result (λ entry. slice_get h.known.seen c.args.place ≡ Some entry)) (sym (c.decode.ensures.every l.0 told.0 told.1))
+    subst (λ (result : Option Entry). IfSome result (λ entry. slice_get h.known.seen c.args.place ≡ Some entry)) (sym (c.read_back.ensures l.0 told.0 told.1))
     l.1.seen
 
 pub returns-clause-none : goal.returns-clause-none
@@ -47,5 +47,5 @@ returns-clause-none c =
     c.read_cell-words.ensures.keeps c.check_name-2.ensures.checked c.if-check_name-name-2.false in
     let told = c.read_cell-words.ensures.read c.args.place l.0 b.0 b.1 in
     subst (λ (result : Option Entry). IfNone result (c.args.place + rows_of h.capacity ≤ least (pass_view c.check_name-2.new.seat)))
-    (sym (c.decode.ensures.every l.0 told.0 told.1))
+    (sym (c.read_back.ensures l.0 told.0 told.1))
     tt

@@ -1,6 +1,6 @@
 use Rattle.std.proofs.Common.{◌≡◌, ◌<◌, ◌*◌, ℕ, length, get_or}
 use Rattle.xa_words.specs.Words.{byte_of}
-use Rattle.xa_words.proofs.decoding.bytes_of.Given as goal
+use Rattle.xa_words.proofs.reading.whole_words.Given as goal
 
 abbrev pub invariant-loop-index : goal.invariant-loop-index
 invariant-loop-index l = record {
