@@ -80,10 +80,10 @@ impl Checkpoint {
         let Some(replica) = Arc::get_mut(&mut self.replica) else {
             return false;
         };
-        // Each has then seen what the other's replica stands for.
+        // The session has then seen what the checkpoint's replica stands for. Its own has replayed less than that, so
+        // the spare has seen what it stands for already.
         let spare = &mut self.spare;
         log.hear(spare, &mut member.pass);
-        log.tell(&mut member.pass, spare);
         mem::swap(replica, &mut member.replica);
         true
     }
