@@ -7,9 +7,7 @@ pub use Rattle.ring_log.specs as ring
 pub use Rattle.xa_session.specs as session
 pub use Rattle.xa_store.specs as store
 pub use Rattle.xa_coordinator.specs as coordinator
-pub use Rattle.xa_lasting.specs as lasting
 pub use Rattle.xa_endless.specs as endless
-pub use Rattle.xa_endless_races.specs as endless_races
 pub use Rattle.xa_lines.specs as lines
 pub use Rattle.xa_races.specs as races
 pub use Rattle.xa_judge.specs as judge

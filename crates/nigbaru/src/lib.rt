@@ -14,12 +14,11 @@ pub mod script;
 
 pub use xa_coordinator::{
     BeginFault, Beside, Cause, Closed, Closing, Coordinator, Decision, Decisions, Ending,
-    FORMAT_ID, Fused, Paused, Prepared, RecoverFault, Report, Speak, Transaction, Vote, VoteKind,
-    WorkFault, xid_of_branch,
+    FORMAT_ID, Fused, LastingStore, Paused, Prepared, RecoverFault, Report, Speak, Transaction,
+    Vote, VoteKind, WorkFault, xid_of_branch,
 };
 pub use xa_endless::{EndlessFault, EndlessSession, EndlessStore, Next, TakeFault};
-pub use xa_endless_races::{LongOutcome, LongRun, hold_long_race, race_on};
-pub use xa_lasting::LastingStore;
+pub use xa_races::{LongOutcome, LongRun, hold_long_race, race_on};
 pub use xa_server::{
     BranchEntry, BranchState, HeldRow, Hold, Phase, Reply, Server, XaError, XidList,
 };

@@ -18,3 +18,4 @@ pub mod Listed
 pub mod Settling
 pub mod Adding
 pub mod Recovering
+pub mod Served

@@ -13,3 +13,5 @@ pub mod Faults
 pub mod Fusing
 pub mod Parts
 pub mod Beside
+pub mod Watched
+pub mod Lasting

@@ -6,7 +6,7 @@ use std::alloc::Global;
 use std::process::Abort;
 use std::sync::Wait;
 use std::thread::Threads;
-use xa_endless_races::{LongOutcome, hold_long_race};
+use xa_races::{LongOutcome, hold_long_race};
 use xa_server::Reply;
 use xa_session::Answer;
 use xa_store::{Gate, OpenGate, RaceFault};

@@ -2,7 +2,7 @@
 ghost use Rattle.std.specs.Prelude.{◌≡◌, ◌≤◌, ◌<◌, ◌-◌, ◌^◌, ℕ, All, length, vec_len, IfOk, IfErr, IfSome, OnOk};
 ghost use Rattle.xa_lines.specs.Exchange.{IsFresh};
 ghost use Rattle.xa_lines.specs.Served.{IsServed, AfterServing};
-ghost use Rattle.xa_lasting.specs.Lasting.{own_view, other_alone};
+ghost use Rattle.xa_coordinator.specs.Lasting.{own_view, other_alone};
 ghost use Rattle.xa_manager.specs.Beside.{BeginsBeside};
 ghost use Rattle.xa_manager.specs.Limits.{Passes};
 ghost use Rattle.xa_manager.specs.Managed.{whole_of};
@@ -11,8 +11,7 @@ ghost use Rattle.xa_manager.specs.Whole.{IsPair};
 use crate::{BesideServer, Manager};
 use std::alloc::Global;
 use std::sync::Wait;
-use xa_coordinator::{Beside, Fused, Speak};
-use xa_lasting::LastingStore;
+use xa_coordinator::{Beside, Fused, LastingStore, Speak};
 use xa_lines::{Client, LineServer, ScriptFault, serve};
 use xa_server::Server;
 use xa_xid::NoMemory;

@@ -2,3 +2,8 @@ pub mod Race
 pub mod RaceRuns
 pub mod ReadLines
 pub mod Held
+pub mod Statements
+pub mod Gathering
+pub mod Places
+pub mod Ends
+pub mod NewRuns

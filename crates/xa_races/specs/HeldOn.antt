@@ -21,8 +21,8 @@ use Rattle.xa_lines.specs.declared.script_fault.ScriptFault.{ScriptFault}
 use Rattle.xa_lines.specs.declared.script_fault.ScriptFault.TheVariants.{Read, TooLong, Write, NoMemory, Full, GateShut, ThreadRefused}
 use Rattle.xa_races.specs.Race.{AreRuns, IsReadable}
 use Rattle.xa_races.specs.Outcome.{IsHeld, AreLists, outcome_text, script_fault_of}
-use Rattle.xa_endless_races.specs.LongRace.{IsLongRace, BlamesRace}
-use Rattle.xa_endless_races.specs.declared.long_outcome.LongOutcome.{LongOutcome}
+use Rattle.xa_races.specs.LongRace.{IsLongRace, BlamesRace}
+use Rattle.xa_races.specs.declared.long_outcome.LongOutcome.{LongOutcome}
 
 -- the log to which the runs belong has room for this number of entries
 abbrev pub HaveRoom : ℕ → List Run → Type 0

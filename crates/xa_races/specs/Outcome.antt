@@ -29,7 +29,7 @@ use Rattle.xa_lines.specs.declared.script_fault.ScriptFault.{ScriptFault}
 use Rattle.xa_lines.specs.declared.script_fault.ScriptFault.TheVariants.{Write, NoMemory, Full, GateShut, ThreadRefused}
 use Rattle.xa_lines.specs.Script.{lines_of}
 use Rattle.xa_lines.specs.Printed.{reply_text, converts}
-use Rattle.xa_endless_races.specs.LongRace.{AllAnswered}
+use Rattle.xa_races.specs.LongRace.{AllAnswered}
 use Rattle.xa_races.specs.Race.{AreRuns, IsReadable, last_session, faults_text, part_at, statements_of}
 use Rattle.xa_lines.specs.Transcript.{AppendsPrefix}
 

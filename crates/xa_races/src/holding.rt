@@ -13,13 +13,13 @@ ghost use Rattle.xa_races.specs.HeldOn.{IsHeldInLog, IsHeldEndless, EndsInLog, E
 
 use crate::asked::asked_of;
 use crate::given::RaceScript;
+use crate::hold_long_race;
 use crate::race_fault::script_fault;
 use crate::race_lines::read_race;
 use crate::race_text::print_outcome;
 use std::alloc::{AllocError, Global};
 use std::sync::Wait;
 use std::thread::Threads;
-use xa_endless_races::hold_long_race;
 use xa_lines::ScriptFault;
 use xa_store::{Gate, Pass, Run, Store, race};
 use xa_xid::{NoMemory, Statement};

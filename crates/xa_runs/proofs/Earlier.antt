@@ -19,7 +19,7 @@ use Rattle.xa_session.specs.Replay.{state_after, state_at}
 use Rattle.xa_session.specs.Answer.{entry_of, AnswersAt}
 use Rattle.xa_session.specs.declared.answer.Answer.{Answer}
 use Rattle.xa_store.specs.Legal.{next_place, Answered, entered, IsLegal}
-use Rattle.xa_endless_races.specs.Long.{HoldsAll}
+use Rattle.xa_races.specs.Long.{HoldsAll}
 use Rattle.xa_orders.specs.Orders.{Told}
 use Rattle.xa_runs.specs.Raced.{line_text, rank_in, laid_texts}
 use Rattle.xa_runs.specs.Held.{list_at, answers_of}

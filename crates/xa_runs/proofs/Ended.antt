@@ -14,9 +14,9 @@ use Rattle.xa_session.specs.declared.answer.Answer.{Answer}
 use Rattle.xa_store.specs.Legal.{IsLegal}
 use Rattle.xa_endless.specs.declared.session.EndlessSession.{EndlessSession}
 use Rattle.xa_endless.specs.declared.store.EndlessStore.{EndlessStore}
-use Rattle.xa_endless_races.specs.Long.{known_in, HoldsAll, seen_by_last, IsLongOutcome}
-use Rattle.xa_endless_races.specs.declared.long_run.LongRun.{LongRun}
-use Rattle.xa_endless_races.specs.declared.long_outcome.LongOutcome.{LongOutcome}
+use Rattle.xa_races.specs.Long.{known_in, HoldsAll, seen_by_last, IsLongOutcome}
+use Rattle.xa_races.specs.declared.long_run.LongRun.{LongRun}
+use Rattle.xa_races.specs.declared.long_outcome.LongOutcome.{LongOutcome}
 use Rattle.xa_orders.specs.Orders.{Told}
 use Rattle.xa_runs.specs.Raced.{statements_of, laid_texts, IsReadLine, GivesRaced}
 use Rattle.xa_runs.specs.Held.{list_at, answers_of, AreWithin, AreNumbered, AreRunsOf}

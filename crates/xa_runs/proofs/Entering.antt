@@ -11,7 +11,7 @@ use Rattle.xa_server.specs.State.{no_state}
 use Rattle.decision_log.proofs.Histories.{begins_nothing}
 use Rattle.xa_session.specs.Replay.{state_after}
 use Rattle.xa_endless.specs.declared.session.EndlessSession.{EndlessSession}
-use Rattle.xa_endless_races.specs.Long.{known_in, HoldsAll, seen_by_last}
+use Rattle.xa_races.specs.Long.{known_in, HoldsAll, seen_by_last}
 use Rattle.xa_runs.specs.Held.{AreNumbered, numbers_from}
 use Rattle.xa_runs.proofs.Given.{head_or, tail_of}
 

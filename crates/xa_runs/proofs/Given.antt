@@ -8,7 +8,7 @@ use Rattle.std.proofs.lemmas.List.{take_more, map-append, length-map}
 use Rattle.std.proofs.lemmas.List.Elements.{All-weaker, All-more, filter_map-append}
 use Rattle.xa_xid.specs.declared.statement.Statement.{Statement}
 use Rattle.xa_endless.specs.declared.session.EndlessSession.{EndlessSession}
-use Rattle.xa_endless_races.specs.declared.long_run.LongRun.{LongRun}
+use Rattle.xa_races.specs.declared.long_run.LongRun.{LongRun}
 use Rattle.xa_orders.specs.Orders.{Told, IsSession}
 use Rattle.xa_runs.specs.Raced.{statement_by, statements_of}
 use Rattle.xa_runs.specs.Held.{list_at, AreWithin, AreRunsOf}

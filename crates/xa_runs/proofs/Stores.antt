@@ -15,9 +15,9 @@ use Rattle.xa_endless.specs.declared.store.EndlessStore.{EndlessStore}
 use Rattle.xa_store.specs.Legal.{IsLegal}
 use Rattle.xa_store.specs.declared.race_fault.RaceFault.{RaceFault}
 use Rattle.xa_store.specs.declared.race_fault.RaceFault.TheVariants.{GateShut, Full, NoMemory, ThreadRefused}
-use Rattle.xa_endless_races.specs.Long.{known_in, HoldsAll, BlamesLong}
+use Rattle.xa_races.specs.Long.{known_in, HoldsAll, BlamesLong}
 use Rattle.xa_races.specs.Outcome.{script_fault_of}
-use Rattle.xa_endless_races.specs.declared.long_run.LongRun.{LongRun}
+use Rattle.xa_races.specs.declared.long_run.LongRun.{LongRun}
 use Rattle.xa_orders.specs.Orders.{Told}
 use Rattle.xa_runs.specs.Raced.{statements_of}
 use Rattle.xa_runs.specs.Held.{list_at, AreNumbered, AreRunsOf}

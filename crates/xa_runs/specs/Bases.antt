@@ -2,7 +2,7 @@
 --     base_of       the state after all that the last session has seen
 use Rattle.xa_server.specs.State.{State, no_state}
 use Rattle.xa_session.specs.Replay.{state_after}
-use Rattle.xa_endless_races.specs.Long.{seen_by_last}
+use Rattle.xa_races.specs.Long.{seen_by_last}
 use Rattle.xa_runs.specs.declared.opened.Opened.{Opened}
 
 -- a store begins with no branch and no row

@@ -9,8 +9,8 @@ use Rattle.std.specs.Prelude.{◌≡◌, ◌≤◌, ◌+◌, ◌-◌, ℕ, zero,
 use Rattle.std.specs.List.{All}
 use Rattle.xa_session.specs.declared.answer.Answer.{Answer}
 use Rattle.xa_endless.specs.declared.session.EndlessSession.{EndlessSession}
-use Rattle.xa_endless_races.specs.Long.{known_in}
-use Rattle.xa_endless_races.specs.declared.long_run.LongRun.{LongRun}
+use Rattle.xa_races.specs.Long.{known_in}
+use Rattle.xa_races.specs.declared.long_run.LongRun.{LongRun}
 use Rattle.xa_orders.specs.Orders.{Told, IsSession}
 use Rattle.xa_runs.specs.Raced.{statements_of}
 

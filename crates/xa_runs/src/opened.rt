@@ -5,7 +5,7 @@ ghost use Rattle.decision_log.specs.Opens.{IsCount};
 ghost use Rattle.ring_log.specs.RingOpens.{AreRows};
 ghost use Rattle.xa_server.specs.State.{no_state};
 ghost use Rattle.xa_session.specs.Replay.{state_after};
-ghost use Rattle.xa_endless_races.specs.Long.{known_in, HoldsAll, seen_by_last};
+ghost use Rattle.xa_races.specs.Long.{known_in, HoldsAll, seen_by_last};
 ghost use Rattle.xa_runs.specs.Held.{AreNumbered, numbers_from};
 
 use std::alloc::{AllocError, Global};

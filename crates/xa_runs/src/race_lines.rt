@@ -16,9 +16,9 @@ use std::alloc::Global;
 use std::sync::Wait;
 use std::thread::Threads;
 use xa_endless::EndlessSession;
-use xa_endless_races::{LongOutcome, LongRun, count_seen};
 use xa_lines::ScriptFault;
 use xa_orders::Line;
+use xa_races::{LongOutcome, LongRun, count_seen};
 use xa_store::{Gate, OpenGate};
 use xa_xid::NoMemory;
 

@@ -1,7 +1,7 @@
 //! Races the lines side by side.
 ghost use Rattle.std.specs.Prelude.{◌≡◌, IfOk, IfErr};
 ghost use Rattle.std.specs.List.{All};
-ghost use Rattle.xa_endless_races.specs.Long.{IsLongOutcome};
+ghost use Rattle.xa_races.specs.Long.{IsLongOutcome};
 ghost use Rattle.xa_races.specs.Outcome.{script_fault_of};
 ghost use Rattle.xa_runs.specs.Came.{IsOfRace};
 
@@ -9,8 +9,8 @@ use std::alloc::Global;
 use std::sync::{Arc, Wait};
 use std::thread::Threads;
 use xa_endless::EndlessStore;
-use xa_endless_races::{LongOutcome, LongRun, race_on};
 use xa_lines::ScriptFault;
+use xa_races::{LongOutcome, LongRun, race_on};
 use xa_store::{Gate, RaceFault};
 
 /// The fault that is returned for a race's fault.

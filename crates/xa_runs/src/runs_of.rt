@@ -4,7 +4,7 @@ ghost use Rattle.std.specs.List.{zip};
 
 use std::alloc::Global;
 use xa_endless::EndlessSession;
-use xa_endless_races::LongRun;
+use xa_races::LongRun;
 use xa_xid::{NoMemory, Statement};
 
 /// Returns the runs of these sessions, each with its list of statements.

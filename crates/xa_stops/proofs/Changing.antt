@@ -13,7 +13,7 @@ use Rattle.xa_server.specs.declared.association.Association.{Association}
 use Rattle.xa_server.specs.declared.association.Association.TheVariants.{Free, Active, Idle}
 use Rattle.xa_server.proofs.Changes.{outcome}
 use Rattle.xa_session.proofs.Replaying.{state_at-next}
-use Rattle.xa_lasting.specs.Lasting.{history_of}
+use Rattle.xa_coordinator.specs.Lasting.{history_of}
 use Rattle.xa_stops.specs.declared.counted_store.CountedStore.{CountedStore}
 use Rattle.xa_stops.specs.Atomic.{ChangesRows, KeepsRowsOr, state_before}
 

@@ -25,7 +25,7 @@ use Rattle.xa_coordinator.specs.declared.transaction.VoteKind.TheVariants.{Ready
 use Rattle.xa_coordinator.specs.declared.vote.Vote.{Vote}
 use Rattle.xa_coordinator.specs.declared.vote.Vote.TheVariants.{Ready as VoteReady, OnePhase as VoteOnePhase, No as VoteNo, Nothing as VoteNothing}
 use Rattle.xa_coordinator.proofs.Listed.{number_behind_is}
-use Rattle.xa_lasting.specs.Lasting.{own_view}
+use Rattle.xa_coordinator.specs.Lasting.{own_view}
 use Rattle.xa_manager.specs.Beside.{within, CarriesBeside, LeavesAlone}
 use Rattle.xa_manager.specs.Calls.{takes_rows}
 use Rattle.xa_manager.specs.Carried.{HasWorked, HasVoted, IsFinished, IsAbandoned, HasEnded, stage_after}

@@ -17,7 +17,7 @@ use Rattle.xa_session.specs.Replay.{state_at}
 use Rattle.xa_session.specs.View.{SessionView}
 use Rattle.xa_session.specs.declared.fault.Fault.{Fault}
 use Rattle.xa_session.proofs.Answering.{fails_unanswered}
-use Rattle.xa_lasting.specs.Lasting.{own_view}
+use Rattle.xa_coordinator.specs.Lasting.{own_view}
 use Rattle.xa_manager.specs.Beside.{within, others_of, CarriesBeside, HasRepliedBeside, IsShownBeside}
 use Rattle.xa_manager.specs.Said.{IsGiven}
 use Rattle.xa_manager.specs.Whole.{IsPair}

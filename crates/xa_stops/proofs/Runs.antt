@@ -5,7 +5,7 @@ use Rattle.std.proofs.lemmas.List.{take_more, drop_more, length-take-le}
 use Rattle.xa_manager.specs.declared.call.Call.{Call}
 use Rattle.xa_manager.specs.declared.call.Call.TheVariants.{Silent, Unread, Begin, Work, Prepare, Decide, Finish, Abandon, Fail, Stop, Recover, At, Show}
 use Rattle.xa_manager.specs.Beside.{CarriesBeside}
-use Rattle.xa_lasting.specs.Lasting.{own_view}
+use Rattle.xa_coordinator.specs.Lasting.{own_view}
 use Rattle.xa_manager.specs.declared.response.Response.{Response}
 use Rattle.xa_stops.specs.Runs.{Managing, IsAnswered, CarriesOut, none_yet, one_more, IsFresh, HasCarried}
 use Rattle.std.specs.Prelude.{Result, Ok, Err, IfOk, false}

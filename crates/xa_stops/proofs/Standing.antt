@@ -18,7 +18,7 @@ use Rattle.xa_session.proofs.Replaying.{state_at-next, state_at-begins}
 use Rattle.xa_coordinator.specs.Branch.{IsBranchOf}
 use Rattle.xa_coordinator.specs.Decisions.{is_decided}
 use Rattle.xa_coordinator.specs.declared.report.Report.{Report}
-use Rattle.xa_lasting.specs.Lasting.{history_of}
+use Rattle.xa_coordinator.specs.Lasting.{history_of}
 use Rattle.xa_manager.specs.declared.call.Call.{Call}
 use Rattle.xa_manager.specs.declared.call.Call.TheVariants.{Recover}
 use Rattle.xa_manager.specs.declared.response.Response.{Response}

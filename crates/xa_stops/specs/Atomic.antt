@@ -29,7 +29,7 @@ use Rattle.xa_coordinator.specs.Recovery.{NoneLeft, IsNamed}
 use Rattle.xa_coordinator.specs.declared.decisions.Decision.{Decision}
 use Rattle.xa_coordinator.specs.declared.fused.Fused.{Fused}
 use Rattle.xa_coordinator.specs.declared.report.Report.{Report}
-use Rattle.xa_lasting.specs.Lasting.{history_of}
+use Rattle.xa_coordinator.specs.Lasting.{history_of}
 use Rattle.xa_manager.specs.Calls.{takes_rows}
 use Rattle.xa_manager.specs.declared.call.Call.{Call}
 use Rattle.xa_manager.specs.declared.call.Call.TheVariants.{Work, Recover, At}

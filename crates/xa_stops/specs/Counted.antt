@@ -9,7 +9,7 @@ use Rattle.xa_session.specs.Replay.{state_after}
 use Rattle.xa_session.specs.View.{SessionView}
 use Rattle.xa_session.specs.declared.answer.Answer.{Answer}
 use Rattle.xa_session.specs.declared.fault.Fault.{Fault}
-use Rattle.xa_lasting.specs.Lasting.{own_view, other_alone, history_of}
+use Rattle.xa_coordinator.specs.Lasting.{own_view, other_alone, history_of}
 use Rattle.xa_stops.specs.declared.counted_store.CountedStore.{CountedStore}
 
 -- the coordinator's session

@@ -8,8 +8,8 @@
 --     IsGiven          how many statements the coordinator's session of each store was given in a run
 use Rattle.std.specs.Prelude.{◌≡◌, ℕ, false, List, [], ◌∷◌, ◌++◌, All, map}
 use Rattle.xa_coordinator.specs.declared.fused.Fused.{Fused}
-use Rattle.xa_lasting.specs.Lasting.{own_view}
-use Rattle.xa_lasting.specs.declared.store.LastingStore.{LastingStore}
+use Rattle.xa_coordinator.specs.Lasting.{own_view}
+use Rattle.xa_coordinator.specs.declared.store.LastingStore.{LastingStore}
 use Rattle.xa_manager.specs.declared.call.Call.{Call}
 use Rattle.xa_manager.specs.declared.response.Response.{Response}
 use Rattle.xa_manager.specs.Beside.{BeginsBeside, PerformsBeside}

@@ -9,8 +9,7 @@ ghost use Rattle.xa_stops.specs.Stops.{fails_from};
 use crate::CountedStore;
 use std::alloc::Global;
 use std::sync::Wait;
-use xa_coordinator::Fused;
-use xa_lasting::LastingStore;
+use xa_coordinator::{Fused, LastingStore};
 use xa_manager::{Call, Manager};
 use xa_xid::NoMemory;
 

@@ -3,8 +3,7 @@ ghost use Rattle.std.specs.Prelude.{◌≡◌, ◌+◌, ◌-◌, ◌<◌, ◌^�
 ghost use Rattle.xa_stops.specs.Counted.{state_in};
 
 use std::sync::Wait;
-use xa_coordinator::{Beside, Speak};
-use xa_lasting::LastingStore;
+use xa_coordinator::{Beside, LastingStore, Speak};
 use xa_server::Server;
 use xa_session::{Answer, Fault};
 use xa_xid::Statement;
@@ -82,7 +81,7 @@ impl Speak for CountedStore {
 }
 
 impl Beside for CountedStore {
-    ghost use Rattle.xa_lasting.specs.Lasting.{other-steady};
+    ghost use Rattle.xa_coordinator.specs.Lasting.{other-steady};
     ghost use Rattle.xa_stops.specs.Counted.{other_of};
 
     ghost other = { other_of };

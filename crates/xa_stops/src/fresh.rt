@@ -8,8 +8,7 @@ ghost use Rattle.xa_stops.specs.Runs.{IsFresh};
 
 use crate::CountedStore;
 use std::alloc::{AllocError, Global};
-use xa_coordinator::Fused;
-use xa_lasting::LastingStore;
+use xa_coordinator::{Fused, LastingStore};
 use xa_manager::Manager;
 use xa_server::Server;
 use xa_xid::NoMemory;

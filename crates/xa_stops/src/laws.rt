@@ -8,7 +8,7 @@ ghost use Rattle.xa_manager.specs.declared.response.Response.TheVariants.{Recove
 ghost use Rattle.xa_stops.specs.Runs.{Managing, IsRun};
 ghost use Rattle.xa_stops.specs.declared.stop.Stop.{Stop};
 ghost use Rattle.xa_stops.specs.Atomic.{IsPlain, KeepsToDecisions, LeavesBranches, AllOrNone, LeavesWhole, KeepsRowsOr};
-ghost use Rattle.xa_lasting.specs.Lasting.{history_of};
+ghost use Rattle.xa_coordinator.specs.Lasting.{history_of};
 ghost use Rattle.xa_stops.specs.declared.counted_store.CountedStore.{CountedStore};
 ghost use Rattle.xa_words.specs.Entry.{Entry};
 ghost use Rattle.xa_stops.specs.Scripts.{calls_of};

@@ -17,8 +17,7 @@ use crate::rows::with_rows_of_each;
 use crate::{CountedStore, Stop};
 use std::alloc::{AllocError, Global};
 use std::sync::Wait;
-use xa_coordinator::{Fused, RecoverFault};
-use xa_lasting::LastingStore;
+use xa_coordinator::{Fused, LastingStore, RecoverFault};
 use xa_manager::{Call, Manager, Response, write_response};
 use xa_xid::{Key, NoMemory};
 

@@ -2,7 +2,7 @@ use Rattle.std.proofs.Common.{◌≡◌, ◌+◌, List, [], length, ap, sym, sub
 use Rattle.std.specs.List.{All}
 use Rattle.std.proofs.lemmas.List.{length_push}
 use Rattle.xa_endless.specs.declared.session.EndlessSession.{EndlessSession}
-use Rattle.xa_endless_races.specs.Long.{known_in}
+use Rattle.xa_races.specs.Long.{known_in}
 use Rattle.xa_runs.specs.Held.{AreNumbered}
 use Rattle.xa_runs.proofs.Entering.{all_more, numbered_more}
 use Rattle.xa_runs.proofs.opened.enter_all.Goals as goal

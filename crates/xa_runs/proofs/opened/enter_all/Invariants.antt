@@ -1,6 +1,6 @@
 use Rattle.std.proofs.Common.{◌≡◌, [], length}
 use Rattle.std.specs.List.{All}
-use Rattle.xa_endless_races.specs.Long.{known_in}
+use Rattle.xa_races.specs.Long.{known_in}
 use Rattle.xa_runs.specs.Held.{AreNumbered}
 use Rattle.xa_runs.proofs.opened.enter_all.Given as goal
 

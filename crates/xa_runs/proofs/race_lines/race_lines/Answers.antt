@@ -2,7 +2,7 @@ use Rattle.std.proofs.Common.{◌≡◌, List, [], length, map, Vec, Global, ap,
 use Rattle.std.specs.List.{concat}
 use Rattle.xa_session.specs.declared.answer.Answer.{Answer}
 use Rattle.xa_endless.specs.declared.session.EndlessSession.{EndlessSession}
-use Rattle.xa_endless_races.specs.Long.{seen_by_last}
+use Rattle.xa_races.specs.Long.{seen_by_last}
 use Rattle.xa_runs.specs.Raced.{laid_texts}
 use Rattle.xa_runs.specs.Held.{answers_of}
 use Rattle.xa_runs.proofs.Entering.{numbered, numbers_are}

@@ -1,8 +1,8 @@
 use Rattle.std.proofs.Common.{◌≡◌, ◌∙◌, sym, subst, refl, ap}
 use Rattle.decision_log.specs.Known.{newcomer}
 use Rattle.xa_server.specs.State.{no_state}
-use Rattle.xa_lasting.specs.Lasting.{own_view, other_view, other_alone}
-use Rattle.xa_lasting.specs.declared.store.LastingStore.{LastingStore}
+use Rattle.xa_coordinator.specs.Lasting.{own_view, other_view, other_alone}
+use Rattle.xa_coordinator.specs.declared.store.LastingStore.{LastingStore}
 use Rattle.xa_manager.specs.Whole.{IsPair}
 use Rattle.xa_stops.specs.declared.counted_store.CountedStore.{CountedStore}
 use Rattle.xa_stops.specs.Counted.{own_of, other_of}

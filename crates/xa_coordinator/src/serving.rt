@@ -1,0 +1,46 @@
+//! Answering a session's statement when no other session uses the store.
+ghost use Rattle.std.specs.Prelude.{◌≡◌, Err, IfOk, OnErr, map, length};
+ghost use Rattle.xa_session.specs.declared.fault.Fault.TheVariants.{NoMemory as WantsMemory};
+ghost use Rattle.xa_coordinator.specs.Watched.{Serves};
+
+use crate::Watch;
+use std::snapshot::Snapshot;
+use xa_server::Server;
+use xa_session::{Answer, Fault};
+use xa_words::Entry;
+use xa_xid::{SessionNo, Statement};
+
+/// Answers a session's statement from the state that the history leaves, and carries it out. Room for the
+/// entry is taken first.
+///
+/// Errors: `NoMemory`, also after 2^64 - 1 looks of the session. Nothing has changed then.
+pub(crate) fn serve(
+    server: &mut Server,
+    history: &mut Vec<Snapshot<Entry>>,
+    watch: &mut Watch,
+    session: SessionNo,
+    statement: &Statement,
+) -> Result<Answer, Fault>
+    ensures ok { IfOk result
+        (λ answer. Serves session statement.now answer server.old (map (λ one. one.value) history.old.items) watch.old server.new
+        (map (λ one. one.value) history.new.items) watch.new) }
+    ensures server { OnErr result (server.new ≡ server.old) }
+    ensures history { OnErr result (map (λ one. one.value) history.new.items ≡ map (λ one. one.value) history.old.items) }
+    ensures watch { OnErr result (watch.new ≡ watch.old) }
+    ensures cause { OnErr result (result ≡ Err WantsMemory) }
+{
+    if watch.looks == u64::MAX {
+        return Err(Fault::NoMemory);
+    }
+    history.reserve(1)?;
+    let place = history.len() as u64;
+    let (reply, enters) = server.reply(session, statement)?;
+    if enters {
+        server.accept(session, statement)?;
+        let entry = Entry::entering(session, statement.copy());
+        history.push_reserved(Snapshot::of(&entry));
+    }
+    watch.seen = history.len() as u64;
+    watch.looks += 1;
+    Ok(Answer { place, reply })
+}

@@ -1,3 +1,0 @@
-pub mod Long
-pub mod LongRace
-pub mod Assembled

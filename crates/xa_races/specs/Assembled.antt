@@ -1,0 +1,18 @@
+-- Entries that are put to their places.
+--     Fits            an entry is that of a list at a place, and is of a session up to a number
+--     HasOnly         each place that has an entry has one that fits there
+--     IsWithin        an entry fits at its place, counted from another on
+use Rattle.std.specs.Prelude.{◌≡◌, ◌≤◌, ◌-◌, ℕ, Option, Some, List, slice_get}
+use Rattle.xa_words.specs.Entry.{Entry}
+use Rattle.xa_races.specs.declared.added.Added.{Added}
+
+pub record Fits (list : List Entry) (limit place : ℕ) (entry : Entry) : Type 0 where
+  pub at : slice_get list place ≡ Some entry
+  pub some : 1 ≤ entry.session
+  pub few : entry.session ≤ limit
+
+abbrev pub HasOnly : List Entry → ℕ → List (Option Entry) → Type 0
+HasOnly list limit places = (place : ℕ) (entry : Entry) → slice_get places place ≡ Some (Some entry) → Fits list limit place entry
+
+abbrev pub IsWithin : List Entry → ℕ → ℕ → Added → Type 0
+IsWithin list limit from added = from ≤ added.place → Fits list limit (added.place - from) added.entry

@@ -1,0 +1,172 @@
+-- A race over a store without an end.
+--     known_in        what a session knows
+--     IsAddedBy       an entry that a session added, at its place
+--     WantsMemory     a session has no memory for a statement, and was let in
+--     HaltsAt         why a session's statement isn't answered
+--     EndsOne         the statement is answered, or the run stops at it
+--     SaysOne         what is noted of a statement that was answered
+--     RunsOut         a session has no memory for one of its statements
+--     StopsAt         why a run stops, and that the session has done nothing after that
+--     EndsAt          all statements were answered, or the run stopped
+--     HasRaced        a session before its run, and what its thread returns
+--     AreOfOne        sessions of one log
+--     Keeps           a session that met others
+--     HoldsAll        a session has seen a history, and has its own entries there
+--     IsListed        an entry that was added is in the history
+--     seen_by_last    what the last of some sessions has seen
+--     Settles         the sessions have met, and the history is put together
+--     IsLongOutcome   what a race over a store without an end gives
+--     BlamesLong      why such a race fails
+use Rattle.std.specs.Prelude.{◌≡◌, ◌<◌, ◌≤◌, ◌++◌, [], ◌∷◌, ℕ, Bool, true, false, Option, Some, None, Result, Ok, Err, List, length, map, drop, slice_get}
+use Rattle.std.specs.List.{All, AllZip}
+use Rattle.xa_xid.specs.declared.statement.Statement.{Statement}
+use Rattle.xa_words.specs.Entry.{Entry}
+use Rattle.xa_server.specs.State.{no_state}
+use Rattle.decision_log.specs.declared.known.Known.{Known}
+use Rattle.decision_log.specs.History.{Begins, entries_of}
+use Rattle.decision_log.specs.Known.{AllOf, LogIdentity}
+use Rattle.xa_session.specs.Answer.{IsAnswered}
+use Rattle.xa_session.specs.declared.answer.Answer.{Answer}
+use Rattle.ring_log.specs.RingPass.{log_of, known_of}
+use Rattle.xa_endless.specs.Answers.{IsCaused, HasFailed}
+use Rattle.xa_endless.specs.declared.fault.EndlessFault.TheVariants.{NoMemory as NoMoreMemory}
+use Rattle.xa_endless.specs.declared.session.EndlessSession.{EndlessSession}
+use Rattle.xa_store.specs.Gathered.{IsTakenIn, AddsNothing, last_known}
+use Rattle.xa_store.specs.Legal.{IsLegal, LetsIn, IsLetIn, IsTurnedAway, IsReachedInRun}
+use Rattle.xa_store.specs.Spread.{HasAnswered}
+use Rattle.xa_store.specs.declared.race_fault.RaceFault.{RaceFault}
+use Rattle.xa_store.specs.declared.race_fault.RaceFault.TheVariants.{GateShut, Full, NoMemory, ThreadRefused}
+use Rattle.xa_races.specs.declared.added.Added.{Added}
+use Rattle.xa_races.specs.declared.said.Said.{Said}
+use Rattle.xa_races.specs.declared.racer.Raced.{Raced}
+use Rattle.xa_races.specs.declared.long_run.LongRun.{LongRun}
+use Rattle.xa_races.specs.declared.long_outcome.LongOutcome.{LongOutcome}
+
+abbrev pub known_in : EndlessSession → Known
+known_in session = known_of session.member.pass
+
+-- the entry is at its place in the history, and is this session's
+pub record IsAddedBy (history : List Entry) (session : ℕ) (added : Added) : Type 0 where
+  pub at : slice_get history added.place ≡ Some added.entry
+  pub own : added.entry.session ≡ session
+
+-- the gate can have let the session go on, and the session has failed for want of memory
+pub record WantsMemory (gate : ℕ → ℕ → Bool → Type 0) (place : ℕ) (statement : Statement) (old new : EndlessSession) : Type 0 where
+  pub opened : gate (known_in old).number place true
+  pub failed : HasFailed old.store.value.log statement NoMoreMemory new.member.replica old.member.pass new.member.pass
+
+-- the fault names the session and the statement that isn't answered; the gate stopped the run, or there is no memory. No history is full
+abbrev pub HaltsAt : (ℕ → ℕ → Bool → Type 0) → ℕ → Statement → RaceFault → EndlessSession → EndlessSession → Type 0
+HaltsAt gate place statement (GateShut session line) old new =
+    (session ≡ (known_in old).number) × (line ≡ place) × IsTurnedAway gate session line (known_in old) (known_in new)
+HaltsAt gate place statement (Full session line) old new = ⊥
+HaltsAt gate place statement NoMemory old new = WantsMemory gate place statement old new
+HaltsAt gate place statement ThreadRefused old new = ⊥
+
+-- the statement was answered, or the run stops at it
+abbrev pub EndsOne : (ℕ → ℕ → Bool → Type 0) → ℕ → Statement → Result Answer RaceFault → EndlessSession → EndlessSession → Type 0
+EndsOne gate place statement (Ok answer) old new = IsLetIn gate no_state statement place answer (known_in old) (known_in new)
+EndsOne gate place statement (Err fault) old new = HaltsAt gate place statement fault old new
+
+-- the answer is noted, and the entry, if the statement was logged
+pub record SaysOne (gate : ℕ → ℕ → Bool → Type 0) (place : ℕ) (statement : Statement) (old new : EndlessSession) (before after : Said) : Type 0 where
+  pub answer : Answer
+  pub let_in : IsLetIn gate no_state statement place answer (known_in old) (known_in new)
+  pub answers : after.answers.items ≡ before.answers.items ++ answer ∷ []
+  pub added : List Added
+  pub more : after.added.items ≡ before.added.items ++ added
+  pub few : length added ≤ 1
+  pub own : All (IsAddedBy (known_in new).seen (known_in old).number) added
+
+-- the statements before one were answered, the gate can have let the session go on there, and it has no memory for that statement
+pub record RunsOut (gate : ℕ → ℕ → Bool → Type 0) (before : Known) (statements : List Statement) (session : EndlessSession) : Type 0 where
+  pub line : ℕ
+  pub reached : IsReachedInRun no_state (known_in session).seen before statements before.number line
+  pub statement : Statement
+  pub given : slice_get statements line ≡ Some statement
+  pub opened : gate before.number line true
+  pub cause : IsCaused session.store.value.log statement NoMoreMemory session.member.replica session.member.pass
+
+-- in all that the session has seen, the statements before the named one were answered, and none after it; the gate can stop it there, or it has
+-- no memory
+abbrev pub StopsAt : (ℕ → ℕ → Bool → Type 0) → Known → List Statement → RaceFault → EndlessSession → Type 0
+StopsAt gate before statements (GateShut session line) after = IsReachedInRun no_state (known_in after).seen before statements session line × gate session line false
+StopsAt gate before statements (Full session line) after = ⊥
+StopsAt gate before statements NoMemory after = RunsOut gate before statements after
+StopsAt gate before statements ThreadRefused after = ⊥
+
+-- all statements were answered, or the run stopped
+abbrev pub EndsAt : (ℕ → ℕ → Bool → Type 0) → Known → List Statement → List Answer → Option RaceFault → EndlessSession → Type 0
+EndsAt gate before statements answers None after = HasAnswered gate no_state before (known_in after) statements answers
+EndsAt gate before statements answers (Some fault) after = StopsAt gate before statements fault after
+
+-- the session ended its run, or stopped; it has added nothing since
+pub record HasRaced (gate : ℕ → ℕ → Bool → Type 0) (old : EndlessSession) (statements : List Statement) (raced : Raced) : Type 0 where
+  pub store : raced.session.store.value ≡ old.store.value
+  pub mid : EndlessSession
+  pub ends : EndsAt gate (known_in old) statements raced.said.answers.items raced.fault mid
+  pub rests : AddsNothing (known_in mid) (known_in raced.session)
+  pub own : All (IsAddedBy (known_in mid).seen (known_in old).number) raced.said.added.items
+
+-- the sessions are of one log
+pub record AreOfOne (sessions : List EndlessSession) : Type 0 where
+  pub identity : LogIdentity
+  pub belong : All (λ session. log_of session.member.pass ≡ identity) sessions
+
+-- it is of the same store, has added nothing, and may have seen more
+pub record Keeps (old new : EndlessSession) : Type 0 where
+  pub store : new.store.value ≡ old.store.value
+  pub adds_nothing : AddsNothing (known_in old) (known_in new)
+
+-- the session has seen the history, and its own entries there are those that it knows
+pub record HoldsAll (history : List Entry) (known : Known) : Type 0 where
+  pub seen : Begins history known.seen
+  pub mine : entries_of known.number history ≡ known.mine
+
+-- the entry is at its place in the history, and is of a session up to a number
+pub record IsListed (history : List Entry) (limit : ℕ) (added : Added) : Type 0 where
+  pub at : slice_get history added.place ≡ Some added.entry
+  pub some : 1 ≤ added.entry.session
+  pub few : added.entry.session ≤ limit
+
+-- the history that the last of some sessions has seen
+abbrev pub seen_by_last : List EndlessSession → List Entry
+seen_by_last sessions = (last_known (map known_in sessions)).seen
+
+-- after their threads the sessions have met, and the entries that they added are put together
+pub record Settles (from : ℕ) (raced : List Raced) (outcome : LongOutcome) : Type 0 where
+  pub taken : All (λ one. IsTakenIn (seen_by_last outcome.sessions.items) (known_in one.session)) raced
+  pub keeps : AllZip (λ one session. Keeps one.session session) raced outcome.sessions.items
+  pub holds : All (λ session. HoldsAll (seen_by_last outcome.sessions.items) (known_in session)) outcome.sessions.items
+  pub answers : outcome.answers.items ≡ map (λ one. one.said.answers) raced
+  pub history : (limit : ℕ) → All (λ one. All (IsListed (seen_by_last outcome.sessions.items) limit) one.said.added.items) raced
+      → (outcome.history.items ≡ drop from (seen_by_last outcome.sessions.items)) × AllOf limit outcome.history.items
+
+-- one history, from the store's first entry on, explains all answers. From the place `from` on it is what the outcome tells; its entries there are of the
+-- runs' sessions
+pub record IsLongOutcome (gate : ℕ → ℕ → Bool → Type 0) (from : ℕ) (runs : List LongRun) (outcome : LongOutcome) : Type 0 where
+  pub whole : List Entry
+  pub whole_is : whole ≡ seen_by_last outcome.sessions.items
+  pub legal : AllZip (λ run answers. IsLegal no_state whole (known_in run.session) run.lines.items answers) runs
+      (map (λ answers. answers.items) outcome.answers.items)
+  pub history : outcome.history.items ≡ drop from whole
+  pub own : (count : ℕ) → All (λ run. (known_in run.session).number ≤ count) runs → AllOf count outcome.history.items
+  pub sessions : AllZip (λ run session. (session.store.value ≡ run.session.store.value) × ((known_in session).number ≡ (known_in run.session).number)) runs
+      outcome.sessions.items
+  pub holds : All (λ session. HoldsAll whole (known_in session)) outcome.sessions.items
+  pub opened : All (λ run. LetsIn gate (known_in run.session).number (length run.lines.items)) runs
+
+-- a run stopped at a statement
+pub record IsBlamed (gate : ℕ → ℕ → Bool → Type 0) (runs : List LongRun) (fault : RaceFault) : Type 0 where
+  pub index : ℕ
+  pub run : LongRun
+  pub found : slice_get runs index ≡ Some run
+  pub session : EndlessSession
+  pub stops : StopsAt gate (known_in run.session) run.lines.items fault session
+
+-- a fault that names a session is one of a run. No history is full, and a thread is refused only to a run
+abbrev pub BlamesLong : (ℕ → ℕ → Bool → Type 0) → List LongRun → RaceFault → Type 0
+BlamesLong gate runs (GateShut session line) = IsBlamed gate runs (GateShut session line)
+BlamesLong gate runs (Full session line) = ⊥
+BlamesLong gate runs NoMemory = Unit {0}
+BlamesLong gate runs ThreadRefused = 0 < length runs

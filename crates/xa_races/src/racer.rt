@@ -1,0 +1,84 @@
+//! A session of a long race, on its thread.
+ghost use Rattle.std.specs.Prelude.{◌≡◌, ◌≤◌, [], length, vec_capacity};
+ghost use Rattle.ring_log.specs.RingPass.{known_of};
+ghost use Rattle.xa_store.specs.Gathered.{AddsNothing};
+
+use crate::said::Said;
+use crate::saying::say_out;
+use std::sync::Wait;
+use std::thread;
+use xa_endless::EndlessSession;
+use xa_store::{Gate, RaceFault, Task};
+use xa_xid::{SessionNo, Statement};
+
+/// A session with its statements, room for what it will be answered and will add, and the gate that it asks.
+#[derive(Drop)]
+pub(crate) struct Racer<'g, G> {
+    pub(crate) session: EndlessSession,
+    pub(crate) lines: Vec<Statement>,
+    pub(crate) said: Said,
+    pub(crate) gate: &'g G,
+    ghost none: { said.answers.items ≡ [] },
+    ghost nothing: { said.added.items ≡ [] },
+    ghost answers: { length lines.items ≤ vec_capacity said.answers },
+    ghost added: { length lines.items ≤ vec_capacity said.added },
+}
+
+/// What a session's thread returns: the session, what it was answered and has added, and why it stopped, if it did.
+#[derive(Drop)]
+pub struct Raced {
+    pub(crate) session: EndlessSession,
+    pub(crate) said: Said,
+    pub(crate) fault: Option<RaceFault>,
+}
+
+/// How often a session tries to leave a checkpoint. Others have one for a few steps only.
+const TURNS: u64 = 1_000_000;
+
+/// Leaves a checkpoint, as soon as one can be had.
+///
+/// A session that adds no more looks after no checkpoint any more. One that is behind might then find none.
+#[tactic(auto, using(crate::proofs::Statements::rests_itself, crate::proofs::Statements::rests_more))]
+fn leave_checkpoint(session: &mut EndlessSession)
+    ensures store { session.new.store.value ≡ session.old.store.value }
+    ensures rests { AddsNothing (known_of session.old.member.pass) (known_of session.new.member.pass) }
+{
+    for _ in 0..TURNS {
+        if session.leave_checkpoint() {
+            return;
+        }
+        thread::yield_now();
+    }
+}
+
+impl<'g, G: Gate> Task for Racer<'g, G> {
+    ghost use Rattle.xa_races.specs.Long.{known_in, HasRaced};
+
+    type Gain = Raced;
+
+    ghost number_of = { λ racer. (known_in racer.session).number };
+
+    ghost gains = { λ racer raced. HasRaced (G.may_answer racer.gate.now) racer.session racer.lines.items raced };
+
+    ghost stops = { λ _ _. ⊥ };
+
+    fn number(&self) -> SessionNo {
+        self.session.number()
+    }
+
+    fn work<R: Wait>(self, rt: &R) -> Result<Raced, RaceFault> {
+        let Racer {
+            mut session,
+            lines,
+            mut said,
+            gate,
+        } = self;
+        let fault = say_out(rt, &mut session, lines.as_slice(), gate, &mut said);
+        leave_checkpoint(&mut session);
+        Ok(Raced {
+            session,
+            said,
+            fault,
+        })
+    }
+}
