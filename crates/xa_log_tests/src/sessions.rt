@@ -3,6 +3,7 @@ ghost use Rattle.std.specs.Prelude.{◌≡◌, ◌<◌, false, length, IfErr};
 ghost use Rattle.xa_server.specs.Step.{is_recover};
 ghost use Rattle.xa_session.specs.declared.fault.Fault.TheVariants.{NoMemory};
 
+use crate::playing::{first_difference, has_history};
 use decision_log::DecisionLog;
 use std::alloc::Global;
 use std::process::Abort;
@@ -10,7 +11,6 @@ use std::sync::Wait;
 use xa_server::{Reply, Server};
 use xa_session::{Answer, Fault, Session};
 use xa_statement::read_statement;
-use xa_test_support::{first_difference, has_history};
 use xa_xid::{Bytes, Key, Statement};
 
 /// A session of a pass, connected again if there was no memory.

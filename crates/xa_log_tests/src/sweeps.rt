@@ -1,13 +1,15 @@
 //! Tests that pass whether or not one growth is refused somewhere in them: a server, and sessions over a log
 //! with a turn and over a chain.
 
+use crate::cases::split_case;
+use crate::lines::given_in;
 use crate::logs::{over_a_chain, over_a_turn};
+use crate::replies::is_reply;
 use crate::scenes::Scene;
 use std::alloc::Global;
 use std::process::Abort;
 use xa_lines::split_line;
 use xa_server::{Reply, Server};
-use xa_test_support::{given_in, is_reply, split_case};
 use xa_xid::{SessionNo, Statement};
 
 /// Nothing is logged in a full log, and what isn't logged is answered.

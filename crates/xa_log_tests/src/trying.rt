@@ -1,12 +1,13 @@
 //! Two passes of one log that play a script.
 ghost use Rattle.std.specs.Prelude.{◌≡◌};
 
+use crate::cases::{is_answer, split_case};
+use crate::lines::given_in;
 use decision_log::{AddFault, DecisionLog};
 use std::alloc::Global;
 use std::process::Abort;
 use xa_lines::{ScriptLine, push_number, read_line, split_line};
 use xa_statement::read_statement;
-use xa_test_support::{given_in, is_answer, split_case};
 use xa_words::Entry;
 use xa_xid::{NoMemory, SessionNo, Statement};
 

@@ -6,8 +6,8 @@ use std::process::Abort;
 use std::sync::Wait;
 use xa_coordinator::{Fused, Speak};
 use xa_lines::{Answer, split_line};
+use xa_log_tests::{is_answer, split_case};
 use xa_manager::{Call, Manager, Response, read_call, write_response};
-use xa_test_support::{is_answer, split_case};
 
 /// What a manager answers to a call. If there was no memory for a transaction, the call is made again.
 fn answered<S: Speak, T: Speak, R: Abort + Wait>(

@@ -14,11 +14,11 @@ use xa_coordinator::{
     BeginFault, Cause, Coordinator, Decisions, Ending, Prepared, RecoverFault, Report, Speak,
     Transaction, Vote, WorkFault, xid_of_branch,
 };
+use xa_log_tests::{is_answer, is_reply};
 use xa_server::{Reply, XaError};
 use xa_session::{Fault, Session};
 use xa_statement::read_statement;
 use xa_store::{Log, Pass, Store};
-use xa_test_support::{is_answer, is_reply};
 use xa_xid::{Key, Statement, write_xid};
 
 /// A coordinator over two sessions.

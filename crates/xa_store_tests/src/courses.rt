@@ -10,10 +10,10 @@ use std::process::Abort;
 use std::sync::Wait;
 use xa_coordinator::{Fused, Speak};
 use xa_lines::split_line;
+use xa_log_tests::split_case;
 use xa_manager::Manager;
 use xa_session::Session;
 use xa_store::{Log, Pass, Store};
-use xa_test_support::split_case;
 
 /// What a coordinator does with a transaction.
 #[derive(Clone, Copy, PartialEq, Eq)]

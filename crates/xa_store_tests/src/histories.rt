@@ -9,9 +9,9 @@ use crate::stores::{both, next_session, opened, pushed};
 use std::alloc::Global;
 use std::process::Abort;
 use std::sync::Wait;
+use xa_log_tests::has_history;
 use xa_session::Session;
 use xa_store::{Log, Pass, Store};
-use xa_test_support::has_history;
 use xa_words::Entry;
 
 /// Asks for the history of a store, with which its sessions stay.

@@ -10,9 +10,9 @@ use decision_log::OpenFault;
 use std::alloc::Global;
 use std::process::Abort;
 use std::sync::Wait;
+use xa_log_tests::first_difference;
 use xa_session::Session;
 use xa_store::{Log, Pass, Store};
-use xa_test_support::first_difference;
 use xa_words::Entry;
 
 /// Asks the sessions to leave together; they are back if there was no memory.

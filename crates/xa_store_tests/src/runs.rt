@@ -7,8 +7,8 @@ use crate::stores::pushed;
 use std::alloc::Global;
 use std::process::Abort;
 use xa_lines::split_line;
+use xa_log_tests::given_in;
 use xa_store::{Pass, Run, Store};
-use xa_test_support::given_in;
 use xa_xid::{SessionNo, Statement};
 
 /// Appends the statement of a line if the line is of a session.

@@ -1,5 +1,5 @@
 use Rattle.std.proofs.Common.{◌≡◌, length}
-use Rattle.xa_test_support.proofs.playing.first_difference.Given as goal
+use Rattle.xa_log_tests.proofs.playing.first_difference.Given as goal
 
 abbrev pub decreases-loop-rest : goal.decreases-loop-rest
 decreases-loop-rest g l = length l.rest

@@ -1,5 +1,5 @@
 use Rattle.std.proofs.Common.{◌≡◌, length}
-use Rattle.xa_test_support.proofs.playing.has_history.Given as goal
+use Rattle.xa_log_tests.proofs.playing.has_history.Given as goal
 
 abbrev pub invariant-loop-at : goal.invariant-loop-at
 invariant-loop-at g l = record {
