@@ -46,6 +46,10 @@ verbose_rule = flag_rule (codes "verbose")
 abbrev pub text_rule : Rule
 text_rule = flag_rule (codes "text")
 
+-- `--json`, which has no value
+abbrev pub json_rule : Rule
+json_rule = flag_rule (codes "json")
+
 -- `[--file FILE] [--verbose] [--strict] [--text]`, behind a subcommand's own options
 abbrev pub common_app : App → App
 common_app app = with_rule (with_rule (with_rule (with_rule app file_rule) verbose_rule) (flag_rule (codes "strict"))) text_rule
@@ -74,9 +78,11 @@ renew_rule = flag_rule (codes "renew")
 abbrev pub runs_rule : Rule
 runs_rule = record (new_rule (codes "runs")) { long = Some (codes "runs"); value_names = 1; parser = Some (parser.Unsigned 1 1000000) }
 
--- `race [--capacity N] [--together] [--shuffle SEED] [--renew] [--runs N]`
+-- `race [--capacity N] [--together] [--shuffle SEED] [--renew] [--runs N] [--json]`
 abbrev pub race_app : App
-race_app = with_rule (with_rule (with_rule (with_rule (with_rule (new_app (codes "race")) capacity_rule) together_rule) shuffle_rule) renew_rule) runs_rule
+race_app =
+    with_rule (with_rule (with_rule (with_rule (with_rule (with_rule (new_app (codes "race")) capacity_rule) together_rule) shuffle_rule) renew_rule) runs_rule)
+    json_rule
 
 -- `--stores N`, a number from 1 to 16, and 3 where it isn't given
 abbrev pub stores_rule : Rule
@@ -90,9 +96,9 @@ fixed_rule = flag_rule (codes "fixed")
 abbrev pub coordinate_app : App
 coordinate_app = with_rule (with_rule (with_rule (new_app (codes "coordinate")) stores_rule) capacity_rule) fixed_rule
 
--- `stops [--stores N] [--capacity C]`
+-- `stops [--stores N] [--capacity C] [--json]`
 abbrev pub stops_app : App
-stops_app = with_rule (with_rule (new_app (codes "stops")) stores_rule) capacity_rule
+stops_app = with_rule (with_rule (with_rule (new_app (codes "stops")) stores_rule) capacity_rule) json_rule
 
 -- `--limit N`, a number from 1 to 1,000,000, and 100,000 where it isn't given
 abbrev pub limit_rule : Rule
@@ -104,9 +110,9 @@ judge_app =
     with_rule (with_rule (with_rule (with_rule (with_rule (new_app (codes "judge")) limit_rule) (flag_rule (codes "explain"))) (flag_rule (codes "json")))
     (flag_rule (codes "quiet"))) (named_file_rule (codes "allow"))
 
--- `explore [--limit N]`
+-- `explore [--limit N] [--json]`
 abbrev pub explore_app : App
-explore_app = with_rule (new_app (codes "explore")) limit_rule
+explore_app = with_rule (with_rule (new_app (codes "explore")) limit_rule) json_rule
 
 -- `HISTORY..`, one text or more
 abbrev pub history_rule : Rule

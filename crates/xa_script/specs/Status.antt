@@ -73,11 +73,11 @@ abbrev pub IsAllowedBy : Option (List Allowance) → List ℕ → Type 0
 IsAllowedBy (Some list) text = allowances_of text ≡ Ok list
 IsAllowedBy None text = (number : ℕ) × (allowances_of text ≡ Err number)
 
--- 0 where all outcomes or faulty lines were listed, 5 where the limit was passed (own rule)
+-- 0 where all outcomes were listed, 5 where the limit was passed, 6 where faulty lines were listed (own rule)
 abbrev pub status_of_end : Ended → ℕ
 status_of_end Done = 0
 status_of_end TooMany = 5
-status_of_end FaultyLines = 0
+status_of_end FaultyLines = 6
 
 -- the writer got what is written for a script whose exploring ends so, and the status is for that end
 abbrev pub AppendsOutcomes : (limit status : ℕ) → Option (List ℕ) → Option (List ℕ) → Option (List ℕ) → Type 0

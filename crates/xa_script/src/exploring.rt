@@ -1,19 +1,24 @@
 //! Explores a script, and returns the exit status for how that ended.
-ghost use Rattle.std.specs.Prelude.{◌≡◌, IfOk, IfErr};
+ghost use Rattle.std.specs.Prelude.{◌≡◌, ℕ, IfOk, IfErr};
 ghost use Rattle.xa_orders.specs.Scripts.{AfterExploreFault};
 ghost use Rattle.xa_script.specs.CommandLine.{IsLimit};
+ghost use Rattle.xa_json.specs.Writing.{AppendsObjects, AfterObjects};
 ghost use Rattle.xa_script.specs.Status.{status_of_end as status_of, AppendsOutcomes};
 
 use std::alloc::Global;
 use std::io::{Read, Write};
+use xa_json::{in_memory, write_objects};
 use xa_lines::ScriptFault;
 use xa_orders::{Ended, explore_script};
 
-/// The status if all outcomes were listed, or all faulty lines.
+/// The status if all outcomes were listed.
 const LISTED: u8 = 0;
 
 /// The status if the limit was passed.
 const UNDECIDED: u8 = 5;
+
+/// The status if faulty lines were listed.
+const FAULTY: u8 = 6;
 
 /// Returns the exit status for how exploring a script ended.
 pub fn status_of_end(ended: Ended) -> u8
@@ -22,7 +27,7 @@ pub fn status_of_end(ended: Ended) -> u8
     match ended {
         Ended::Done => LISTED,
         Ended::Undecided => UNDECIDED,
-        Ended::Faulty => LISTED,
+        Ended::Faulty => FAULTY,
     }
 }
 
@@ -46,4 +51,35 @@ pub fn explore_within<R: Read, W: Write>(
 {
     let ended = explore_script(alloc, reader, writer, limit as usize)?;
     Ok(status_of_end(ended))
+}
+
+/// Explores a script, writes each line of its outcomes, or of its faulty lines, as an object, and returns the exit
+/// status for it.
+///
+/// `limit` is in `[1, 1_000_000]`.
+/// Errors: as `explore_script`. After `Write` a prefix of the objects was written, after any other error nothing.
+/// May return `NoMemory`. Doesn't wait, unless the reader or the writer does.
+/// Own rule: docs/COMMANDS.md#output-as-json.
+pub fn explore_objects<R: Read, W: Write>(
+    alloc: Global,
+    reader: &mut R,
+    writer: &mut W,
+    limit: u64,
+) -> Result<u8, ScriptFault>
+    requires { IsLimit limit }
+    // Proved (scripts, output-as-json): With `--json`, `explore`, `race` and `stops` write the objects of the lines
+    //   that they write without it, in the same order, and end with the same status. After `Write` a prefix of these
+    //   was written, after another fault nothing.
+    ensures explored { IfOk result
+        (λ status. AppendsObjects (AppendsOutcomes limit status (R.remaining reader.old)) (W.contents writer.old)
+        (W.contents writer.new)) }
+    // Proved (scripts, output-as-json)
+    ensures fault { IfErr result (λ fault.
+        AfterObjects (λ before after. (status : ℕ) × AppendsOutcomes limit status (R.remaining reader.old) before after) fault
+        (W.contents writer.old) (W.contents writer.new)) }
+{
+    let mut text = Vec::new(alloc);
+    let status = in_memory(explore_within(alloc, reader, &mut text, limit))?;
+    write_objects(alloc, writer, text.as_slice())?;
+    Ok(status)
 }

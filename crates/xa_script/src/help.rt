@@ -60,6 +60,7 @@ The history explains each answer: replay that many entries, and then give the st
 the same lines may print another history. If lines have syntax faults, no line is raced, and each of these
 is named:
   LINE 2 ERROR 1064 (42000): syntax fault at byte 9
+Blank lines say nothing. If the first other line begins with #, so do all lines that begin with #.
 With --runs the lines BESIDE and AFTER divide the script, as for explore. Each outcome that came is printed,
 with its number in the list of explore, and how often it came:
   OUTCOME 2 CAME 14
@@ -67,7 +68,7 @@ with its number in the list of explore, and how often it came:
   2 OK
   SEEN 1 OF 2 OUTCOMES
 If explore would print UNDECIDED, the outcomes are numbered in the order of their texts, and the last line
-says only SEEN 1.
+says only SEEN 1. If lines have syntax faults, the status is 6 with --runs.
 More: docs/COMMANDS.md#race.";
 
 /// What is shown after an answer, as the help shows it.
@@ -146,7 +147,7 @@ An outcome is the answers to all lines, with the least order of sessions that gi
   2 OK
   ORDER 2 1
 If more than N ways have to be kept at once, it prints UNDECIDED, and the status is 5; raise --limit then. If
-lines have syntax faults, no line is carried out, and each of these is named:
+lines have syntax faults, no line is carried out, each of these is named, and the status is 6:
   LINE 2 ERROR 1064 (42000): syntax fault at byte 9
 Blank lines, and lines that begin with #, say nothing.
 More: docs/COMMANDS.md#explore.";

@@ -5,13 +5,13 @@ ghost use Rattle.xa_script.specs.CommandLine.{IsLimit, IsStoreCount};
 
 use crate::advised::Advised;
 use crate::auditing::audit_within;
-use crate::exploring::explore_within;
+use crate::exploring::{explore_objects, explore_within};
 use crate::judging::judge_within;
 use crate::line_form::LineForm;
-use crate::racing::race_by;
-use crate::running::run_by;
+use crate::racing::{race_commented, race_objects};
+use crate::running::{run_by, run_objects};
 use crate::spoken::Spoken;
-use crate::stopping::stop_each;
+use crate::stopping::{stop_each, stop_objects};
 use crate::telling::Telling;
 use crate::texts::Texts;
 use crate::watch::Watch;
@@ -84,7 +84,7 @@ pub fn run<I: Read + Drop, W: Write + Drop, R: Alloc<A = Global>>(
     flushed(&mut output, done.and(Ok(DONE)))
 }
 
-/// Races the script.
+/// Races the script. If `json`, each line is written as an object.
 pub fn race<I: Read + Drop, W: Write + Drop, R: Alloc<A = Global> + Threads + Wait + Sync>(
     rt: &R,
     mut input: I,
@@ -92,14 +92,19 @@ pub fn race<I: Read + Drop, W: Write + Drop, R: Alloc<A = Global> + Threads + Wa
     capacity: u64,
     schedule: Schedule,
     renews: bool,
+    json: bool,
 ) -> Result<u8, ScriptFault>
     requires { IsCapacity capacity }
 {
-    let done = race_by(rt, &mut input, &mut output, capacity, schedule, renews);
+    let done = if json {
+        race_objects(rt, &mut input, &mut output, capacity, schedule, renews)
+    } else {
+        race_commented(rt, &mut input, &mut output, capacity, schedule, renews)
+    };
     flushed(&mut output, done.and(Ok(DONE)))
 }
 
-/// Races the script `runs` times.
+/// Races the script `runs` times. If `json`, each line is written as an object.
 pub fn races<I: Read + Drop, W: Write + Drop, R: Alloc<A = Global> + Threads + Wait + Sync>(
     rt: &R,
     mut input: I,
@@ -108,19 +113,17 @@ pub fn races<I: Read + Drop, W: Write + Drop, R: Alloc<A = Global> + Threads + W
     schedule: Schedule,
     renews: bool,
     runs: u64,
+    json: bool,
 ) -> Result<u8, ScriptFault>
     requires capacity { IsCapacity capacity }
     requires runs { IsLimit runs }
 {
-    let done = run_by(
-        rt,
-        &mut input,
-        &mut output,
-        capacity,
-        schedule,
-        renews,
-        runs,
-    );
+    let (input, writer) = (&mut input, &mut output);
+    let done = if json {
+        run_objects(rt, input, writer, capacity, schedule, renews, runs)
+    } else {
+        run_by(rt, input, writer, capacity, schedule, renews, runs)
+    };
     flushed(&mut output, done)
 }
 
@@ -160,29 +163,39 @@ pub fn audit<I: Read + Drop, W: Write + Drop, R: Eprint + Alloc<A = Global>>(
     flushed(&mut output, done)
 }
 
-/// Stops the coordinator of the calls at each place.
+/// Stops the coordinator of the calls at each place. If `json`, each line is written as an object.
 pub fn stops<I: Read + Drop, W: Write + Drop, R: Alloc<A = Global> + Wait>(
     rt: &R,
     mut input: I,
     mut output: BufWriter<W>,
     stores: u64,
+    json: bool,
 ) -> Result<u8, ScriptFault>
     requires { IsStoreCount stores }
 {
-    let done = stop_each(rt, rt.alloc(), &mut input, &mut output, stores);
+    let done = if json {
+        stop_objects(rt, rt.alloc(), &mut input, &mut output, stores)
+    } else {
+        stop_each(rt, rt.alloc(), &mut input, &mut output, stores)
+    };
     flushed(&mut output, done)
 }
 
-/// Explores the script.
+/// Explores the script. If `json`, each line is written as an object.
 pub fn explore<I: Read + Drop, W: Write + Drop, R: Alloc<A = Global>>(
     rt: &R,
     mut input: I,
     mut output: BufWriter<W>,
     limit: u64,
+    json: bool,
 ) -> Result<u8, ScriptFault>
     requires { IsLimit limit }
 {
-    let done = explore_within(rt.alloc(), &mut input, &mut output, limit);
+    let done = if json {
+        explore_objects(rt.alloc(), &mut input, &mut output, limit)
+    } else {
+        explore_within(rt.alloc(), &mut input, &mut output, limit)
+    };
     flushed(&mut output, done)
 }
 

@@ -12,6 +12,8 @@ pub enum LineKind {
     Statement,
     /// Statements of sessions, and comments.
     Shown,
+    /// Statements of sessions, and comments if the first line that isn't blank is one.
+    Raced,
     /// Statements of sessions, comments, and the words that divide a script.
     Explored,
     /// Calls of a transaction manager.
@@ -119,13 +121,26 @@ fn record_fault(line: &[u8]) -> Option<LineFault<'_>> {
 }
 
 impl LineKind {
+    /// Returns the kind that this line, and all after it, are of.
+    ///
+    /// The line is without its line feed. Takes no memory. Doesn't wait.
+    pub fn settled_by(self, line: &[u8]) -> LineKind {
+        if self != LineKind::Raced || skip_blanks(line).is_empty() {
+            self
+        } else if is_comment(line) {
+            LineKind::Shown
+        } else {
+            LineKind::Statement
+        }
+    }
+
     /// Returns why a line isn't read, if it isn't.
     ///
     /// The line is without its line feed. Takes no memory. Doesn't wait.
     pub fn fault_in(self, line: &[u8]) -> Option<LineFault<'_>> {
         let silent = skip_blanks(line).is_empty() || is_comment(line);
         match self {
-            LineKind::Statement => script_fault(line),
+            LineKind::Statement | LineKind::Raced => script_fault(line),
             LineKind::Shown => { if silent { None } else { script_fault(line) } }
             LineKind::Explored => {
                 if silent || parts(line) {

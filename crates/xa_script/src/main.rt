@@ -221,7 +221,8 @@ fn carry_out_audit<R: Files + Print + Eprint + Alloc<A = Global>>(
 /// Returns how a job reads its lines, and how many bytes a line may have.
 fn lines_of(job: Job) -> (LineKind, usize) {
     match job {
-        Job::Run | Job::Race { runs: None, .. } => (LineKind::Statement, usize::MAX),
+        Job::Run => (LineKind::Statement, usize::MAX),
+        Job::Race { runs: None, .. } => (LineKind::Raced, usize::MAX),
         Job::Coordinate { .. } => (LineKind::Call, LINE_BYTES),
         Job::Stops { .. } => (LineKind::Stopped, usize::MAX),
         Job::Serve => (LineKind::Statement, LINE_BYTES),
@@ -262,7 +263,12 @@ fn carry_out_on<
     let (kind, most) = lines_of(job);
     let mut watch = Watch::new(rt, input, kind, most, manner.verbose, manner.strict);
     let status = if manner.text {
-        let output = jobs::text_output(rt, manner.verbose, form_of(job))?;
+        let form = if manner.json {
+            LineForm::Object
+        } else {
+            form_of(job)
+        };
+        let output = jobs::text_output(rt, manner.verbose, form)?;
         carry_out_job(rt, &mut watch, output, job, manner, allowances)?
     } else {
         let output = jobs::output(rt, manner.verbose)?;
@@ -297,13 +303,16 @@ fn carry_out_job<
             schedule,
             renews,
             runs: None,
-        } => jobs::race(rt, input, output, capacity, schedule, renews),
+        } => jobs::race(rt, input, output, capacity, schedule, renews, manner.json),
         Job::Race {
             capacity,
             schedule,
             renews,
             runs: Some(runs),
-        } => jobs::races(rt, input, output, capacity, schedule, renews, runs),
+        } => {
+            let json = manner.json;
+            jobs::races(rt, input, output, capacity, schedule, renews, runs, json)
+        }
         Job::Coordinate {
             stores,
             capacity,
@@ -324,8 +333,8 @@ fn carry_out_job<
             let asked = asked(limit, explain, json);
             jobs::judge(rt, input, output, allowances, asked, manner.quiet)
         }
-        Job::Explore { limit } => jobs::explore(rt, input, output, limit),
-        Job::Stops { stores, .. } => jobs::stops(rt, input, output, stores),
+        Job::Explore { limit } => jobs::explore(rt, input, output, limit, manner.json),
+        Job::Stops { stores, .. } => jobs::stops(rt, input, output, stores, manner.json),
         Job::Audit { .. } => unreachable!(),
     }
 }

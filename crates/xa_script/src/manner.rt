@@ -25,6 +25,8 @@ pub struct Manner<'a> {
     pub text: bool,
     /// Whether the progress of judging isn't reported, or only the last line of an audit is written.
     pub quiet: bool,
+    /// Whether the output is written as objects of JSON.
+    pub json: bool,
 }
 
 /// Returns whether an option without a value is given.
@@ -38,7 +40,8 @@ pub fn flag_in(found: &ArgMatches<'_>, name: &str) -> bool
 fn manner_in<'a>(found: &ArgMatches<'a>) -> Manner<'a>
     ensures { IsManner (first_value (found_of found.now) (codes "file")) (first_value (found_of found.now) (codes "allow"))
         (one_text (found_of found.now) (codes "verbose")) (one_text (found_of found.now) (codes "strict"))
-        (one_text (found_of found.now) (codes "text")) (one_text (found_of found.now) (codes "quiet")) result }
+        (one_text (found_of found.now) (codes "text")) (one_text (found_of found.now) (codes "quiet"))
+        (one_text (found_of found.now) (codes "json")) result }
 {
     Manner {
         file: found.get_str("file"),
@@ -47,6 +50,7 @@ fn manner_in<'a>(found: &ArgMatches<'a>) -> Manner<'a>
         strict: flag_in(found, "strict"),
         text: flag_in(found, "text"),
         quiet: flag_in(found, "quiet"),
+        json: flag_in(found, "json"),
     }
 }
 

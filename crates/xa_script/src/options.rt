@@ -2,7 +2,8 @@
 ghost use Rattle.std.specs.Prelude.{◌≡◌, false};
 ghost use Rattle.clap.specs.Words.{rule_of};
 ghost use Rattle.xa_script.specs.CommandLine.{capacity_rule, together_rule, shuffle_rule, renew_rule, runs_rule, fixed_rule, stores_rule, limit_rule};
-ghost use Rattle.xa_script.specs.CommandLine.{number_rule, flag_rule, named_file_rule, verbose_rule, text_rule, history_rule};
+ghost use Rattle.xa_script.specs.CommandLine.{number_rule, flag_rule, named_file_rule, verbose_rule, text_rule};
+ghost use Rattle.xa_script.specs.CommandLine.{history_rule, json_rule};
 
 use clap::builder::ValueParser;
 use clap::{Arg, ArgAction, value_parser};
@@ -150,6 +151,14 @@ pub fn text_option<'a>(alloc: Global) -> Arg<'a>
     let help =
         "Prints keys, values and identifiers as 'text' if all their bytes are printable ASCII";
     flag_option(alloc, "text", help)
+}
+
+/// Returns the option `--json`: each line is written as an object.
+pub fn json_option<'a>(alloc: Global) -> Arg<'a>
+    ensures rule { rule_of result ≡ json_rule }
+    ensures global { result.global ≡ false }
+{
+    flag_option(alloc, "json", "Prints each line as one JSON object")
 }
 
 /// Returns the argument `HISTORY..`: the files that are audited, at least one.

@@ -1,14 +1,18 @@
 //! Races of the script of the standard input.
 ghost use Rattle.std.specs.Prelude.{OnOk, IfSome};
 ghost use Rattle.decision_log.specs.Opens.{IsCapacity};
+ghost use Rattle.xa_json.specs.Writing.{AppendsObjects};
 ghost use Rattle.xa_script.specs.Status.{AppendsRaceBy};
+ghost use Rattle.xa_comments.specs.Uncommented.{uncommented as uncommented_text};
 
 use crate::Schedule;
 use std::alloc::{Alloc, Global};
 use std::io::{Read, Write};
 use std::sync::Wait;
 use std::thread::Threads;
-use xa_lines::ScriptFault;
+use xa_comments::uncommented;
+use xa_json::{in_memory, write_objects};
+use xa_lines::{ScriptFault, read_all};
 use xa_races::{race_script, race_script_in_rounds};
 use xa_store::{Gate, OpenGate, ShuffledGate, TogetherGate};
 
@@ -57,4 +61,56 @@ pub fn race_by<I: Read, O: Write, R: Alloc<A = Global> + Threads + Wait + Sync>(
             race_behind(rt, input, output, capacity, &gate, renews)
         }
     }
+}
+
+/// Races a script at the gate of a schedule, over a store without an end if `renews`. If its first line that isn't
+/// blank is a comment, comments count as blank lines.
+///
+/// `capacity` is in `[1, 1024]`.
+/// Errors: as `race_script` and `race_script_in_rounds`. Waits.
+/// Own rule: docs/COMMANDS.md#race.
+pub fn race_commented<I: Read, O: Write, R: Alloc<A = Global> + Threads + Wait + Sync>(
+    rt: &R,
+    input: &mut I,
+    output: &mut O,
+    capacity: u64,
+    schedule: Schedule,
+    renews: bool,
+) -> Result<(), ScriptFault>
+    requires { IsCapacity capacity }
+    // Proved (scripts, race-comments): A script whose first line that isn't blank is a comment is raced as if each of
+    //   its comments were blank. Any other script is raced as it stands.
+    ensures { OnOk result (IfSome (I.remaining input.old)
+        (λ script. AppendsRaceBy renews capacity (uncommented_text script) (O.contents output.old)
+        (O.contents output.new))) }
+{
+    let script = read_all(rt.alloc(), input)?;
+    let script = uncommented(rt.alloc(), script)?;
+    let mut rest = script.as_slice();
+    race_by(rt, &mut rest, output, capacity, schedule, renews)
+}
+
+/// Races a script likewise, and writes each line of the outcome, or of its faulty lines, as an object.
+///
+/// `capacity` is in `[1, 1024]`.
+/// Errors: as `race_commented`. Waits.
+/// Own rule: docs/COMMANDS.md#output-as-json.
+pub fn race_objects<I: Read, O: Write, R: Alloc<A = Global> + Threads + Wait + Sync>(
+    rt: &R,
+    input: &mut I,
+    output: &mut O,
+    capacity: u64,
+    schedule: Schedule,
+    renews: bool,
+) -> Result<(), ScriptFault>
+    requires { IsCapacity capacity }
+    // Proved (scripts, output-as-json)
+    ensures { OnOk result (IfSome (I.remaining input.old)
+        (λ script. AppendsObjects (AppendsRaceBy renews capacity (uncommented_text script)) (O.contents output.old)
+        (O.contents output.new))) }
+{
+    let mut text = Vec::new(rt.alloc());
+    let done = race_commented(rt, input, &mut text, capacity, schedule, renews);
+    in_memory(done)?;
+    write_objects(rt.alloc(), output, text.as_slice())
 }

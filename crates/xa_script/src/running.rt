@@ -1,8 +1,9 @@
 //! Races a script again and again, and returns the exit status for how that ended.
-ghost use Rattle.std.specs.Prelude.{IfOk, IfErr};
+ghost use Rattle.std.specs.Prelude.{ℕ, IfOk, IfErr};
 ghost use Rattle.decision_log.specs.Opens.{IsCapacity};
 ghost use Rattle.xa_runs.specs.Came.{AfterRunsFault};
 ghost use Rattle.xa_script.specs.CommandLine.{IsLimit};
+ghost use Rattle.xa_json.specs.Writing.{AppendsObjects, AfterObjects};
 ghost use Rattle.xa_script.specs.Status.{AppendsCame};
 
 use crate::Schedule;
@@ -11,6 +12,7 @@ use std::alloc::{Alloc, Global};
 use std::io::{Read, Write};
 use std::sync::Wait;
 use std::thread::Threads;
+use xa_json::{in_memory, write_objects};
 use xa_lines::ScriptFault;
 use xa_runs::{ReshuffledGate, runs_script};
 use xa_store::{Gate, OpenGate, TogetherGate};
@@ -68,4 +70,37 @@ pub fn run_by<I: Read, O: Write, R: Alloc<A = Global> + Threads + Wait + Sync>(
             run_behind(rt, input, output, capacity, &gate, renews, runs)
         }
     }
+}
+
+/// Races a script `runs` times, and writes each line of which outcomes came, or of its faulty lines, as an object.
+///
+/// It takes, returns and waits as `run_by` does.
+/// Errors: as `runs_script`. After `Write` a prefix of the objects was written, after any other error nothing.
+/// May return `NoMemory`. Waits.
+/// Own rule: docs/COMMANDS.md#output-as-json.
+pub fn run_objects<I: Read, O: Write, R: Alloc<A = Global> + Threads + Wait + Sync>(
+    rt: &R,
+    input: &mut I,
+    output: &mut O,
+    capacity: u64,
+    schedule: Schedule,
+    renews: bool,
+    runs: u64,
+) -> Result<u8, ScriptFault>
+    requires capacity { IsCapacity capacity }
+    requires runs { IsLimit runs }
+    // Proved (scripts, output-as-json)
+    ensures came { IfOk result
+        (λ status. AppendsObjects (AppendsCame runs status (I.remaining input.old)) (O.contents output.old)
+        (O.contents output.new)) }
+    // Proved (scripts, output-as-json)
+    ensures fault { IfErr result (λ fault.
+        AfterObjects (λ before after. (status : ℕ) × AppendsCame runs status (I.remaining input.old) before after) fault
+        (O.contents output.old) (O.contents output.new)) }
+{
+    let mut text = Vec::new(rt.alloc());
+    let done = run_by(rt, input, &mut text, capacity, schedule, renews, runs);
+    let status = in_memory(done)?;
+    write_objects(rt.alloc(), output, text.as_slice())?;
+    Ok(status)
 }

@@ -1,12 +1,14 @@
 //! Stops the coordinator of a script of calls, and returns the exit status for how that ended.
-ghost use Rattle.std.specs.Prelude.{◌≡◌, IfOk, IfErr};
+ghost use Rattle.std.specs.Prelude.{◌≡◌, ℕ, IfOk, IfErr};
 ghost use Rattle.xa_stops.specs.Scripts.{AfterStopsFault};
 ghost use Rattle.xa_script.specs.CommandLine.{IsStoreCount};
+ghost use Rattle.xa_json.specs.Writing.{AppendsObjects, AfterObjects};
 ghost use Rattle.xa_script.specs.Status.{status_of_stops as status_of, AppendsStopped};
 
 use std::alloc::Global;
 use std::io::{Read, Write};
 use std::sync::Wait;
+use xa_json::{in_memory, write_objects};
 use xa_lines::ScriptFault;
 use xa_stops::{Ended, stops_script};
 
@@ -47,4 +49,34 @@ pub fn stop_each<H: Wait, R: Read, W: Write>(
 {
     let ended = stops_script(rt, alloc, reader, writer, stores)?;
     Ok(status_of_stops(ended))
+}
+
+/// Stops the coordinator of a script at each place, writes each line of the stops, or of the faulty lines, as an
+/// object, and returns the exit status for it.
+///
+/// `stores` is in `[1, 16]`.
+/// Errors: as `stops_script`. After `Write` a prefix of the objects was written, after any other error nothing.
+/// May return `NoMemory`. Waits.
+/// Own rule: docs/COMMANDS.md#output-as-json.
+pub fn stop_objects<H: Wait, R: Read, W: Write>(
+    rt: &H,
+    alloc: Global,
+    reader: &mut R,
+    writer: &mut W,
+    stores: u64,
+) -> Result<u8, ScriptFault>
+    requires { IsStoreCount stores }
+    // Proved (scripts, output-as-json)
+    ensures stopped { IfOk result
+        (λ status. AppendsObjects (AppendsStopped stores status (R.remaining reader.old)) (W.contents writer.old)
+        (W.contents writer.new)) }
+    // Proved (scripts, output-as-json)
+    ensures fault { IfErr result (λ fault.
+        AfterObjects (λ before after. (status : ℕ) × AppendsStopped stores status (R.remaining reader.old) before after) fault
+        (W.contents writer.old) (W.contents writer.new)) }
+{
+    let mut text = Vec::new(alloc);
+    let status = in_memory(stop_each(rt, alloc, reader, &mut text, stores))?;
+    write_objects(alloc, writer, text.as_slice())?;
+    Ok(status)
 }

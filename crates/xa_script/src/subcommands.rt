@@ -7,9 +7,9 @@ use crate::help::{
     AUDITED, CALLS, EXPLORED, LINES, RACED, RECORDS, SERVED, SHOWN, START, STOPPED, VERSION,
 };
 use crate::options::{
-    capacity_option, file_option, fixed_option, flag_option, history_argument, limit_option,
-    renew_option, runs_option, shuffle_option, stores_option, text_option, together_option,
-    verbose_option,
+    capacity_option, file_option, fixed_option, flag_option, history_argument, json_option,
+    limit_option, renew_option, runs_option, shuffle_option, stores_option, text_option,
+    together_option, verbose_option,
 };
 use clap::Command;
 use std::alloc::{AllocError, Global};
@@ -48,7 +48,8 @@ fn race_command<'a>(alloc: Global) -> Result<Command<'a>, AllocError>
         .arg(together_option(alloc))?
         .arg(shuffle_option(alloc))?
         .arg(renew_option(alloc))?
-        .arg(runs_option(alloc))
+        .arg(runs_option(alloc))?
+        .arg(json_option(alloc))
 }
 
 /// Returns the subcommand that carries out calls.
@@ -71,7 +72,8 @@ fn stops_command<'a>(alloc: Global) -> Result<Command<'a>, AllocError>
     let about = "Stops a coordinator at each place, and shows what a recovery makes of it";
     plain_command(alloc, "stops", about, STOPPED)
         .arg(stores_option(alloc))?
-        .arg(capacity_option(alloc))
+        .arg(capacity_option(alloc))?
+        .arg(json_option(alloc))
 }
 
 /// Returns the subcommand that judges a record.
@@ -101,7 +103,9 @@ fn explore_command<'a>(alloc: Global) -> Result<Command<'a>, AllocError>
 {
     let about = "Runs a script in every order of its sessions, and lists each outcome once";
     let help = "How many ways may be kept at once before the outcome is UNDECIDED";
-    plain_command(alloc, "explore", about, EXPLORED).arg(limit_option(alloc, help))
+    plain_command(alloc, "explore", about, EXPLORED)
+        .arg(limit_option(alloc, help))?
+        .arg(json_option(alloc))
 }
 
 /// Returns the subcommand that audits histories.

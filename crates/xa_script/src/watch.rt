@@ -146,6 +146,7 @@ impl<'r, I: Read + Drop, R: Eprint + Alloc<A = Global>> Watch<'r, I, R> {
     fn end_line(&mut self) -> Result<(), NoMemory>
         ensures { self.new.inner ≡ self.old.inner }
     {
+        self.kind = self.kind.settled_by(self.line.as_slice());
         if let Some(fault) = self.fault() {
             self.blame(fault)?;
             self.faulty = true;

@@ -14,6 +14,7 @@ import { draw } from "./timeline.js";
 import { follow, titleOf } from "./titles.js";
 
 const BATCH = 10;
+const FAULTY = 6; // the status of counted races whose script has faulty lines, which are then the output
 const STRIP = 48; // entries that a bar shows
 const UNSHUFFLED = "none"; // in place of a seed: else the sessions' turns are shuffled, so that a script shows its histories soon
 const MANY = "The possible outcomes are too many to be listed.";
@@ -199,7 +200,7 @@ export class Race {
 
   // The same of runs that the program has counted.
   takeCounted({ output, status, error }) {
-    if (status !== 0) {
+    if (status !== 0 && status !== FAULTY) {
       this.app.notify({ fault: endingText({ status, error }) });
       return false;
     }
