@@ -1,14 +1,7 @@
-"""Records that go on in pieces: their files, and what `judge` says of each, with calls in front that build the state in which it begins."""
-import importlib.machinery
-import importlib.util
+"""Records that go on in pieces: their files, and what `judge` says of each, from the state in which it begins."""
 from pathlib import Path
 
 from support import verdict
-
-SOURCE = Path(__file__).resolve().parent.parent / "from_state"
-_loader = importlib.machinery.SourceFileLoader("from_state", str(SOURCE))
-from_state = importlib.util.module_from_spec(importlib.util.spec_from_loader("from_state", _loader))
-_loader.exec_module(from_state)
 
 
 def pieces_of(record):
@@ -19,6 +12,11 @@ def pieces_of(record):
     return found
 
 
+def verdict_of(piece):
+    """Of a piece behind the first one."""
+    return verdict(piece.read_bytes(), "--from", f"{piece}.state")
+
+
 def verdicts(record):
     """Of the first file, and of each piece behind it."""
-    return [verdict(Path(record).read_bytes())] + [verdict(from_state.whole(piece).encode()) for piece in pieces_of(record)]
+    return [verdict(Path(record).read_bytes()), *map(verdict_of, pieces_of(record))]

@@ -86,8 +86,8 @@ class Server:
         self._folder.cleanup()
 
 
-def verdict(record):
-    ran = subprocess.run([PROGRAM, "judge", "--quiet"], input=record, stdout=subprocess.PIPE, timeout=300)
+def verdict(record, *words):
+    ran = subprocess.run([PROGRAM, "judge", "--quiet", *words], input=record, stdout=subprocess.PIPE, timeout=300)
     return ran.stdout.split(b"\n")[0].decode()
 
 

@@ -5,8 +5,8 @@ import subprocess
 import tempfile
 from pathlib import Path
 
-from pieces import from_state, pieces_of, verdicts
-from support import PROGRAM, SERVER, Case, verdict
+from pieces import pieces_of, verdict_of, verdicts
+from support import PROGRAM, SERVER, Case
 from test_lending import Worker
 
 SIZE = 4096
@@ -61,7 +61,7 @@ class Pieces(Case):
         self.assertEqual(verdicts(server.record), ["LEGAL"] * 3)
 
     def test_pieces_of_many_connections(self):
-        """Each piece is LEGAL from its state. What `show` lists, once the calls in front of it are carried out, is the state: its branches as they stand there, and each row's value."""
+        """Each piece is LEGAL from its state, which `judge` takes only if a store is listed so."""
         server = self.piecewise()
         workers = [Worker(server, number, 40) for number in range(20)]
         for worker in workers:
@@ -75,14 +75,9 @@ class Pieces(Case):
         with_branches = 0
         for piece in pieces:
             state = Path(f"{piece}.state").read_text()
-            branches, rows = from_state.read(state)
-            with_branches += bool(branches)
-            script = "".join(f"{session} {text}\n" for session, text, _ in from_state.calls(branches, rows)) + "1 XA COMMIT 'nothing'\n"
-            said = subprocess.run([PROGRAM, "show"], input=script, stdout=subprocess.PIPE, text=True).stdout
-            listed = re.split(r"(?m)^1 ERROR 139[79] .*\n", said)[-1]
-            self.assertEqual(listed, "".join(line for line in state.splitlines(True) if not line.startswith("  ROW")))
-            for key, value in rows.items():
-                self.assertIn(f"  ROW {key} VALUE {value}\n", said)
+            with_branches += "  BRANCH " in state
+            keys = re.findall(r"(?m)^  ROW 0x(\S+) ", state)
+            self.assertEqual(keys, sorted(set(keys)))
             self.assertLess(piece.stat().st_size, SIZE + 4096)
         self.assertGreater(with_branches, 5)
 
@@ -98,11 +93,14 @@ class Pieces(Case):
         piece = Path(f"{server.record}.1")
         state = Path(f"{piece}.state")
         right = state.read_text()
-        self.assertEqual(verdict(from_state.whole(piece).encode()), "LEGAL")
+        self.assertEqual(verdict_of(piece), "LEGAL")
         for wrong in (right.replace("ROW 0x6b VALUE 0x31", "ROW 0x6b VALUE 0x32"), re.sub(r"(?m)^  BRANCH.*\n    .*\n", "", right), ""):
             self.assertNotEqual(wrong, right)
             state.write_text(wrong)
-            self.assertRegex(verdict(from_state.whole(piece).encode()), "ILLEGAL")
+            self.assertRegex(verdict_of(piece), "ILLEGAL")
+        for no_state in (right.replace("  ROW", " ROW"), right.replace("  ROW", "  BRANCH 0x6d,X'',1 PREPARED\n  ROW", 1)):
+            state.write_text(no_state)
+            self.assertEqual(verdict_of(piece), "")
 
     def test_with_a_history_and_several_stores(self):
         folder = Path(self.ends.enter_context(tempfile.TemporaryDirectory()))
@@ -139,17 +137,6 @@ class Pieces(Case):
         self.assertEqual(ran.returncode, 1)
         self.assertIn("is there already", ran.stderr)
         self.assertEqual((folder / "r.1").read_text(), "mine")
-
-    def test_what_from_state_refuses(self):
-        folder = Path(self.ends.enter_context(tempfile.TemporaryDirectory()))
-        (folder / "r.1").write_text("1 > GET 'k'\n")
-        for state, said in ((None, "No such file"), ("  ROW 0x6b VALUE 0x76\nROW 0x6c VALUE 0x76\n", "line 2 of ")):
-            if state:
-                (folder / "r.1.state").write_text(state)
-            ran = subprocess.run([from_state.__file__, folder / "r.1"], stdout=subprocess.PIPE, stderr=subprocess.PIPE, text=True)
-            self.assertEqual((ran.returncode, ran.stdout), (1, ""))
-            self.assertIn(said, ran.stderr)
-            self.assertNotIn("Traceback", ran.stderr)
 
     def test_a_piece_that_cant_be_written(self):
         """The server ends, and says why."""

@@ -4,10 +4,11 @@ use Rattle.std.specs.Io.KnownBytes.{Appends, Consumes, IsAtEnd}
 use Rattle.xa_lines.specs.declared.script_fault.ScriptFault.{ScriptFault}
 use Rattle.xa_lines.specs.declared.script_fault.ScriptFault.TheVariants.{Write}
 use Rattle.xa_lines.specs.Transcript.{AppendsPrefix}
+use Rattle.xa_server.specs.State.{State}
 use Rattle.xa_record.specs.declared.allowance.Allowance.{Allowance}
 use Rattle.xa_record.specs.declared.asked.Asked.{Asked}
 use Rattle.xa_record.specs.declared.outcome.Outcome.{Outcome}
-use Rattle.xa_record.specs.Judged.{IsJudged, AppendsJudged, AppendsJudgedPrefix, AfterJudgeFault}
+use Rattle.xa_record.specs.Judged.{IsJudgedFrom, AppendsJudgedFrom, AppendsJudgedPrefix, AfterJudgeFaultFrom}
 
 -- what holds of the bytes that were read up to the end holds of all that the reader had
 read-whole : (P : List ℕ → Type 0) (input rest : Option (List ℕ)) (given : List ℕ) → Consumes input rest given → IsAtEnd rest → P given → IfSome input P
@@ -15,17 +16,25 @@ read-whole P None rest given read end p = tt
 read-whole P (Some x) None given read end p = absurd read
 read-whole P (Some x) (Some y) given read end p = subst P (sym (read ∙ ap (λ l. given ++ l) end ∙ append-nil given)) p
 
-pub judged-written : (allowances : List Allowance) (asked : Asked) (result : Result Outcome ScriptFault) (outcome : Outcome) (text given : List ℕ) (input rest old new : Option (List ℕ))
-    → Consumes input rest given → IsAtEnd rest → IsJudged given allowances asked outcome text
-    → IfOk result (λ o. o ≡ outcome) → OnOk result (Appends old new text) → IfOk result (λ o. IfSome input (λ t. AppendsJudged allowances asked o t old new))
-judged-written allowances asked (Ok o) outcome text given input rest old new read end judged same written =
-    read-whole (λ t. AppendsJudged allowances asked o t old new) input rest given read end (text, subst (λ x. IsJudged given allowances asked x text) (sym same) judged, written)
-judged-written allowances asked (Err fault) outcome text given input rest old new read end judged same written = tt
+pub judged-written : (base : State) (allowances : List Allowance) (asked : Asked)
+    (result : Result Outcome ScriptFault) (outcome : Outcome) (text given : List ℕ)
+    (input rest old new : Option (List ℕ))
+    → Consumes input rest given → IsAtEnd rest → IsJudgedFrom base given allowances asked outcome text
+    → IfOk result (λ o. o ≡ outcome) → OnOk result (Appends old new text)
+    → IfOk result (λ o. IfSome input (λ t. AppendsJudgedFrom base allowances asked o t old new))
+judged-written base allowances asked (Ok o) outcome text given input rest old new read end judged same written =
+    read-whole (λ t. AppendsJudgedFrom base allowances asked o t old new) input rest given read end
+    (text, subst (λ x. IsJudgedFrom base given allowances asked x text) (sym same) judged, written)
+judged-written base allowances asked (Err fault) outcome text given input rest old new read end judged same written = tt
 
-pub judged-faulted : (allowances : List Allowance) (asked : Asked) (result : Result Outcome ScriptFault) (outcome : Outcome) (text given : List ℕ) (input rest old new : Option (List ℕ))
-    → Consumes input rest given → IsAtEnd rest → IsJudged given allowances asked outcome text
-    → IfErr result (λ f. f ≡ Write) → OnErr result (AppendsPrefix old new text) → IfErr result (λ f. AfterJudgeFault allowances asked f input old new)
-judged-faulted allowances asked (Ok o) outcome text given input rest old new read end judged is prefix = tt
-judged-faulted allowances asked (Err fault) outcome text given input rest old new read end judged is prefix =
-    subst (λ f. AfterJudgeFault allowances asked f input old new) (sym is)
-    (read-whole (λ t. AppendsJudgedPrefix allowances asked t old new) input rest given read end (outcome, text, judged, prefix))
+pub judged-faulted : (base : State) (allowances : List Allowance) (asked : Asked)
+    (result : Result Outcome ScriptFault) (outcome : Outcome) (text given : List ℕ)
+    (input rest old new : Option (List ℕ))
+    → Consumes input rest given → IsAtEnd rest → IsJudgedFrom base given allowances asked outcome text
+    → IfErr result (λ f. f ≡ Write) → OnErr result (AppendsPrefix old new text)
+    → IfErr result (λ f. AfterJudgeFaultFrom base allowances asked f input old new)
+judged-faulted base allowances asked (Ok o) outcome text given input rest old new read end judged is prefix = tt
+judged-faulted base allowances asked (Err fault) outcome text given input rest old new read end judged is prefix =
+    subst (λ f. AfterJudgeFaultFrom base allowances asked f input old new) (sym is)
+    (read-whole (λ t. AppendsJudgedPrefix base allowances asked t old new) input rest given read end
+    (outcome, text, judged, prefix))

@@ -3,7 +3,7 @@ use Rattle.std.proofs.Common.{◌≡◌, ℕ, zero, suc, ◌≤◌, Option, Some
 use Rattle.std.proofs.Common.{arith}
 use Rattle.std.specs.List.{AllZip}
 use Rattle.std.proofs.lemmas.List.{take-map, length-take-le}
-use Rattle.xa_server.specs.State.{State, no_state}
+use Rattle.xa_server.specs.State.{State}
 use Rattle.xa_lines.specs.Listing.{listing}
 use Rattle.xa_judge.specs.declared.answer.Answer.{Answer}
 use Rattle.xa_judge.specs.declared.event.Event.{Event}
@@ -20,42 +20,32 @@ use Rattle.xa_record.specs.Reports.{keys_named}
 use Rattle.xa_record.proofs.Pairs.{calls-length}
 
 -- some configuration is that to which the moves lead
-abbrev pub Lead : List Event → List Move → Type 0
-Lead events moves = (config : Config) × LeadsThrough (opening_config no_state) events moves config
-
--- moves lead from a server that holds nothing on where they do from this one, which holds nothing
-pub lead_from : (base : State) (events : List Event) (moves : List Move) → base ≡ no_state → Lead events moves
-    → (config : Config) × LeadsThrough (opening_config base) events moves config
-lead_from base events moves none lead = subst (λ (b : State). (config : Config) × LeadsThrough (opening_config b) events moves config) (sym none) lead
-
--- and to the same store
-pub lead_to : (base : State) (events : List Event) (moves : List Move) (store : State) → base ≡ no_state
-    → (config : Config) × LeadsThrough (opening_config base) events moves config × (config.state ≡ store)
-    → (config : Config) × LeadsThrough (opening_config no_state) events moves config × (config.state ≡ store)
-lead_to base events moves store none lead =
-    subst (λ (b : State). (config : Config) × LeadsThrough (opening_config b) events moves config × (config.state ≡ store)) none lead
+abbrev pub Lead : State → List Event → List Move → Type 0
+Lead base events moves = (config : Config) × LeadsThrough (opening_config base) events moves config
 
 -- the store was listed
-pub listed : {E : Type 0} (result : Result (Vec ℕ Global) E) (events : List Event) (moves : List Move) (store : State) (keys : List (List ℕ)) (front : List ℕ)
-    → front ≡ [] → (config : Config) × LeadsThrough (opening_config no_state) events moves config × (config.state ≡ store) → keys ≡ keys_named events
+pub listed : {E : Type 0} (result : Result (Vec ℕ Global) E) (base : State) (events : List Event) (moves : List Move)
+    (store : State) (keys : List (List ℕ)) (front : List ℕ)
+    → front ≡ [] → (config : Config) × LeadsThrough (opening_config base) events moves config × (config.state ≡ store)
+    → keys ≡ keys_named events
     → IfOk result (λ text. text.items ≡ front ++ listing store keys)
-    → IfOk result (λ text. (config : Config) × LeadsThrough (opening_config no_state) events moves config × (text.items ≡ listing config.state (keys_named events)))
-listed (Ok text) events moves store keys front none lead named is =
+    → IfOk result (λ text. (config : Config) × LeadsThrough (opening_config base) events moves config
+    × (text.items ≡ listing config.state (keys_named events)))
+listed (Ok text) base events moves store keys front none lead named is =
     (lead.0, lead.1, is ∙ ap (λ l. l ++ listing store keys) none ∙ ap (λ s. listing s keys) (sym lead.2) ∙ ap (listing lead.0.state) named)
-listed (Err fault) events moves store keys front none lead named is = tt
+listed (Err fault) base events moves store keys front none lead named is = tt
 
 -- the moves of a right verdict lead through what is seen
-pub legal_leads : (base : State) (events : List Event) (limit : ℕ) (verdict : Verdict) (moves : Vec Move Global) (slice : List Move) → base ≡ no_state
-    → IsVerdict base events limit verdict → verdict ≡ LegalBy moves → slice ≡ moves.items → Lead events slice
-legal_leads base events limit verdict moves slice none right is same =
-    subst (Lead events) (sym same)
-    (subst (λ (b : State). (config : Config) × LeadsThrough (opening_config b) events moves.items config) none (subst (IsVerdict base events limit) is right))
+pub legal_leads : (base : State) (events : List Event) (limit : ℕ) (verdict : Verdict) (moves : Vec Move Global)
+    → IsVerdict base events limit verdict → verdict ≡ LegalBy moves → Lead base events moves.items
+legal_leads base events limit verdict moves right is = subst (IsVerdict base events limit) is right
 
 -- what an order explains is not illegal
-pub illegal_not : (base : State) (events : List Event) (limit : ℕ) (verdict : Verdict) (place : ℕ) (answers : Vec Answer Global) → base ≡ no_state
-    → IsVerdict base events limit verdict → verdict ≡ IllegalAt place answers → Explained no_state events → ⊥
-illegal_not base events limit verdict place answers none right is explained =
-    (subst (IsVerdict base events limit) is right).0.whole (subst (λ (b : State). Explained b events) (sym none) explained)
+pub illegal_not : (base : State) (events : List Event) (limit : ℕ) (verdict : Verdict) (place : ℕ)
+    (answers : Vec Answer Global)
+    → IsVerdict base events limit verdict → verdict ≡ IllegalAt place answers → Explained base events → ⊥
+illegal_not base events limit verdict place answers right is explained =
+    (subst (IsVerdict base events limit) is right).0.whole explained
 
 AllZip-take : {A B : Type 0} (R : A → B → Type 0) (count : ℕ) (xs : List A) (ys : List B) → AllZip R xs ys → AllZip R (take count xs) (take count ys)
 AllZip-take R zero xs ys all = tt
@@ -79,9 +69,12 @@ events_before numbered events place are =
     (AllZip-take (λ one event. IsCallOf one.told event) place (map numbered_kept numbered) events are)
 
 -- the moves that were found lead through what is seen
-pub found_lead : (found : Option (Vec Move Global)) (events : List Event) (limit : ℕ) (moves : Vec Move Global) (slice : List Move)
-    → MatchOption found ((place : ℕ) × IsWide no_state events limit place) (λ some. Lead events some.items) → found ≡ Some moves → slice ≡ moves.items
-    → Lead events slice
-found_lead found events limit moves slice lead is same =
-    subst (Lead events) (sym same)
-    (subst (λ (o : Option (Vec Move Global)). MatchOption o ((place : ℕ) × IsWide no_state events limit place) (λ some. Lead events some.items)) is lead)
+pub found_lead : (base : State) (found : Option (Vec Move Global)) (events : List Event) (limit : ℕ)
+    (moves : Vec Move Global) (slice : List Move)
+    → MatchOption found ((place : ℕ) × IsWide base events limit place) (λ some. Lead base events some.items)
+    → found ≡ Some moves → slice ≡ moves.items
+    → Lead base events slice
+found_lead base found events limit moves slice lead is same =
+    subst (Lead base events) (sym same)
+    (subst (λ (o : Option (Vec Move Global)). MatchOption o ((place : ℕ) × IsWide base events limit place)
+    (λ some. Lead base events some.items)) is lead)

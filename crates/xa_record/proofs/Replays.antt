@@ -2,9 +2,9 @@
 use Rattle.std.proofs.Common.{◌≡◌, ℕ, Option, Some, None, List, [], ◌∷◌, ◌++◌, slice_get, refl, ap, sym, ◌∙◌, subst}
 use Rattle.std.proofs.lemmas.Option.{none-some, same_Some, cond_some}
 use Rattle.std.specs.List.{AllByRecursion as All}
-use Rattle.xa_server.specs.State.{State, no_state}
+use Rattle.xa_server.specs.State.{State}
 use Rattle.xa_lines.specs.Script.{lines_of, line_of}
-use Rattle.xa_lines.specs.Transcript.{answer_of, run_text, transcript}
+use Rattle.xa_lines.specs.Transcript.{answer_of, run_text}
 use Rattle.xa_judge.specs.declared.request.Request.{Request}
 use Rattle.xa_judge.specs.declared.event.Seen.{Seen}
 use Rattle.xa_judge.specs.declared.event.Event.{Event}
@@ -183,28 +183,38 @@ unfolding opening_config
 opened base = refl
 
 -- the order of moves that lead through what is seen is answered as they are
-pub order_answered : (allowances : List Allowance) (numbered : List NumberedEvent) (events : List Event) (moves : List Move) (new : Config) → AreWellCalled numbered
-    → AreEvents allowances numbered events → LeadsThrough (opening_config no_state) events moves new
-    → AnswersAlong (opening_config no_state) events moves (transcript (order_text no_calls numbered moves))
-order_answered allowances numbered events moves new well are runs =
+pub order_answered : (base : State) (allowances : List Allowance) (numbered : List NumberedEvent)
+    (events : List Event) (moves : List Move) (new : Config)
+    → AreWellCalled numbered → AreEvents allowances numbered events
+    → LeadsThrough (opening_config base) events moves new
+    → AnswersAlong (opening_config base) events moves (run_text base (lines_of (order_text no_calls numbered moves)))
+order_answered base allowances numbered events moves new well are runs =
     let lines = order_lines no_calls numbered moves in
-    let effects : AreEffects (opening_config no_state) events moves lines = order_replayed no_state allowances numbered events moves new well are runs in
+    let effects : AreEffects (opening_config base) events moves lines = order_replayed base allowances numbered events
+    moves new well are runs in
     let cut : lines_of (order_text no_calls numbered moves) ≡ lines =
-    ap lines_of (order_joined no_calls numbered moves) ∙ cut_where_joined lines (lines_whole (opening_config no_state) events moves lines effects) in
-    subst (λ (l : List (List ℕ)). AnswersAlong (opening_config no_state) events moves (run_text no_state l)) (sym cut)
-    (subst (λ (s : State). AnswersAlong (opening_config no_state) events moves (run_text s lines)) (opened no_state)
-    (answers_along (opening_config no_state) events moves lines effects))
+    ap lines_of (order_joined no_calls numbered moves)
+    ∙ cut_where_joined lines (lines_whole (opening_config base) events moves lines effects) in
+    subst (λ (l : List (List ℕ)). AnswersAlong (opening_config base) events moves (run_text base l)) (sym cut)
+    (subst (λ (s : State). AnswersAlong (opening_config base) events moves (run_text s lines)) (opened base)
+    (answers_along (opening_config base) events moves lines effects))
 
 -- so it is with a right verdict
-pub verdict_replayed : (allowances : List Allowance) (numbered : List NumberedEvent) (events : List Event) (limit : ℕ) (verdict : Verdict) → AreWellCalled numbered
-    → AreEvents allowances numbered events → IsVerdict no_state events limit verdict → IsReplayed numbered events verdict
-verdict_replayed allowances numbered events limit (LegalBy moves) well are right = order_answered allowances numbered events moves.items right.0 well are right.1
-verdict_replayed allowances numbered events limit (IllegalAt place answers) well are right = tt
-verdict_replayed allowances numbered events limit (UndecidedAt place) well are right = tt
+pub verdict_replayed : (base : State) (allowances : List Allowance) (numbered : List NumberedEvent)
+    (events : List Event) (limit : ℕ) (verdict : Verdict)
+    → AreWellCalled numbered → AreEvents allowances numbered events → IsVerdict base events limit verdict
+    → IsReplayed base numbered events verdict
+verdict_replayed base allowances numbered events limit (LegalBy moves) well are right =
+    order_answered base allowances numbered events moves.items right.0 well are right.1
+verdict_replayed base allowances numbered events limit (IllegalAt place answers) well are right = tt
+verdict_replayed base allowances numbered events limit (UndecidedAt place) well are right = tt
 
 -- so it is where what sessions call for is bare, and is written back
-pub bare_replayed : (allowances : List Allowance) (numbered : List NumberedEvent) (events : List Event) (limit : ℕ) (verdict : Verdict) → AreBare numbered
-    → AreEvents allowances numbered events → All IsWrittenCall events → IsVerdict no_state events limit verdict
-    → IsReplayed numbered events verdict
-bare_replayed allowances numbered events limit verdict bare are written right =
-    verdict_replayed allowances numbered events limit verdict (well_told allowances no_kinds numbered events bare are written) are right
+pub bare_replayed : (base : State) (allowances : List Allowance) (numbered : List NumberedEvent) (events : List Event)
+    (limit : ℕ) (verdict : Verdict)
+    → AreBare numbered → AreEvents allowances numbered events → All IsWrittenCall events
+    → IsVerdict base events limit verdict
+    → IsReplayed base numbered events verdict
+bare_replayed base allowances numbered events limit verdict bare are written right =
+    verdict_replayed base allowances numbered events limit verdict
+    (well_told allowances no_kinds numbered events bare are written) are right

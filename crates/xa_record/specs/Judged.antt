@@ -4,12 +4,14 @@
 --     IsReportedOf           a report is right for lines without a fault; if they say nothing there is no
 --                            verdict
 --     IsReported             a report is right for what was read
---     IsJudged               a record of this text ends so, and this is written for it
---     AppendsJudged          the writer got that text
---     AfterJudgeFault        what a fault leaves in the writer
+--     IsJudgedFrom           a record of this text, which begins in a state, ends so, and this is written for it
+--     AppendsJudgedFrom      the writer got that text
+--     AfterJudgeFaultFrom    what a fault leaves in the writer
+--     IsJudged, AppendsJudged, AfterJudgeFault     the same of a record that begins with a server that holds
+--                            nothing
 use Rattle.std.specs.Prelude.{◌≡◌, ℕ, Option, List, [], ◌∷◌, IfSome}
 use Rattle.std.specs.Io.KnownBytes.{Keeps, Appends}
-use Rattle.xa_server.specs.State.{no_state}
+use Rattle.xa_server.specs.State.{State, no_state}
 use Rattle.xa_lines.specs.declared.script_fault.ScriptFault.{ScriptFault}
 use Rattle.xa_lines.specs.declared.script_fault.ScriptFault.TheVariants.{Write, NoMemory, Full, GateShut, ThreadRefused}
 use Rattle.xa_lines.specs.Transcript.{AppendsPrefix}
@@ -32,48 +34,66 @@ record_bytes = 16777216
 abbrev pub record_reads : ℕ
 record_reads = 33554432
 
--- some verdict on the events that the lines say, beginning with a server that holds nothing, is right; its
--- order, run as a script, gives the answers of its moves; and this is the report of it
-pub record IsJudgement (allowances : List Allowance) (numbered : List NumberedEvent) (asked : Asked) (report : Report) : Type 0 where
+-- some verdict on the events that the lines say, beginning with a server in this state, is right; its order,
+-- run as a script from there, gives the answers of its moves; and this is the report of it
+pub record IsJudgement (base : State) (allowances : List Allowance) (numbered : List NumberedEvent) (asked : Asked)
+    (report : Report) : Type 0 where
   pub events : List Event
   pub verdict : Verdict
   pub are : AreEvents allowances numbered events
-  pub right : IsVerdict no_state events asked.limit verdict
-  pub replayed : IsReplayed numbered events verdict
-  pub is : IsReportOf asked numbered events verdict report
+  pub right : IsVerdict base events asked.limit verdict
+  pub replayed : IsReplayed base numbered events verdict
+  pub is : IsReportOf base asked numbered events verdict report
 
 -- lines without a fault are judged if something happens on them; else there is nothing to judge
-abbrev pub IsReportedOf : List Allowance → List NumberedEvent → Asked → Report → Type 0
-IsReportedOf allowances [] asked report = report ≡ Empty
-IsReportedOf allowances (one ∷ more) asked report = IsJudgement allowances (one ∷ more) asked report
+abbrev pub IsReportedOf : State → List Allowance → List NumberedEvent → Asked → Report → Type 0
+IsReportedOf base allowances [] asked report = report ≡ Empty
+IsReportedOf base allowances (one ∷ more) asked report = IsJudgement base allowances (one ∷ more) asked report
 
 -- if a line is faulty, only the faulty lines are reported
-abbrev pub IsReportedWith : List Allowance → List ℕ → List NumberedEvent → Asked → Report → Type 0
-IsReportedWith allowances [] numbered asked report = IsReportedOf allowances numbered asked report
-IsReportedWith allowances (byte ∷ faults) numbered asked report = report ≡ Faulty (byte ∷ faults)
+abbrev pub IsReportedWith : State → List Allowance → List ℕ → List NumberedEvent → Asked → Report → Type 0
+IsReportedWith base allowances [] numbered asked report = IsReportedOf base allowances numbered asked report
+IsReportedWith base allowances (byte ∷ faults) numbered asked report = report ≡ Faulty (byte ∷ faults)
 
 -- what is reported of what was read
-abbrev pub IsReported : List Allowance → Notes → Asked → Report → Type 0
-IsReported allowances notes asked report = IsReportedWith allowances notes.faults notes.told asked report
+abbrev pub IsReported : State → List Allowance → Notes → Asked → Report → Type 0
+IsReported base allowances notes asked report = IsReportedWith base allowances notes.faults notes.told asked report
 
--- how judging a record ends, and what is written
-pub record IsJudged (written : List ℕ) (allowances : List Allowance) (asked : Asked) (outcome : Outcome) (text : List ℕ) : Type 0 where
+-- how judging a record that begins in a state ends, and what is written
+pub record IsJudgedFrom (base : State) (written : List ℕ) (allowances : List Allowance) (asked : Asked)
+    (outcome : Outcome) (text : List ℕ) : Type 0 where
   pub report : Report
-  pub told : IsReported allowances (notes_of written) asked report
+  pub told : IsReported base allowances (notes_of written) asked report
   pub outcome_is : outcome ≡ outcome_of report
   pub text_is : text ≡ text_in asked.form report
 
+-- the same of a record that begins with a server that holds nothing
+abbrev pub IsJudged : List ℕ → List Allowance → Asked → Outcome → List ℕ → Type 0
+IsJudged written allowances asked outcome text = IsJudgedFrom no_state written allowances asked outcome text
+
 -- the writer got what is written for the record
+abbrev pub AppendsJudgedFrom : State → List Allowance → Asked → Outcome → List ℕ → Option (List ℕ) → Option (List ℕ)
+    → Type 0
+AppendsJudgedFrom base allowances asked outcome written old new =
+    (text : List ℕ) × IsJudgedFrom base written allowances asked outcome text × Appends old new text
+
 abbrev pub AppendsJudged : List Allowance → Asked → Outcome → List ℕ → Option (List ℕ) → Option (List ℕ) → Type 0
-AppendsJudged allowances asked outcome written old new = (text : List ℕ) × IsJudged written allowances asked outcome text × Appends old new text
+AppendsJudged allowances asked outcome written old new = AppendsJudgedFrom no_state allowances asked outcome written
+    old new
 
 -- the writer got a prefix of that text
-abbrev pub AppendsJudgedPrefix : List Allowance → Asked → List ℕ → Option (List ℕ) → Option (List ℕ) → Type 0
-AppendsJudgedPrefix allowances asked written old new = (outcome : Outcome) × (text : List ℕ) × IsJudged written allowances asked outcome text × AppendsPrefix old new text
+abbrev pub AppendsJudgedPrefix : State → List Allowance → Asked → List ℕ → Option (List ℕ) → Option (List ℕ) → Type 0
+AppendsJudgedPrefix base allowances asked written old new =
+    (outcome : Outcome) × (text : List ℕ) × IsJudgedFrom base written allowances asked outcome text
+    × AppendsPrefix old new text
 
 -- what may be written for a record, however judging it ends
+abbrev pub IsJudgedTextFrom : State → List Allowance → Asked → List ℕ → List ℕ → Type 0
+IsJudgedTextFrom base allowances asked written text = (outcome : Outcome)
+    × IsJudgedFrom base written allowances asked outcome text
+
 abbrev pub IsJudgedText : List Allowance → Asked → List ℕ → List ℕ → Type 0
-IsJudgedText allowances asked written text = (outcome : Outcome) × IsJudged written allowances asked outcome text
+IsJudgedText allowances asked written text = IsJudgedTextFrom no_state allowances asked written text
 
 -- a fault of judging a record that was read
 abbrev pub IsFaultOfJudging : List ℕ → ScriptFault → Type 0
@@ -81,9 +101,14 @@ IsFaultOfJudging written fault = fault ≡ NoMemory
 
 -- what a fault leaves in the writer: a prefix of the text if a write failed, else nothing. Judging has no
 -- fault of a race
+abbrev pub AfterJudgeFaultFrom : State → List Allowance → Asked → ScriptFault → Option (List ℕ) → Option (List ℕ)
+    → Option (List ℕ) → Type 0
+AfterJudgeFaultFrom base allowances asked Write input old new = IfSome input
+    (λ written. AppendsJudgedPrefix base allowances asked written old new)
+AfterJudgeFaultFrom base allowances asked Full input old new = ⊥
+AfterJudgeFaultFrom base allowances asked GateShut input old new = ⊥
+AfterJudgeFaultFrom base allowances asked ThreadRefused input old new = ⊥
+AfterJudgeFaultFrom base allowances asked fault input old new = Keeps old new
+
 abbrev pub AfterJudgeFault : List Allowance → Asked → ScriptFault → Option (List ℕ) → Option (List ℕ) → Option (List ℕ) → Type 0
-AfterJudgeFault allowances asked Write input old new = IfSome input (λ written. AppendsJudgedPrefix allowances asked written old new)
-AfterJudgeFault allowances asked Full input old new = ⊥
-AfterJudgeFault allowances asked GateShut input old new = ⊥
-AfterJudgeFault allowances asked ThreadRefused input old new = ⊥
-AfterJudgeFault allowances asked fault input old new = Keeps old new
+AfterJudgeFault allowances asked fault input old new = AfterJudgeFaultFrom no_state allowances asked fault input old new

@@ -22,10 +22,10 @@ use Rattle.xa_xid.specs.XidText.{IsWritable}
 use Rattle.xa_statement.specs.Canonical.{statement_text}
 use Rattle.xa_statement.specs.Grammar.{Spells}
 use Rattle.xa_statement.specs.Reading.{read_of}
-use Rattle.xa_server.specs.State.{State, no_state}
+use Rattle.xa_server.specs.State.{State}
 use Rattle.xa_server.specs.Replies.{reply_to}
-use Rattle.xa_lines.specs.Script.{Given, line_of}
-use Rattle.xa_lines.specs.Transcript.{transcript}
+use Rattle.xa_lines.specs.Script.{Given, line_of, lines_of}
+use Rattle.xa_lines.specs.Transcript.{run_text}
 use Rattle.xa_lines.specs.Printed.{reply_text, syntax_text, converts, answer_text}
 use Rattle.xa_judge.specs.declared.request.Request.{Request}
 use Rattle.xa_judge.specs.declared.request.Request.TheVariants.{Statement as Asked, Unread}
@@ -182,9 +182,10 @@ AnswersAlong old (event ∷ events) (Seeing ∷ moves) written = (mid : Config) 
 AnswersAlong old [] [] written = written ≡ []
 AnswersAlong old (event ∷ events) [] written = ⊥
 
--- the order of a legal verdict, run as a script, gives the answers of its moves, by which what was seen is
--- explained
-abbrev pub IsReplayed : List NumberedEvent → List Event → Verdict → Type 0
-IsReplayed numbered events (LegalBy moves) =
-    AnswersAlong (opening_config no_state) events moves.items (transcript (order_text no_calls numbered moves.items))
-IsReplayed numbered events verdict = Unit {0}
+-- the order of a legal verdict, run as a script from the state in which the record begins, gives the answers
+-- of its moves, by which what was seen is explained
+abbrev pub IsReplayed : State → List NumberedEvent → List Event → Verdict → Type 0
+IsReplayed base numbered events (LegalBy moves) =
+    AnswersAlong (opening_config base) events moves.items
+    (run_text base (lines_of (order_text no_calls numbered moves.items)))
+IsReplayed base numbered events verdict = Unit {0}

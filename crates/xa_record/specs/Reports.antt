@@ -13,7 +13,7 @@ use Rattle.std.specs.BTreeSet.{insert_key}
 use Rattle.xa_xid.specs.Xid.{bytes_cmp}
 use Rattle.xa_xid.specs.declared.statement.Statement.{Statement}
 use Rattle.xa_xid.specs.declared.statement.Statement.TheVariants.{Get, Put, Del}
-use Rattle.xa_server.specs.State.{no_state}
+use Rattle.xa_server.specs.State.{State}
 use Rattle.xa_lines.specs.Listing.{listing}
 use Rattle.xa_judge.specs.declared.request.Request.TheVariants.{Statement as Given}
 use Rattle.xa_judge.specs.declared.event.Event.{Event}
@@ -77,27 +77,29 @@ keys_named events = with_rows_called [] events
 
 -- moves lead through what is seen; the order is theirs, and the store is the one to which they lead: every
 -- branch, and the rows that calls name
-pub record IsReason (numbered : List NumberedEvent) (events : List Event) (reason : Reason) : Type 0 where
+pub record IsReason (base : State) (numbered : List NumberedEvent) (events : List Event)
+    (reason : Reason) : Type 0 where
   pub moves : List Move
   pub config : Config
-  pub runs : LeadsThrough (opening_config no_state) events moves config
+  pub runs : LeadsThrough (opening_config base) events moves config
   pub order_is : reason.order ≡ order_text no_calls numbered moves
   pub state_is : reason.state ≡ listing config.state (keys_named events)
 
 -- the reason explains what is seen; it is missing only if too many configurations precede a place of that
-abbrev pub IsReasonFound : List NumberedEvent → List Event → ℕ → Option Reason → Type 0
-IsReasonFound numbered events limit (Some reason) = IsReason numbered events reason
-IsReasonFound numbered events limit None = (place : ℕ) × IsWide no_state events limit place
+abbrev pub IsReasonFound : State → List NumberedEvent → List Event → ℕ → Option Reason → Type 0
+IsReasonFound base numbered events limit (Some reason) = IsReason base numbered events reason
+IsReasonFound base numbered events limit None = (place : ℕ) × IsWide base events limit place
 
 -- the reason is found if it is asked for
-abbrev pub IsReasonSought : Bool → List NumberedEvent → List Event → ℕ → Option Reason → Type 0
-IsReasonSought true numbered events limit reason = IsReasonFound numbered events limit reason
-IsReasonSought false numbered events limit reason = reason ≡ None
+abbrev pub IsReasonSought : Bool → State → List NumberedEvent → List Event → ℕ → Option Reason → Type 0
+IsReasonSought true base numbered events limit reason = IsReasonFound base numbered events limit reason
+IsReasonSought false base numbered events limit reason = reason ≡ None
 
--- what is reported of a verdict on these events
-abbrev pub IsReportOf : Asked → List NumberedEvent → List Event → Verdict → Report → Type 0
-IsReportOf asked numbered events (LegalBy moves) report = report ≡ Legal (order_text no_calls numbered moves.items)
-IsReportOf asked numbered events (IllegalAt place answers) report =
-    (reason : Option Reason) × IsReasonSought asked.explains (take place numbered) (take place events) asked.limit reason
+-- what is reported of a verdict on these events, which begin in a state
+abbrev pub IsReportOf : State → Asked → List NumberedEvent → List Event → Verdict → Report → Type 0
+IsReportOf base asked numbered events (LegalBy moves) report = report ≡ Legal (order_text no_calls numbered moves.items)
+IsReportOf base asked numbered events (IllegalAt place answers) report =
+    (reason : Option Reason) × IsReasonSought asked.explains base (take place numbered)
+    (take place events) asked.limit reason
     × (report ≡ Illegal (line_number_at numbered place) (texts_of answers.items) reason)
-IsReportOf asked numbered events (UndecidedAt place) report = report ≡ Undecided (line_number_at numbered place)
+IsReportOf base asked numbered events (UndecidedAt place) report = report ≡ Undecided (line_number_at numbered place)

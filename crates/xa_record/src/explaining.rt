@@ -1,6 +1,5 @@
 //! Explains an ILLEGAL verdict: an order of what comes before its line, and the store after that order.
 ghost use Rattle.std.specs.Prelude.{◌≡◌, ◌<◌, ℕ, length, IfOk, MatchOption, take};
-ghost use Rattle.xa_server.specs.State.{no_state};
 ghost use Rattle.xa_judge.specs.Explained.{Config, opening_config, LeadsThrough, Explained};
 ghost use Rattle.xa_lines.specs.Listing.{listing};
 ghost use Rattle.xa_record.specs.Events.{AreCalls};
@@ -37,20 +36,26 @@ fn store_after(
 }
 
 /// The lines of the store to which moves lead: every branch, and the rows that calls name.
-fn state_lines(alloc: Global, events: &[Event], moves: &[Move]) -> Result<Vec<u8>, NoMemory>
-    requires { (config : Config) × LeadsThrough (opening_config no_state) events.now moves.now config }
-    ensures { IfOk result (λ text. (config : Config) × LeadsThrough (opening_config no_state) events.now moves.now config
+fn state_lines(
+    alloc: Global,
+    base: &Server,
+    events: &[Event],
+    moves: &[Move],
+) -> Result<Vec<u8>, NoMemory>
+    requires { (config : Config) × LeadsThrough (opening_config base.now) events.now moves.now config }
+    ensures { IfOk result
+        (λ text. (config : Config) × LeadsThrough (opening_config base.now) events.now moves.now config
         × (text.items ≡ listing config.state (keys_named events.now))) }
 {
     let rows = rows_named(alloc, events)?;
-    let base = Server::new(alloc);
-    let store = store_after(alloc, &base, events, moves)?;
+    let store = store_after(alloc, base, events, moves)?;
     with_listing(alloc, Vec::new(alloc), &store, rows.as_slice())
 }
 
 /// An order of the moves, which lead through the events before a place, and the store after it.
 fn reason_by(
     alloc: Global,
+    base: &Server,
     text: &[u8],
     events: &[Event],
     place: usize,
@@ -58,10 +63,13 @@ fn reason_by(
 ) -> Result<Reason, NoMemory>
     requires are { AreCalls (notes_of text.now).told events.now }
     requires within { place < length events.now }
-    requires lead { (config : Config) × LeadsThrough (opening_config no_state) (take place events.now) moves.now config }
-    ensures { IfOk result (λ reason. IsReason (take place (notes_of text.now).told) (take place events.now) (reason_kept reason)) }
+    requires lead { (config : Config) × LeadsThrough (opening_config base.now)
+        (take place events.now) moves.now config }
+    ensures { IfOk result
+        (λ reason. IsReason base.now (take place (notes_of text.now).told) (take place events.now)
+        (reason_kept reason)) }
 {
-    let state = state_lines(alloc, &events[..place], moves)?;
+    let state = state_lines(alloc, base, &events[..place], moves)?;
     let order = order_before(alloc, text, events, place, moves)?;
     Ok(Reason { order, state })
 }
@@ -70,16 +78,16 @@ fn reason_by(
 /// them.
 fn moves_through<P: Progress>(
     alloc: Global,
+    base: &Server,
     limit: usize,
     events: &[Event],
     progress: &mut P,
 ) -> Result<Option<Vec<Move>>, NoMemory>
-    requires { Explained no_state events.now }
-    ensures { IfOk result (λ found. MatchOption found ((place : ℕ) × IsWide no_state events.now limit place)
-        (λ moves. (config : Config) × LeadsThrough (opening_config no_state) events.now moves.items config)) }
+    requires { Explained base.now events.now }
+    ensures { IfOk result (λ found. MatchOption found ((place : ℕ) × IsWide base.now events.now limit place)
+        (λ moves. (config : Config) × LeadsThrough (opening_config base.now) events.now moves.items config)) }
 {
-    let base = Server::new(alloc);
-    match judge_telling(alloc, &base, events, limit, progress)? {
+    match judge_telling(alloc, base, events, limit, progress)? {
         Verdict::Legal(moves) => Ok(Some(moves)),
         Verdict::Illegal(_, _) => unreachable!(),
         Verdict::Undecided(_) => Ok(None),
@@ -90,6 +98,7 @@ fn moves_through<P: Progress>(
 /// None if that passes the limit.
 fn reason_of<P: Progress>(
     alloc: Global,
+    base: &Server,
     limit: usize,
     text: &[u8],
     events: &[Event],
@@ -98,13 +107,15 @@ fn reason_of<P: Progress>(
 ) -> Result<Option<Reason>, NoMemory>
     requires are { AreCalls (notes_of text.now).told events.now }
     requires within { place < length events.now }
-    requires explained { Explained no_state (take place events.now) }
-    ensures { IfOk result (λ reason. IsReasonFound (take place (notes_of text.now).told) (take place events.now) limit (option_map reason_kept reason)) }
+    requires explained { Explained base.now (take place events.now) }
+    ensures { IfOk result
+        (λ reason. IsReasonFound base.now (take place (notes_of text.now).told) (take place events.now) limit
+        (option_map reason_kept reason)) }
 {
-    let found = moves_through(alloc, limit, &events[..place], progress)?;
+    let found = moves_through(alloc, base, limit, &events[..place], progress)?;
     match found {
         None => Ok(None),
-        Some(moves) => Ok(Some(reason_by(alloc, text, events, place, moves.as_slice())?)),
+        Some(moves) => Ok(Some(reason_by(alloc, base, text, events, place, moves.as_slice())?)),
     }
 }
 
@@ -115,6 +126,7 @@ fn reason_of<P: Progress>(
 /// May return `NoMemory`.
 pub fn reason_for<P: Progress>(
     alloc: Global,
+    base: &Server,
     asked: Asked,
     text: &[u8],
     events: &[Event],
@@ -123,12 +135,14 @@ pub fn reason_for<P: Progress>(
 ) -> Result<Option<Reason>, NoMemory>
     requires are { AreCalls (notes_of text.now).told events.now }
     requires within { place < length events.now }
-    requires explained { Explained no_state (take place events.now) }
-    ensures { IfOk result (λ reason. IsReasonSought asked.explains (take place (notes_of text.now).told) (take place events.now) asked.limit
+    requires explained { Explained base.now (take place events.now) }
+    ensures { IfOk result
+        (λ reason. IsReasonSought asked.explains base.now (take place (notes_of text.now).told)
+        (take place events.now) asked.limit
         (option_map reason_kept reason)) }
 {
     if !asked.explains {
         return Ok(None);
     }
-    reason_of(alloc, asked.limit, text, events, place, progress)
+    reason_of(alloc, base, asked.limit, text, events, place, progress)
 }

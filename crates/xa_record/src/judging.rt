@@ -2,7 +2,7 @@
 ghost use Rattle.std.specs.Prelude.{◌≡◌, List, IfOk};
 ghost use Rattle.xa_record.specs.Events.{AreCalls, AreEvents};
 ghost use Rattle.xa_record.specs.Forms.{text_in as text_of_report};
-ghost use Rattle.xa_record.specs.Judged.{IsJudgement, IsReported, IsJudged};
+ghost use Rattle.xa_record.specs.Judged.{IsJudgement, IsReported, IsJudged, IsJudgedFrom};
 ghost use Rattle.xa_record.specs.Kept.{notes_kept, report_kept};
 ghost use Rattle.xa_record.specs.Reading.{notes_of};
 ghost use Rattle.xa_record.specs.Replaying.{AreBare};
@@ -48,6 +48,7 @@ fn events_read(
 /// What is reported of the record of this text, whose events these are.
 fn verdict_on<P: Progress>(
     alloc: Global,
+    base: &Server,
     text: &[u8],
     events: &[Event],
     asked: Asked,
@@ -56,23 +57,24 @@ fn verdict_on<P: Progress>(
     requires calls { AreCalls (notes_of text.now).told events.now }
     requires bare { AreBare (notes_of text.now).told }
     ensures { IfOk result (λ report. (allowances : List Allowance) → AreEvents allowances (notes_of text.now).told events.now
-        → IsJudgement allowances (notes_of text.now).told asked (report_kept report)) }
+        → IsJudgement base.now allowances (notes_of text.now).told asked (report_kept report)) }
 {
     are_written_calls(events);
-    let base = Server::new(alloc);
-    let verdict = judge_telling(alloc, &base, events, asked.limit, progress)?;
-    report_of(alloc, asked, text, events, &verdict, progress)
+    let verdict = judge_telling(alloc, base, events, asked.limit, progress)?;
+    report_of(alloc, base, asked, text, events, &verdict, progress)
 }
 
 /// What is reported of the record of this text.
 fn report_on<P: Progress>(
     alloc: Global,
+    base: &Server,
     text: &[u8],
     allowances: &[Allowance],
     asked: Asked,
     progress: &mut P,
 ) -> Result<Report, NoMemory>
-    ensures { IfOk result (λ report. IsReported allowances.now (notes_of text.now) asked (report_kept report)) }
+    ensures { IfOk result
+        (λ report. IsReported base.now allowances.now (notes_of text.now) asked (report_kept report)) }
 {
     let notes = read_notes(alloc, text)?;
     if !notes.faults.is_empty() {
@@ -82,7 +84,7 @@ fn report_on<P: Progress>(
         return Ok(Report::Empty);
     }
     let events = events_read(alloc, allowances, notes)?;
-    verdict_on(alloc, text, events.as_slice(), asked, progress)
+    verdict_on(alloc, base, text, events.as_slice(), asked, progress)
 }
 
 /// The text of a report in a form.
@@ -93,6 +95,36 @@ fn text_in(alloc: Global, form: Form, report: &Report) -> Result<Vec<u8>, NoMemo
         Form::Plain => plain_text(alloc, report),
         Form::Json => json_text(alloc, report),
     }
+}
+
+/// Judges the record of this text, which begins with this server, and returns how that ended and the text of
+/// the verdict.
+///
+/// `allowances` are known differences between the answers of the recorded server and the rules. If more than
+/// `asked.limit` different configurations can precede an event, the end is `Undecided`. With `asked.explains`
+/// the part before an ILLEGAL line is judged once more; if that passes the limit, it isn't explained. If lines
+/// are faulty, or nothing happens, there is no verdict. `progress` takes note of how far judging is.
+/// Errors: `NoMemory` if an allocation failed.
+/// May return `NoMemory`. Doesn't wait.
+/// Own rule: docs/HISTORIES.md#records-in-pieces.
+pub fn judge_text_from<P: Progress>(
+    alloc: Global,
+    base: &Server,
+    text: &[u8],
+    allowances: &[Allowance],
+    asked: Asked,
+    progress: &mut P,
+) -> Result<Judged, NoMemory>
+    // Proved (records, judged-from): A record that begins with a store that isn't empty ends, and is written,
+    //   as a record that begins with an empty one: with the state of that store as the beginning.
+    ensures { IfOk result
+        (λ judged. IsJudgedFrom base.now text.now allowances.now asked judged.outcome judged.text.items) }
+{
+    let report = report_on(alloc, base, text, allowances, asked, progress)?;
+    Ok(Judged {
+        outcome: report.outcome(),
+        text: text_in(alloc, asked.form, &report)?,
+    })
 }
 
 /// Judges the record of this text, and returns how that ended and the text of the verdict.
@@ -135,9 +167,6 @@ pub fn judge_text<P: Progress>(
     //   along the moves by which the record is explained. `run` reads orders of up to 1,048,576 bytes.
     ensures { IfOk result (λ judged. IsJudged text.now allowances.now asked judged.outcome judged.text.items) }
 {
-    let report = report_on(alloc, text, allowances, asked, progress)?;
-    Ok(Judged {
-        outcome: report.outcome(),
-        text: text_in(alloc, asked.form, &report)?,
-    })
+    let base = Server::new(alloc);
+    judge_text_from(alloc, &base, text, allowances, asked, progress)
 }

@@ -1,7 +1,6 @@
 //! Makes reports of verdicts.
 ghost use Rattle.std.specs.Prelude.{◌≡◌, IfOk, map};
 ghost use Rattle.xa_judge.specs.Verdicts.{IsVerdict};
-ghost use Rattle.xa_server.specs.State.{no_state};
 ghost use Rattle.xa_record.specs.Events.{AreCalls};
 ghost use Rattle.xa_record.specs.Kept.{report_kept};
 ghost use Rattle.xa_record.specs.Reading.{notes_of};
@@ -16,6 +15,7 @@ use std::alloc::Global;
 use std::collections::BTreeSet;
 use xa_judge::{Answer, Event, Progress, SharedAnswer, Verdict};
 use xa_lines::push_reply;
+use xa_server::Server;
 use xa_xid::NoMemory;
 
 /// The text of an answer: a reply as `run` prints it, with rows as `CONVERT XID` prints them.
@@ -51,11 +51,13 @@ fn answer_texts(alloc: Global, answers: &[SharedAnswer]) -> Result<BTreeSet<Vec<
     Ok(texts)
 }
 
-/// Returns what is reported of a verdict on the record of this text, whose events these are.
+/// Returns what is reported of a verdict on the record of this text, whose events these are, and which begins
+/// with this server.
 ///
 /// May return `NoMemory`.
 pub fn report_of<P: Progress>(
     alloc: Global,
+    base: &Server,
     asked: Asked,
     text: &[u8],
     events: &[Event],
@@ -63,8 +65,9 @@ pub fn report_of<P: Progress>(
     progress: &mut P,
 ) -> Result<Report, NoMemory>
     requires are { AreCalls (notes_of text.now).told events.now }
-    requires right { IsVerdict no_state events.now asked.limit verdict.now }
-    ensures { IfOk result (λ report. IsReportOf asked (notes_of text.now).told events.now verdict.now (report_kept report)) }
+    requires right { IsVerdict base.now events.now asked.limit verdict.now }
+    ensures { IfOk result
+        (λ report. IsReportOf base.now asked (notes_of text.now).told events.now verdict.now (report_kept report)) }
 {
     match verdict {
         Verdict::Legal(moves) => {
@@ -73,7 +76,7 @@ pub fn report_of<P: Progress>(
         }
         Verdict::Illegal(place, answers) => {
             let texts = answer_texts(alloc, answers.as_slice())?;
-            let reason = reason_for(alloc, asked, text, events, *place, progress)?;
+            let reason = reason_for(alloc, base, asked, text, events, *place, progress)?;
             let number = number_in(alloc, text, *place)?;
             Ok(Report::Illegal(number, texts, reason))
         }

@@ -4,14 +4,16 @@ ghost use Rattle.std.specs.Io.KnownBytes.{Appends, IsAtEnd};
 ghost use Rattle.xa_lines.specs.Calls.{HasWritten, StopsWriting, Completes, Stops};
 ghost use Rattle.xa_lines.specs.Transcript.{AppendsPrefix, ConsumesMoreThan};
 ghost use Rattle.xa_record.specs.Judged.{record_bytes, record_reads, AppendsJudged, AfterJudgeFault, IsJudgedText, IsFaultOfJudging};
+ghost use Rattle.xa_record.specs.Judged.{AppendsJudgedFrom, AfterJudgeFaultFrom, IsJudgedTextFrom};
 
 use crate::allowance::Allowance;
 use crate::asked::Asked;
-use crate::judging::{Judged, judge_text};
+use crate::judging::{Judged, judge_text_from};
 use crate::outcome::Outcome;
 use std::alloc::Global;
 use xa_judge::Progress;
 use xa_lines::{PieceReader, PieceWriter, ScriptFault, read_within, write_whole};
+use xa_server::Server;
 
 /// The greatest length of a record, in bytes: 16 MiB. What is kept of a record takes many times its length.
 const RECORD_BYTES: usize = 16_777_216;
@@ -32,6 +34,59 @@ fn write_judged<W: PieceWriter>(writer: &mut W, judged: &Judged) -> Result<Outco
 {
     write_whole(writer, judged.text.as_slice())?;
     Ok(judged.outcome)
+}
+
+/// Judges a record that begins with this server: reads all of it, and writes the verdict, or its faulty lines,
+/// or that nothing happens in it.
+///
+/// A record has at most 16,777,216 bytes, and takes at most 33,554,432 reads. `base`, `allowances`, `asked` and
+/// `progress` are as `judge_text_from` takes them. The writer isn't flushed.
+/// Errors: `Read` if a read failed, or the record needs more reads; `TooLong` if the record is longer;
+/// `NoMemory` if an allocation failed; `Write` if a write failed or took no byte.
+/// After `Write` a prefix of the text was written, after any other error nothing. A reader or a writer that
+/// failed isn't called again.
+/// May return `NoMemory`. Waits only if the reader or the writer does.
+/// Own rule: docs/HISTORIES.md#records-in-pieces.
+pub fn judge_record_from<R: PieceReader, W: PieceWriter, P: Progress>(
+    alloc: Global,
+    base: &Server,
+    reader: &mut R,
+    writer: &mut W,
+    allowances: &[Allowance],
+    asked: Asked,
+    progress: &mut P,
+) -> Result<Outcome, ScriptFault>
+    // Proved (records, record-reads-all)
+    ensures read { OnOk result (IsAtEnd (R.remaining reader.new)) }
+    // Proved (records, record-written)
+    ensures written { IfOk result
+        (λ outcome. IfSome (R.remaining reader.old)
+        (λ text. AppendsJudgedFrom base.now allowances.now asked outcome text (W.contents writer.old)
+        (W.contents writer.new))) }
+    // Proved (records, record-length)
+    ensures short { OnOk result (IfSome (R.remaining reader.old) (λ text. length text ≤ record_bytes)) }
+
+    // Proved (records, record-fault)
+    ensures fault { IfErr result
+        (λ fault. AfterJudgeFaultFrom base.now allowances.now asked fault (R.remaining reader.old)
+        (W.contents writer.old) (W.contents writer.new)) }
+    // Proved (records, record-too-long)
+    ensures too_long { result ≡ Err ScriptFault.TooLong
+        → ConsumesMoreThan record_bytes (R.remaining reader.old) (R.remaining reader.new) }
+
+    // Proved (records, record-stream-faults)
+    ensures calls { OnOk result
+        (Completes R.gives W.takes record_reads (IsJudgedTextFrom base.now allowances.now asked) reader.old reader.new
+        writer.old writer.new) }
+    // Proved (records, record-stream-faults)
+    ensures cause { IfErr result
+        (λ fault. Stops R.gives R.fails W.takes W.refuses record_reads record_bytes
+        (IsJudgedTextFrom base.now allowances.now asked) IsFaultOfJudging fault reader.old reader.new writer.old
+        writer.new) }
+{
+    let text = read_within(alloc, reader, RECORD_BYTES, RECORD_READS)?;
+    let judged = judge_text_from(alloc, base, text.as_slice(), allowances, asked, progress)?;
+    write_judged(writer, &judged)
 }
 
 /// Judges a record: reads all of it, and writes the verdict, or its faulty lines, or that nothing happens in
@@ -80,7 +135,6 @@ pub fn judge_record<R: PieceReader, W: PieceWriter, P: Progress>(
         (λ fault. Stops R.gives R.fails W.takes W.refuses record_reads record_bytes (IsJudgedText allowances.now asked) IsFaultOfJudging fault reader.old reader.new writer.old
         writer.new) }
 {
-    let text = read_within(alloc, reader, RECORD_BYTES, RECORD_READS)?;
-    let judged = judge_text(alloc, text.as_slice(), allowances, asked, progress)?;
-    write_judged(writer, &judged)
+    let base = Server::new(alloc);
+    judge_record_from(alloc, &base, reader, writer, allowances, asked, progress)
 }

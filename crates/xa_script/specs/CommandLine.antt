@@ -104,11 +104,14 @@ stops_app = with_rule (with_rule (with_rule (new_app (codes "stops")) stores_rul
 abbrev pub limit_rule : Rule
 limit_rule = number_rule (codes "limit") (parser.Unsigned 1 1000000) (codes "100000")
 
--- `judge [--limit N] [--explain] [--json] [--quiet] [--allow FILE]`
+-- `judge [--limit N] [--explain] [--json] [--quiet] [--allow FILE] [--from FILE]`
 abbrev pub judge_app : App
 judge_app =
-    with_rule (with_rule (with_rule (with_rule (with_rule (new_app (codes "judge")) limit_rule) (flag_rule (codes "explain"))) (flag_rule (codes "json")))
-    (flag_rule (codes "quiet"))) (named_file_rule (codes "allow"))
+    with_rule
+    (with_rule (with_rule
+    (with_rule (with_rule (with_rule (new_app (codes "judge")) limit_rule) (flag_rule (codes "explain")))
+    (flag_rule (codes "json")))
+    (flag_rule (codes "quiet"))) (named_file_rule (codes "allow"))) (named_file_rule (codes "from"))
 
 -- `explore [--limit N] [--json]`
 abbrev pub explore_app : App

@@ -10,9 +10,10 @@ use Rattle.xa_script.specs.declared.histories.Histories.{Histories}
 use Rattle.xa_script.specs.declared.manner.Manner.{Manner}
 
 -- each file is the value of its option, and each flag is as its option says
-abbrev pub IsManner : (file allow verbose strict text quiet json : Option Text) → Manner → Type 0
-IsManner file allow verbose strict text quiet json manner =
-    (option_map (λ name. name.now) manner.file ≡ file) × (option_map (λ name. name.now) manner.allow ≡ allow) × IsFlagOf verbose manner.verbose
+abbrev pub IsManner : (file allow from verbose strict text quiet json : Option Text) → Manner → Type 0
+IsManner file allow from verbose strict text quiet json manner =
+    (option_map (λ name. name.now) manner.file ≡ file) × (option_map (λ name. name.now) manner.allow ≡ allow)
+    × (option_map (λ name. name.now) manner.from ≡ from) × IsFlagOf verbose manner.verbose
     × IsFlagOf strict manner.strict × IsFlagOf text manner.text × IsFlagOf quiet manner.quiet
     × IsFlagOf json manner.json
 
@@ -20,8 +21,10 @@ IsManner file allow verbose strict text quiet json manner =
 abbrev pub HasManner : List Text → Manner → Type 0
 HasManner words manner =
     IsSomeAnd (subcommand_of script_app words)
-    (λ found. IsManner (first_of (codes "file") found.1) (first_of (codes "allow") found.1) (one_of (codes "verbose") found.1) (one_of (codes "strict") found.1)
-    (one_of (codes "text") found.1) (one_of (codes "quiet") found.1) (one_of (codes "json") found.1) manner)
+    (λ found. IsManner (first_of (codes "file") found.1) (first_of (codes "allow") found.1)
+    (first_of (codes "from") found.1) (one_of (codes "verbose") found.1) (one_of (codes "strict") found.1)
+    (one_of (codes "text") found.1) (one_of (codes "quiet") found.1)
+    (one_of (codes "json") found.1) manner)
 
 -- the names are all values of `HISTORY..`, in their order, as `clap` matches the words; none, for a job that has no such argument
 abbrev pub HasHistories : List Text → Histories → Type 0

@@ -28,7 +28,7 @@ use Rattle.xa_orders.specs.Scripts.{AppendsExplored}
 use Rattle.xa_orders.specs.declared.ended.Ended.{Ended}
 use Rattle.xa_orders.specs.declared.ended.Ended.TheVariants.{Done, Undecided as TooMany, Faulty as FaultyLines}
 use Rattle.xa_record.specs.Allowances.{allowances_of}
-use Rattle.xa_record.specs.Judged.{AppendsJudged}
+use Rattle.xa_record.specs.Judged.{AppendsJudgedFrom}
 use Rattle.xa_record.specs.declared.allowance.Allowance.{Allowance}
 use Rattle.xa_record.specs.declared.asked.Asked.{Asked}
 use Rattle.xa_record.specs.declared.form.Form.{Form}
@@ -36,6 +36,7 @@ use Rattle.xa_record.specs.declared.form.Form.TheVariants.{Plain, Json}
 use Rattle.xa_record.specs.declared.outcome.Outcome.{Outcome}
 use Rattle.xa_record.specs.declared.outcome.Outcome.TheVariants.{Legal, Illegal, Undecided, Faulty, Empty}
 use Rattle.xa_runs.specs.Came.{AppendsRuns}
+use Rattle.xa_server.specs.State.{State}
 use Rattle.xa_stops.specs.Scripts.{AppendsStops}
 use Rattle.xa_stops.specs.declared.ended.Ended.{Ended as StopsEnded}
 use Rattle.xa_stops.specs.declared.ended.Ended.TheVariants.{Done as AllStops, Faulty as FaultyCalls}
@@ -58,10 +59,13 @@ status_for Undecided = 5
 status_for Faulty = 6
 status_for Empty = 7
 
--- the writer got what is written for a record that ends so, and the status is for that end
-abbrev pub AppendsVerdict : List Allowance → Asked → (status : ℕ) → Option (List ℕ) → Option (List ℕ) → Option (List ℕ) → Type 0
-AppendsVerdict allowances asked status input old new =
-    (outcome : Outcome) × (status ≡ status_for outcome) × IfSome input (λ text. AppendsJudged allowances asked outcome text old new)
+-- the writer got what is written for a record that begins in a state and ends so, and the status is for that
+-- end
+abbrev pub AppendsVerdict : State → List Allowance → Asked → (status : ℕ) → Option (List ℕ) → Option (List ℕ)
+    → Option (List ℕ) → Type 0
+AppendsVerdict base allowances asked status input old new =
+    (outcome : Outcome) × (status ≡ status_for outcome)
+    × IfSome input (λ text. AppendsJudgedFrom base allowances asked outcome text old new)
 
 -- a verdict is an object of JSON where that is asked
 abbrev pub form_of : (json : Bool) → Form

@@ -181,6 +181,11 @@ If lines are faulty, each is named, as LINE l: CAUSE, and the status is 6. A rec
 EMPTY, and the status is 7.
 A line of the file of --allow accepts another number for a refusal:
   1399 XA COMMIT: 1400     if the rules refuse such a statement with 1399, the server may return 1400
+The file of --from lists the store with which the record begins: all branches as show prints them, and then each row
+that has a value. For example, session 2 has a branch that wrote a row:
+    BRANCH 0x62,X'',1 ACTIVE SESSION 2
+      HOLDS 0x6b WRITES 0x77
+    ROW 0x6b VALUE 0x76
 With --explain an order that explains the lines before follows ILLEGAL, and then the store after that order:
   ORDER BEFORE
   1 PUT 0x6b,0x76

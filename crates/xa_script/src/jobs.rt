@@ -29,6 +29,7 @@ use xa_manager::{
     open_stores,
 };
 use xa_record::{Allowance, Asked};
+use xa_server::Server;
 
 /// The standard output, with a buffer.
 pub type Output<'r, R> = BufWriter<Spoken<'r, Printer<'r, R>, R>>;
@@ -127,11 +128,12 @@ pub fn races<I: Read + Drop, W: Write + Drop, R: Alloc<A = Global> + Threads + W
     flushed(&mut output, done)
 }
 
-/// Judges the record.
+/// Judges the record, which begins with this server.
 pub fn judge<I: Read + Drop, W: Write + Drop, R: Clock + Eprint + Alloc<A = Global>>(
     rt: &R,
     mut input: I,
     mut output: BufWriter<W>,
+    base: &Server,
     allowances: &[Allowance],
     asked: Asked,
     quiet: bool,
@@ -141,6 +143,7 @@ pub fn judge<I: Read + Drop, W: Write + Drop, R: Clock + Eprint + Alloc<A = Glob
     let mut telling = Telling::new(rt, quiet);
     let done = judge_within(
         rt.alloc(),
+        base,
         &mut input,
         &mut output,
         allowances,

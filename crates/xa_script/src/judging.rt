@@ -1,6 +1,6 @@
 //! Judges a record, and returns the exit status for how that ended.
 ghost use Rattle.std.specs.Prelude.{◌≡◌, IfOk, IfErr};
-ghost use Rattle.xa_record.specs.Judged.{AfterJudgeFault};
+ghost use Rattle.xa_record.specs.Judged.{AfterJudgeFaultFrom};
 ghost use Rattle.xa_script.specs.CommandLine.{IsLimit};
 ghost use Rattle.xa_script.specs.Status.{form_of, status_for, AppendsVerdict};
 
@@ -8,7 +8,8 @@ use std::alloc::Global;
 use std::io::{Read, Write};
 use xa_judge::Progress;
 use xa_lines::ScriptFault;
-use xa_record::{Allowance, Asked, Form, Outcome, judge_record};
+use xa_record::{Allowance, Asked, Form, Outcome, judge_record_from};
+use xa_server::Server;
 
 /// The status of a record that some order explains.
 const LEGAL: u8 = 0;
@@ -59,14 +60,16 @@ pub fn asked(limit: u64, explains: bool, json: bool) -> Asked
     }
 }
 
-/// Judges a record, writes the verdict or its faulty lines, and returns the exit status for it.
+/// Judges a record that begins with this server, writes the verdict or its faulty lines, and returns the exit
+/// status for it.
 ///
 /// The limit of `asked` is in `[1, 1_000_000]`.
-/// Errors: as `judge_record`. After `Write` a prefix of the text was written, after any other error nothing.
+/// Errors: as `judge_record_from`. After `Write` a prefix of the text was written, after any other error nothing.
 /// May return `NoMemory`. Doesn't wait, unless the reader, the writer or the receiver of the progress does.
 /// Own rule: docs/COMMANDS.md#options-of-every-job.
 pub fn judge_within<R: Read, W: Write, P: Progress>(
     alloc: Global,
+    base: &Server,
     reader: &mut R,
     writer: &mut W,
     allowances: &[Allowance],
@@ -77,10 +80,12 @@ pub fn judge_within<R: Read, W: Write, P: Progress>(
     // Proved (scripts, status-of-an-end): The exit status of `judge`, `explore`, `race --runs` and `stops` is
     //   the one that the table has for the end of the job. The text that was written is right for that end.
     ensures judged { IfOk result
-        (λ status. AppendsVerdict allowances.now asked status (R.remaining reader.old) (W.contents writer.old) (W.contents writer.new)) }
+        (λ status. AppendsVerdict base.now allowances.now asked status (R.remaining reader.old)
+        (W.contents writer.old) (W.contents writer.new)) }
     ensures fault { IfErr result
-        (λ fault. AfterJudgeFault allowances.now asked fault (R.remaining reader.old) (W.contents writer.old) (W.contents writer.new)) }
+        (λ fault. AfterJudgeFaultFrom base.now allowances.now asked fault (R.remaining reader.old)
+        (W.contents writer.old) (W.contents writer.new)) }
 {
-    let outcome = judge_record(alloc, reader, writer, allowances, asked, progress)?;
+    let outcome = judge_record_from(alloc, base, reader, writer, allowances, asked, progress)?;
     Ok(status_of_outcome(outcome))
 }

@@ -35,6 +35,7 @@ mod schedule;
 mod spoken;
 mod standing;
 mod standings;
+mod starting;
 mod stopping;
 mod subcommands;
 mod telling;
@@ -56,6 +57,7 @@ use line_form::LineForm;
 use line_kind::LineKind;
 pub use manner::{Manner, read_manner};
 pub use schedule::Schedule;
+use starting::first_store;
 use std::alloc::Global;
 use std::env::Env;
 use std::io::{BufWriter, Read, Write};
@@ -70,6 +72,7 @@ use xa_lines::LINE_BYTES;
 pub use xa_lines::{CutReader, CutWriter, ScriptFault, run_script};
 pub use xa_races::{race_script, race_script_in_rounds};
 use xa_record::Allowance;
+use xa_server::Server;
 
 /// The status of a run that was done, and of help.
 const DONE: u8 = 0;
@@ -171,12 +174,15 @@ fn carry_out<R: Files + Clock + Input + Print + Eprint + Alloc<A = Global> + Thr
     let Some(allowances) = allowed(rt, manner)? else {
         return Ok(COMMAND_FAULT);
     };
+    let Some(base) = first_store(rt, manner)? else {
+        return Ok(COMMAND_FAULT);
+    };
     let allowances = allowances.as_slice();
     match manner.file {
-        None => carry_out_on(rt, rt.reader(), job, manner, allowances),
+        None => carry_out_on(rt, rt.reader(), job, manner, allowances, &base),
         Some(name) => {
             let file = opened(rt, name, manner.verbose)?;
-            carry_out_on(rt, file, job, manner, allowances)
+            carry_out_on(rt, file, job, manner, allowances, &base)
         }
     }
 }
@@ -256,6 +262,7 @@ fn carry_out_on<
     job: Job,
     manner: &Manner<'_>,
     allowances: &[Allowance],
+    base: &Server,
 ) -> Result<u8, ScriptFault>
     requires done { CanBeDone job }
     requires input { ReadsInput job }
@@ -269,10 +276,10 @@ fn carry_out_on<
             form_of(job)
         };
         let output = jobs::text_output(rt, manner.verbose, form)?;
-        carry_out_job(rt, &mut watch, output, job, manner, allowances)?
+        carry_out_job(rt, &mut watch, output, job, manner, allowances, base)?
     } else {
         let output = jobs::output(rt, manner.verbose)?;
-        carry_out_job(rt, &mut watch, output, job, manner, allowances)?
+        carry_out_job(rt, &mut watch, output, job, manner, allowances, base)?
     };
     if watch.has_faults()? && manner.strict && status == DONE {
         return Ok(UNREAD);
@@ -292,6 +299,7 @@ fn carry_out_job<
     job: Job,
     manner: &Manner<'_>,
     allowances: &[Allowance],
+    base: &Server,
 ) -> Result<u8, ScriptFault>
     requires done { CanBeDone job }
     requires input { ReadsInput job }
@@ -331,7 +339,7 @@ fn carry_out_job<
             json,
         } => {
             let asked = asked(limit, explain, json);
-            jobs::judge(rt, input, output, allowances, asked, manner.quiet)
+            jobs::judge(rt, input, output, base, allowances, asked, manner.quiet)
         }
         Job::Explore { limit } => jobs::explore(rt, input, output, limit, manner.json),
         Job::Stops { stores, .. } => jobs::stops(rt, input, output, stores, manner.json),

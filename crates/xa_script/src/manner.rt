@@ -10,13 +10,15 @@ use clap::{ArgMatches, Command, Error};
 use std::alloc::Global;
 use std::convert::AsStr;
 
-/// How a job is done: the options of every job, and two of `judge`. `audit` has one of these too.
+/// How a job is done: the options of every job, and three of `judge`. `audit` has one of these too.
 #[derive(Clone, Copy, Debug, PartialEq, Eq)]
 pub struct Manner<'a> {
     /// The file that is read instead of the standard input.
     pub file: Option<&'a str>,
     /// The file of `--allow`, with the error numbers that are allowed.
     pub allow: Option<&'a str>,
+    /// The file of `--from`, with the state in which a record begins.
+    pub from: Option<&'a str>,
     /// Whether the standard error says for each fault where it is and what to do.
     pub verbose: bool,
     /// Whether the exit status reports syntax faults.
@@ -39,6 +41,7 @@ pub fn flag_in(found: &ArgMatches<'_>, name: &str) -> bool
 /// The manner that was found.
 fn manner_in<'a>(found: &ArgMatches<'a>) -> Manner<'a>
     ensures { IsManner (first_value (found_of found.now) (codes "file")) (first_value (found_of found.now) (codes "allow"))
+        (first_value (found_of found.now) (codes "from"))
         (one_text (found_of found.now) (codes "verbose")) (one_text (found_of found.now) (codes "strict"))
         (one_text (found_of found.now) (codes "text")) (one_text (found_of found.now) (codes "quiet"))
         (one_text (found_of found.now) (codes "json")) result }
@@ -46,6 +49,7 @@ fn manner_in<'a>(found: &ArgMatches<'a>) -> Manner<'a>
     Manner {
         file: found.get_str("file"),
         allow: found.get_str("allow"),
+        from: found.get_str("from"),
         verbose: flag_in(found, "verbose"),
         strict: flag_in(found, "strict"),
         text: flag_in(found, "text"),

@@ -88,12 +88,15 @@ fn judge_command<'a>(alloc: Global) -> Result<Command<'a>, AllocError>
     let json = "Prints the verdict as one JSON object, in one line";
     let quiet = "Doesn't report on the standard error how far the judging is";
     let allow = "Accepts the error numbers that FILE allows in place of others";
+    let from =
+        "Begins with the store that FILE lists, as show prints one, instead of an empty store";
     plain_command(alloc, "judge", about, RECORDS)
         .arg(limit_option(alloc, limit))?
         .arg(flag_option(alloc, "explain", explain))?
         .arg(flag_option(alloc, "json", json))?
         .arg(flag_option(alloc, "quiet", quiet))?
-        .arg(file_option(alloc, "allow", allow))
+        .arg(file_option(alloc, "allow", allow))?
+        .arg(file_option(alloc, "from", from))
 }
 
 /// Returns the subcommand that explores a script.

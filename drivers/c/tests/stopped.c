@@ -1,4 +1,4 @@
-/* Stops one thread after another, each at a random instruction and for 200 ms at least: stopped STOPS ROWS STORE_ROWS [any]
+/* Stops one thread after another, each at a random instruction and for 200 ms at least: stopped STOPS ROWS STORE_ROWS [locks]
 
    A signal's handler waits. Meanwhile each other thread has to have a statement answered, also one that sleeps until
    the ring has gone round, and is behind at each statement. One that hasn't within ten seconds counts as waiting for
@@ -6,8 +6,8 @@
    nobody touches.
 
    The allocator has to be one without locks, such as mimalloc: in glibc's, the stopped thread may hold the lock that
-   another needs in free (docs/EMBEDDING.md#threads). With `any`, for other allocators, it is enough that one other
-   thread goes on. */
+   another needs in free (docs/EMBEDDING.md#threads). With `locks`, for an allocator that has them, as a sanitizer's
+   does, nothing is asked of the others while a thread is stopped, only that all go on afterwards. */
 #include "nigbaru_shared.h"
 
 #include "check.h"
@@ -34,7 +34,7 @@ struct worker {
 static nigbaru_shared *shared;
 static struct worker workers[THREADS];
 static unsigned long rows;
-static int is_any_enough;
+static int has_locks;
 static atomic_int stopped_at, released_at, is_over; /* numbers of stops */
 static atomic_ulong added; /* entries, about */
 
@@ -104,22 +104,18 @@ static void open_store(long store_rows) {
   }
 }
 
-/* A thread other than the stopped one that has had no statement answered since; -1 if there is none, or if one goes on
-   and that is enough. */
+/* A thread other than the stopped one that has had no statement answered since; -1 if there is none. */
 static int idle_of(int stopped, const unsigned long *before) {
-  int idle = -1, going = 0;
+  int idle = -1;
   for (int index = 0; index < THREADS; index++) {
-    if (index == stopped)
-      continue;
-    if (atomic_load(&workers[index].answered) == before[index])
+    if (index != stopped && atomic_load(&workers[index].answered) == before[index])
       idle = index;
-    else
-      going++;
   }
-  return is_any_enough && going > 0 ? -1 : idle;
+  return idle;
 }
 
-/* Stops a thread for 200 ms, and longer while another hasn't gone on yet. Returns one that hasn't at the end, or -1. */
+/* Stops a thread for 200 ms, and longer while another hasn't gone on yet, unless it may wait for the allocator. Returns
+   one that hasn't at the end, or -1. */
 static int stop(int stopped) {
   unsigned long before[THREADS];
   int idle, number = atomic_load(&stopped_at) + 1;
@@ -129,7 +125,7 @@ static int stop(int stopped) {
   for (int index = 0; index < THREADS; index++)
     before[index] = atomic_load(&workers[index].answered);
   pause_for(200);
-  for (int waited = 0; (idle = idle_of(stopped, before)) >= 0 && waited < PATIENCE; waited++)
+  for (int waited = 0; (idle = idle_of(stopped, before)) >= 0 && !has_locks && waited < PATIENCE; waited++)
     pause_for(1);
   atomic_store(&released_at, number);
   return idle;
@@ -142,7 +138,7 @@ static int stop_each(int stops) {
     random = random * 1103515245u + 12345u;
     pause_for(1 + (long)(random >> 16) % 7);
     int idle = stop(turn % THREADS);
-    if (idle >= 0)
+    if (idle >= 0 && !has_locks)
       fprintf(stderr, "thread %d was stopped, and thread %d had no statement answered\n", turn % THREADS + 1, idle + 1);
     kept += idle >= 0;
   }
@@ -165,7 +161,7 @@ static void check_rows(void) {
 
 int main(int count, char **words) {
   CHECK(count == 4 || count == 5);
-  is_any_enough = count == 5;
+  has_locks = count == 5;
   int stops = atoi(words[1]);
   rows = (unsigned long)atol(words[2]);
   struct sigaction action = {.sa_handler = wait_here, .sa_flags = SA_RESTART};
@@ -182,5 +178,5 @@ int main(int count, char **words) {
   for (int index = 0; index < THREADS; index++)
     SAME(nigbaru_seat_leave(&workers[index].seat), NIGBARU_OK);
   SAME(nigbaru_shared_close(shared), NIGBARU_OK);
-  return kept > 0;
+  return kept > 0 && !has_locks;
 }

@@ -1,13 +1,13 @@
-use Rattle.std.proofs.Common.{refl}
 use Rattle.xa_record.proofs.Reasons.{legal_leads, illegal_not}
 use Rattle.xa_record.proofs.explaining.moves_through.Goals as goal
 
 pub returns-in-Legal : goal.returns-in-Legal
 returns-in-Legal g c =
-    legal_leads c.new-base.result c.args.events.now c.args.limit c.in_ok-moves.field-0 c.in-Legal.moves c.in-Legal.moves.items c.new-base.ensures
-    c.in_ok-moves.ensures c.in-Legal.is refl
+    legal_leads c.args.base.now c.args.events.now c.args.limit c.in_ok-moves.field-0 c.in-Legal.moves
+    c.in_ok-moves.ensures c.in-Legal.is
 
 pub unreachable-requires : goal.unreachable-requires
 unreachable-requires g c =
-    illegal_not c.new-base.result c.args.events.now c.args.limit c.in_ok-moves.field-0 c.in-Illegal.field-0 c.in-Illegal.field-1 c.new-base.ensures
-    c.in_ok-moves.ensures c.in-Illegal.is c.requires
+    illegal_not c.args.base.now c.args.events.now c.args.limit c.in_ok-moves.field-0 c.in-Illegal.field-0
+    c.in-Illegal.field-1 c.in_ok-moves.ensures
+    c.in-Illegal.is c.requires

@@ -20,10 +20,15 @@ returns g c =
     let are : AreEvents c.args.allowances.now told c.as_slice.result.now =
     subst (λ (l : List Event). AreEvents c.args.allowances.now told l) (sym c.as_slice.ensures.value)
     (subst (λ (l : List NumberedEvent). AreEvents c.args.allowances.now l c.in_ok-events.events.items) told_is c.in_ok-events.ensures.are) in
-    let judged = judged_with c.verdict_on.result c.args.allowances.now told c.args.asked c.as_slice.result.now c.verdict_on.ensures are in
-    subst (λ (n : Notes). IfOk c.verdict_on.result (λ report. IsReported c.args.allowances.now n c.args.asked (report_kept report))) same
-    (reported c.verdict_on.result c.args.allowances.now notes.faults.items notes.numbered.items c.args.asked none some
-    (subst (λ (l : List NumberedEvent). IfOk c.verdict_on.result (λ report. IsJudgement c.args.allowances.now l c.args.asked (report_kept report))) (sym told_is) judged))
+    let judged = judged_with c.verdict_on.result c.args.base.now c.args.allowances.now told c.args.asked
+    c.as_slice.result.now c.verdict_on.ensures are in
+    subst (λ (n : Notes). IfOk c.verdict_on.result
+    (λ report. IsReported c.args.base.now c.args.allowances.now n c.args.asked (report_kept report))) same
+    (reported c.verdict_on.result c.args.base.now c.args.allowances.now notes.faults.items notes.numbered.items
+    c.args.asked none some
+    (subst (λ (l : List NumberedEvent). IfOk c.verdict_on.result
+    (λ report. IsJudgement c.args.base.now c.args.allowances.now l c.args.asked (report_kept report)))
+    (sym told_is) judged))
 
 pub verdict_on-requires-clause-calls : goal.verdict_on-requires-clause-calls
 verdict_on-requires-clause-calls g c =

@@ -1,0 +1,30 @@
+-- The state that a listing is of. Every rule here is the project's own: docs/HISTORIES.md#records-in-pieces.
+--     NamesAllRows     each row that has a value is one of these
+--     IsStateOf        the text lists the state: every branch, and every row that has a value
+--     leaves_rows      the session's statement leaves the committed values of rows as they are
+use Rattle.std.specs.Prelude.{◌≡◌, ◌≢◌, ℕ, Bool, true, false, None, List}
+use Rattle.std.specs.List.{Contains}
+use Rattle.xa_xid.specs.declared.statement.Statement.{Statement}
+use Rattle.xa_xid.specs.declared.statement.Statement.TheVariants.{Commit, Put, Del}
+use Rattle.xa_server.specs.declared.association.Association.{Association}
+use Rattle.xa_server.specs.declared.association.Association.TheVariants.{Free}
+use Rattle.xa_server.specs.State.{State, committed_value}
+use Rattle.xa_lines.specs.Listing.{listing}
+
+-- each row that has a value is one of these
+pub record NamesAllRows (keys : List (List ℕ)) (state : State) : Type 0 where
+  pub names : (key : List ℕ) → committed_value state key ≢ None → Contains keys key
+
+-- the text lists the state: every branch, and rows, among them every row that has a value
+pub record IsStateOf (text : List ℕ) (state : State) : Type 0 where
+  pub keys : List (List ℕ)
+  pub lists : text ≡ listing state keys
+  pub all : NamesAllRows keys state
+
+-- the session's statement leaves the committed values of rows as they are: it is no commit, and a free session
+-- writes no row
+abbrev pub leaves_rows : Association → Statement → Bool
+leaves_rows association (Commit xid one_phase) = false
+leaves_rows Free (Put key value) = false
+leaves_rows Free (Del key) = false
+leaves_rows association statement = true
