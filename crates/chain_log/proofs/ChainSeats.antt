@@ -25,7 +25,12 @@ pub opens : (sizes : Sizes) (words : ℕ) → words ≡ word_count sizes.session
     → OpensSeats Rules all_passes newest_for sizes words
 opens sizes words count =
     opens_seats has_words sizes words (omega (arith, count))
-    (λ list wide zeros. record { wide = wide ∙ count; newest = zeros ∙ sym (name_zero sizes.sessions []); cells = λ row entry is. absurd (never entry is) })
+    (λ list wide zeros. record {
+      wide = wide ∙ count;
+      newest = zeros ∙ sym (name_zero sizes.sessions []);
+      cells = λ row entry is. absurd
+          (never entry is);
+    })
   where
     never : (entry : Entry) → None ≡ Some entry → ⊥
     never entry is = cc

@@ -1,5 +1,6 @@
 -- The loads of a chain keep the rule, and tell what their transitions say.
-use Rattle.std.proofs.Common.{◌≡◌, ◌≢◌, ℕ, ◌+◌, ◌<◌, List, [], ◌∷◌, length, set, get_or, refl, ap, sym, ◌∙◌, subst, Some, arith}
+use Rattle.std.proofs.Common.{◌≡◌, ◌≢◌, ℕ, ◌+◌, ◌<◌, List, [], ◌∷◌, length, set, get_or, refl, ap, sym, ◌∙◌, subst}
+use Rattle.std.proofs.Common.{Some, arith}
 use Rattle.std.specs.Prelude.{slice_get}
 use mathlib.Core.Option.{some}
 use lib.ListN.{get_elem?}
@@ -40,32 +41,43 @@ module _ {sizes : Sizes} {words : List ℕ} {views : List SeatView} (r : ChainRu
   newest_by h sessions = r.spelled.newest ∙ ap (λ s. newest_of s r.log) (sym sessions)
 
   -- a pass has seen the whole history
-  pub seen_keeps : (id : ℕ) (h k : PassView) → get_elem? views id ≡ some (Single h) → k.sessions ≡ h.sessions → k.capacity ≡ h.capacity
+  pub seen_keeps : (id : ℕ) (h k : PassView) → get_elem? views id ≡ some (Single h) → k.sessions ≡ h.sessions
+      → k.capacity ≡ h.capacity
       → k.known.number ≡ h.known.number → k.known.mine ≡ h.known.mine → k.draft ≡ [] → k.known.seen ≡ r.log
       → ChainRule sizes words (set views id (Single k))
   seen_keeps id h k here sessions capacity number mine draft all =
-      (stepped r words id h k here r.spelled sessions capacity number mine (subst (λ list. Begins list r.log) (sym all) (begins_itself r.log))
-      (ap (entries_of h.known.number) all ∙ (known r id h here).fact_is.mine) (blank words r.log k draft) (λ g apart low other. other.own)).0
+      (stepped r words id h k here r.spelled sessions capacity number mine
+      (subst (λ list. Begins list r.log) (sym all) (begins_itself r.log))
+      (ap (entries_of h.known.number) all ∙ (known r id h here).fact_is.mine) (blank words r.log k draft)
+      (λ g apart low other. other.own)).0
 
   -- a word of the cell of an entry that was seen
-  pub read_there : (h : PassView) (row index : ℕ) (entry : Entry) → Knows sizes words r.log h → index < 22 → slice_get h.known.seen row ≡ Some entry
-      → get_or words (cell_at (name_at h.sessions row entry.session) + index) 0 ≡ get_or (name_before h.sessions h.known.seen row ∷ words_of entry) index 0
+  pub read_there : (h : PassView) (row index : ℕ) (entry : Entry) → Knows sizes words r.log h → index < 22
+      → slice_get h.known.seen row ≡ Some entry
+      → get_or words (cell_at (name_at h.sessions row entry.session) + index) 0
+      ≡ get_or (name_before h.sessions h.known.seen row ∷ words_of entry) index 0
   read_there h row index entry k below is =
       let there = get_begins h.known.seen r.log row entry k.seen is in
       ap (λ s. get_or words (cell_at (name_at s row entry.session) + index) 0) k.sessions
       ∙ r.spelled.cells row entry there index (omega (arith, length-words_of entry))
       ∙ ap (λ link. get_or (link ∷ words_of entry) index 0)
-      (sym (name_begins sizes.sessions h.known.seen r.log row k.seen (omega (arith, slice_get_within h.known.seen row entry is)))
+      (sym (name_begins sizes.sessions h.known.seen r.log row k.seen
+      (omega (arith, slice_get_within h.known.seen row entry is)))
       ∙ ap (λ s. name_before s h.known.seen row) (sym k.sessions))
 
-pub look_step : (sizes : Sizes) (slots id : ℕ) (h : PassView) → Allows (Rules sizes) slots id (seated h) 0 (λ n. n) (Tells (Sees 0 h))
+pub look_step : (sizes : Sizes) (slots id : ℕ) (h : PassView)
+    → Allows (Rules sizes) slots id (seated h) 0 (λ n. n) (Tells (Sees 0 h))
 look_step sizes slots id h =
     load_step sizes slots id 0 h (Sees 0 h)
     (λ words views r here.
-    let k = (known r id h here).fact_is in
-    (with_look h r.log, seen_keeps r id h (with_look h r.log) here refl refl refl refl refl refl, (refl, r.log, refl, newest_by r h k.sessions, history r h k)))
+    let k = (known r id h here).fact_is in (
+      with_look h r.log,
+      seen_keeps r id h (with_look h r.log) here refl refl refl refl refl refl,
+      (refl, r.log, refl, newest_by r h k.sessions, history r h k),
+    ))
 
-pub read_step : (sizes : Sizes) (slots id word : ℕ) (h : PassView) → word ≢ 0 → Allows (Rules sizes) slots id (seated h) word (λ n. n) (Tells (Reads word h))
+pub read_step : (sizes : Sizes) (slots id word : ℕ) (h : PassView) → word ≢ 0
+    → Allows (Rules sizes) slots id (seated h) word (λ n. n) (Tells (Reads word h))
 read_step sizes slots id word h behind =
     load_step sizes slots id word h (Reads word h)
     (λ words views r here.

@@ -1,5 +1,6 @@
 -- The chain is the history: the walk along the links meets its entries, newest first.
-use Rattle.std.proofs.Common.{◌≡◌, ℕ, zero, suc, ◌+◌, ◌≤◌, List, [], ◌∷◌, length, take, get_or, refl, ap, sym, ◌∙◌, subst, arith}
+use Rattle.std.proofs.Common.{◌≡◌, ℕ, zero, suc, ◌+◌, ◌≤◌, List, [], ◌∷◌, length, take, get_or, refl, ap, sym, ◌∙◌}
+use Rattle.std.proofs.Common.{subst, arith}
 use Rattle.std.specs.Prelude.{slice_index, reverse}
 use Rattle.std.proofs.lemmas.List.{reverse-append, reverse-reverse, take_all, ext_get_or}
 use Rattle.xa_words.specs.Entry.{Entry}
@@ -15,19 +16,22 @@ use Rattle.chain_log.specs.ChainRule.{ChainRule}
 use Rattle.chain_log.proofs.Names.{name_zero, name_next, name_low}
 
 -- the first of some words, and the others
-holds_first : (words : List ℕ) (at word : ℕ) (rest : List ℕ) → HasWordsAt words at (word ∷ rest) → slice_index words at ≡ word
+holds_first : (words : List ℕ) (at word : ℕ) (rest : List ℕ) → HasWordsAt words at (word ∷ rest)
+    → slice_index words at ≡ word
 holds_first words at word rest holds =
     let here : at ≡ at + 0 = omega arith in
     ap (λ n. get_or words n 0) here ∙ holds 0 (omega arith)
 
-holds_rest : (words : List ℕ) (at word : ℕ) (rest : List ℕ) → HasWordsAt words at (word ∷ rest) → HasWordsAt words (at + 1) rest
+holds_rest : (words : List ℕ) (at word : ℕ) (rest : List ℕ) → HasWordsAt words at (word ∷ rest)
+    → HasWordsAt words (at + 1) rest
 holds_rest words at word rest holds i below =
     let here : at + 1 + i ≡ at + suc i = omega arith in
     ap (λ n. get_or words n 0) here ∙ holds (suc i) (omega arith)
 
 module _ (sizes : Sizes) (words : List ℕ) (views : List SeatView) (r : ChainRule sizes words views) where
   -- from the cell of each row the walk meets the entries up to that row
-  walk_below : (row : ℕ) → row ≤ length r.log → Walk words (name_before sizes.sessions r.log row) (reverse (take row r.log))
+  walk_below : (row : ℕ) → row ≤ length r.log → Walk words (name_before sizes.sessions r.log row)
+      (reverse (take row r.log))
   walk_below zero within = name_zero sizes.sessions r.log
   walk_below (suc row) within =
       let t = there r.log row (omega arith) in
@@ -44,17 +48,20 @@ module _ (sizes : Sizes) (words : List ℕ) (views : List SeatView) (r : ChainRu
         (λ none. omega (arith, none, low)),
         is,
         holds_rest words at (name_before sizes.sessions r.log row) (words_of e) cell,
-        subst (λ name. Walk words name (reverse (take row r.log))) (sym (holds_first words at (name_before sizes.sessions r.log row) (words_of e) cell)) before,
+        subst (λ name. Walk words name (reverse (take row r.log)))
+            (sym (holds_first words at (name_before sizes.sessions r.log row) (words_of e) cell)) before,
       ))
 
   pub chain_of : Chain words r.log
   chain_of =
       subst (λ name. Walk words name (reverse r.log)) (sym r.spelled.newest)
-      (subst (λ list. Walk words (newest_of sizes.sessions r.log) (reverse list)) (take_all (length r.log) r.log (omega arith))
+      (subst (λ list. Walk words (newest_of sizes.sessions r.log) (reverse list))
+      (take_all (length r.log) r.log (omega arith))
       (walk_below (length r.log) (omega arith)))
 
 -- a walk meets one list of entries
-one_walk : (words : List ℕ) (name : ℕ) (one other : List Entry) → Walk words name one → Walk words name other → one ≡ other
+one_walk : (words : List ℕ) (name : ℕ) (one other : List Entry) → Walk words name one → Walk words name other
+    → one ≡ other
 one_walk words name [] [] w v = refl
 one_walk words name [] (y ∷ ys) w v = absurd (v.0 w)
 one_walk words name (x ∷ xs) [] w v = absurd (w.0 v)
@@ -68,4 +75,5 @@ one_walk words name (x ∷ xs) (y ∷ ys) w v =
 
 pub one_chain : (words : List ℕ) (one other : List Entry) → Chain words one → Chain words other → one ≡ other
 one_chain words one other c d =
-    sym (reverse-reverse one) ∙ ap reverse (one_walk words (slice_index words 0) (reverse one) (reverse other) c d) ∙ reverse-reverse other
+    sym (reverse-reverse one) ∙ ap reverse (one_walk words (slice_index words 0) (reverse one) (reverse other) c d)
+    ∙ reverse-reverse other

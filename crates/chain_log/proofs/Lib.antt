@@ -6,3 +6,13 @@ pub mod Chains
 pub mod ChainSteps
 pub mod ChainStores
 pub mod ChainSeats
+pub mod Turns
+pub mod RingSteps
+pub mod RingStores
+pub mod RingSeats
+pub mod Watching
+pub mod Reading
+pub mod Tables
+pub mod Walks
+pub mod Passes
+pub mod RingLaws

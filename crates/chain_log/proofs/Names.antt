@@ -1,5 +1,6 @@
 -- Names of cells: which row and column a name has, that two cells share no word, and the names below a row.
-use Rattle.std.proofs.Common.{◌≡◌, ◌≢◌, ℕ, zero, suc, ◌+◌, ◌-◌, ◌*◌, ◌/◌, ◌<◌, ◌≤◌, List, [], ◌∷◌, ◌++◌, length, refl, ap, sym, ◌∙◌, subst, Some}
+use Rattle.std.proofs.Common.{◌≡◌, ◌≢◌, ℕ, zero, suc, ◌+◌, ◌-◌, ◌*◌, ◌/◌, ◌<◌, ◌≤◌, List, [], ◌∷◌, ◌++◌, length, refl}
+use Rattle.std.proofs.Common.{ap, sym, ◌∙◌, subst, Some}
 use Rattle.std.proofs.Common.{mul-le-mul_right, suc-mul, arith, add-one, length-append}
 use Rattle.std.specs.Prelude.{slice_get}
 use mathlib.Core.Logic.{dite}
@@ -42,8 +43,10 @@ one_cell sessions row above session other low high low' high' same =
     let p : x ≡ y = ap (λ n. n * sessions) e in
     (e, omega arith))
     (λ apart.
-    let a : (row < above) → ⊥ = λ less. let l = name_above sessions row above session other less high low' in omega (arith, same) in
-    let b : (above < row) → ⊥ = λ less. let l = name_above sessions above row other session less high' low in omega (arith, same) in
+    let a : (row < above) → ⊥ = λ less. let l = name_above sessions row above session other less high low' in
+    omega (arith, same) in
+    let b : (above < row) → ⊥ = λ less. let l = name_above sessions above row other session less high' low in
+    omega (arith, same) in
     absurd
     (dite (dec_le row above) (λ le. a (omega arith)) (λ gt. b (omega arith))))
 
@@ -53,7 +56,8 @@ name_low sessions row session low =
     let goal : 1 ≤ x + session = omega arith in
     goal
 
-pub name_high : (sessions row session : ℕ) → sessions ≤ 16 → row < 1024 → session ≤ sessions → name_at sessions row session ≤ 16384
+pub name_high : (sessions row session : ℕ) → sessions ≤ 16 → row < 1024 → session ≤ sessions
+    → name_at sessions row session ≤ 16384
 name_high sessions row session few low high =
     let x : ℕ = row * sessions in
     let f : x + sessions ≤ 1024 * sessions = further row 1024 sessions low in
@@ -63,11 +67,13 @@ name_high sessions row session few low high =
 -- words
 
 -- two cells share no word
-pub words_apart : (name other i j : ℕ) → 1 ≤ name → 1 ≤ other → name ≢ other → i < 22 → j < 22 → cell_at name + i ≢ cell_at other + j
+pub words_apart : (name other i j : ℕ) → 1 ≤ name → 1 ≤ other → name ≢ other → i < 22 → j < 22
+    → cell_at name + i ≢ cell_at other + j
 words_apart name other i j low low' apart below below' same = apart (omega arith)
 
 -- the words of a cell are words of the log
-pub within_words : (sessions capacity row session index : ℕ) → row < capacity → 1 ≤ session → session ≤ sessions → index < 22
+pub within_words : (sessions capacity row session index : ℕ) → row < capacity → 1 ≤ session → session ≤ sessions
+    → index < 22
     → cell_at (name_at sessions row session) + index < word_count sessions capacity
 within_words sessions capacity row session index below low high short =
     let x : ℕ = row * sessions in
@@ -77,15 +83,18 @@ within_words sessions capacity row session index below low high short =
     goal
 
 -- the row of a name
-pub row_of_name : (sessions row session : ℕ) → 1 ≤ session → session ≤ sessions → (name_at sessions row session - 1) / sessions ≡ row
+pub row_of_name : (sessions row session : ℕ) → 1 ≤ session → session ≤ sessions
+    → (name_at sessions row session - 1) / sessions ≡ row
 row_of_name sessions row session low high =
     let x : ℕ = row * sessions in
     let front : x + session - 1 ≡ (session - 1) + x = omega arith in
-    ap (λ n. n / sessions) front ∙ add-mul-div_right (session - 1) row (omega arith) ∙ ap (λ n. n + row) (div-eq_of_lt (omega arith)) ∙ zero-add row
+    ap (λ n. n / sessions) front ∙ add-mul-div_right (session - 1) row (omega arith)
+    ∙ ap (λ n. n + row) (div-eq_of_lt (omega arith)) ∙ zero-add row
 
 -- names below a row
 
-pub session_there : (log : List Entry) (row : ℕ) (entry : Entry) → slice_get log row ≡ Some entry → session_at log row ≡ entry.session
+pub session_there : (log : List Entry) (row : ℕ) (entry : Entry) → slice_get log row ≡ Some entry
+    → session_at log row ≡ entry.session
 unfolding session_at
 session_there [] row entry is = cc
 session_there (x ∷ xs) zero entry is = ap (λ e. e.session) (some_injective x entry is)
@@ -102,10 +111,12 @@ name_next sessions log row entry is = ap (name_at sessions row) (session_there l
 
 pub name_next_one : (sessions : ℕ) (log : List Entry) (row : ℕ) (entry : Entry) → slice_get log row ≡ Some entry
     → name_before sessions log (row + 1) ≡ name_at sessions row entry.session
-name_next_one sessions log row entry is = ap (name_before sessions log) (add-one row) ∙ name_next sessions log row entry is
+name_next_one sessions log row entry is =
+    ap (name_before sessions log) (add-one row) ∙ name_next sessions log row entry is
 
 -- a prefix has the same names
-pub name_begins : (sessions : ℕ) (xs ys : List Entry) (row : ℕ) → Begins xs ys → row ≤ length xs → name_before sessions xs row ≡ name_before sessions ys row
+pub name_begins : (sessions : ℕ) (xs ys : List Entry) (row : ℕ) → Begins xs ys → row ≤ length xs
+    → name_before sessions xs row ≡ name_before sessions ys row
 name_begins sessions xs ys zero begins within = name_zero sessions xs ∙ sym (name_zero sessions ys)
 name_begins sessions xs ys (suc row) begins within =
     let e = there xs row (omega arith) in
@@ -116,21 +127,25 @@ get_end [] entry = refl
 get_end (x ∷ xs) entry = get_end xs entry
 
 -- the newest cell after an entry was added
-pub newest_added : (sessions : ℕ) (log : List Entry) (entry : Entry) → newest_of sessions (log ++ entry ∷ []) ≡ name_at sessions (length log) entry.session
+pub newest_added : (sessions : ℕ) (log : List Entry) (entry : Entry)
+    → newest_of sessions (log ++ entry ∷ []) ≡ name_at sessions (length log) entry.session
 newest_added sessions log entry =
     ap (name_before sessions (log ++ entry ∷ [])) (length-append log (entry ∷ []) ∙ add-one (length log))
     ∙ name_next sessions (log ++ entry ∷ []) (length log) entry (get_end log entry)
 
 -- each entry is of a session from 1 to a number
 abbrev pub Ranged : ℕ → List Entry → Type 0
-Ranged sessions log = (row : ℕ) (entry : Entry) → slice_get log row ≡ Some entry → (1 ≤ entry.session) × (entry.session ≤ sessions)
+Ranged sessions log = (row : ℕ) (entry : Entry) → slice_get log row ≡ Some entry
+    → (1 ≤ entry.session) × (entry.session ≤ sessions)
 
 pub ranged_all : (sessions : ℕ) (log : List Entry) → AllOf sessions log → Ranged sessions log
 ranged_all sessions log all row entry is =
-    subst (λ e. (1 ≤ e.session) × (e.session ≤ sessions)) (get_or_from_slice_get log row entry entry is) (all row entry (slice_get_within log row entry is))
+    subst (λ e. (1 ≤ e.session) × (e.session ≤ sessions)) (get_or_from_slice_get log row entry entry is)
+    (all row entry (slice_get_within log row entry is))
 
 -- a name that isn't 0 is of a cell
-pub name_some : (sessions : ℕ) (log : List Entry) (row : ℕ) → Ranged sessions log → row < length log → 1 ≤ name_before sessions log (suc row)
+pub name_some : (sessions : ℕ) (log : List Entry) (row : ℕ) → Ranged sessions log → row < length log
+    → 1 ≤ name_before sessions log (suc row)
 name_some sessions log row ranged below =
     let e = there log row below in
     let named = name_next sessions log row e.0 e.1 in
@@ -154,10 +169,12 @@ one_length sessions log (suc m) (suc n) ranged low low' same =
     let f = there log n (omega arith) in
     let a = ranged m e.0 e.1 in
     let b = ranged n f.0 f.1 in
-    ap suc (one_cell sessions m n e.0.session f.0.session a.0 a.1 b.0 b.1 (sym (name_next sessions log m e.0 e.1) ∙ same ∙ name_next sessions log n f.0 f.1)).0
+    ap suc (one_cell sessions m n e.0.session f.0.session a.0 a.1 b.0 b.1
+    (sym (name_next sessions log m e.0 e.1) ∙ same ∙ name_next sessions log n f.0 f.1)).0
 
 -- how long a history is, by the name of its newest cell
-pub length_by_newest : (sessions newest : ℕ) (log : List Entry) → AllOf sessions log → newest ≡ newest_of sessions log → newest ≢ 0
+pub length_by_newest : (sessions newest : ℕ) (log : List Entry) → AllOf sessions log → newest ≡ newest_of sessions log
+    → newest ≢ 0
     → (newest - 1) / sessions + 1 ≡ length log
 length_by_newest sessions newest log all same some = by_length (length log) refl
   where
@@ -166,12 +183,15 @@ length_by_newest sessions newest log all same some = by_length (length log) refl
     by_length (suc row) e =
         let f = there log row (omega arith) in
         let a = ranged_all sessions log all row f.0 f.1 in
-        ap (λ n. (n - 1) / sessions + 1) (same ∙ ap (name_before sessions log) (sym e) ∙ name_next sessions log row f.0 f.1)
+        ap (λ n. (n - 1) / sessions + 1) (same ∙ ap (name_before sessions log) (sym e)
+        ∙ name_next sessions log row f.0 f.1)
         ∙ ap (λ n. n + 1) (row_of_name sessions row f.0.session a.0 a.1) ∙ add-one row ∙ e
 
-pub length_by_zero : (sessions newest : ℕ) (log : List Entry) → AllOf sessions log → newest ≡ newest_of sessions log → newest ≡ 0 → 0 ≡ length log
+pub length_by_zero : (sessions newest : ℕ) (log : List Entry) → AllOf sessions log → newest ≡ newest_of sessions log
+    → newest ≡ 0 → 0 ≡ length log
 length_by_zero sessions newest log all same none =
-    one_length sessions log 0 (length log) (ranged_all sessions log all) (omega arith) (omega arith) (name_zero sessions log ∙ sym none ∙ same)
+    one_length sessions log 0 (length log) (ranged_all sessions log all) (omega arith) (omega arith)
+    (name_zero sessions log ∙ sym none ∙ same)
 
 -- where the cell of an entry that was seen lies
 pub record IsName (sessions capacity name : ℕ) : Type 0 where
@@ -179,7 +199,8 @@ pub record IsName (sessions capacity name : ℕ) : Type 0 where
   pub high : name ≤ 16384
   pub words : (index : ℕ) → index < 22 → cell_at name + index < word_count sessions capacity
 
-pub cell_fits : (sessions capacity row session name : ℕ) → sessions ≤ 16 → capacity ≤ 1024 → row < capacity → 1 ≤ session → session ≤ sessions
+pub cell_fits : (sessions capacity row session name : ℕ) → sessions ≤ 16 → capacity ≤ 1024 → row < capacity
+    → 1 ≤ session → session ≤ sessions
     → name ≡ name_at sessions row session → IsName sessions capacity name
 cell_fits sessions capacity row session name few short below low high is =
     subst (IsName sessions capacity) (sym is)
@@ -189,9 +210,11 @@ cell_fits sessions capacity row session name few short below low high is =
       words = λ index less. within_words sessions capacity row session index below low high less;
     })
 
-pub seen_fits : (sessions capacity row name : ℕ) (seen : List Entry) → sessions ≤ 16 → capacity ≤ 1024 → AllOf sessions seen → length seen ≤ capacity
+pub seen_fits : (sessions capacity row name : ℕ) (seen : List Entry) → sessions ≤ 16 → capacity ≤ 1024
+    → AllOf sessions seen → length seen ≤ capacity
     → row < length seen → name ≡ name_before sessions seen (row + 1) → IsName sessions capacity name
 seen_fits sessions capacity row name seen few short all within below is =
     let e = there seen row below in
     let a = ranged_all sessions seen all row e.0 e.1 in
-    cell_fits sessions capacity row e.0.session name few short (omega arith) a.0 a.1 (is ∙ name_next_one sessions seen row e.0 e.1)
+    cell_fits sessions capacity row e.0.session name few short (omega arith) a.0 a.1
+    (is ∙ name_next_one sessions seen row e.0 e.1)

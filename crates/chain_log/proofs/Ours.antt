@@ -8,10 +8,12 @@ use Rattle.chain_log.proofs.Names.{IsName, seen_fits, cell_fits}
 
 -- the name of a cell that was seen
 pub seen_name : (log : ChainLog) (h : PassView) (name : ℕ) → IsOurs log h
-    → (row : ℕ) × (row < length h.known.seen) × (name ≡ name_before h.sessions h.known.seen (row + 1)) → IsName log.sessions log.capacity name
+    → (row : ℕ) × (row < length h.known.seen) × (name ≡ name_before h.sessions h.known.seen (row + 1))
+    → IsName log.sessions log.capacity name
 seen_name log h name ours n =
     subst (λ sessions. IsName sessions log.capacity name) ours.sessions
-    (seen_fits h.sessions log.capacity n.0 name h.known.seen (omega (arith, ours.sessions, log.high.0)) log.high.1 ours.among
+    (seen_fits h.sessions log.capacity n.0 name h.known.seen
+    (omega (arith, ours.sessions, log.high.0)) log.high.1 ours.among
     (omega (arith, ours.within, ours.capacity)) n.1 n.2)
 
 -- the name of the own cell
@@ -19,5 +21,6 @@ pub own_name : (log : ChainLog) (h : PassView) (name : ℕ) → IsOurs log h →
     → name ≡ name_at h.sessions (length h.known.seen) h.known.number → IsName log.sessions log.capacity name
 own_name log h name ours room is =
     subst (λ sessions. IsName sessions log.capacity name) ours.sessions
-    (cell_fits h.sessions log.capacity (length h.known.seen) h.known.number name (omega (arith, ours.sessions, log.high.0)) log.high.1
+    (cell_fits h.sessions log.capacity (length h.known.seen) h.known.number name
+    (omega (arith, ours.sessions, log.high.0)) log.high.1
     (omega (arith, room, ours.capacity)) ours.first ours.last is)

@@ -18,18 +18,22 @@ use Rattle.chain_log.proofs.Names.{length_by_newest, length_by_zero}
 
 -- a count is what a name says of how many entries there are
 abbrev pub CountsBy : ℕ → ℕ → ℕ → Type 0
-CountsBy sessions newest count = (seen : List Entry) → AllOf sessions seen → newest ≡ newest_of sessions seen → count ≡ length seen
+CountsBy sessions newest count = (seen : List Entry) → AllOf sessions seen → newest ≡ newest_of sessions seen
+    → count ≡ length seen
 
 -- the name of the last cell tells how many entries the pass has seen
-pub seen_count : (log : ChainLog) (pass : ChainPass) (count : ℕ) → log_of pass ≡ identity_of log → CountsBy log.sessions pass.newest count
+pub seen_count : (log : ChainLog) (pass : ChainPass) (count : ℕ) → log_of pass ≡ identity_of log
+    → CountsBy log.sessions pass.newest count
     → count ≡ length (pass_view pass.seat).known.seen
 seen_count log pass count belongs counts =
     let h = pass_view pass.seat in
     let sessions = ap (λ (identity : LogIdentity). identity.sessions) belongs in
-    counts h.known.seen (subst (λ n. AllOf n h.known.seen) sessions pass.state.among) (pass.named ∙ ap (λ n. newest_of n h.known.seen) sessions)
+    counts h.known.seen (subst (λ n. AllOf n h.known.seen) sessions pass.state.among)
+    (pass.named ∙ ap (λ n. newest_of n h.known.seen) sessions)
 
 -- one name counts the same entries in every history
-same_count : (sessions newest : ℕ) (xs ys : List Entry) → AllOf sessions xs → newest ≡ newest_of sessions xs → AllOf sessions ys
+same_count : (sessions newest : ℕ) (xs ys : List Entry) → AllOf sessions xs → newest ≡ newest_of sessions xs
+    → AllOf sessions ys
     → newest ≡ newest_of sessions ys → length xs ≡ length ys
 same_count sessions newest xs ys x xn y yn =
     dite (ℕ_discrete newest 0)
@@ -37,16 +41,19 @@ same_count sessions newest xs ys x xn y yn =
     (λ some. sym (length_by_newest sessions newest xs x xn some) ∙ length_by_newest sessions newest ys y yn some)
 
 -- what a pass counts is what the name of its last cell says
-pub own_count : (log : ChainLog) (pass : ChainPass) → log_of pass ≡ identity_of log → CountsBy log.sessions pass.newest pass.count
+pub own_count : (log : ChainLog) (pass : ChainPass) → log_of pass ≡ identity_of log
+    → CountsBy log.sessions pass.newest pass.count
 own_count log pass belongs seen all same =
     let h = pass_view pass.seat in
     let sessions = ap (λ (identity : LogIdentity). identity.sessions) belongs in
     pass.state.measured
-    ∙ same_count log.sessions pass.newest h.known.seen seen (subst (λ n. AllOf n h.known.seen) sessions pass.state.among)
+    ∙ same_count log.sessions pass.newest h.known.seen seen
+    (subst (λ n. AllOf n h.known.seen) sessions pass.state.among)
     (pass.named ∙ ap (λ n. newest_of n h.known.seen) sessions) all same
 
 -- after a step that saw more, the table has the rows that were seen before
-pub kept_before : (log : ChainLog) (pass : ChainPass) (at after : PassView) (count : ℕ) → at ≡ after → log_of pass ≡ identity_of log
+pub kept_before : (log : ChainLog) (pass : ChainPass) (at after : PassView) (count : ℕ) → at ≡ after
+    → log_of pass ≡ identity_of log
     → CountsBy log.sessions pass.newest count
     → after.capacity ≡ (pass_view pass.seat).capacity → Begins (pass_view pass.seat).known.seen after.known.seen
     → HasColumns at.capacity count at.known.seen pass.columns.items
@@ -55,13 +62,16 @@ kept_before log pass at after count is belongs counts capacity begins =
     let longer = columns_longer h.capacity h.known.seen after.known.seen pass.columns.items begins pass.kept in
     subst (λ k. HasColumns k.capacity count k.known.seen pass.columns.items) (sym is)
     (subst (λ c. HasColumns c count after.known.seen pass.columns.items) (sym capacity)
-    (subst (λ n. HasColumns h.capacity n after.known.seen pass.columns.items) (sym (seen_count log pass count belongs counts)) longer))
+    (subst (λ n. HasColumns h.capacity n after.known.seen pass.columns.items)
+    (sym (seen_count log pass count belongs counts)) longer))
 
 -- after an exchange that won, the table has the added entry's row too
-pub kept_after : (log : ChainLog) (pass : ChainPass) (at before : PassView) (entry : Entry) (count column : ℕ) → at ≡ won before entry
+pub kept_after : (log : ChainLog) (pass : ChainPass) (at before : PassView) (entry : Entry) (count column : ℕ)
+    → at ≡ won before entry
     → log_of pass ≡ identity_of log
     → CountsBy log.sessions pass.newest count
-    → before.known.seen ≡ (pass_view pass.seat).known.seen → before.capacity ≡ (pass_view pass.seat).capacity → (count ≡ log.capacity → ⊥)
+    → before.known.seen ≡ (pass_view pass.seat).known.seen → before.capacity ≡ (pass_view pass.seat).capacity
+    → (count ≡ log.capacity → ⊥)
     → column ≡ entry.session
     → HasColumns at.capacity (length at.known.seen) at.known.seen (set pass.columns.items count column)
 kept_after log pass at before entry count column is belongs counts seen capacity room own =
@@ -77,7 +87,8 @@ kept_after log pass at before entry count column is belongs counts seen capacity
     below (length before.known.seen) count before.capacity log.capacity row (capacity ∙ fits) room
     (omega (arith, counted, capacity, pass.state.within, row)) in
     subst (λ k. HasColumns k.capacity (length k.known.seen) k.known.seen (set pass.columns.items count column)) (sym is)
-    (subst (λ n. HasColumns (won before entry).capacity (length (won before entry).known.seen) (won before entry).known.seen (set pass.columns.items n column))
+    (subst (λ n. HasColumns (won before entry).capacity (length (won before entry).known.seen)
+    (won before entry).known.seen (set pass.columns.items n column))
     row
     (columns_more before.capacity before.known.seen entry pass.columns.items column low own there))
   where

@@ -11,7 +11,8 @@ use Rattle.chain_log.specs.Cells.{cell_at}
 abbrev pub Walk : List ℕ → ℕ → List Entry → Type 0
 Walk words name [] = name ≡ 0
 Walk words name (entry ∷ older) =
-    (name ≢ 0) × IsEntry entry × HasWordsAt words (cell_at name + 1) (words_of entry) × Walk words (slice_index words (cell_at name)) older
+    (name ≢ 0) × IsEntry entry × HasWordsAt words (cell_at name + 1) (words_of entry)
+    × Walk words (slice_index words (cell_at name)) older
 
 -- the walk begins at the name in word 0, with the newest entry
 abbrev pub Chain : List ℕ → List Entry → Type 0

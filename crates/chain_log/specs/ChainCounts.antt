@@ -24,27 +24,34 @@ see_counts =
 pub read_counts : IsCounted newest_for try_word (AtLoad Reads)
 read_counts =
     counts_at_load Reads
-    (λ word old found new is. leaves_counts (Load word) found old new (ap (λ h. h.known.looks) is.1) (ap (λ h. h.known.tries) is.1) (ap (λ h. h.known.since) is.1) is.0
+    (λ word old found new is. leaves_counts (Load word) found old new (ap (λ h. h.known.looks) is.1)
+    (ap (λ h. h.known.tries) is.1) (ap (λ h. h.known.since) is.1) is.0
     (λ never. never))
 
 pub find_counts : IsCounted newest_for try_word (AtLoad Finds)
 find_counts =
     counts_at_load Finds
     (λ word old found new is. dite (ℕ_discrete found 0)
-    (λ blank. let grown = is.1 blank in leaves_counts (Load word) found old new (ap (λ h. h.known.looks) grown) (ap (λ h. h.known.tries) grown)
+    (λ blank. let grown = is.1 blank in leaves_counts (Load word) found old new (ap (λ h. h.known.looks) grown)
+    (ap (λ h. h.known.tries) grown)
     (ap (λ h. h.known.since) grown) is.0
     (λ never. never))
-    (λ other. let same = is.2 other in leaves_counts (Load word) found old new (ap (λ h. h.known.looks) same) (ap (λ h. h.known.tries) same)
+    (λ other. let same = is.2 other in leaves_counts (Load word) found old new (ap (λ h. h.known.looks) same)
+    (ap (λ h. h.known.tries) same)
     (ap (λ h. h.known.since) same) is.0
     (λ never. never)))
 
 pub draft_counts : IsCounted newest_for try_word (AtStore Drafts)
-draft_counts = counts_at_store Drafts (λ word value old found new is. (ap (λ h. h.known.looks) is, ap (λ h. h.known.tries) is, ap (λ h. h.known.since) is))
+draft_counts =
+    counts_at_store Drafts
+    (λ word value old found new is.
+    (ap (λ h. h.known.looks) is, ap (λ h. h.known.tries) is, ap (λ h. h.known.since) is))
 
 pub exchange_counts : IsCounted newest_for try_word (AtExchange Exchanges)
 exchange_counts = counts_at_exchange Exchanges counted
   where
-    counted : (word from to : ℕ) (said : Option Entry) (old : PassView) (found : ℕ) (new : PassView) → Exchanges word from to said old found new
+    counted : (word from to : ℕ) (said : Option Entry) (old : PassView) (found : ℕ) (new : PassView)
+        → Exchanges word from to said old found new
         → Counts newest_for try_word (Exchange word from to said) found old new
     counted word from to none old found new is = absurd is
     counted word from to (some entry) old found new is =

@@ -28,12 +28,14 @@ try_word = 0
 abbrev pub newest_for : PassView → ℕ
 newest_for pass_view = newest_of pass_view.sessions pass_view.known.seen
 
--- word 0 names the newest cell, and each entry's cell is in its row, in its session's column, and links to the cell of the row below
+-- word 0 names the newest cell, and each entry's cell is in its row, in its session's column, and links to the cell of
+-- the row below
 pub record HasCells (sizes : Sizes) (words : List ℕ) (log : List Entry) : Type 0 where
   pub wide : length words ≡ word_count sizes.sessions sizes.capacity
   pub newest : slice_index words 0 ≡ newest_of sizes.sessions log
   pub cells : (row : ℕ) (entry : Entry) → slice_get log row ≡ Some entry
-      → HasWordsAt words (cell_at (name_at sizes.sessions row entry.session)) (name_before sizes.sessions log row ∷ words_of entry)
+      → HasWordsAt words (cell_at (name_at sizes.sessions row entry.session))
+      (name_before sizes.sessions log row ∷ words_of entry)
 
 -- a pass's draft is what its own cell begins with
 pub record HasDraft (words : List ℕ) (log : List Entry) (pass_view : PassView) : Type 0 where

@@ -1,6 +1,7 @@
 -- How each step of a chain changes the pass that takes it, and what the pass learns.
 --     with_look, won, lost    the pass after a step
---     Sees, Reads, Finds, Drafts, Exchanges      the steps, each by its word, its operands, the pass before, what was found and the pass after
+--     Sees, Reads, Finds, Drafts, Exchanges      the steps, each by its word, its operands, the pass before, what was
+--                                                found and the pass after
 use Rattle.std.specs.Prelude.{◌≡◌, ◌≢◌, ◌<◌, ◌+◌, ◌-◌, ℕ, List, [], ◌∷◌, ◌++◌, length, slice_get, slice_index, Some}
 use mathlib.Core.Option.{Option, none, some}
 use Rattle.xa_words.specs.Entry.{Entry, IsEntry}
@@ -15,7 +16,15 @@ use Rattle.chain_log.specs.ChainRule.{own_cell, try_word, newest_for}
 abbrev pub with_look : PassView → List Entry → PassView
 with_look h seen = record {
   known =
-      record { number = h.known.number; seen = seen; mine = h.known.mine; looks = h.known.looks + 1; tries = h.known.tries; since = h.known.since + 1 };
+      record {
+        number = h.known.number;
+        seen = seen;
+        mine = h.known.mine;
+        looks = h.known.looks
+            + 1;
+        tries = h.known.tries;
+        since = h.known.since + 1;
+      };
   sessions = h.sessions;
   capacity = h.capacity;
   draft = [];
@@ -43,7 +52,15 @@ won h entry = record {
 -- after an exchange that lost: this history was seen
 abbrev pub lost : PassView → List Entry → PassView
 lost h seen = record {
-  known = record { number = h.known.number; seen = seen; mine = h.known.mine; looks = h.known.looks; tries = h.known.tries + 1; since = 0 };
+  known = record {
+    number = h.known.number;
+    seen = seen;
+    mine = h.known.mine;
+    looks = h.known.looks;
+    tries = h.known.tries
+        + 1;
+    since = 0;
+  };
   sessions = h.sessions;
   capacity = h.capacity;
   draft = [];
@@ -53,7 +70,8 @@ lost h seen = record {
 -- a load of word 0, the newest cell's name
 abbrev pub Sees : ℕ → PassView → ℕ → PassView → Type 0
 Sees word old found new =
-    (word ≡ 0) × (seen : List Entry) × (new ≡ with_look old seen) × (found ≡ newest_of old.sessions seen) × HistoryIs old seen
+    (word ≡ 0) × (seen : List Entry) × (new ≡ with_look old seen) × (found ≡ newest_of old.sessions seen)
+    × HistoryIs old seen
 
 -- a load of a word of a cell; one of the cell of an entry that was seen is its link or one of the entry's words
 abbrev pub Reads : ℕ → PassView → ℕ → PassView → Type 0
@@ -65,17 +83,20 @@ Reads word old found new =
 
 -- a load of a word of the own cell: a 0 that it finds is the draft's next word, without a store
 abbrev pub Finds : ℕ → PassView → ℕ → PassView → Type 0
-Finds word old found new = (word ≢ 0) × (found ≡ 0 → new ≡ drafted old (word - own_cell old) 0) × (found ≢ 0 → new ≡ old)
+Finds word old found new =
+    (word ≢ 0) × (found ≡ 0 → new ≡ drafted old (word - own_cell old) 0) × (found ≢ 0 → new ≡ old)
 
 -- a store of a word into the own cell
 abbrev pub Drafts : ℕ → ℕ → PassView → ℕ → PassView → Type 0
 Drafts word value old found new = new ≡ drafted old (word - own_cell old) value
 
--- an exchange of word 0 from the last name that was seen to the own cell's, which is a try: if that name was found, the announced
--- entry is appended; otherwise more was seen
+-- an exchange of word 0 from the last name that was seen to the own cell's, which is a try: if that name was found, the
+-- announced entry is appended; otherwise more was seen
 abbrev pub Exchanges : ℕ → ℕ → ℕ → Option Entry → PassView → ℕ → PassView → Type 0
 Exchanges word from to none old found new = ⊥
 Exchanges word from to (some entry) old found new =
-    (word ≡ try_word) × (from ≡ newest_for old) × (to ≡ name_at old.sessions (length old.known.seen) old.known.number) × (found ≡ from → new ≡ won old entry)
-    × (found ≢ from → (seen : List Entry) × (new ≡ lost old seen) × (found ≡ newest_of old.sessions seen) × HistoryIs old seen
+    (word ≡ try_word) × (from ≡ newest_for old) × (to ≡ name_at old.sessions (length old.known.seen) old.known.number)
+    × (found ≡ from → new ≡ won old entry)
+    × (found ≢ from → (seen : List Entry) × (new ≡ lost old seen) × (found ≡ newest_of old.sessions seen)
+    × HistoryIs old seen
     × (length old.known.seen < length seen))

@@ -7,3 +7,14 @@ pub mod ChainCounts
 pub mod ChainSeat
 pub mod ChainPass
 pub mod Tries
+pub mod Places
+pub mod Windows
+pub mod RingRule
+pub mod RingTransitions
+pub mod RingCounts
+pub mod IsRingPass
+pub mod RingSeat
+pub mod RingPass
+pub mod RingSpare
+pub mod RingOpens
+pub mod Resting

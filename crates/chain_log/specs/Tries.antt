@@ -8,6 +8,7 @@ use Rattle.decision_log.specs.declared.fault.AddFault.TheVariants.{Overtaken, Fu
 -- one exchange and no look, not even after it; overtaken only by a longer history, full without an exchange, never busy
 abbrev pub TriesOnce : Result (Unit {0}) AddFault → Known → Known → Type 0
 TriesOnce (Ok _) old new = (new.tries ≡ old.tries + 1) × (new.looks ≡ old.looks) × (new.since ≡ 0)
-TriesOnce (Err (Overtaken front)) old new = (new.tries ≡ old.tries + 1) × (new.looks ≡ old.looks) × (new.since ≡ 0) × (length old.seen < length new.seen)
+TriesOnce (Err (Overtaken front)) old new =
+    (new.tries ≡ old.tries + 1) × (new.looks ≡ old.looks) × (new.since ≡ 0) × (length old.seen < length new.seen)
 TriesOnce (Err Full) old new = (new.tries ≡ old.tries) × (new.looks ≡ old.looks)
 TriesOnce (Err Busy) old new = ⊥

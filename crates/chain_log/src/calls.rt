@@ -66,7 +66,8 @@ impl DecisionLog for ChainLog {
         requires belongs { log_of pass.old ≡ identity_of self.now }
         requires own { entry.now.session ≡ (known_of pass.old).number }
         ensures belongs { log_of pass.new ≡ log_of pass.old }
-        ensures added { Adds false (identity_of self.now).capacity entry.now result (known_of pass.old) (known_of pass.new) }
+        ensures added { Adds false (identity_of self.now).capacity entry.now result (known_of pass.old)
+            (known_of pass.new) }
         // Proved (log, one-exchange): An append to a `ChainLog` makes one exchange, and none at `Full`.
         // Proved (log, never-busy)
         // Proved (sessions, one-try)

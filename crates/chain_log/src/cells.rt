@@ -93,7 +93,8 @@ impl ChainLog {
         requires seat { IsSeat self.now seat.old }
         requires ours { IsOurs self.now (pass_view seat.old) }
         requires room { length (pass_view seat.old).known.seen < (pass_view seat.old).capacity }
-        requires own { name ≡ name_at (pass_view seat.old).sessions (length (pass_view seat.old).known.seen) (pass_view seat.old).known.number }
+        requires own { name ≡ name_at (pass_view seat.old).sessions (length (pass_view seat.old).known.seen)
+            (pass_view seat.old).known.number }
         ensures seat { IsSeat self.now seat.new }
         ensures written { pass_view seat.new ≡ with_draft (pass_view seat.old) (link ∷ words_of entry.now) }
     {

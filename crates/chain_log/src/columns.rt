@@ -36,11 +36,14 @@ impl ChainLog {
         requires seat { IsSeat self.now seat.old }
         requires ours { IsOurs self.now (pass_view seat.old) }
         requires newest { newest ≡ newest_of (pass_view seat.old).sessions (pass_view seat.old).known.seen }
-        requires counted { (seen : List Entry) → AllOf self.now.sessions seen → newest ≡ newest_of self.now.sessions seen → count ≡ length seen }
-        requires kept { HasColumns (pass_view seat.old).capacity first (pass_view seat.old).known.seen columns.old.items }
+        requires counted { (seen : List Entry) → AllOf self.now.sessions seen
+            → newest ≡ newest_of self.now.sessions seen → count ≡ length seen }
+        requires kept { HasColumns (pass_view seat.old).capacity first
+            (pass_view seat.old).known.seen columns.old.items }
         ensures seat { IsSeat self.now seat.new }
         ensures same { pass_view seat.new ≡ pass_view seat.old }
-        ensures kept { HasColumns (pass_view seat.old).capacity (length (pass_view seat.old).known.seen) (pass_view seat.old).known.seen columns.new.items }
+        ensures kept { HasColumns (pass_view seat.old).capacity (length (pass_view seat.old).known.seen)
+            (pass_view seat.old).known.seen columns.new.items }
     {
         let mut name = newest;
         for row in (first..count).rev() {

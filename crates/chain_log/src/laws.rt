@@ -1,5 +1,6 @@
 //! Laws of the words of a chain at any moment, as contracts over its rule only.
-ghost use Rattle.std.specs.Prelude.{◌≡◌, ◌≢◌, ◌<◌, ◌≤◌, ◌+◌, ℕ, List, [], ◌∷◌, ◌++◌, length, set, slice_get, slice_index, Some};
+ghost use Rattle.std.specs.Prelude.{◌≡◌, ◌≢◌, ◌<◌, ◌≤◌, ◌+◌, ℕ, List, [], ◌∷◌, ◌++◌, length, set, slice_get};
+ghost use Rattle.std.specs.Prelude.{slice_index, Some};
 ghost use mathlib.Core.Option.{Option, some};
 ghost use lib.ListN.{get_elem?};
 ghost use Rattle.xa_words.specs.Entry.{Entry, IsEntry};
@@ -22,7 +23,8 @@ ghost use Rattle.chain_log.specs.ChainRule.{own_cell, try_word, newest_for, Know
 pub fn chain_is_the_history()
     // Proved (log, chain-is-the-history): The history of a chain is what the walk from the newest cell
     //   along the links spells, and the words spell no other history.
-    ensures { (sizes : Sizes) (words : List ℕ) (views : List SeatView) (rule : ChainRule sizes words views) → Chain words rule.log }
+    ensures { (sizes : Sizes) (words : List ℕ) (views : List SeatView) (rule : ChainRule sizes words views)
+        → Chain words rule.log }
 {}
 
 /// States that words spell at most one history.
@@ -41,7 +43,8 @@ pub fn one_history_of_its_words()
 pub fn one_history_of_its_newest_cell()
     // Proved (log, newest-name-is-enough): A pass whose last cell is still the newest has seen the whole
     //   history.
-    ensures { (sizes : Sizes) (words : List ℕ) (views : List SeatView) (rule : ChainRule sizes words views) (pass : PassView)
+    ensures { (sizes : Sizes) (words : List ℕ) (views : List SeatView) (rule : ChainRule sizes words views)
+        (pass : PassView)
         → Knows sizes words rule.log pass
         → slice_index words 0 ≡ newest_of sizes.sessions pass.known.seen
         → pass.known.seen ≡ rule.log }
@@ -54,7 +57,8 @@ pub fn one_history_of_its_newest_cell()
 pub fn later_entries_are_of_others()
     // Proved (log, own-cell-is-free): After all that a pass has seen, the history has no entry of the
     //   pass's number.
-    ensures { (sizes : Sizes) (words : List ℕ) (views : List SeatView) (rule : ChainRule sizes words views) (pass : PassView)
+    ensures { (sizes : Sizes) (words : List ℕ) (views : List SeatView) (rule : ChainRule sizes words views)
+        (pass : PassView)
         → Knows sizes words rule.log pass
         → (row : ℕ) (entry : Entry)
         → length pass.known.seen ≤ row
@@ -78,7 +82,8 @@ pub fn passes_are_sessions_of_the_machine()
 /// Own rule: docs/INTERNALS.md#the-chain.
 pub fn store_keeps_the_history()
     // Proved (log, steps-keep-the-history)
-    ensures { (sizes : Sizes) (words : List ℕ) (views views' : List SeatView) (rule : ChainRule sizes words views) (id : ℕ) (pass : PassView) (index word : ℕ)
+    ensures { (sizes : Sizes) (words : List ℕ) (views views' : List SeatView) (rule : ChainRule sizes words views)
+        (id : ℕ) (pass : PassView) (index word : ℕ)
         → get_elem? views id ≡ some (Single pass)
         → index ≤ length pass.draft
         → index < 22
@@ -94,14 +99,16 @@ pub fn store_keeps_the_history()
 /// Own rule: docs/INTERNALS.md#the-chain.
 pub fn won_exchange_adds_its_entry()
     // Proved (log, steps-keep-the-history)
-    ensures { (sizes : Sizes) (words : List ℕ) (views views' : List SeatView) (rule : ChainRule sizes words views) (id : ℕ) (pass : PassView) (entry : Entry)
+    ensures { (sizes : Sizes) (words : List ℕ) (views views' : List SeatView) (rule : ChainRule sizes words views)
+        (id : ℕ) (pass : PassView) (entry : Entry)
         → get_elem? views id ≡ some (Single pass)
         → slice_index words 0 ≡ newest_of pass.sessions pass.known.seen
         → IsEntry entry
         → entry.session ≡ pass.known.number
         → pass.draft ≡ newest_of pass.sessions pass.known.seen ∷ words_of entry
         → length pass.known.seen < pass.capacity
-        → (after : ChainRule sizes (set words 0 (name_at pass.sessions (length pass.known.seen) pass.known.number)) views')
+        → (after : ChainRule sizes (set words 0 (name_at pass.sessions (length pass.known.seen) pass.known.number))
+        views')
         → after.log ≡ rule.log ++ entry ∷ [] }
 {}
 
@@ -112,7 +119,8 @@ pub fn won_exchange_adds_its_entry()
 /// Own rule: docs/INTERNALS.md#the-chain.
 pub fn each_look_sees_the_history()
     // Proved (log, looks-and-tries)
-    ensures { (sizes : Sizes) (words words' : List ℕ) (views views' : List SeatView) (before : ChainRule sizes words views)
+    ensures { (sizes : Sizes) (words words' : List ℕ) (views views' : List SeatView)
+        (before : ChainRule sizes words views)
         (after : ChainRule sizes words' views') (step : Atomic) (found id : ℕ) (old new : PassView)
         → Does step words found words'
         → Counts newest_for try_word step found old new

@@ -36,7 +36,8 @@ pub(crate) fn cell_column(sessions: u64, name: u64) -> u8
     requires some { 1 ≤ sessions }
     requires few { sessions ≤ 16 }
     requires name { 1 ≤ name }
-    ensures { (row session : ℕ) → 1 ≤ session → session ≤ sessions → name ≡ name_at sessions row session → result ≡ session }
+    ensures { (row session : ℕ) → 1 ≤ session → session ≤ sessions → name ≡ name_at sessions row session
+        → result ≡ session }
 {
     ((name - 1) % sessions + 1) as u8
 }
@@ -64,7 +65,8 @@ pub(crate) fn row_count(sessions: u64, newest: u64) -> u64
 /// Returns the same, if the count for another name is known. Most often it is the same name.
 pub(crate) fn count_from(sessions: u64, known: u64, count: u64, newest: u64) -> u64
     requires sessions { 1 ≤ sessions }
-    requires counted { (seen : List Entry) → AllOf sessions seen → known ≡ newest_of sessions seen → count ≡ length seen }
+    requires counted { (seen : List Entry) → AllOf sessions seen → known ≡ newest_of sessions seen
+        → count ≡ length seen }
     ensures { (seen : List Entry) → AllOf sessions seen → newest ≡ newest_of sessions seen → result ≡ length seen }
 {
     if newest == known {

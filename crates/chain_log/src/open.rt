@@ -23,7 +23,8 @@ impl ChainLog {
         sessions: u64,
     ) -> Result<(ChainLog, Vec<ChainPass>), OpenFault>
         // Proved (log, opening)
-        ensures ok { IfOk result (λ opened. Opens log_of known_of capacity sessions (identity_of opened.0) opened.1.items) }
+        ensures ok { IfOk result (λ opened. Opens log_of known_of capacity sessions
+            (identity_of opened.0) opened.1.items) }
         // Proved (log, opening)
         ensures err { IfErr result (λ fault. Refuses capacity sessions fault) }
     {

@@ -27,5 +27,6 @@ pub struct ChainPass {
     ghost named: { newest ≡ newest_of (pass_view_of seat.me.0).sessions (pass_view_of seat.me.0).known.seen },
     // Proved (log, table-of-columns): Between any two calls a pass has a table with the session of each
     //   entry that it has seen.
-    ghost kept: { HasColumns (pass_view_of seat.me.0).capacity (length (pass_view_of seat.me.0).known.seen) (pass_view_of seat.me.0).known.seen columns.items },
+    ghost kept: { HasColumns (pass_view_of seat.me.0).capacity (length (pass_view_of seat.me.0).known.seen)
+        (pass_view_of seat.me.0).known.seen columns.items },
 }

@@ -20,7 +20,8 @@
 //!    shorter.
 //! 6. To open, the seat that knows the passes not yet issued is split once for each session
 //!    (`LogTable::issue`).
-ghost use Rattle.std.specs.Prelude.{◌≡◌, ◌≢◌, true, false, ◌<◌, ◌≤◌, ◌+◌, ℕ, List, ◌∷◌, length, slice_get, slice_index, Some};
+ghost use Rattle.std.specs.Prelude.{◌≡◌, ◌≢◌, true, false, ◌<◌, ◌≤◌, ◌+◌, ℕ, List, ◌∷◌, length, slice_get, slice_index};
+ghost use Rattle.std.specs.Prelude.{Some};
 ghost use Rattle.xa_words.specs.Entry.{Entry, IsEntry};
 ghost use Rattle.xa_words.specs.Words.{words_of};
 ghost use Rattle.decision_log.specs.Draft.{drafted};
@@ -64,7 +65,9 @@ impl ChainLog {
         ensures read { (row : ℕ) (entry : Entry)
             → name ≡ name_before (pass_view seat.old).sessions (pass_view seat.old).known.seen (row + 1)
             → slice_get (pass_view seat.old).known.seen row ≡ Some entry
-            → IsEntry entry × (result ≡ slice_index (name_before (pass_view seat.old).sessions (pass_view seat.old).known.seen row ∷ words_of entry) index) }
+            → IsEntry entry
+            × (result ≡ slice_index (name_before (pass_view seat.old).sessions
+            (pass_view seat.old).known.seen row ∷ words_of entry) index) }
     {
         let word = cell_start(name) + index;
         // The name still leads to that cell, with the same words: no cell of the history is written again.
@@ -76,7 +79,8 @@ impl ChainLog {
         requires seat { IsSeat self.now seat.old }
         requires ours { IsOurs self.now (pass_view seat.old) }
         requires room { length (pass_view seat.old).known.seen < (pass_view seat.old).capacity }
-        requires own { name ≡ name_at (pass_view seat.old).sessions (length (pass_view seat.old).known.seen) (pass_view seat.old).known.number }
+        requires own { name ≡ name_at (pass_view seat.old).sessions (length (pass_view seat.old).known.seen)
+            (pass_view seat.old).known.number }
         requires along { index ≤ length (pass_view seat.old).draft }
         requires index { index < 22 }
         ensures seat { IsSeat self.now seat.new }
@@ -93,7 +97,8 @@ impl ChainLog {
         requires seat { IsSeat self.now seat.old }
         requires ours { IsOurs self.now (pass_view seat.old) }
         requires room { length (pass_view seat.old).known.seen < (pass_view seat.old).capacity }
-        requires own { name ≡ name_at (pass_view seat.old).sessions (length (pass_view seat.old).known.seen) (pass_view seat.old).known.number }
+        requires own { name ≡ name_at (pass_view seat.old).sessions (length (pass_view seat.old).known.seen)
+            (pass_view seat.old).known.number }
         requires along { index ≤ length (pass_view seat.old).draft }
         requires index { index < 22 }
         ensures seat { IsSeat self.now seat.new }
@@ -117,7 +122,8 @@ impl ChainLog {
         requires seat { IsSeat self.now seat.old }
         requires ours { IsOurs self.now (pass_view seat.old) }
         requires room { length (pass_view seat.old).known.seen < (pass_view seat.old).capacity }
-        requires own { name ≡ name_at (pass_view seat.old).sessions (length (pass_view seat.old).known.seen) (pass_view seat.old).known.number }
+        requires own { name ≡ name_at (pass_view seat.old).sessions (length (pass_view seat.old).known.seen)
+            (pass_view seat.old).known.number }
         requires along { index ≤ length (pass_view seat.old).draft }
         requires index { index < 22 }
         ensures seat { IsSeat self.now seat.new }
@@ -144,7 +150,8 @@ impl ChainLog {
         requires seat { IsSeat self.now seat.old }
         requires room { length (pass_view seat.old).known.seen < (pass_view seat.old).capacity }
         requires old { old ≡ newest_of (pass_view seat.old).sessions (pass_view seat.old).known.seen }
-        requires own { own ≡ name_at (pass_view seat.old).sessions (length (pass_view seat.old).known.seen) (pass_view seat.old).known.number }
+        requires own { own ≡ name_at (pass_view seat.old).sessions (length (pass_view seat.old).known.seen)
+            (pass_view seat.old).known.number }
         requires entry { entry.now.session ≡ (pass_view seat.old).known.number }
         requires whole { (pass_view seat.old).draft ≡ old ∷ words_of entry.now }
         ensures seat { IsSeat self.now seat.new }

@@ -7,7 +7,8 @@ use Rattle.decision_log.specs.declared.view.PassView.{PassView}
 use Rattle.decision_log.specs.Atomic.{Atomic, Load, Store, Exchange, Does, Counts}
 
 module _ (newest : PassView → ℕ) (tried : ℕ) where
-  pub try_is : (step : Atomic) (found : ℕ) (old new : PassView) → Counts newest tried step found old new → new.known.tries ≢ old.known.tries
+  pub try_is : (step : Atomic) (found : ℕ) (old new : PassView) → Counts newest tried step found old new
+      → new.known.tries ≢ old.known.tries
       → (from to : ℕ) × (said : Option Entry) × (step ≡ Exchange tried from to said)
   try_is (Load word) found old new counts rose = ⊎_elim (λ t. absurd t.1) (λ t. absurd (rose t.0)) counts.tries
   try_is (Store word value) found old new counts rose = ⊎_elim (λ t. absurd t.1) (λ t. absurd (rose t.0)) counts.tries
@@ -15,10 +16,13 @@ module _ (newest : PassView → ℕ) (tried : ℕ) where
       ⊎_elim (λ t. (from, to, said, ap (λ at. Exchange at from to said) t.1)) (λ t. absurd (rose t.0)) counts.tries
 
   -- a look loads word 0, and leaves the words
-  pub look_is : (step : Atomic) (found : ℕ) (old new : PassView) (words words' : List ℕ) → Does step words found words' → Counts newest tried step found old new
+  pub look_is : (step : Atomic) (found : ℕ) (old new : PassView) (words words' : List ℕ) → Does step words found words'
+      → Counts newest tried step found old new
       → new.known.looks ≢ old.known.looks
       → (slice_index words 0 ≡ newest new) × (words' ≡ words)
   look_is (Load word) found old new words words' does counts rose =
       ⊎_elim (λ t. (sym (does.0 ∙ ap (slice_index words) t.1) ∙ t.2, does.1)) (λ t. absurd (rose t.0)) counts.looks
-  look_is (Store word value) found old new words words' does counts rose = ⊎_elim (λ t. absurd t.1) (λ t. absurd (rose t.0)) counts.looks
-  look_is (Exchange word from to said) found old new words words' does counts rose = ⊎_elim (λ t. absurd t.1) (λ t. absurd (rose t.0)) counts.looks
+  look_is (Store word value) found old new words words' does counts rose =
+      ⊎_elim (λ t. absurd t.1) (λ t. absurd (rose t.0)) counts.looks
+  look_is (Exchange word from to said) found old new words words' does counts rose =
+      ⊎_elim (λ t. absurd t.1) (λ t. absurd (rose t.0)) counts.looks

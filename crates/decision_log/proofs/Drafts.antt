@@ -1,5 +1,6 @@
 -- The words that a pass stores and reads: what changes of them, and what doesn't, where a word of the log changes.
-use Rattle.std.proofs.Common.{◌≡◌, ◌≢◌, ℕ, zero, suc, ◌+◌, ◌<◌, ◌≤◌, List, [], ◌∷◌, ◌++◌, length, take, set, get_or, refl, ap, sym, ◌∙◌, subst, arith}
+use Rattle.std.proofs.Common.{◌≡◌, ◌≢◌, ℕ, zero, suc, ◌+◌, ◌<◌, ◌≤◌, List, [], ◌∷◌, ◌++◌, length, take, set, get_or}
+use Rattle.std.proofs.Common.{refl, ap, sym, ◌∙◌, subst, arith}
 use Rattle.std.proofs.Common.{length-append}
 use mathlib.Core.Logic.{dite}
 use native.Mathlib.Decide.{ℕ_discrete}
@@ -10,12 +11,15 @@ pub holds_nothing : (words : List ℕ) (at : ℕ) (draft : List ℕ) → draft �
 holds_nothing words at draft blank = subst (λ d. HasWordsAt words at d) (sym blank) (λ i below. absurd (omega arith))
 
 -- a word that isn't among them changes
-pub holds_beside : (words : List ℕ) (word new at : ℕ) (draft : List ℕ) → ((i : ℕ) → i < length draft → at + i ≢ word) → HasWordsAt words at draft
+pub holds_beside : (words : List ℕ) (word new at : ℕ) (draft : List ℕ) → ((i : ℕ) → i < length draft → at + i ≢ word)
+    → HasWordsAt words at draft
     → HasWordsAt (set words word new) at draft
-holds_beside words word new at draft out holds i below = get_or-set_other words word (at + i) new 0 (out i below) ∙ holds i below
+holds_beside words word new at draft out holds i below =
+    get_or-set_other words word (at + i) new 0 (out i below) ∙ holds i below
 
 -- the next word is stored, or one again
-pub holds_one_more : (words : List ℕ) (at index new : ℕ) (draft : List ℕ) → index ≤ length draft → at + index < length words → HasWordsAt words at draft
+pub holds_one_more : (words : List ℕ) (at index new : ℕ) (draft : List ℕ) → index ≤ length draft
+    → at + index < length words → HasWordsAt words at draft
     → HasWordsAt (set words (at + index) new) at (take index draft ++ new ∷ [])
 holds_one_more words at index new draft along within holds i below =
     let len : length (take index draft) ≡ index = length-take-le index draft along in
@@ -24,7 +28,8 @@ holds_one_more words at index new draft along within holds i below =
     ∙ sym (get_or_push (take index draft) new 0 i (len ∙ sym e)))
     (λ n.
     let less : i < index = omega (arith, below, length-append (take index draft) (new ∷ [])) in
-    get_or-set_other words (at + index) (at + i) new 0 (λ e. n (omega arith)) ∙ holds i (omega arith) ∙ front (new ∷ []) draft index i less along)
+    get_or-set_other words (at + index) (at + i) new 0 (λ e. n (omega arith)) ∙ holds i (omega arith)
+    ∙ front (new ∷ []) draft index i less along)
   where
     front : (ys xs : List ℕ) (n i : ℕ) → i < n → n ≤ length xs → get_or xs i 0 ≡ get_or (take n xs ++ ys) i 0
     front ys [] n i less along = absurd (omega arith)
@@ -34,8 +39,10 @@ holds_one_more words at index new draft along within holds i below =
 
 -- one more word is read
 pub one_more : (words spelled : List ℕ) (index word : ℕ) → index < length words → word ≡ get_or spelled index 0
-    → ((k : ℕ) → k < index → get_or words k 0 ≡ get_or spelled k 0) → (k : ℕ) → k < index + 1 → get_or (set words index word) k 0 ≡ get_or spelled k 0
+    → ((k : ℕ) → k < index → get_or words k 0 ≡ get_or spelled k 0) → (k : ℕ) → k < index + 1
+    → get_or (set words index word) k 0 ≡ get_or spelled k 0
 one_more words spelled index word within is before k below =
     dite (ℕ_discrete k index)
-    (λ e. ap (λ n. get_or (set words index word) n 0) e ∙ get_or-set_same words index word 0 within ∙ is ∙ ap (λ n. get_or spelled n 0) (sym e))
+    (λ e. ap (λ n. get_or (set words index word) n 0) e ∙ get_or-set_same words index word 0 within ∙ is
+    ∙ ap (λ n. get_or spelled n 0) (sym e))
     (λ n. get_or-set_other words index k word 0 n ∙ before k (omega arith))

@@ -1,5 +1,6 @@
 -- Lists of entries: the ring of lemmas on prefixes, and that on the entries of a session.
-use Rattle.std.proofs.Common.{◌≡◌, ◌≢◌, ◌⊎◌, ℕ, zero, suc, ◌<◌, ◌≤◌, List, [], ◌∷◌, ◌++◌, length, take, drop, get_or, refl, ap, sym, ◌∙◌, subst, inl, inr}
+use Rattle.std.proofs.Common.{◌≡◌, ◌≢◌, ◌⊎◌, ℕ, zero, suc, ◌<◌, ◌≤◌, List, [], ◌∷◌, ◌++◌, length, take, drop, get_or}
+use Rattle.std.proofs.Common.{refl, ap, sym, ◌∙◌, subst, inl, inr}
 use Rattle.std.proofs.Common.{⊎_elim, Some, None, arith, eq-eqb, ne_eqb, length-append, append-nil}
 use Rattle.std.specs.Prelude.{slice_get, All}
 use Rattle.std.proofs.lemmas.List.{take_all, take-append-le, take-append-drop, length-take}
@@ -33,7 +34,8 @@ pub behind : (xs ys : List Entry) → Begins xs ys → xs ++ drop (length xs) ys
 behind xs ys is = ap (λ front. front ++ drop (length xs) ys) (sym is) ∙ take-append-drop (length xs) ys
 
 pub begins_through : (xs ys zs : List Entry) → Begins xs ys → Begins ys zs → Begins xs zs
-begins_through xs ys zs xy yz = subst (λ list. Begins xs list) (behind ys zs yz) (begins_more xs ys (drop (length ys) zs) xy)
+begins_through xs ys zs xy yz =
+    subst (λ list. Begins xs list) (behind ys zs yz) (begins_more xs ys (drop (length ys) zs) xy)
 
 pub begins_same : (xs ys : List Entry) → Begins xs ys → length ys ≤ length xs → xs ≡ ys
 begins_same xs ys is long = sym is ∙ take_all (length xs) ys long
@@ -43,14 +45,17 @@ pub begins_between : (xs ys zs : List Entry) → Begins xs zs → Begins ys zs �
 begins_between xs ys zs xz yz short =
     sym (take-append-le (length xs) ys (drop (length ys) zs) short) ∙ ap (take (length xs)) (behind ys zs yz) ∙ xz
 
-pub get_append : (xs ys : List Entry) (place : ℕ) (entry : Entry) → slice_get xs place ≡ Some entry → slice_get (xs ++ ys) place ≡ Some entry
+pub get_append : (xs ys : List Entry) (place : ℕ) (entry : Entry) → slice_get xs place ≡ Some entry
+    → slice_get (xs ++ ys) place ≡ Some entry
 get_append [] ys place entry is = cc
 get_append (x ∷ xs) ys zero entry is = is
 get_append (x ∷ xs) ys (suc place) entry is = get_append xs ys place entry is
 
-pub get_begins : (xs ys : List Entry) (place : ℕ) (entry : Entry) → Begins xs ys → slice_get xs place ≡ Some entry → slice_get ys place ≡ Some entry
+pub get_begins : (xs ys : List Entry) (place : ℕ) (entry : Entry) → Begins xs ys → slice_get xs place ≡ Some entry
+    → slice_get ys place ≡ Some entry
 get_begins xs ys place entry begins is =
-    subst (λ list. slice_get list place ≡ Some entry) (behind xs ys begins) (get_append xs (drop (length xs) ys) place entry is)
+    subst (λ list. slice_get list place ≡ Some entry) (behind xs ys begins)
+    (get_append xs (drop (length xs) ys) place entry is)
 
 -- below the length there is an entry
 pub there : (xs : List Entry) (place : ℕ) → place < length xs → (entry : Entry) × (slice_get xs place ≡ Some entry)
@@ -62,7 +67,8 @@ pub some_injective : (a b : Entry) → Some a ≡ Some b → a ≡ b
 some_injective a b is = cc
 
 -- the entries of a longer list: an old one, or the last
-pub get_last : (xs : List Entry) (last : Entry) (place : ℕ) (entry : Entry) → slice_get (xs ++ last ∷ []) place ≡ Some entry
+pub get_last : (xs : List Entry) (last : Entry) (place : ℕ) (entry : Entry)
+    → slice_get (xs ++ last ∷ []) place ≡ Some entry
     → (slice_get xs place ≡ Some entry) ⊎ ((place ≡ length xs) × (last ≡ entry))
 get_last [] last zero entry is = inr (refl, some_injective last entry is)
 get_last [] last (suc place) entry is = absurd (never is)
@@ -70,25 +76,31 @@ get_last [] last (suc place) entry is = absurd (never is)
     never : None ≡ Some entry → ⊥
     never is = cc
 get_last (x ∷ xs) last zero entry is = inl is
-get_last (x ∷ xs) last (suc place) entry is = ⊎_elim (λ h. inl h) (λ h. inr (ap suc h.0, h.1)) (get_last xs last place entry is)
+get_last (x ∷ xs) last (suc place) entry is =
+    ⊎_elim (λ h. inl h) (λ h. inr (ap suc h.0, h.1)) (get_last xs last place entry is)
 
 -- what holds of each entry by its place holds of all
-pub all_from_places : (P : Entry → Type 0) (xs : List Entry) → ((place : ℕ) (entry : Entry) → slice_get xs place ≡ Some entry → P entry) → All P xs
+pub all_from_places : (P : Entry → Type 0) (xs : List Entry)
+    → ((place : ℕ) (entry : Entry) → slice_get xs place ≡ Some entry → P entry) → All P xs
 all_from_places P xs each place other below = each place (get_or xs place other) (slice_get-get_or xs place other below)
 
 -- the entries of a session
 
-pub own_append : (number : ℕ) (xs ys : List Entry) → entries_of number (xs ++ ys) ≡ entries_of number xs ++ entries_of number ys
+pub own_append : (number : ℕ) (xs ys : List Entry) → entries_of number (xs ++ ys) ≡ entries_of number xs
+    ++ entries_of number ys
 own_append number xs ys = filter-append (is_of number) xs ys
 
 pub own_last : (number : ℕ) (xs : List Entry) (entry : Entry) → entry.session ≡ number
     → entries_of number (xs ++ entry ∷ []) ≡ entries_of number xs ++ entry ∷ []
 own_last number xs entry own =
-    own_append number xs (entry ∷ []) ∙ ap (λ rest. entries_of number xs ++ rest) (rw (eq-eqb entry.session number own) refl)
+    own_append number xs (entry ∷ []) ∙ ap (λ rest. entries_of number xs ++ rest)
+    (rw (eq-eqb entry.session number own) refl)
 
-pub own_other : (number : ℕ) (xs : List Entry) (entry : Entry) → entry.session ≢ number → entries_of number (xs ++ entry ∷ []) ≡ entries_of number xs
+pub own_other : (number : ℕ) (xs : List Entry) (entry : Entry) → entry.session ≢ number
+    → entries_of number (xs ++ entry ∷ []) ≡ entries_of number xs
 own_other number xs entry other =
-    own_append number xs (entry ∷ []) ∙ ap (λ rest. entries_of number xs ++ rest) (nothing entry other) ∙ append-nil (entries_of number xs)
+    own_append number xs (entry ∷ []) ∙ ap (λ rest. entries_of number xs ++ rest) (nothing entry other)
+    ∙ append-nil (entries_of number xs)
   where
     nothing : (entry : Entry) → entry.session ≢ number → entries_of number (entry ∷ []) ≡ []
     nothing entry other = rw (ne_eqb entry.session number other) refl
@@ -98,7 +110,8 @@ nothing_left xs [] is = refl
 nothing_left xs (y ∷ ys) is = absurd (omega (arith, length-append xs (y ∷ ys)))
 
 -- a session with no entry between two prefixes has none behind the first of them
-pub own_between : (number : ℕ) (xs ys zs mine : List Entry) → Begins xs ys → Begins ys zs → entries_of number xs ≡ mine → entries_of number zs ≡ mine
+pub own_between : (number : ℕ) (xs ys zs mine : List Entry) → Begins xs ys → Begins ys zs → entries_of number xs ≡ mine
+    → entries_of number zs ≡ mine
     → entries_of number ys ≡ mine
 own_between number xs ys zs mine xy yz own_x own_z =
     let r = drop (length xs) ys in
@@ -121,14 +134,17 @@ own_between number xs ys zs mine xy yz own_x own_z =
     whole_y ∙ ap (λ rest. entries_of number xs ++ rest) none ∙ append-nil (entries_of number xs) ∙ own_x
 
 -- a number that no entry has has no entries
-pub own_none : (number : ℕ) (xs : List Entry) → ((place : ℕ) (entry : Entry) → slice_get xs place ≡ Some entry → entry.session ≢ number)
+pub own_none : (number : ℕ) (xs : List Entry) → ((place : ℕ) (entry : Entry) → slice_get xs place ≡ Some entry
+    → entry.session ≢ number)
     → entries_of number xs ≡ []
 own_none number [] none = refl
-own_none number (x ∷ xs) none = rw (ne_eqb x.session number (none 0 x refl)) (own_none number xs (λ place entry is. none (suc place) entry is))
+own_none number (x ∷ xs) none =
+    rw (ne_eqb x.session number (none 0 x refl)) (own_none number xs (λ place entry is. none (suc place) entry is))
 
 -- the entries at places
 
-pub take_next : (xs : List Entry) (row : ℕ) (entry : Entry) → slice_get xs row ≡ Some entry → take (suc row) xs ≡ take row xs ++ entry ∷ []
+pub take_next : (xs : List Entry) (row : ℕ) (entry : Entry) → slice_get xs row ≡ Some entry
+    → take (suc row) xs ≡ take row xs ++ entry ∷ []
 take_next [] row entry is = cc
 take_next (x ∷ xs) zero entry is = ap (λ e. e ∷ []) (some_injective x entry is)
 take_next (x ∷ xs) (suc row) entry is = ap (λ rest. x ∷ rest) (take_next xs row entry is)
@@ -138,7 +154,8 @@ entry_at [] place below = absurd (omega arith)
 entry_at (x ∷ xs) zero below = (x, refl)
 entry_at (x ∷ xs) (suc place) below = entry_at xs place (omega (arith, below))
 
-pub entry_is : (xs : List Entry) (place : ℕ) (entry : Entry) → slice_get xs place ≡ Some entry → get_or xs place entry ≡ entry
+pub entry_is : (xs : List Entry) (place : ℕ) (entry : Entry) → slice_get xs place ≡ Some entry
+    → get_or xs place entry ≡ entry
 entry_is xs place entry is = get_or_from_slice_get xs place entry entry is
 
 -- entries of a session behind a prefix that has all of them
@@ -148,35 +165,42 @@ first_own number x xs mine none =
     let head : entries_of number (x ∷ xs) ≡ x ∷ entries_of number xs = rw (eq-eqb x.session number mine) refl in
     omega (arith, ap length head, ap length none)
 
-first_other : (number : ℕ) (x : Entry) (xs : List Entry) → x.session ≢ number → entries_of number (x ∷ xs) ≡ [] → entries_of number xs ≡ []
+first_other : (number : ℕ) (x : Entry) (xs : List Entry) → x.session ≢ number → entries_of number (x ∷ xs) ≡ []
+    → entries_of number xs ≡ []
 first_other number x xs other none =
     let same : entries_of number (x ∷ xs) ≡ entries_of number xs = rw (ne_eqb x.session number other) refl in
     sym same ∙ none
 
-no_own : (number : ℕ) (xs : List Entry) (row : ℕ) (entry : Entry) → entries_of number xs ≡ [] → slice_get xs row ≡ Some entry → entry.session ≢ number
+no_own : (number : ℕ) (xs : List Entry) (row : ℕ) (entry : Entry) → entries_of number xs ≡ []
+    → slice_get xs row ≡ Some entry → entry.session ≢ number
 no_own number [] row entry none is own = absurd (never entry is)
   where
     never : (entry : Entry) → None ≡ Some entry → ⊥
     never entry is = cc
-no_own number (x ∷ xs) zero entry none is own = first_own number x xs (ap (λ e. e.session) (some_injective x entry is) ∙ own) none
+no_own number (x ∷ xs) zero entry none is own =
+    first_own number x xs (ap (λ e. e.session) (some_injective x entry is) ∙ own) none
 no_own number (x ∷ xs) (suc row) entry none is own =
     dite (ℕ_discrete x.session number) (λ mine. first_own number x xs mine none)
     (λ other. no_own number xs row entry (first_other number x xs other none) is own)
 
-get_behind : (xs ys : List Entry) (row : ℕ) (entry : Entry) → length xs ≤ row → slice_get (xs ++ ys) row ≡ Some entry → (k : ℕ) × (slice_get ys k ≡ Some entry)
+get_behind : (xs ys : List Entry) (row : ℕ) (entry : Entry) → length xs ≤ row → slice_get (xs ++ ys) row ≡ Some entry
+    → (k : ℕ) × (slice_get ys k ≡ Some entry)
 get_behind [] ys row entry long is = (row, is)
 get_behind (x ∷ xs) ys zero entry long is = absurd (omega arith)
 get_behind (x ∷ xs) ys (suc row) entry long is = get_behind xs ys row entry (omega arith) is
 
 -- of a session whose entries were all seen, none stands behind what was seen
-pub later_other : (number : ℕ) (seen log mine : List Entry) (row : ℕ) (entry : Entry) → Begins seen log → entries_of number log ≡ mine
+pub later_other : (number : ℕ) (seen log mine : List Entry) (row : ℕ) (entry : Entry) → Begins seen log
+    → entries_of number log ≡ mine
     → entries_of number seen ≡ mine
     → length seen ≤ row → slice_get log row ≡ Some entry → entry.session ≢ number
 later_other number seen log mine row entry begins own part long is =
     let rest = drop (length seen) log in
     let whole = behind seen log begins in
-    let parts : entries_of number log ≡ entries_of number seen ++ entries_of number rest = ap (entries_of number) (sym whole) ∙ own_append number seen rest in
+    let parts : entries_of number log ≡ entries_of number seen ++ entries_of number rest =
+    ap (entries_of number) (sym whole) ∙ own_append number seen rest in
     let none : entries_of number rest ≡ [] =
-    nothing_left (entries_of number seen) (entries_of number rest) (omega (arith, ap length parts, ap length own, ap length part)) in
+    nothing_left (entries_of number seen) (entries_of number rest)
+    (omega (arith, ap length parts, ap length own, ap length part)) in
     let t = get_behind seen rest row entry long (subst (λ list. slice_get list row ≡ Some entry) (sym whole) is) in
     no_own number rest t.0 entry none t.1

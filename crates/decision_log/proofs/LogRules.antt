@@ -6,7 +6,8 @@
 --     appended            it is kept where they spell one entry more
 --     load_step, store_step      the steps of a pass on the table
 --     looked_log          who looks has seen the whole history
-use Rattle.std.proofs.Common.{◌≡◌, ◌≢◌, ℕ, ◌+◌, ◌-◌, ◌<◌, ◌≤◌, List, [], ◌∷◌, ◌++◌, length, set, get_or, refl, ap, sym, ◌∙◌, subst, ⊎_elim, Some, arith}
+use Rattle.std.proofs.Common.{◌≡◌, ◌≢◌, ℕ, ◌+◌, ◌-◌, ◌<◌, ◌≤◌, List, [], ◌∷◌, ◌++◌, length, set, get_or, refl, ap, sym}
+use Rattle.std.proofs.Common.{◌∙◌, subst, ⊎_elim, Some, arith}
 use Rattle.std.proofs.Common.{length-append}
 use Rattle.std.specs.Prelude.{slice_get, slice_index}
 use mathlib.Core.Option.{some}
@@ -27,7 +28,8 @@ use Rattle.decision_log.specs.Draft.{drafted}
 use Rattle.decision_log.specs.Observed.{HistoryIs}
 use Rattle.decision_log.specs.Atomic.{Atomic, Does, Counts, Tells}
 use Rattle.decision_log.specs.LogRule.{KnowsLog, LogRule}
-use Rattle.decision_log.proofs.Histories.{begins_itself, begins_more, get_begins, get_last, all_from_places, own_last, own_other}
+use Rattle.decision_log.proofs.Histories.{begins_itself, begins_more, get_begins, get_last, all_from_places, own_last}
+use Rattle.decision_log.proofs.Histories.{own_other}
 use Rattle.decision_log.proofs.SeatLemmas.{step_seat}
 use Rattle.decision_log.proofs.MachineSeats.{has_passes}
 use Rattle.decision_log.proofs.Counting.{look_is}
@@ -41,14 +43,17 @@ module _ (Spells : Sizes → List ℕ → List Entry → Type 0) (KnowsWords : L
   abbrev pub RuleOf : Sizes → List ℕ → List SeatView → List Entry → Type 0
   RuleOf sizes words views log = (rule : LogRule Spells KnowsWords sizes words views) × (rule.log ≡ log)
 
-module _ {Spells : Sizes → List ℕ → List Entry → Type 0} {KnowsWords : List ℕ → List Entry → PassView → Type 0} {sizes : Sizes} {words : List ℕ}
+module _ {Spells : Sizes → List ℕ → List Entry → Type 0} {KnowsWords : List ℕ → List Entry → PassView → Type 0}
+    {sizes : Sizes} {words : List ℕ}
     {views : List SeatView} (r : LogRule Spells KnowsWords sizes words views) where
   -- what is known of a seat's pass
-  pub known : (id : ℕ) (h : PassView) → get_elem? views id ≡ some (Single h) → Placed (KnowsLog KnowsWords sizes words r.log) r.home r.next id h
+  pub known : (id : ℕ) (h : PassView) → get_elem? views id ≡ some (Single h)
+      → Placed (KnowsLog KnowsWords sizes words r.log) r.home r.next id h
   known id h here = r.seats id (Single h) here
 
   -- each entry is of a session of the log
-  pub ranged : (place : ℕ) (entry : Entry) → slice_get r.log place ≡ Some entry → (1 ≤ entry.session) × (entry.session ≤ sizes.sessions)
+  pub ranged : (place : ℕ) (entry : Entry) → slice_get r.log place ≡ Some entry
+      → (1 ≤ entry.session) × (entry.session ≤ sizes.sessions)
   ranged place entry is =
       let e = r.entries place entry is in
       (e.0.first_session, omega (arith, e.1, r.within))
@@ -57,18 +62,28 @@ module _ {Spells : Sizes → List ℕ → List Entry → Type 0} {KnowsWords : L
   all_of = all_from_places (λ entry. (1 ≤ entry.session) × (entry.session ≤ sizes.sessions)) r.log ranged
 
   -- and so is all that was seen
-  pub among : (h : PassView) (seen : List Entry) → h.sessions ≡ sizes.sessions → Begins seen r.log → AllOf h.sessions seen
+  pub among : (h : PassView) (seen : List Entry) → h.sessions ≡ sizes.sessions → Begins seen r.log
+      → AllOf h.sessions seen
   among h seen sessions begins =
       all_from_places (λ entry. (1 ≤ entry.session) × (entry.session ≤ h.sessions)) seen
-      (λ place entry is. let e = ranged place entry (get_begins seen r.log place entry begins is) in (e.0, omega (arith, e.1, sessions)))
+      (λ place entry is. let e = ranged place entry (get_begins seen r.log place entry begins is) in
+      (e.0, omega (arith, e.1, sessions)))
 
   pub history : (h : PassView) → KnowsLog KnowsWords sizes words r.log h → HistoryIs h r.log
-  history h k = record { begins = k.seen; room = omega (arith, r.room, k.capacity); all = among h r.log k.sessions (begins_itself r.log); part = k.mine }
+  history h k =
+      record {
+        begins = k.seen;
+        room = omega (arith, r.room, k.capacity);
+        all = among h r.log k.sessions
+            (begins_itself r.log);
+        part = k.mine;
+      }
 
   -- the history and the passes are a state of the log machine
   pub has_machine : (machine : Machine) × HasPasses sizes.sessions sizes.capacity r.log views machine
   has_machine =
-      has_passes r.log (KnowsLog KnowsWords sizes words r.log) r.home r.next (λ pass_view k. record { begins = k.seen; own = k.mine; part = k.part })
+      has_passes r.log (KnowsLog KnowsWords sizes words r.log) r.home r.next
+      (λ pass_view k. record { begins = k.seen; own = k.mine; part = k.part })
       sizes.capacity views r.seats sizes.sessions r.room all_of
 
   -- other seats, and maybe more numbers that were given out
@@ -88,10 +103,12 @@ module _ {Spells : Sizes → List ℕ → List Entry → Type 0} {KnowsWords : L
   }
 
   -- the words change and spell the same history: of that the pass has seen a prefix, and no entry of its own was added
-  pub stepped : (words' : List ℕ) (id : ℕ) (h k : PassView) → get_elem? views id ≡ some (Single h) → Spells sizes words' r.log → k.sessions ≡ h.sessions
+  pub stepped : (words' : List ℕ) (id : ℕ) (h k : PassView) → get_elem? views id ≡ some (Single h)
+      → Spells sizes words' r.log → k.sessions ≡ h.sessions
       → k.capacity ≡ h.capacity → k.known.number ≡ h.known.number → k.known.mine ≡ h.known.mine
       → Begins k.known.seen r.log → entries_of h.known.number k.known.seen ≡ h.known.mine → KnowsWords words' r.log k
-      → ((g : PassView) → g.known.number ≢ h.known.number → 0 < g.known.number → KnowsLog KnowsWords sizes words r.log g → KnowsWords words' r.log g)
+      → ((g : PassView) → g.known.number ≢ h.known.number → 0 < g.known.number → KnowsLog KnowsWords sizes words r.log g
+      → KnowsWords words' r.log g)
       → RuleOf Spells KnowsWords sizes words' (set views id (Single k)) r.log
   stepped words' id h k here spelled sessions capacity number mine begins part own others =
       let is = (known id h here).fact_is in (
@@ -105,7 +122,8 @@ module _ {Spells : Sizes → List ℕ → List Entry → Type 0} {KnowsWords : L
           begun = r.begun;
           within = r.within;
           seats =
-              step_seat (KnowsLog KnowsWords sizes words r.log) (KnowsLog KnowsWords sizes words' r.log) r.home r.next views id h k r.seats here number
+              step_seat (KnowsLog KnowsWords sizes words r.log)
+              (KnowsLog KnowsWords sizes words' r.log) r.home r.next views id h k r.seats here number
               (record {
                 sessions = sessions ∙ is.sessions;
                 capacity = capacity ∙ is.capacity;
@@ -127,15 +145,19 @@ module _ {Spells : Sizes → List ℕ → List Entry → Type 0} {KnowsWords : L
       )
 
   -- nothing changes
-  pub unmoved : (id : ℕ) (h : PassView) → get_elem? views id ≡ some (Single h) → LogRule Spells KnowsWords sizes words (set views id (Single h))
+  pub unmoved : (id : ℕ) (h : PassView) → get_elem? views id ≡ some (Single h)
+      → LogRule Spells KnowsWords sizes words (set views id (Single h))
   unmoved id h here =
       let k = (known id h here).fact_is in
       (stepped words id h h here r.spelled refl refl refl refl k.seen k.part k.own (λ g apart low other. other.own)).0
 
   -- the words change and spell one entry more, of a pass that had seen the whole history
-  pub appended : (words' : List ℕ) (id : ℕ) (h k : PassView) (entry : Entry) → get_elem? views id ≡ some (Single h) → h.known.seen ≡ r.log → IsEntry entry
-      → entry.session ≡ h.known.number → length r.log < sizes.capacity → Spells sizes words' (r.log ++ entry ∷ []) → k.sessions ≡ h.sessions
-      → k.capacity ≡ h.capacity → k.known.number ≡ h.known.number → k.known.seen ≡ h.known.seen ++ entry ∷ [] → k.known.mine ≡ h.known.mine ++ entry ∷ []
+  pub appended : (words' : List ℕ) (id : ℕ) (h k : PassView) (entry : Entry) → get_elem? views id ≡ some (Single h)
+      → h.known.seen ≡ r.log → IsEntry entry
+      → entry.session ≡ h.known.number → length r.log < sizes.capacity → Spells sizes words' (r.log ++ entry ∷ [])
+      → k.sessions ≡ h.sessions
+      → k.capacity ≡ h.capacity → k.known.number ≡ h.known.number → k.known.seen ≡ h.known.seen ++ entry ∷ []
+      → k.known.mine ≡ h.known.mine ++ entry ∷ []
       → KnowsWords words' (r.log ++ entry ∷ []) k
       → ((g : PassView) → g.known.number ≢ h.known.number → 0 < g.known.number → KnowsLog KnowsWords sizes words r.log g
       → KnowsWords words' (r.log ++ entry ∷ []) g)
@@ -153,19 +175,24 @@ module _ {Spells : Sizes → List ℕ → List Entry → Type 0} {KnowsWords : L
           spelled = spelled;
           entries =
               λ place other at.
-              ⊎_elim (λ t. r.entries place other t) (λ t. subst (λ x. IsEntry x × (x.session < r.next)) t.1 (is, omega (arith, own, p.high)))
+              ⊎_elim (λ t. r.entries place other t) (λ t. subst (λ x. IsEntry x × (x.session < r.next)) t.1
+              (is, omega (arith, own, p.high)))
               (get_last r.log entry place other at);
           begun = r.begun;
           within = r.within;
           seats =
-              step_seat (KnowsLog KnowsWords sizes words r.log) (KnowsLog KnowsWords sizes words' log') r.home r.next views id h k r.seats here number
+              step_seat (KnowsLog KnowsWords sizes words r.log)
+              (KnowsLog KnowsWords sizes words' log') r.home r.next views id h k r.seats here number
               (record {
                 sessions = sessions ∙ f.sessions;
                 capacity = capacity ∙ f.capacity;
-                seen = subst (λ list. Begins list log') (sym (seen ∙ ap (λ list. list ++ entry ∷ []) all)) (begins_itself log');
-                mine = ap (λ n. entries_of n log') number ∙ own_last h.known.number r.log entry own ∙ ap (λ list. list ++ entry ∷ []) f.mine ∙ sym mine;
+                seen = subst (λ list. Begins list log') (sym (seen ∙ ap (λ list. list ++ entry ∷ []) all))
+                    (begins_itself log');
+                mine = ap (λ n. entries_of n log') number ∙ own_last h.known.number r.log entry own
+                    ∙ ap (λ list. list ++ entry ∷ []) f.mine ∙ sym mine;
                 part =
-                    ap (λ n. entries_of n k.known.seen) number ∙ ap (entries_of h.known.number) seen ∙ own_last h.known.number h.known.seen entry own
+                    ap (λ n. entries_of n k.known.seen) number ∙ ap (entries_of h.known.number) seen
+                    ∙ own_last h.known.number h.known.seen entry own
                     ∙ ap (λ list. list ++ entry ∷ []) f.part ∙ sym mine;
                 own = knows;
               })
@@ -181,7 +208,8 @@ module _ {Spells : Sizes → List ℕ → List Entry → Type 0} {KnowsWords : L
         refl,
       )
 
-module _ {Spells : Sizes → List ℕ → List Entry → Type 0} {KnowsWords : List ℕ → List Entry → PassView → Type 0} (sizes : Sizes) where
+module _ {Spells : Sizes → List ℕ → List Entry → Type 0} {KnowsWords : List ℕ → List Entry → PassView → Type 0}
+    (sizes : Sizes) where
   -- a load leaves the words
   pub loaded : (words : List ℕ) (word : ℕ) (views : List SeatView) → LogRule Spells KnowsWords sizes words views
       → LogRule Spells KnowsWords sizes (set words word (get_or words word 0)) views
@@ -189,7 +217,8 @@ module _ {Spells : Sizes → List ℕ → List Entry → Type 0} {KnowsWords : L
 
   -- a load, after which the pass is another
   pub load_step : (slots id word : ℕ) (h : PassView) (then : ℕ → PassView → Type 0)
-      → ((words : List ℕ) (views : List SeatView) → LogRule Spells KnowsWords sizes words views → get_elem? views id ≡ some (Single h)
+      → ((words : List ℕ) (views : List SeatView) → LogRule Spells KnowsWords sizes words views
+      → get_elem? views id ≡ some (Single h)
       → (k : PassView) × LogRule Spells KnowsWords sizes words (set views id (Single k)) × then (get_or words word 0) k)
       → Allows (Rules Spells KnowsWords sizes) slots id (seated h) word (λ n. n) (Tells then)
   load_step slots id word h then each state r homes here small =
@@ -198,32 +227,44 @@ module _ {Spells : Sizes → List ℕ → List Entry → Type 0} {KnowsWords : L
 
   -- a store of a word of the draft, which begins at a word
   pub store_step : (slots id at word index new : ℕ) (h : PassView) → word ≡ at + index
-      → ((words : List ℕ) (views : List SeatView) → LogRule Spells KnowsWords sizes words views → get_elem? views id ≡ some (Single h)
+      → ((words : List ℕ) (views : List SeatView) → LogRule Spells KnowsWords sizes words views
+      → get_elem? views id ≡ some (Single h)
       → LogRule Spells KnowsWords sizes (set words (at + index) new) (set views id (Single (drafted h index new))))
-      → Allows (Rules Spells KnowsWords sizes) slots id (seated h) word (λ n. new) (λ n. Tells (λ found k. k ≡ drafted h (word - at) new) new)
+      → Allows (Rules Spells KnowsWords sizes) slots id (seated h) word (λ n. new)
+      (λ n. Tells (λ found k. k ≡ drafted h (word - at) new) new)
   store_step slots id at word index new h is each state r homes here small =
       let back : word - at ≡ index = omega arith in (
         Single (drafted h (word - at) new),
         keeps,
         tt,
-        subst (λ i. LogRule Spells KnowsWords sizes (set state.words word new) (set state.views id (Single (drafted h i new)))) (sym back)
-            (subst (λ w. LogRule Spells KnowsWords sizes (set state.words w new) (set state.views id (Single (drafted h index new)))) (sym is)
+        subst (λ i. LogRule Spells KnowsWords sizes (set state.words word new)
+            (set state.views id (Single (drafted h i new)))) (sym back)
+            (subst (λ w. LogRule Spells KnowsWords sizes (set state.words w new)
+            (set state.views id (Single (drafted h index new)))) (sym is)
             (each state.words state.views r here)),
         (drafted h (word - at) new, refl, refl),
       )
 
-module _ {Spells : Sizes → List ℕ → List Entry → Type 0} {KnowsWords : List ℕ → List Entry → PassView → Type 0} {sizes : Sizes} (newest : PassView → ℕ)
+module _ {Spells : Sizes → List ℕ → List Entry → Type 0} {KnowsWords : List ℕ → List Entry → PassView → Type 0}
+    {sizes : Sizes} (newest : PassView → ℕ)
     (tried : ℕ)
     (one_log : (words : List ℕ) (views views' : List SeatView) (p : LogRule Spells KnowsWords sizes words views)
     (q : LogRule Spells KnowsWords sizes words views') → p.log ≡ q.log)
-    (all_seen : (words : List ℕ) (views : List SeatView) (r : LogRule Spells KnowsWords sizes words views) (h : PassView)
+    (all_seen : (words : List ℕ) (views : List SeatView) (r : LogRule Spells KnowsWords sizes words views)
+    (h : PassView)
     → KnowsLog KnowsWords sizes words r.log h → slice_index words 0 ≡ newest h → h.known.seen ≡ r.log) where
   -- who looks has seen the whole history, which stays
-  pub looked_log : (words words' : List ℕ) (views views' : List SeatView) (r : LogRule Spells KnowsWords sizes words views)
+  pub looked_log : (words words' : List ℕ) (views views' : List SeatView)
+      (r : LogRule Spells KnowsWords sizes words views)
       (after : LogRule Spells KnowsWords sizes words' views') (step : Atomic) (found id : ℕ) (old new : PassView)
       → Does step words found words' → Counts newest tried step found old new → new.known.looks ≢ old.known.looks
       → get_elem? views' id ≡ some (Single new) → (new.known.seen ≡ after.log) × (after.log ≡ r.log)
   looked_log words words' views views' r after step found id old new does counts rose here =
       let look = look_is newest tried step found old new words words' does counts rose in
-      subst (λ ws. (after : LogRule Spells KnowsWords sizes ws views') → (new.known.seen ≡ after.log) × (after.log ≡ r.log)) (sym look.1)
-      (λ after. (all_seen words views' after new (known after id new here).fact_is look.0, one_log words views' views after r)) after
+      subst (λ ws. (after : LogRule Spells KnowsWords sizes ws views')
+      → (new.known.seen ≡ after.log) × (after.log ≡ r.log)) (sym look.1)
+      (λ after. (
+        all_seen words views' after new (known after id new here).fact_is look.0,
+        one_log words views' views
+            after r,
+      )) after

@@ -5,7 +5,8 @@ use native.Mathlib.Decide.{ℕ_discrete}
 use mathlib.Core.Logic.{dite}
 use Rattle.xa_words.specs.Entry.{Entry}
 use Rattle.decision_log.specs.History.{Begins, entries_of}
-use Rattle.decision_log.specs.Machine.{Seen, Machine, Event, Look, Add, Looks, Appends, Happens, Runs, opening_machine, IsState}
+use Rattle.decision_log.specs.Machine.{Seen, Machine, Event, Look, Add, Looks, Appends, Happens, Runs, opening_machine}
+use Rattle.decision_log.specs.Machine.{IsState}
 use Rattle.decision_log.proofs.Histories.{begins_itself, begins_more, own_last, own_other}
 
 pub record Knows (history : List Entry) (session : ℕ) (known : Seen) : Type 0 where
@@ -43,11 +44,14 @@ after_add session entry old new is sound other =
     (rw is.history
     (record {
       begins =
-          subst (λ list. Begins list (old.history ++ entry ∷ [])) (ap (λ list. list ++ entry ∷ []) (sym is.whole) ∙ sym is.seen)
+          subst (λ list. Begins list (old.history ++ entry ∷ []))
+          (ap (λ list. list ++ entry ∷ []) (sym is.whole) ∙ sym is.seen)
           (begins_itself (old.history ++ entry ∷ []));
-      own = own_last session old.history entry is.own ∙ ap (λ list. list ++ entry ∷ []) (sound session).own ∙ sym is.mine;
+      own = own_last session old.history entry is.own ∙ ap (λ list. list ++ entry ∷ []) (sound session).own
+          ∙ sym is.mine;
       part =
-          ap (entries_of session) is.seen ∙ own_last session (old.knows session).seen entry is.own ∙ ap (λ list. list ++ entry ∷ []) (sound session).part
+          ap (entries_of session) is.seen ∙ own_last session (old.knows session).seen entry is.own
+          ∙ ap (λ list. list ++ entry ∷ []) (sound session).part
           ∙ sym is.mine;
     })))
     (λ n.
@@ -65,7 +69,8 @@ after_event (Add session entry) old new is sound = after_add session entry old n
 
 after_events : (events : List Event) (old new : Machine) → Runs events old new → Sound old → Sound new
 after_events [] old new is sound = subst Sound (sym is) sound
-after_events (event ∷ events) old new is sound = after_events events is.0 new is.2 (after_event event old is.0 is.1 sound)
+after_events (event ∷ events) old new is sound =
+    after_events events is.0 new is.2 (after_event event old is.0 is.1 sound)
 
 at_start : (capacity : ℕ) → Sound (opening_machine capacity)
 at_start capacity session = record { begins = refl; own = refl; part = refl }
@@ -83,14 +88,17 @@ room_after (Add session entry) old new is fits =
 
 room_after_all : (events : List Event) (old new : Machine) → Runs events old new → Fits old → Fits new
 room_after_all [] old new is fits = subst Fits (sym is) fits
-room_after_all (event ∷ events) old new is fits = room_after_all events is.0 new is.2 (room_after event old is.0 is.1 fits)
+room_after_all (event ∷ events) old new is fits =
+    room_after_all events is.0 new is.2 (room_after event old is.0 is.1 fits)
 
-pub runs_end_in_states : (capacity : ℕ) (events : List Event) (machine : Machine) → Runs events (opening_machine capacity) machine → IsState machine
+pub runs_end_in_states : (capacity : ℕ) (events : List Event) (machine : Machine)
+    → Runs events (opening_machine capacity) machine → IsState machine
 unfolding Fits
 runs_end_in_states capacity events machine is =
     state_of machine (room_after_all events (opening_machine capacity) machine is (omega arith))
     (after_events events (opening_machine capacity) machine is (at_start capacity))
 
-pub mine_is_own : (capacity : ℕ) (events : List Event) (machine : Machine) → Runs events (opening_machine capacity) machine → (session : ℕ)
+pub mine_is_own : (capacity : ℕ) (events : List Event) (machine : Machine)
+    → Runs events (opening_machine capacity) machine → (session : ℕ)
     → entries_of session (machine.knows session).seen ≡ (machine.knows session).mine
 mine_is_own capacity events machine is = (runs_end_in_states capacity events machine is).part

@@ -1,5 +1,7 @@
--- Each state of the machine is reached: the entries are added in their order, and after each add those look who have still more to see.
-use Rattle.std.proofs.Common.{◌≡◌, ◌≢◌, ℕ, zero, suc, ◌<◌, ◌≤◌, Bool, true, false, cond, nat_eq, List, [], ◌∷◌, ◌++◌, length, take, drop, refl, ap, sym, ◌∙◌}
+-- Each state of the machine is reached: the entries are added in their order, and after each add those look who have
+-- still more to see.
+use Rattle.std.proofs.Common.{◌≡◌, ◌≢◌, ℕ, zero, suc, ◌<◌, ◌≤◌, Bool, true, false, cond, nat_eq, List, [], ◌∷◌, ◌++◌}
+use Rattle.std.proofs.Common.{length, take, drop, refl, ap, sym, ◌∙◌}
 use Rattle.std.proofs.Common.{subst, Some, arith, eq-eqb, ne_eqb}
 use Rattle.std.specs.Prelude.{slice_get}
 use Rattle.std.proofs.lemmas.List.{take_all, length-take, length-take-le, take-append-le}
@@ -10,7 +12,8 @@ use Rattle.decision_log.specs.History.{Begins, entries_of}
 use Rattle.decision_log.specs.Known.{AllOf}
 use Rattle.decision_log.specs.Machine.{Machine, Event, Look, Add, Looks, Appends, Runs, opening_machine, IsState}
 use Rattle.decision_log.specs.Reached.{EventsOf, IsReached}
-use Rattle.decision_log.proofs.Histories.{behind, length_begins, own_last, own_other, take_next, entry_at, entry_is, later_other}
+use Rattle.decision_log.proofs.Histories.{behind, length_begins, own_last, own_other, take_next, entry_at, entry_is}
+use Rattle.decision_log.proofs.Histories.{later_other}
 
 -- events one after another
 
@@ -18,7 +21,8 @@ runs_append : (xs ys : List Event) (a b c : Machine) → Runs xs a b → Runs ys
 runs_append [] ys a b c p q = subst (λ m. Runs ys m c) p q
 runs_append (x ∷ xs) ys a b c p q = (p.0, p.1, runs_append xs ys p.0 b c p.2 q)
 
-events_append : (sessions : ℕ) (xs ys : List Event) → EventsOf sessions xs → EventsOf sessions ys → EventsOf sessions (xs ++ ys)
+events_append : (sessions : ℕ) (xs ys : List Event) → EventsOf sessions xs → EventsOf sessions ys
+    → EventsOf sessions (xs ++ ys)
 events_append sessions [] ys p q = q
 events_append sessions (x ∷ xs) ys p q = (p.0, p.1, events_append sessions xs ys p.2 q)
 
@@ -44,10 +48,13 @@ abbrev after_add : ℕ → Entry → Machine → Machine
 after_add session entry old = record {
   history = old.history ++ entry ∷ [];
   capacity = old.capacity;
-  knows = λ n. cond (nat_eq n session) (record { seen = (old.knows session).seen ++ entry ∷ []; mine = (old.knows session).mine ++ entry ∷ [] }) (old.knows n);
+  knows = λ n. cond (nat_eq n session)
+      (record { seen = (old.knows session).seen ++ entry ∷ []; mine = (old.knows session).mine ++ entry ∷ [] })
+      (old.knows n);
 }
 
-add_happens : (session : ℕ) (entry : Entry) (old : Machine) → entry.session ≡ session → (old.knows session).seen ≡ old.history
+add_happens : (session : ℕ) (entry : Entry) (old : Machine) → entry.session ≡ session
+    → (old.knows session).seen ≡ old.history
     → length old.history < old.capacity
     → Appends session entry old (after_add session entry old)
 add_happens session entry old own whole room = record {
@@ -67,7 +74,8 @@ record LookedTo (due : ℕ → Bool) (last : ℕ) (old new : Machine) : Type 0 w
   pub history : new.history ≡ old.history
   pub capacity : new.capacity ≡ old.capacity
   pub mine : (session : ℕ) → (new.knows session).mine ≡ (old.knows session).mine
-  pub seen : (session : ℕ) → 1 ≤ session → session ≤ last → (new.knows session).seen ≡ cond (due session) old.history (old.knows session).seen
+  pub seen : (session : ℕ) → 1 ≤ session → session ≤ last
+      → (new.knows session).seen ≡ cond (due session) old.history (old.knows session).seen
   pub above : (session : ℕ) → last < session → (new.knows session).seen ≡ (old.knows session).seen
 
 record Round (sessions : ℕ) (due : ℕ → Bool) (last : ℕ) (old : Machine) : Type 0 where
@@ -77,7 +85,8 @@ record Round (sessions : ℕ) (due : ℕ → Bool) (last : ℕ) (old : Machine) 
   pub runs : Runs events old new
   pub looked : LookedTo due last old new
 
-one_more : (sessions : ℕ) (due : ℕ → Bool) (last : ℕ) (old : Machine) → suc last ≤ sessions → Round sessions due last old → (now : Bool) → due (suc last) ≡ now
+one_more : (sessions : ℕ) (due : ℕ → Bool) (last : ℕ) (old : Machine) → suc last ≤ sessions
+    → Round sessions due last old → (now : Bool) → due (suc last) ≡ now
     → Round sessions due (suc last) old
 one_more sessions due last old within r false is = record {
   events = r.events;
@@ -91,7 +100,8 @@ one_more sessions due last old within r false is = record {
     seen =
         λ session low high.
         dite (ℕ_discrete session (suc last))
-        (λ e. subst (λ n. (r.new.knows n).seen ≡ cond (due n) old.history (old.knows n).seen) (sym e) (rw is (r.looked.above (suc last) (omega arith))))
+        (λ e. subst (λ n. (r.new.knows n).seen ≡ cond (due n) old.history (old.knows n).seen) (sym e)
+        (rw is (r.looked.above (suc last) (omega arith))))
         (λ n. r.looked.seen session low (omega arith));
     above = λ session high. r.looked.above session (omega arith);
   };
@@ -101,22 +111,26 @@ one_more sessions due last old within r true is =
       events = r.events ++ Look (suc last) ∷ [];
       own = events_append sessions r.events (Look (suc last) ∷ []) r.own (omega arith, within, tt);
       new = after_look (suc last) r.new;
-      runs = runs_append r.events (Look (suc last) ∷ []) old r.new (after_look (suc last) r.new) r.runs (after_look (suc last) r.new, look, refl);
+      runs = runs_append r.events (Look (suc last) ∷ []) old r.new (after_look (suc last) r.new) r.runs
+          (after_look (suc last) r.new, look, refl);
       looked = record {
         history = r.looked.history;
         capacity = r.looked.capacity;
         mine =
             λ session.
             dite (ℕ_discrete session (suc last))
-            (λ e. subst (λ n. ((after_look (suc last) r.new).knows n).mine ≡ (old.knows n).mine) (sym e) (look.mine ∙ r.looked.mine (suc last)))
+            (λ e. subst (λ n. ((after_look (suc last) r.new).knows n).mine ≡ (old.knows n).mine) (sym e)
+            (look.mine ∙ r.looked.mine (suc last)))
             (λ n. ap (λ known. known.mine) (look.others session n) ∙ r.looked.mine session);
         seen =
             λ session low high.
             dite (ℕ_discrete session (suc last))
-            (λ e. subst (λ n. ((after_look (suc last) r.new).knows n).seen ≡ cond (due n) old.history (old.knows n).seen) (sym e)
+            (λ e. subst (λ n. ((after_look (suc last) r.new).knows n).seen
+            ≡ cond (due n) old.history (old.knows n).seen) (sym e)
             (look.seen ∙ r.looked.history ∙ rw is refl))
             (λ n. ap (λ known. known.seen) (look.others session n) ∙ r.looked.seen session low (omega arith));
-        above = λ session high. ap (λ known. known.seen) (look.others session (λ e. omega arith)) ∙ r.looked.above session (omega arith);
+        above = λ session high. ap (λ known. known.seen) (look.others session (λ e. omega arith))
+            ∙ r.looked.above session (omega arith);
       };
     }
 
@@ -126,21 +140,32 @@ look_round sessions due old zero within = record {
   own = tt;
   new = old;
   runs = refl;
-  looked = record { history = refl; capacity = refl; mine = λ session. refl; seen = λ session low high. absurd (omega arith); above = λ session high. refl };
+  looked = record {
+    history = refl;
+    capacity = refl;
+    mine = λ session. refl;
+    seen = λ session low high. absurd
+        (omega arith);
+    above = λ session high. refl;
+  };
 }
-look_round sessions due old (suc last) within = one_more sessions due last old within (look_round sessions due old last (omega arith)) (due (suc last)) refl
+look_round sessions due old (suc last) within =
+    one_more sessions due last old within (look_round sessions due old last (omega arith)) (due (suc last)) refl
 
 -- as many entries of a prefix as it has
 take_begins : (n : ℕ) (xs ys : List Entry) → Begins xs ys → n ≤ length xs → take n xs ≡ take n ys
-take_begins n xs ys begins short = sym (take-append-le n xs (drop (length xs) ys) short) ∙ ap (take n) (behind xs ys begins)
+take_begins n xs ys begins short =
+    sym (take-append-le n xs (drop (length xs) ys) short) ∙ ap (take n) (behind xs ys begins)
 
 module _ (sessions : ℕ) (target : Machine) (is : IsState target) (all : AllOf sessions target.history) where
   -- the first entries are added, and of them each session has seen what it has seen of all
   record At (count : ℕ) (machine : Machine) : Type 0 where
     pub history : machine.history ≡ take count target.history
     pub capacity : machine.capacity ≡ target.capacity
-    pub seen : (session : ℕ) → 1 ≤ session → session ≤ sessions → (machine.knows session).seen ≡ take count (target.knows session).seen
-    pub mine : (session : ℕ) → 1 ≤ session → session ≤ sessions → (machine.knows session).mine ≡ entries_of session (take count target.history)
+    pub seen : (session : ℕ) → 1 ≤ session → session ≤ sessions
+        → (machine.knows session).seen ≡ take count (target.knows session).seen
+    pub mine : (session : ℕ) → 1 ≤ session → session ≤ sessions
+        → (machine.knows session).mine ≡ entries_of session (take count target.history)
 
   record Reached (count : ℕ) : Type 0 where
     pub events : List Event
@@ -150,11 +175,13 @@ module _ (sessions : ℕ) (target : Machine) (is : IsState target) (all : AllOf 
     pub at : At count machine
 
   -- who adds the next entry has seen it
-  has_seen : (count : ℕ) (entry : Entry) → slice_get target.history count ≡ Some entry → count < length (target.knows entry.session).seen
+  has_seen : (count : ℕ) (entry : Entry) → slice_get target.history count ≡ Some entry
+      → count < length (target.knows entry.session).seen
   has_seen count entry here =
       let known = target.knows entry.session in
       dite (dec_le (length known.seen) count)
-      (λ long. absurd (later_other entry.session known.seen target.history known.mine count entry (is.seen entry.session) (is.mine entry.session)
+      (λ long. absurd (later_other entry.session known.seen target.history known.mine count entry
+      (is.seen entry.session) (is.mine entry.session)
       (is.part entry.session) long here refl))
       (λ short. omega arith)
 
@@ -162,32 +189,39 @@ module _ (sessions : ℕ) (target : Machine) (is : IsState target) (all : AllOf 
   abbrev due_at : ℕ → ℕ → Bool
   due_at count session = nat_eq (length (take (suc count) (target.knows session).seen)) (suc count)
 
-  full : (count session : ℕ) → count < length (target.knows session).seen → length (take (suc count) (target.knows session).seen) ≡ suc count
+  full : (count session : ℕ) → count < length (target.knows session).seen
+      → length (take (suc count) (target.knows session).seen) ≡ suc count
   full count session more = length-take-le (suc count) (target.knows session).seen more
 
-  seen_where_due : (count session : ℕ) (old : Machine) → old.history ≡ take (suc count) target.history → (known : List Entry)
+  seen_where_due : (count session : ℕ) (old : Machine) → old.history ≡ take (suc count) target.history
+      → (known : List Entry)
       → (length (target.knows session).seen ≤ count → known ≡ take count (target.knows session).seen)
       → cond (due_at count session) old.history known ≡ take (suc count) (target.knows session).seen
   seen_where_due count session old history known stays =
       let seen = (target.knows session).seen in
       dite (dec_le (length seen) count)
       (λ short.
-      let fewer : length (take (suc count) seen) ≢ suc count = λ e. omega (arith, length-take (suc count) seen, short, e) in
-      rw (ne_eqb (length (take (suc count) seen)) (suc count) fewer) (stays short ∙ take_all count seen short ∙ sym (take_all (suc count) seen (omega arith))))
+      let fewer : length (take (suc count) seen) ≢ suc count =
+      λ e. omega (arith, length-take (suc count) seen, short, e) in
+      rw (ne_eqb (length (take (suc count) seen)) (suc count) fewer)
+      (stays short ∙ take_all count seen short ∙ sym (take_all (suc count) seen (omega arith))))
       (λ longer.
       let more : count < length seen = omega arith in
       rw (eq-eqb (length (take (suc count) seen)) (suc count) (full count session more))
       (history ∙ sym (take_begins (suc count) seen target.history (is.seen session) more)))
 
   -- the next entry is added, and those look who have seen it
-  next : (count : ℕ) (entry : Entry) → slice_get target.history count ≡ Some entry → 1 ≤ entry.session → entry.session ≤ sessions
+  next : (count : ℕ) (entry : Entry) → slice_get target.history count ≡ Some entry → 1 ≤ entry.session
+      → entry.session ≤ sessions
       → suc count ≤ length target.history → Reached count → Reached (suc count)
   next count entry here low high within r =
       let who = entry.session in
       let more = has_seen count entry here in
       let whole : (r.machine.knows who).seen ≡ r.machine.history =
-      r.at.seen who low high ∙ take_begins count (target.knows who).seen target.history (is.seen who) (omega (arith, more)) ∙ sym r.at.history in
-      let size : length r.machine.history ≡ count = ap length r.at.history ∙ length-take-le count target.history (omega (arith, within)) in
+      r.at.seen who low high ∙ take_begins count (target.knows who).seen target.history (is.seen who)
+      (omega (arith, more)) ∙ sym r.at.history in
+      let size : length r.machine.history ≡ count = ap length r.at.history
+      ∙ length-take-le count target.history (omega (arith, within)) in
       let add = add_happens who entry r.machine refl whole (omega (arith, size, r.at.capacity, is.room, within)) in
       let added = after_add who entry r.machine in
       let history : added.history ≡ take (suc count) target.history =
@@ -196,7 +230,8 @@ module _ (sessions : ℕ) (target : Machine) (is : IsState target) (all : AllOf 
         events = r.events ++ Add who entry ∷ round.events;
         own = events_append sessions r.events (Add who entry ∷ round.events) r.own (low, high, round.own);
         machine = round.new;
-        runs = runs_append r.events (Add who entry ∷ round.events) (opening_machine target.capacity) r.machine round.new r.runs (added, add, round.runs);
+        runs = runs_append r.events (Add who entry ∷ round.events)
+            (opening_machine target.capacity) r.machine round.new r.runs (added, add, round.runs);
         at = record {
           history = round.looked.history ∙ history;
           capacity = round.looked.capacity ∙ r.at.capacity;
@@ -204,14 +239,16 @@ module _ (sessions : ℕ) (target : Machine) (is : IsState target) (all : AllOf 
               λ session first last.
               round.looked.seen session first last
               ∙ seen_where_due count session added history (added.knows session).seen
-              (λ short. ap (λ known. known.seen) (add.others session (λ e. omega (arith, more, short, ap (λ n. length (target.knows n).seen) e)))
+              (λ short. ap (λ known. known.seen) (add.others session
+              (λ e. omega (arith, more, short, ap (λ n. length (target.knows n).seen) e)))
               ∙ r.at.seen session first last);
           mine =
               λ session first last.
               round.looked.mine session
               ∙ dite (ℕ_discrete session who)
               (λ e. subst (λ n. (added.knows n).mine ≡ entries_of n (take (suc count) target.history)) (sym e)
-              (add.mine ∙ ap (λ list. list ++ entry ∷ []) (r.at.mine who low high) ∙ sym (own_last who (take count target.history) entry refl)
+              (add.mine ∙ ap (λ list. list ++ entry ∷ []) (r.at.mine who low high)
+              ∙ sym (own_last who (take count target.history) entry refl)
               ∙ ap (entries_of who) (sym (take_next target.history count entry here))))
               (λ n. ap (λ known. known.mine) (add.others session n) ∙ r.at.mine session first last
               ∙ sym (own_other session (take count target.history) entry (λ e. n (sym e)))
@@ -222,7 +259,8 @@ module _ (sessions : ℕ) (target : Machine) (is : IsState target) (all : AllOf 
   of_log : (count : ℕ) (entry : Entry) → count < length target.history → slice_get target.history count ≡ Some entry
       → (1 ≤ entry.session) × (entry.session ≤ sessions)
   of_log count entry within here =
-      subst (λ e. (1 ≤ e.session) × (e.session ≤ sessions)) (entry_is target.history count entry here) (all count entry within)
+      subst (λ e. (1 ≤ e.session) × (e.session ≤ sessions)) (entry_is target.history count entry here)
+      (all count entry within)
 
   reach : (count : ℕ) → count ≤ length target.history → Reached count
   reach zero within = record {
@@ -230,7 +268,13 @@ module _ (sessions : ℕ) (target : Machine) (is : IsState target) (all : AllOf 
     own = tt;
     machine = opening_machine target.capacity;
     runs = refl;
-    at = record { history = refl; capacity = refl; seen = λ session first last. refl; mine = λ session first last. refl };
+    at = record {
+      history = refl;
+      capacity = refl;
+      seen = λ session first last. refl;
+      mine = λ session first last.
+          refl;
+    };
   }
   reach (suc count) within =
       let e = entry_at target.history count (omega (arith, within)) in
@@ -240,7 +284,8 @@ module _ (sessions : ℕ) (target : Machine) (is : IsState target) (all : AllOf 
   pub reached : IsReached sessions target
   reached =
       let r = reach (length target.history) (omega arith) in
-      let all_of : take (length target.history) target.history ≡ target.history = take_all (length target.history) target.history (omega arith) in record {
+      let all_of : take (length target.history) target.history ≡ target.history =
+      take_all (length target.history) target.history (omega arith) in record {
         events = r.events;
         own = r.own;
         reached = r.machine;
@@ -250,6 +295,7 @@ module _ (sessions : ℕ) (target : Machine) (is : IsState target) (all : AllOf 
         seen =
             λ session first last.
             r.at.seen session first last
-            ∙ take_all (length target.history) (target.knows session).seen (length_begins (target.knows session).seen target.history (is.seen session));
+            ∙ take_all (length target.history) (target.knows session).seen
+            (length_begins (target.knows session).seen target.history (is.seen session));
         mine = λ session first last. r.at.mine session first last ∙ ap (entries_of session) all_of ∙ is.mine session;
       }

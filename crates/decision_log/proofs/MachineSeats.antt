@@ -28,9 +28,11 @@ module _ (log : List Entry) where
 
   known_at : ℕ → SeatView → Seen
   known_at session Empty = absent session
-  known_at session (Single pass_view) = cond (nat_eq pass_view.known.number session) (seen_by pass_view) (absent session)
+  known_at session (Single pass_view) =
+      cond (nat_eq pass_view.known.number session) (seen_by pass_view) (absent session)
   known_at session (Pair first second) =
-      cond (nat_eq first.known.number session) (seen_by first) (cond (nat_eq second.known.number session) (seen_by second) (absent session))
+      cond (nat_eq first.known.number session) (seen_by first)
+      (cond (nat_eq second.known.number session) (seen_by second) (absent session))
   known_at session (Unissued pass_view) = absent session
 
   known_in : ℕ → Option SeatView → Seen
@@ -48,23 +50,29 @@ module _ (log : List Entry) where
         → Knows log session (cond (nat_eq pass_view.known.number session) (seen_by pass_view) other)
     chosen pass_view session other fact else_known =
         dite (ℕ_discrete pass_view.known.number session)
-        (λ is. rw (eq-eqb pass_view.known.number session is) (subst (λ n. Knows log n (seen_by pass_view)) is (facts pass_view fact)))
+        (λ is. rw (eq-eqb pass_view.known.number session is)
+        (subst (λ n. Knows log n (seen_by pass_view)) is (facts pass_view fact)))
         (λ isnt. rw (ne_eqb pass_view.known.number session isnt) else_known)
 
-    known_knows : (id session : ℕ) (view : SeatView) → Fits F home next id view → Knows log session (known_at session view)
+    known_knows : (id session : ℕ) (view : SeatView) → Fits F home next id view
+        → Knows log session (known_at session view)
     unfolding known_at
     known_knows id session Empty fits = absent_knows session
-    known_knows id session (Single pass_view) fits = chosen pass_view session (absent session) fits.fact_is (absent_knows session)
+    known_knows id session (Single pass_view) fits =
+        chosen pass_view session (absent session) fits.fact_is (absent_knows session)
     known_knows id session (Pair first second) fits =
-        chosen first session (cond (nat_eq second.known.number session) (seen_by second) (absent session)) fits.0.fact_is
+        chosen first session (cond (nat_eq second.known.number session) (seen_by second)
+        (absent session)) fits.0.fact_is
         (chosen second session (absent session) fits.1.fact_is (absent_knows session))
     known_knows id session (Unissued pass_view) fits = absent_knows session
 
     module _ (capacity : ℕ) (views : List SeatView) (seats : Seats F home next views) where
       machine : Machine
-      machine = record { history = log; capacity = capacity; knows = λ session. known_in session (get_elem? views (home session)) }
+      machine = record
+          { history = log; capacity = capacity; knows = λ session. known_in session (get_elem? views (home session)) }
 
-      sound_at : (session : ℕ) (view : Option SeatView) → get_elem? views (home session) ≡ view → Knows log session (known_in session view)
+      sound_at : (session : ℕ) (view : Option SeatView) → get_elem? views (home session) ≡ view
+          → Knows log session (known_in session view)
       unfolding known_in
       sound_at session none is = absent_knows session
       sound_at session (some view) is = known_knows (home session) session view (seats (home session) view is)
@@ -74,27 +82,44 @@ module _ (log : List Entry) where
       sound session = sound_at session (get_elem? views (home session)) refl
 
       -- at the seat of its number a pass is found
-      found : (pass_view : PassView) (id : ℕ) (view : SeatView) → home pass_view.known.number ≡ id → get_elem? views id ≡ some view
+      found : (pass_view : PassView) (id : ℕ) (view : SeatView) → home pass_view.known.number ≡ id
+          → get_elem? views id ≡ some view
           → known_at pass_view.known.number view ≡ seen_by pass_view → KnownTo machine pass_view
       unfolding machine known_in
-      found pass_view id view at here same = ap (λ v. known_in pass_view.known.number v) (ap (get_elem? views) at ∙ here) ∙ same
+      found pass_view id view at here same =
+          ap (λ v. known_in pass_view.known.number v) (ap (get_elem? views) at ∙ here) ∙ same
 
       passes : (id : ℕ) (view : SeatView) → get_elem? views id ≡ some view → SeatKnownTo machine view
       unfolding known_at
       passes id Empty here = tt
       passes id (Single pass_view) here =
           let p = seats id (Single pass_view) here in
-          found pass_view id (Single pass_view) p.home_is here (rw (eq-eqb pass_view.known.number pass_view.known.number refl) refl)
+          found pass_view id (Single pass_view) p.home_is here
+          (rw (eq-eqb pass_view.known.number pass_view.known.number refl) refl)
       passes id (Pair first second) here =
           let p = seats id (Pair first second) here in (
-            found first id (Pair first second) p.0.home_is here (rw (eq-eqb first.known.number first.known.number refl) refl),
+            found first id (Pair first second) p.0.home_is here
+                (rw (eq-eqb first.known.number first.known.number refl) refl),
             found second id (Pair first second) p.1.home_is here
-                (rw (ne_eqb first.known.number second.known.number p.2, eq-eqb second.known.number second.known.number refl) refl),
+                (rw (
+                  ne_eqb first.known.number second.known.number p.2,
+                  eq-eqb second.known.number second.known.number
+                      refl,
+                ) refl),
           )
       passes id (Unissued pass_view) here = tt
 
-      pub has_passes : (sessions : ℕ) → length log ≤ capacity → AllOf sessions log → (m : Machine) × HasPasses sessions capacity log views m
+      pub has_passes : (sessions : ℕ) → length log ≤ capacity → AllOf sessions log
+          → (m : Machine) × HasPasses sessions capacity log views m
       unfolding machine
       has_passes sessions room all =
-          let state = state_of machine room sound in
-          (machine, record { state = state; reached = reached sessions machine state all; capacity_is = refl; history = refl; passes = passes })
+          let state = state_of machine room sound in (
+            machine,
+            record {
+              state = state;
+              reached = reached sessions machine state all;
+              capacity_is = refl;
+              history = refl;
+              passes = passes;
+            },
+          )

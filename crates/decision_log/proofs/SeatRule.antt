@@ -1,8 +1,10 @@
--- The rule of a log is kept where seats are split and joined, where a pass is issued and where passes meet, and words of zeros keep it: once, for every log.
+-- The rule of a log is kept where seats are split and joined, where a pass is issued and where passes meet, and words
+-- of zeros keep it: once, for every log.
 --     HasWords        what a log has to show of its own words
 --     seats_kept      seats may then be split and joined, and passes meet
 --     opens_seats     and the log can begin
-use Rattle.std.proofs.Common.{◌≡◌, ℕ, zero, suc, ◌+◌, ◌<◌, ◌≤◌, List, [], ◌∷◌, ◌++◌, length, set, refl, sym, subst, Some, None, arith}
+use Rattle.std.proofs.Common.{◌≡◌, ℕ, zero, suc, ◌+◌, ◌<◌, ◌≤◌, List, [], ◌∷◌, ◌++◌, length, set, refl, sym, subst}
+use Rattle.std.proofs.Common.{Some, None, arith}
 use Rattle.std.specs.Prelude.{slice_index}
 use mathlib.Core.Option.{some, some-injective, some-ne-none}
 use mathlib.Core.Logic.{dite}
@@ -22,20 +24,27 @@ use Rattle.decision_log.specs.Observed.{met}
 use Rattle.decision_log.specs.Atomic.{Meets}
 use Rattle.decision_log.specs.AtTable.{KeepsSeats, OpensSeats}
 use Rattle.decision_log.specs.LogRule.{KnowsLog, LogRule}
-use Rattle.decision_log.proofs.Histories.{begins_itself, begins_nothing, begins_between, own_between, own_none, length_begins}
+use Rattle.decision_log.proofs.Histories.{begins_itself, begins_nothing, begins_between, own_between, own_none}
+use Rattle.decision_log.proofs.Histories.{length_begins}
 use Rattle.decision_log.proofs.SeatLemmas.{step_two, join_seats, split_two, split_one, deal_seat, moved}
 use Rattle.decision_log.proofs.LogRules.{Rules, reseated, among}
 
--- a pass with no draft and no turn knows nothing of the words; and what word 0 is where a pass has seen the whole history
-pub record HasWords (Spells : Sizes → List ℕ → List Entry → Type 0) (KnowsWords : List ℕ → List Entry → PassView → Type 0)
+-- a pass with no draft and no turn knows nothing of the words; and what word 0 is where a pass has seen the whole
+-- history
+pub record HasWords (Spells : Sizes → List ℕ → List Entry → Type 0)
+    (KnowsWords : List ℕ → List Entry → PassView → Type 0)
     (newest : PassView → ℕ) : Type 0 where
-  pub idle : (words : List ℕ) (log : List Entry) (pass_view : PassView) → pass_view.draft ≡ [] → pass_view.turn ≡ Without → KnowsWords words log pass_view
-  pub newest_is : (sizes : Sizes) (words : List ℕ) (log : List Entry) (pass_view : PassView) → Spells sizes words log → pass_view.sessions ≡ sizes.sessions
+  pub idle : (words : List ℕ) (log : List Entry) (pass_view : PassView) → pass_view.draft ≡ []
+      → pass_view.turn ≡ Without → KnowsWords words log pass_view
+  pub newest_is : (sizes : Sizes) (words : List ℕ) (log : List Entry) (pass_view : PassView) → Spells sizes words log
+      → pass_view.sessions ≡ sizes.sessions
       → slice_index words 0 ≡ newest (met pass_view log)
 
-module _ {Spells : Sizes → List ℕ → List Entry → Type 0} {KnowsWords : List ℕ → List Entry → PassView → Type 0} {newest : PassView → ℕ}
+module _ {Spells : Sizes → List ℕ → List Entry → Type 0} {KnowsWords : List ℕ → List Entry → PassView → Type 0}
+    {newest : PassView → ℕ}
     (has : HasWords Spells KnowsWords newest) where
-  module _ {sizes : Sizes} {words : List ℕ} {views : List SeatView} (r : LogRule Spells KnowsWords sizes words views) where
+  module _ {sizes : Sizes} {words : List ℕ} {views : List SeatView}
+      (r : LogRule Spells KnowsWords sizes words views) where
     abbrev Rule : List SeatView → Type 0
     Rule views' = LogRule Spells KnowsWords sizes words views'
 
@@ -46,10 +55,13 @@ module _ {Spells : Sizes → List ℕ → List Entry → Type 0} {KnowsWords : L
     rehoused : (home : ℕ → ℕ) (views' : List SeatView) → Seats Known home r.next views' → Rule views'
     rehoused home views' seats = reseated r home r.next views' (omega arith) r.within seats
 
-    split_empty : (id : ℕ) (g : PassView) → get_elem? views id ≡ some (Single g) → Rule (set views id (Single g) ++ Empty ∷ [])
-    split_empty id g here = rehoused r.home (set views id (Single g) ++ Empty ∷ []) (split_one Known r.home r.next views id g r.seats here)
+    split_empty : (id : ℕ) (g : PassView) → get_elem? views id ≡ some (Single g)
+        → Rule (set views id (Single g) ++ Empty ∷ [])
+    split_empty id g here =
+        rehoused r.home (set views id (Single g) ++ Empty ∷ []) (split_one Known r.home r.next views id g r.seats here)
 
-    split : (id : ℕ) (g h : PassView) → get_elem? views id ≡ some (Pair g h) → Rule (set views id (Single g) ++ Single h ∷ [])
+    split : (id : ℕ) (g h : PassView) → get_elem? views id ≡ some (Pair g h)
+        → Rule (set views id (Single g) ++ Single h ∷ [])
     split id g h here =
         rehoused (moved r.home h.known.number (length views)) (set views id (Single g) ++ Single h ∷ [])
         (split_two Known r.home r.next views id g h r.seats here)
@@ -67,7 +79,8 @@ module _ {Spells : Sizes → List ℕ → List Entry → Type 0} {KnowsWords : L
       sessions = k.sessions;
       capacity = k.capacity;
       seen = begins_nothing r.log;
-      mine = own_none (h.known.number + 1) r.log (λ place entry is. let e = (r.entries place entry is).1 in λ same. omega arith);
+      mine = own_none (h.known.number + 1) r.log (λ place entry is. let e = (r.entries place entry is).1 in
+          λ same. omega arith);
       part = refl;
       own = has.idle words r.log (following h) refl refl;
     }
@@ -78,11 +91,13 @@ module _ {Spells : Sizes → List ℕ → List Entry → Type 0} {KnowsWords : L
         let p = r.seats id (Unissued h) here in
         let number = p.1 in
         let sessions = p.2.sessions in
-        reseated r (moved r.home h.known.number (length views)) (r.next + 1) (set views id (Unissued (following h)) ++ Single h ∷ []) (omega arith)
+        reseated r (moved r.home h.known.number (length views)) (r.next + 1)
+        (set views id (Unissued (following h)) ++ Single h ∷ []) (omega arith)
         (omega (arith, number, sessions, low))
         (deal_seat Known r.home r.next views id h r.begun r.seats here (issued h p.2 number))
 
-    meet_keeps : (id : ℕ) (g h : PassView) (seen : List Entry) → get_elem? views id ≡ some (Pair g h) → Begins seen r.log
+    meet_keeps : (id : ℕ) (g h : PassView) (seen : List Entry) → get_elem? views id ≡ some (Pair g h)
+        → Begins seen r.log
         → entries_of h.known.number seen ≡ h.known.mine → Rule (set views id (Pair g (met h seen)))
     meet_keeps id g h seen here begins part =
         let p = r.seats id (Pair g h) here in
@@ -100,14 +115,16 @@ module _ {Spells : Sizes → List ℕ → List Entry → Type 0} {KnowsWords : L
 
     -- where the second pass has seen as much as the first it stays, and else it sees all
     meet : (id : ℕ) (g h : PassView) → get_elem? views id ≡ some (Pair g h)
-        → (seen : List Entry) × Rule (set views id (Pair g (met h seen))) × Meets newest g h (slice_index words 0) (seated_two g (met h seen))
+        → (seen : List Entry) × Rule (set views id (Pair g (met h seen)))
+        × Meets newest g h (slice_index words 0) (seated_two g (met h seen))
     meet id g h here =
         let p = r.seats id (Pair g h) here in
         let kg = p.0.fact_is in
         let kh = p.1.fact_is in
         dite (dec_le (length g.known.seen) (length h.known.seen))
         (λ short.
-        let begins : Begins g.known.seen h.known.seen = begins_between g.known.seen h.known.seen r.log kg.seen kh.seen short in (
+        let begins : Begins g.known.seen h.known.seen = begins_between g.known.seen h.known.seen r.log kg.seen kh.seen
+        short in (
           h.known.seen,
           meet_keeps id g h h.known.seen here kh.seen kh.part,
           (
@@ -117,7 +134,8 @@ module _ {Spells : Sizes → List ℕ → List Entry → Type 0} {KnowsWords : L
             record {
               begins = begins_itself h.known.seen;
               whole = begins;
-              of_first = own_between g.known.number g.known.seen h.known.seen r.log g.known.mine begins kh.seen kg.part kg.mine;
+              of_first = own_between g.known.number g.known.seen h.known.seen r.log g.known.mine begins kh.seen kg.part
+                  kg.mine;
               stays = λ s. refl;
               room = omega (arith, length_begins h.known.seen r.log kh.seen, r.room, kh.capacity);
               all = among r h h.known.seen kh.sessions kh.seen;
@@ -152,7 +170,8 @@ module _ {Spells : Sizes → List ℕ → List Entry → Type 0} {KnowsWords : L
         Pair g (met h m.0),
         keeps,
         tt,
-        subst (λ words. LogRule Spells KnowsWords sizes words (set state.views id (Pair g (met h m.0)))) (sym (set-get_or state.words 0 0)) m.1,
+        subst (λ words. LogRule Spells KnowsWords sizes words (set state.views id (Pair g (met h m.0))))
+            (sym (set-get_or state.words 0 0)) m.1,
         m.2,
       )
 
@@ -185,7 +204,8 @@ module _ {Spells : Sizes → List ℕ → List Entry → Type 0} {KnowsWords : L
 
       first : Seats (KnowsLog KnowsWords sizes words []) (λ n. 0) 1 (all_passes sizes ∷ [])
       first zero view is =
-          subst (λ v. Fits (KnowsLog KnowsWords sizes words []) (λ n. 0) 1 0 v) (some-injective (all_passes sizes) view is) (
+          subst (λ v. Fits (KnowsLog KnowsWords sizes words []) (λ n. 0) 1 0 v)
+          (some-injective (all_passes sizes) view is) (
             refl,
             refl,
             record {
@@ -203,4 +223,10 @@ module _ {Spells : Sizes → List ℕ → List Entry → Type 0} {KnowsWords : L
       → ((words : List ℕ) → length words ≡ word_count → slice_index words 0 ≡ 0 → Spells sizes words [])
       → OpensSeats (Rules Spells KnowsWords) all_passes newest sizes word_count
   opens_seats sizes word_count low spelled =
-      record { some = low; all = refl; zeros = λ words wide zeros. at_opening sizes words (spelled words wide zeros); keeps = seats_kept }
+      record {
+        some = low;
+        all = refl;
+        zeros = λ words wide zeros. at_opening sizes words
+            (spelled words wide zeros);
+        keeps = seats_kept;
+      }

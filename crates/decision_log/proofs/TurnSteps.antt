@@ -24,18 +24,21 @@ looked_has words log h Without has = has
 looked_has words log h Won has = (refl, has.1)
 looked_has words log h Fresh has = (refl, has.1)
 
-pub look_step : (sizes : Sizes) (slots id : ℕ) (h : PassView) → Allows (Rules sizes) slots id (seated h) 0 (λ n. n) (Tells (Sees 0 h))
+pub look_step : (sizes : Sizes) (slots id : ℕ) (h : PassView)
+    → Allows (Rules sizes) slots id (seated h) 0 (λ n. n) (Tells (Sees 0 h))
 look_step sizes slots id h =
     load_step sizes slots id 0 h (Sees 0 h)
     (λ words views r here.
     let k = (known r id h here).fact_is in (
       with_look h r.log,
       (stepped r words id h (with_look h r.log) here r.spelled refl refl refl refl (begins_itself r.log) k.mine
-          (record { draft = k.own.draft; turn = looked_has words r.log h h.turn k.own.turn }) (λ g apart low other. other.own)).0,
+          (record { draft = k.own.draft; turn = looked_has words r.log h h.turn k.own.turn })
+          (λ g apart low other. other.own)).0,
       (refl, r.log, refl, r.spelled.count, history r h k),
     ))
 
-pub read_step : (sizes : Sizes) (slots id word : ℕ) (h : PassView) → word ≢ 0 → Allows (Rules sizes) slots id (seated h) word (λ n. n) (Tells (Reads word h))
+pub read_step : (sizes : Sizes) (slots id word : ℕ) (h : PassView) → word ≢ 0
+    → Allows (Rules sizes) slots id (seated h) word (λ n. n) (Tells (Reads word h))
 read_step sizes slots id word h behind =
     load_step sizes slots id word h (Reads word h)
     (λ words views r here. (
@@ -47,7 +50,8 @@ read_step sizes slots id word h behind =
         (λ place index entry at below is.
             let there = get_begins h.known.seen r.log place entry (known r id h here).fact_is.seen is in (
               (r.entries place entry there).0,
-              ap (λ n. get_or words n 0) at ∙ r.spelled.rows place entry there index (omega (arith, length-words_of entry)),
+              ap (λ n. get_or words n 0) at ∙ r.spelled.rows place entry there index
+                  (omega (arith, length-words_of entry)),
             )),
       ),
     ))

@@ -1,5 +1,6 @@
 -- The steps of a log with a turn that change a word keep the rule.
-use Rattle.std.proofs.Common.{◌≡◌, ◌≢◌, ℕ, ◌+◌, ◌<◌, ◌≤◌, List, [], ◌∷◌, ◌++◌, length, set, get_or, refl, ap, sym, ◌∙◌, subst, ⊎_elim}
+use Rattle.std.proofs.Common.{◌≡◌, ◌≢◌, ℕ, ◌+◌, ◌<◌, ◌≤◌, List, [], ◌∷◌, ◌++◌, length, set, get_or, refl, ap, sym, ◌∙◌}
+use Rattle.std.proofs.Common.{subst, ⊎_elim}
 use Rattle.std.proofs.Common.{arith, eqb, length-append}
 use Rattle.std.specs.Prelude.{slice_index}
 use mathlib.Core.Option.{none, some}
@@ -31,20 +32,23 @@ use Rattle.decision_log.proofs.LogRules.{RuleOf, known, stepped, appended, loade
 use Rattle.decision_log.proofs.TurnSteps.{Rules}
 
 -- who isn't named by the turn word is without the turn
-without : (words words' : List ℕ) (log log' : List Entry) (g : PassView) (turn : Turn) → slice_index words 1 ≢ g.known.number → HasTurn words log g turn
+without : (words words' : List ℕ) (log log' : List Entry) (g : PassView) (turn : Turn)
+    → slice_index words 1 ≢ g.known.number → HasTurn words log g turn
     → HasTurn words' log' g turn × (g.draft ≡ [])
 without words words' log log' g Without other has = (has, has)
 without words words' log log' g Won other has = absurd (other has.1)
 without words words' log log' g Fresh other has = absurd (other has.1)
 
 -- who is without the turn knows what it knew, whatever becomes of the words and of the history
-aside : (words words' : List ℕ) (log log' : List Entry) (g : PassView) → slice_index words 1 ≢ g.known.number → HasDraft words log g → HasDraft words' log' g
+aside : (words words' : List ℕ) (log log' : List Entry) (g : PassView) → slice_index words 1 ≢ g.known.number
+    → HasDraft words log g → HasDraft words' log' g
 aside words words' log log' g other own =
     let w = without words words' log log' g g.turn other own.turn in
     record { draft = holds_nothing words' (row_at (length log')) g.draft w.1; turn = w.0 }
 
 -- a pass with no draft
-blank : (words : List ℕ) (log : List Entry) (k : PassView) → k.draft ≡ [] → HasTurn words log k k.turn → HasDraft words log k
+blank : (words : List ℕ) (log : List Entry) (k : PassView) → k.draft ≡ [] → HasTurn words log k k.turn
+    → HasDraft words log k
 blank words log k empty turn = record { draft = holds_nothing words (row_at (length log)) k.draft empty; turn = turn }
 
 module _ {sizes : Sizes} {words : List ℕ} {views : List SeatView} (r : TurnRule sizes words views) where
@@ -56,7 +60,8 @@ module _ {sizes : Sizes} {words : List ℕ} {views : List SeatView} (r : TurnRul
   retaken new = record {
     wide = length-set words 1 new ∙ r.spelled.wide;
     count = get_or-set_other words 1 0 new 0 (λ e. omega arith) ∙ r.spelled.count;
-    rows = λ place entry is. holds_beside words 1 new (row_at place) (words_of entry) (λ i below e. omega arith) (r.spelled.rows place entry is);
+    rows = λ place entry is. holds_beside words 1 new (row_at place) (words_of entry) (λ i below e. omega arith)
+        (r.spelled.rows place entry is);
   }
 
   -- the turn is free, and the pass takes it
@@ -70,10 +75,12 @@ module _ {sizes : Sizes} {words : List ℕ} {views : List SeatView} (r : TurnRul
       (λ g apart low other. aside words words' r.log r.log g (λ e. omega arith) other.own)).0
 
   -- the turn is another's
-  miss_keeps : (id : ℕ) (h : PassView) → get_elem? views id ≡ some (Single h) → TurnRule sizes words (set views id (Single (tried h Without)))
+  miss_keeps : (id : ℕ) (h : PassView) → get_elem? views id ≡ some (Single h)
+      → TurnRule sizes words (set views id (Single (tried h Without)))
   miss_keeps id h here =
       let k = (known r id h here).fact_is in
-      (stepped r words id h (tried h Without) here r.spelled refl refl refl refl k.seen k.part (blank words r.log (tried h Without) refl refl)
+      (stepped r words id h (tried h Without) here r.spelled refl refl refl refl k.seen k.part
+      (blank words r.log (tried h Without) refl refl)
       (λ g apart low other. other.own)).0
 
   -- the turn is given back
@@ -81,18 +88,22 @@ module _ {sizes : Sizes} {words : List ℕ} {views : List SeatView} (r : TurnRul
       → TurnRule sizes (set words 1 0) (set views id (Single (released h)))
   release_keeps id h here mine =
       let k = (known r id h here).fact_is in
-      (stepped r (set words 1 0) id h (released h) here (retaken 0) refl refl refl refl k.seen k.part (blank (set words 1 0) r.log (released h) refl refl)
+      (stepped r (set words 1 0) id h (released h) here (retaken 0) refl refl refl refl k.seen k.part
+      (blank (set words 1 0) r.log (released h) refl refl)
       (λ g apart low other. aside words (set words 1 0) r.log r.log g (λ e. apart (sym e ∙ mine)) other.own)).0
 
   -- a word of the row at the count is stored
-  pub draft_keeps : (id : ℕ) (h : PassView) (index new : ℕ) → get_elem? views id ≡ some (Single h) → h.known.seen ≡ r.log → slice_index words 1 ≡ h.known.number
+  pub draft_keeps : (id : ℕ) (h : PassView) (index new : ℕ) → get_elem? views id ≡ some (Single h)
+      → h.known.seen ≡ r.log → slice_index words 1 ≡ h.known.number
       → h.turn ≡ Fresh
       → index ≤ length h.draft → index < 21 → length r.log < sizes.capacity
-      → RuleOf HasRows HasDraft sizes (set words (row_at (length r.log) + index) new) (set views id (Single (drafted h index new))) r.log
+      → RuleOf HasRows HasDraft sizes (set words (row_at (length r.log) + index) new)
+      (set views id (Single (drafted h index new))) r.log
   draft_keeps id h index new here all mine fresh along below room =
       let k = (known r id h here).fact_is in
       let words' = set words (row_at (length r.log) + index) new in
-      let named : slice_index words' 1 ≡ h.known.number = get_or-set_other words (row_at (length r.log) + index) 1 new 0 (λ e. omega arith) ∙ mine in
+      let named : slice_index words' 1 ≡ h.known.number = get_or-set_other words (row_at (length r.log) + index) 1 new 0
+      (λ e. omega arith) ∙ mine in
       stepped r words' id h (drafted h index new) here
       (record {
         wide = length-set words (row_at (length r.log) + index) new ∙ r.spelled.wide;
@@ -101,20 +112,24 @@ module _ {sizes : Sizes} {words : List ℕ} {views : List SeatView} (r : TurnRul
             λ place entry is.
             let low : place < length r.log = slice_get_within r.log place entry is in
             let len = length-words_of entry in
-            holds_beside words (row_at (length r.log) + index) new (row_at place) (words_of entry) (λ i less e. omega arith) (r.spelled.rows place entry is);
+            holds_beside words (row_at (length r.log) + index) new (row_at place) (words_of entry)
+            (λ i less e. omega arith) (r.spelled.rows place entry is);
       })
       refl refl refl refl k.seen k.part
       (record {
-        draft = holds_one_more words (row_at (length r.log)) index new h.draft along (omega (arith, r.spelled.wide)) k.own.draft;
+        draft = holds_one_more words (row_at (length r.log)) index new h.draft along
+            (omega (arith, r.spelled.wide)) k.own.draft;
         turn = subst (λ t. HasTurn words' r.log (drafted h index new) t) (sym fresh) (all, named);
       })
       (λ g apart low other. aside words words' r.log r.log g (λ e. apart (sym e ∙ mine)) other.own)
 
   -- the count is stored, one higher
-  pub publish_keeps : (id : ℕ) (h : PassView) (entry : Entry) → get_elem? views id ≡ some (Single h) → h.known.seen ≡ r.log
+  pub publish_keeps : (id : ℕ) (h : PassView) (entry : Entry) → get_elem? views id ≡ some (Single h)
+      → h.known.seen ≡ r.log
       → slice_index words 1 ≡ h.known.number
       → IsEntry entry → entry.session ≡ h.known.number → h.draft ≡ words_of entry → length r.log < sizes.capacity
-      → RuleOf HasRows HasDraft sizes (set words 0 (length r.log + 1)) (set views id (Single (published h entry))) (r.log ++ entry ∷ [])
+      → RuleOf HasRows HasDraft sizes (set words 0 (length r.log + 1)) (set views id (Single (published h entry)))
+      (r.log ++ entry ∷ [])
   publish_keeps id h entry here all mine is own whole room =
       let k = (known r id h here).fact_is in
       let new = length r.log + 1 in
@@ -134,7 +149,15 @@ module _ {sizes : Sizes} {words : List ℕ} {views : List SeatView} (r : TurnRul
             (subst (λ draft. HasWordsAt words (row_at (length r.log)) draft) (whole ∙ ap words_of t.1) k.own.draft))
             (get_last r.log entry place other at));
       })
-      refl refl refl refl refl (record { draft = holds_nothing words' (row_at (length log')) [] refl; turn = (ap (λ list. list ++ entry ∷ []) all, named) })
+      refl refl refl refl refl
+      (record {
+        draft = holds_nothing words' (row_at (length log')) [] refl;
+        turn = (
+          ap
+              (λ list. list ++ entry ∷ []) all,
+          named,
+        );
+      })
       (λ g apart low other. aside words words' r.log log' g (λ e. apart (sym e ∙ mine)) other.own)
 
 pub fresh_has : (words : List ℕ) (log : List Entry) (h : PassView) → h.turn ≡ Fresh → HasTurn words log h h.turn
@@ -142,7 +165,8 @@ pub fresh_has : (words : List ℕ) (log : List Entry) (h : PassView) → h.turn 
 fresh_has words log h fresh has = subst (λ t. HasTurn words log h t) fresh has
 
 pub take_step : (sizes : Sizes) (slots id : ℕ) (h : PassView)
-    → Allows (Rules sizes) slots id (seated h) 1 (λ n. either (eqb n 0) h.known.number n) (Tells (Takes 1 0 h.known.number none h))
+    → Allows (Rules sizes) slots id (seated h) 1 (λ n. either (eqb n 0) h.known.number n)
+    (Tells (Takes 1 0 h.known.number none h))
 take_step sizes slots id h state r homes here small =
     let n = get_or state.words 1 0 in
     dite (ℕ_discrete n 0)
@@ -150,7 +174,8 @@ take_step sizes slots id h state r homes here small =
       Single (tried h Won),
       keeps,
       tt,
-      exchanged n 0 h.known.number (λ w. TurnRule sizes (set state.words 1 w) (set state.views id (Single (tried h Won))))
+      exchanged n 0 h.known.number (λ w. TurnRule sizes (set state.words 1 w)
+          (set state.views id (Single (tried h Won))))
           (λ f. take_keeps r id h here e) (λ ne. absurd (ne e)),
       (tried h Won, refl, (refl, refl, refl, (λ f. refl), (λ ne. absurd (ne e)))),
     ))
@@ -158,7 +183,8 @@ take_step sizes slots id h state r homes here small =
       Single (tried h Without),
       keeps,
       tt,
-      exchanged n 0 h.known.number (λ w. TurnRule sizes (set state.words 1 w) (set state.views id (Single (tried h Without)))) (λ f. absurd (ne f))
+      exchanged n 0 h.known.number (λ w. TurnRule sizes (set state.words 1 w)
+          (set state.views id (Single (tried h Without)))) (λ f. absurd (ne f))
           (λ f. loaded sizes state.words 1 (set state.views id (Single (tried h Without))) (miss_keeps r id h here)),
       (tried h Without, refl, (refl, refl, refl, (λ f. absurd (ne f)), (λ f. refl))),
     ))
@@ -169,7 +195,8 @@ release_step sizes slots id h fresh state r homes here small =
     let f = fresh_has state.words r.log h fresh (known r id h here).fact_is.own.turn in
     (Single (released h), keeps, tt, release_keeps r id h here f.1, (released h, refl, (refl, refl, refl)))
 
-pub draft_step : (sizes : Sizes) (slots id word index new : ℕ) (h : PassView) → word ≡ row_at (length h.known.seen) + index → h.turn ≡ Fresh
+pub draft_step : (sizes : Sizes) (slots id word index new : ℕ) (h : PassView)
+    → word ≡ row_at (length h.known.seen) + index → h.turn ≡ Fresh
     → index ≤ length h.draft → index < 21 → length h.known.seen < h.capacity
     → Allows (Rules sizes) slots id (seated h) word (λ n. new) (λ n. Tells (Drafts word new h) new)
 draft_step sizes slots id word index new h at fresh along below room =
@@ -182,7 +209,8 @@ draft_step sizes slots id word index new h at fresh along below room =
     subst (λ n. TurnRule sizes (set words (row_at n + index) new) (set views id (Single (drafted h index new)))) lengths
     (draft_keeps r id h index new here f.0 f.1 fresh along below (omega arith)).0)
 
-pub publish_step : (sizes : Sizes) (slots id new : ℕ) (h : PassView) (entry : Entry) → new ≡ length h.known.seen + 1 → h.turn ≡ Fresh → IsEntry entry
+pub publish_step : (sizes : Sizes) (slots id new : ℕ) (h : PassView) (entry : Entry) → new ≡ length h.known.seen + 1
+    → h.turn ≡ Fresh → IsEntry entry
     → entry.session ≡ h.known.number → h.draft ≡ words_of entry → length h.known.seen < h.capacity
     → Allows (Rules sizes) slots id (seated h) 0 (λ n. new) (λ n. Tells (Publishes 0 new h) new)
 publish_step sizes slots id new h entry next fresh is own whole room state r homes here small =
@@ -193,7 +221,8 @@ publish_step sizes slots id new h entry next fresh is own whole room state r hom
       Single (published h entry),
       keeps,
       tt,
-      subst (λ n. TurnRule sizes (set state.words 0 n) (set state.views id (Single (published h entry)))) (sym (next ∙ ap (λ n. n + 1) lengths))
+      subst (λ n. TurnRule sizes (set state.words 0 n) (set state.views id (Single (published h entry))))
+          (sym (next ∙ ap (λ n. n + 1) lengths))
           (publish_keeps r id h entry here f.0 f.1 is own whole (omega arith)).0,
       (published h entry, refl, (refl, next, entry, is, whole, refl)),
     )

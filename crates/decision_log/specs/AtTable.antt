@@ -17,7 +17,8 @@ use Rattle.decision_log.specs.declared.view.SeatView.{SeatView}
 use Rattle.decision_log.specs.declared.view.SeatView.TheVariants.{Empty, Single, Pair, Unissued}
 use Rattle.decision_log.specs.declared.sizes.Sizes.{Sizes}
 use Rattle.decision_log.specs.Known.{LogIdentity}
-use Rattle.decision_log.specs.Seats.{pass_view_of, second_of, pass_view, seated, seated_two, seated_rest, spent, all_passes, following}
+use Rattle.decision_log.specs.Seats.{pass_view_of, second_of, pass_view, seated, seated_two, seated_rest, spent}
+use Rattle.decision_log.specs.Seats.{all_passes, following}
 use Rattle.decision_log.specs.Atomic.{Meets}
 
 -- a seat at this table that knows one pass
@@ -46,22 +47,28 @@ identity_at table_id sizes = record { table = table_id; sessions = sizes.session
 
 -- the seat's table, and the sizes that its pass was given
 abbrev pub belongs_at : Seat Entry SeatView → LogIdentity
-belongs_at seat = record { table = seat.table_id; sessions = (pass_view seat).sessions; capacity = (pass_view seat).capacity }
+belongs_at seat =
+    record { table = seat.table_id; sessions = (pass_view seat).sessions; capacity = (pass_view seat).capacity }
 
 -- the rule holds after each of these steps if it held before; a pass is issued only if there is a number left
 pub record KeepsSeats (holds : Sizes → State Entry SeatView → Type 0) (newest : PassView → ℕ) : Type 0 where
-  pub split_empty : (sizes : Sizes) (id : ℕ) (pass : PassView) → Splits (holds sizes) id (Single pass) (Single pass) Empty
-  pub join : (sizes : Sizes) (id other : ℕ) (first second : PassView) → Joins (holds sizes) id (Single first) other (Single second) (Pair first second) Empty
-  pub split : (sizes : Sizes) (id : ℕ) (first second : PassView) → Splits (holds sizes) id (Pair first second) (Single first) (Single second)
+  pub split_empty : (sizes : Sizes) (id : ℕ) (pass : PassView)
+      → Splits (holds sizes) id (Single pass) (Single pass) Empty
+  pub join : (sizes : Sizes) (id other : ℕ) (first second : PassView)
+      → Joins (holds sizes) id (Single first) other (Single second) (Pair first second) Empty
+  pub split : (sizes : Sizes) (id : ℕ) (first second : PassView)
+      → Splits (holds sizes) id (Pair first second) (Single first) (Single second)
   pub issue : (sizes : Sizes) (id : ℕ) (pass : PassView) → pass.known.number ≤ pass.sessions
       → Splits (holds sizes) id (Unissued pass) (Unissued (following pass)) (Single pass)
   pub meet : (sizes : Sizes) (slots id : ℕ) (first second : PassView)
       → Allows (holds sizes) slots id (seated_two first second) 0 (λ n. n) (Meets newest first second)
 
 -- a log begins with words of zeros and one seat that knows all passes, and seats are split and joined from there on
-pub record OpensSeats (holds : Sizes → State Entry SeatView → Type 0) (first : Sizes → SeatView) (newest : PassView → ℕ) (sizes : Sizes)
+pub record OpensSeats (holds : Sizes → State Entry SeatView → Type 0) (first : Sizes → SeatView) (newest : PassView → ℕ)
+    (sizes : Sizes)
     (word_count : ℕ) : Type 0 where
   pub some : 0 < word_count
   pub all : first sizes ≡ all_passes sizes
-  pub zeros : (words : List ℕ) → length words ≡ word_count → slice_index words 0 ≡ 0 → holds sizes (opening words [] (first sizes))
+  pub zeros : (words : List ℕ) → length words ≡ word_count → slice_index words 0 ≡ 0
+      → holds sizes (opening words [] (first sizes))
   pub keeps : KeepsSeats holds newest

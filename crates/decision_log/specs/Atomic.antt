@@ -4,7 +4,8 @@
 --     Does            what the step finds, and the words after it
 --     IsLoad          the step loads this word
 --     IsTry           the step exchanges this word
---     Counts          `looks` rises by the load of word 0 that sees the history, `tries` by each exchange of one word, and neither by anything else;
+--     Counts          `looks` rises by the load of word 0 that sees the history, `tries` by each exchange of one word,
+--                     and neither by anything else;
 --                     `since` counts the looks from the last try on
 --     Tells           a transition at a seat that knows one pass
 --     Meets           the load of word 0 at a seat that knows two
@@ -17,7 +18,8 @@ use Rattle.decision_log.specs.declared.view.SeatView.{SeatView}
 use Rattle.decision_log.specs.Seats.{seated, seated_two}
 use Rattle.decision_log.specs.Observed.{met, MetAt}
 
--- the word, then at a store the new value, at an exchange the value that is asked for, the new one, and the entry that is announced
+-- the word, then at a store the new value, at an exchange the value that is asked for, the new one, and the entry that
+-- is announced
 pub data Atomic : Type 0 where
   Load : ℕ → Atomic
   Store : ℕ → ℕ → Atomic
@@ -36,7 +38,8 @@ AtStore tells (Store word value) old found new = tells word value old found new
 AtStore tells (Exchange word from to said) old found new = ⊥
 
 -- a transition of exchanges
-abbrev pub AtExchange : (ℕ → ℕ → ℕ → Option Entry → PassView → ℕ → PassView → Type 0) → Atomic → PassView → ℕ → PassView → Type 0
+abbrev pub AtExchange : (ℕ → ℕ → ℕ → Option Entry → PassView → ℕ → PassView → Type 0) → Atomic → PassView → ℕ → PassView
+    → Type 0
 AtExchange tells (Load word) old found new = ⊥
 AtExchange tells (Store word value) old found new = ⊥
 AtExchange tells (Exchange word from to said) old found new = tells word from to said old found new
@@ -60,10 +63,13 @@ IsTry at (Load word) = ⊥
 IsTry at (Store word value) = ⊥
 IsTry at (Exchange word from to said) = word ≡ at
 
--- a look is the load of word 0, which is then what the pass has seen; a try is an exchange of the word at which passes try
+-- a look is the load of word 0, which is then what the pass has seen; a try is an exchange of the word at which passes
+-- try
 pub record Counts (newest : PassView → ℕ) (tried : ℕ) (step : Atomic) (found : ℕ) (old new : PassView) : Type 0 where
-  pub looks : ((new.known.looks ≡ old.known.looks + 1) × IsLoad 0 step × (found ≡ newest new)) ⊎ ((new.known.looks ≡ old.known.looks) × (IsLoad 0 step → ⊥))
-  pub tries : ((new.known.tries ≡ old.known.tries + 1) × IsTry tried step) ⊎ ((new.known.tries ≡ old.known.tries) × (IsTry tried step → ⊥))
+  pub looks : ((new.known.looks ≡ old.known.looks + 1) × IsLoad 0 step × (found ≡ newest new))
+      ⊎ ((new.known.looks ≡ old.known.looks) × (IsLoad 0 step → ⊥))
+  pub tries : ((new.known.tries ≡ old.known.tries + 1) × IsTry tried step)
+      ⊎ ((new.known.tries ≡ old.known.tries) × (IsTry tried step → ⊥))
   pub since : (IsLoad 0 step → new.known.since ≡ old.known.since + 1) × (IsTry tried step → new.known.since ≡ 0)
       × ((IsLoad 0 step → ⊥) → (IsTry tried step → ⊥) → new.known.since ≡ old.known.since)
 
@@ -74,5 +80,6 @@ Tells then found me = (pass_view : PassView) × (me ≡ seated pass_view) × the
 -- the first pass is unchanged; if the second had seen less, it has now seen the whole history
 abbrev pub Meets : (PassView → ℕ) → PassView → PassView → ℕ → Me Entry SeatView → Type 0
 Meets newest first second found me =
-    (seen : List Entry) × (me ≡ seated_two first (met second seen)) × (length second.known.seen < length first.known.seen → found ≡ newest (met second seen))
+    (seen : List Entry) × (me ≡ seated_two first (met second seen))
+    × (length second.known.seen < length first.known.seen → found ≡ newest (met second seen))
     × MetAt first second seen

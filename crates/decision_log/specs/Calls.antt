@@ -37,7 +37,8 @@ pub record IsOvertaken (count : ℕ) (old new : Known) : Type 0 where
   pub looks : old.looks ≤ new.looks
   pub tries : new.tries ≡ old.tries + 1
 
--- another pass has the turn: the lists are unchanged, and the pass hasn't looked (it would have to, before it gave its own turn back)
+-- another pass has the turn: the lists are unchanged, and the pass hasn't looked (it would have to, before it gave its
+-- own turn back)
 pub record IsBusy (old new : Known) : Type 0 where
   pub number : new.number ≡ old.number
   pub seen : new.seen ≡ old.seen
@@ -60,7 +61,8 @@ pub record MeetsFirst (old new : Known) : Type 0 where
   pub looks : old.looks ≤ new.looks
   pub tries : new.tries ≡ old.tries
 
--- the second of two that meet: it has seen all that the first has, and the entries of the first's number there are the first's own
+-- the second of two that meet: it has seen all that the first has, and the entries of the first's number there are the
+-- first's own
 pub record MeetsSecond (other old new : Known) : Type 0 where
   pub number : new.number ≡ old.number
   pub seen : Begins old.seen new.seen

@@ -1,4 +1,5 @@
--- How the counts of a pass rise by a transition whose steps are all of one kind. The laws of transitions are made of these.
+-- How the counts of a pass rise by a transition whose steps are all of one kind. The laws of transitions are made of
+-- these.
 --     IsCounted       each step of a transition raises the counts as it should
 --     leaves_counts   a step that neither looks nor tries
 --     counts_at_load, counts_at_store, counts_at_exchange      a transition of loads, of stores, of exchanges
@@ -11,10 +12,12 @@ use Rattle.decision_log.specs.Atomic.{Atomic, Load, Store, Exchange, AtLoad, AtS
 
 -- each step of the transition raises the counts as it should
 abbrev pub IsCounted : (PassView → ℕ) → ℕ → (Atomic → PassView → ℕ → PassView → Type 0) → Type 0
-IsCounted newest tried then = (step : Atomic) (old : PassView) (found : ℕ) (new : PassView) → then step old found new → Counts newest tried step found old new
+IsCounted newest tried then = (step : Atomic) (old : PassView) (found : ℕ) (new : PassView) → then step old found new
+    → Counts newest tried step found old new
 
 module _ {newest : PassView → ℕ} {tried : ℕ} where
-  pub leaves_counts : (step : Atomic) (found : ℕ) (old new : PassView) → new.known.looks ≡ old.known.looks → new.known.tries ≡ old.known.tries
+  pub leaves_counts : (step : Atomic) (found : ℕ) (old new : PassView) → new.known.looks ≡ old.known.looks
+      → new.known.tries ≡ old.known.tries
       → new.known.since ≡ old.known.since → (IsLoad 0 step → ⊥) → (IsTry tried step → ⊥)
       → Counts newest tried step found old new
   leaves_counts step found old new looks tries since no_look no_try = record {
@@ -24,7 +27,8 @@ module _ {newest : PassView → ℕ} {tried : ℕ} where
   }
 
   pub counts_at_load : (tells : ℕ → PassView → ℕ → PassView → Type 0)
-      → ((word : ℕ) (old : PassView) (found : ℕ) (new : PassView) → tells word old found new → Counts newest tried (Load word) found old new)
+      → ((word : ℕ) (old : PassView) (found : ℕ) (new : PassView) → tells word old found new
+      → Counts newest tried (Load word) found old new)
       → IsCounted newest tried (AtLoad tells)
   counts_at_load tells each (Load word) old found new is = each word old found new is
   counts_at_load tells each (Store word value) old found new is = absurd is
@@ -42,7 +46,8 @@ module _ {newest : PassView → ℕ} {tried : ℕ} where
   counts_at_store tells each (Exchange word from to said) old found new is = absurd is
 
   pub counts_at_exchange : (tells : ℕ → ℕ → ℕ → Option Entry → PassView → ℕ → PassView → Type 0)
-      → ((word from to : ℕ) (said : Option Entry) (old : PassView) (found : ℕ) (new : PassView) → tells word from to said old found new
+      → ((word from to : ℕ) (said : Option Entry) (old : PassView) (found : ℕ) (new : PassView)
+      → tells word from to said old found new
       → Counts newest tried (Exchange word from to said) found old new)
       → IsCounted newest tried (AtExchange tells)
   counts_at_exchange tells each (Load word) old found new is = absurd is

@@ -11,7 +11,8 @@ HasWordsAt words at draft = (i : ℕ) → i < length draft → slice_index words
 
 -- a pass with these words stored
 abbrev pub with_draft : PassView → List ℕ → PassView
-with_draft h words = record { known = h.known; sessions = h.sessions; capacity = h.capacity; draft = words; turn = h.turn }
+with_draft h words =
+    record { known = h.known; sessions = h.sessions; capacity = h.capacity; draft = words; turn = h.turn }
 
 -- after a store of a word of the draft, which forgets the words stored after it
 abbrev pub drafted : PassView → ℕ → ℕ → PassView

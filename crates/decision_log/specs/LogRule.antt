@@ -9,8 +9,10 @@ use Rattle.decision_log.specs.declared.sizes.Sizes.{Sizes}
 use Rattle.decision_log.specs.History.{Begins, entries_of}
 use Rattle.decision_log.specs.Seats.{Seats}
 
--- the pass knows the log's sizes, a prefix of its history with all entries of its own number, and something of the words
-pub record KnowsLog (KnowsWords : List ℕ → List Entry → PassView → Type 0) (sizes : Sizes) (words : List ℕ) (log : List Entry)
+-- the pass knows the log's sizes, a prefix of its history with all entries of its own number, and something of the
+-- words
+pub record KnowsLog (KnowsWords : List ℕ → List Entry → PassView → Type 0) (sizes : Sizes) (words : List ℕ)
+    (log : List Entry)
     (pass_view : PassView) : Type 0 where
   pub sessions : pass_view.sessions ≡ sizes.sessions
   pub capacity : pass_view.capacity ≡ sizes.capacity
@@ -20,7 +22,8 @@ pub record KnowsLog (KnowsWords : List ℕ → List Entry → PassView → Type 
   pub own : KnowsWords words log pass_view
 
 -- the words spell a history, whose entries are of sessions that were given out, and what all seats know is true
-pub record LogRule (Spells : Sizes → List ℕ → List Entry → Type 0) (KnowsWords : List ℕ → List Entry → PassView → Type 0) (sizes : Sizes) (words : List ℕ)
+pub record LogRule (Spells : Sizes → List ℕ → List Entry → Type 0)
+    (KnowsWords : List ℕ → List Entry → PassView → Type 0) (sizes : Sizes) (words : List ℕ)
     (views : List SeatView) : Type 0 where
   pub log : List Entry
   pub home : ℕ → ℕ

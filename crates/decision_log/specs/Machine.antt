@@ -57,7 +57,8 @@ Runs (event ∷ events) old new = (next : Machine) × Happens event old next × 
 
 -- nothing has happened
 abbrev pub opening_machine : ℕ → Machine
-opening_machine capacity = record { history = []; capacity = capacity; knows = λ session. record { seen = []; mine = [] } }
+opening_machine capacity =
+    record { history = []; capacity = capacity; knows = λ session. record { seen = []; mine = [] } }
 
 -- each session has seen a prefix of the history, in which it has all of the history's entries of its number
 pub record IsState (machine : Machine) : Type 0 where

@@ -9,8 +9,8 @@ use Rattle.decision_log.specs.declared.view.Turn.TheVariants.{Without}
 use Rattle.decision_log.specs.History.{Begins, entries_of}
 use Rattle.decision_log.specs.Known.{AllOf}
 
--- what a pass learns of a history that it sees: it begins with all that was seen, is no longer than the log can have, and the entries
--- of one's number in it are one's own
+-- what a pass learns of a history that it sees: it begins with all that was seen, is no longer than the log can have,
+-- and the entries of one's number in it are one's own
 pub record HistoryIs (h : PassView) (seen : List Entry) : Type 0 where
   pub begins : Begins h.known.seen seen
   pub room : length seen ≤ h.capacity
@@ -30,7 +30,14 @@ pub record MetAt (g h : PassView) (seen : List Entry) : Type 0 where
 -- after a meeting
 abbrev pub met : PassView → List Entry → PassView
 met h seen = record {
-  known = record { number = h.known.number; seen = seen; mine = h.known.mine; looks = h.known.looks; tries = h.known.tries; since = h.known.since };
+  known = record {
+    number = h.known.number;
+    seen = seen;
+    mine = h.known.mine;
+    looks = h.known.looks;
+    tries = h.known.tries;
+    since = h.known.since;
+  };
   sessions = h.sessions;
   capacity = h.capacity;
   draft = [];

@@ -23,7 +23,8 @@ pub record AreSizes (sizes : Sizes) : Type 0 where
   pub sessions : IsCount sizes.sessions
 
 -- the passes of sessions 1 to the last, in order, each of this log and with nothing seen
-pub record Opens {Pass : Type 0} (belongs_to : Pass → LogIdentity) (known : Pass → Known) (capacity sessions : ℕ) (identity : LogIdentity)
+pub record Opens {Pass : Type 0} (belongs_to : Pass → LogIdentity) (known : Pass → Known) (capacity sessions : ℕ)
+    (identity : LogIdentity)
     (passes : List Pass) : Type 0 where
   pub capacity_is : identity.capacity ≡ capacity
   pub sessions_is : identity.sessions ≡ sessions

@@ -14,7 +14,8 @@ use Rattle.decision_log.specs.Reached.{IsReached}
 
 -- the pass knows what the session of its number knows
 abbrev pub KnownTo : Machine → PassView → Type 0
-KnownTo machine pass_view = machine.knows pass_view.known.number ≡ record { seen = pass_view.known.seen; mine = pass_view.known.mine }
+KnownTo machine pass_view =
+    machine.knows pass_view.known.number ≡ record { seen = pass_view.known.seen; mine = pass_view.known.mine }
 
 -- each pass that was given out and is at the seat does
 abbrev pub SeatKnownTo : Machine → SeatView → Type 0
@@ -23,8 +24,10 @@ SeatKnownTo machine (Single pass_view) = KnownTo machine pass_view
 SeatKnownTo machine (Pair first second) = KnownTo machine first × KnownTo machine second
 SeatKnownTo machine (Unissued pass_view) = Unit {0}
 
--- a state of the machine that has this history and these passes, to which looks and appends of sessions 1 to a number lead
-pub record HasPasses (sessions capacity : ℕ) (log : List Entry) (views : List SeatView) (machine : Machine) : Type 0 where
+-- a state of the machine that has this history and these passes, to which looks and appends of sessions 1 to a number
+-- lead
+pub record HasPasses (sessions capacity : ℕ) (log : List Entry) (views : List SeatView)
+    (machine : Machine) : Type 0 where
   pub state : IsState machine
   pub reached : IsReached sessions machine
   pub capacity_is : machine.capacity ≡ capacity

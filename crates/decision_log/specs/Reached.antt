@@ -15,7 +15,8 @@ abbrev pub EventsOf : ℕ → List Event → Type 0
 EventsOf sessions [] = Unit {0}
 EventsOf sessions (event ∷ events) = (1 ≤ session_of event) × (session_of event ≤ sessions) × EventsOf sessions events
 
--- events of sessions 1 to a number lead from the start to a machine that has the same history, and whose sessions 1 to the number know the same
+-- events of sessions 1 to a number lead from the start to a machine that has the same history, and whose sessions 1 to
+-- the number know the same
 pub record IsReached (sessions : ℕ) (machine : Machine) : Type 0 where
   pub events : List Event
   pub own : EventsOf sessions events
@@ -23,5 +24,7 @@ pub record IsReached (sessions : ℕ) (machine : Machine) : Type 0 where
   pub runs : Runs events (opening_machine machine.capacity) reached
   pub history : reached.history ≡ machine.history
   pub capacity : reached.capacity ≡ machine.capacity
-  pub seen : (session : ℕ) → 1 ≤ session → session ≤ sessions → (reached.knows session).seen ≡ (machine.knows session).seen
-  pub mine : (session : ℕ) → 1 ≤ session → session ≤ sessions → (reached.knows session).mine ≡ (machine.knows session).mine
+  pub seen : (session : ℕ) → 1 ≤ session → session ≤ sessions
+      → (reached.knows session).seen ≡ (machine.knows session).seen
+  pub mine : (session : ℕ) → 1 ≤ session → session ≤ sessions
+      → (reached.knows session).mine ≡ (machine.knows session).mine

@@ -5,7 +5,8 @@
 --     seated, seated_two, seated_rest, spent     a seat that knows one pass, two, the rest, or none
 --     newcomer_view, following      a pass that wasn't given out, and the one after it
 --     all_passes      a seat that knows all passes of a log
---     left_of, right_of    how a seat is split: two passes into one and one, one pass into it and nothing, the rest into the next pass and those after it
+--     left_of, right_of    how a seat is split: two passes into one and one, one pass into it and nothing, the rest
+--                          into the next pass and those after it
 --     both_of         how two seats are joined
 --     IsPass          a pass between two calls, of a number and with so many entries seen
 --     Placed          a pass has a number that was given out, and is at its number's seat

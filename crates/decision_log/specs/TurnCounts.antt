@@ -1,5 +1,6 @@
 -- Each step of a log with a turn raises the counts of its pass as it should.
---     see_counts, read_counts, take_counts, draft_counts, publish_counts, release_counts     the laws of the transitions
+--     see_counts, read_counts, take_counts, draft_counts, publish_counts, release_counts     the laws of the
+--                                                                                            transitions
 use Rattle.std.proofs.Common.{ap, ◌∙◌, sym, inl, inr}
 use mathlib.Core.Logic.{dite}
 use native.Mathlib.Decide.{ℕ_discrete}
@@ -25,11 +26,13 @@ see_counts =
 pub read_counts : IsCounted count_for turn_word (AtLoad Reads)
 read_counts =
     counts_at_load Reads
-    (λ word old found new is. leaves_counts (Load word) found old new (ap (λ h. h.known.looks) is.1) (ap (λ h. h.known.tries) is.1) (ap (λ h. h.known.since) is.1) is.0
+    (λ word old found new is. leaves_counts (Load word) found old new (ap (λ h. h.known.looks) is.1)
+    (ap (λ h. h.known.tries) is.1) (ap (λ h. h.known.since) is.1) is.0
     (λ never. never))
 
 -- a try, won or lost
-tried_counts : (word from to : ℕ) (said : Option Entry) (old : PassView) (found : ℕ) (new : PassView) {turn : Turn} → word ≡ turn_word → new ≡ tried old turn
+tried_counts : (word from to : ℕ) (said : Option Entry) (old : PassView) (found : ℕ) (new : PassView) {turn : Turn}
+    → word ≡ turn_word → new ≡ tried old turn
     → Counts count_for turn_word (Exchange word from to said) found old new
 tried_counts word from to said old found new at is = record {
   looks = inr (ap (λ h. h.known.looks) is, λ never. never);
@@ -45,10 +48,19 @@ take_counts =
     (λ taken. tried_counts word from to said old found new is.0 (is.4 taken)))
 
 pub draft_counts : IsCounted count_for turn_word (AtStore Drafts)
-draft_counts = counts_at_store Drafts (λ word value old found new is. (ap (λ h. h.known.looks) is, ap (λ h. h.known.tries) is, ap (λ h. h.known.since) is))
+draft_counts =
+    counts_at_store Drafts
+    (λ word value old found new is.
+    (ap (λ h. h.known.looks) is, ap (λ h. h.known.tries) is, ap (λ h. h.known.since) is))
 
 pub publish_counts : IsCounted count_for turn_word (AtStore Publishes)
-publish_counts = counts_at_store Publishes (λ word value old found new is. (ap (λ h. h.known.looks) is.5, ap (λ h. h.known.tries) is.5, ap (λ h. h.known.since) is.5))
+publish_counts =
+    counts_at_store Publishes
+    (λ word value old found new is.
+    (ap (λ h. h.known.looks) is.5, ap (λ h. h.known.tries) is.5, ap (λ h. h.known.since) is.5))
 
 pub release_counts : IsCounted count_for turn_word (AtStore Releases)
-release_counts = counts_at_store Releases (λ word value old found new is. (ap (λ h. h.known.looks) is.2, ap (λ h. h.known.tries) is.2, ap (λ h. h.known.since) is.2))
+release_counts =
+    counts_at_store Releases
+    (λ word value old found new is.
+    (ap (λ h. h.known.looks) is.2, ap (λ h. h.known.tries) is.2, ap (λ h. h.known.since) is.2))

@@ -14,7 +14,12 @@ identity_of log = record { table = log.table.inner.shared.table_id; sessions = l
 
 -- the table of its seat, and the sizes that it was given
 abbrev pub log_of : TurnPass → LogIdentity
-log_of pass = record { table = pass.seat.table_id; sessions = (pass_view_of pass.seat.me.0).sessions; capacity = (pass_view_of pass.seat.me.0).capacity }
+log_of pass =
+    record {
+      table = pass.seat.table_id;
+      sessions = (pass_view_of pass.seat.me.0).sessions;
+      capacity = (pass_view_of pass.seat.me.0).capacity;
+    }
 
 -- what its seat knows of it
 abbrev pub known_of : TurnPass → Known

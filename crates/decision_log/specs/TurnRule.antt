@@ -34,7 +34,8 @@ count_for pass_view = length pass_view.known.seen
 pub record HasRows (sizes : Sizes) (words : List ℕ) (log : List Entry) : Type 0 where
   pub wide : length words ≡ row_at sizes.capacity
   pub count : slice_index words 0 ≡ length log
-  pub rows : (place : ℕ) (entry : Entry) → slice_get log place ≡ Some entry → HasWordsAt words (row_at place) (words_of entry)
+  pub rows : (place : ℕ) (entry : Entry) → slice_get log place ≡ Some entry
+      → HasWordsAt words (row_at place) (words_of entry)
 
 -- without the turn there is no draft; with it the turn word is the pass's number; fresh, the pass has seen all
 abbrev pub HasTurn : List ℕ → List Entry → PassView → Turn → Type 0

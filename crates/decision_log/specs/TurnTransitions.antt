@@ -1,6 +1,7 @@
 -- How each step of a log with a turn changes the pass that takes it, and what the pass learns.
 --     with_look, tried, published, released   the pass after a step
---     Sees, Reads, Takes, Drafts, Publishes, Releases     the steps, each by its word, its operands, the pass before, what was found and the pass after
+--     Sees, Reads, Takes, Drafts, Publishes, Releases     the steps, each by its word, its operands, the pass before,
+--                                                         what was found and the pass after
 use Rattle.std.specs.Prelude.{◌≡◌, ◌≢◌, ◌<◌, ◌+◌, ◌-◌, ℕ, List, [], ◌∷◌, ◌++◌, length, slice_get, slice_index, Some}
 use mathlib.Core.Option.{Option}
 use Rattle.xa_words.specs.Entry.{Entry, IsEntry}
@@ -22,7 +23,15 @@ looked_turn Fresh = Fresh
 abbrev pub with_look : PassView → List Entry → PassView
 with_look h seen = record {
   known =
-      record { number = h.known.number; seen = seen; mine = h.known.mine; looks = h.known.looks + 1; tries = h.known.tries; since = h.known.since + 1 };
+      record {
+        number = h.known.number;
+        seen = seen;
+        mine = h.known.mine;
+        looks = h.known.looks
+            + 1;
+        tries = h.known.tries;
+        since = h.known.since + 1;
+      };
   sessions = h.sessions;
   capacity = h.capacity;
   draft = h.draft;
@@ -33,7 +42,14 @@ with_look h seen = record {
 abbrev pub tried : PassView → Turn → PassView
 tried h turn = record {
   known =
-      record { number = h.known.number; seen = h.known.seen; mine = h.known.mine; looks = h.known.looks; tries = h.known.tries + 1; since = 0 };
+      record {
+        number = h.known.number;
+        seen = h.known.seen;
+        mine = h.known.mine;
+        looks = h.known.looks;
+        tries = h.known.tries + 1;
+        since = 0;
+      };
   sessions = h.sessions;
   capacity = h.capacity;
   draft = [];
@@ -71,13 +87,15 @@ Sees word old found new =
 abbrev pub Reads : ℕ → PassView → ℕ → PassView → Type 0
 Reads word old found new =
     (word ≢ 0) × (new ≡ old)
-    × ((place index : ℕ) (entry : Entry) → word ≡ row_at place + index → index < 21 → slice_get old.known.seen place ≡ Some entry
+    × ((place index : ℕ) (entry : Entry) → word ≡ row_at place + index → index < 21
+    → slice_get old.known.seen place ≡ Some entry
     → IsEntry entry × (found ≡ slice_index (words_of entry) index))
 
 -- an exchange of the turn's word from 0 to the pass's number, which is a try
 abbrev pub Takes : ℕ → ℕ → ℕ → Option Entry → PassView → ℕ → PassView → Type 0
 Takes word from to said old found new =
-    (word ≡ turn_word) × (from ≡ 0) × (to ≡ old.known.number) × (found ≡ 0 → new ≡ tried old Won) × (found ≢ 0 → new ≡ tried old Without)
+    (word ≡ turn_word) × (from ≡ 0) × (to ≡ old.known.number) × (found ≡ 0 → new ≡ tried old Won)
+    × (found ≢ 0 → new ≡ tried old Without)
 
 -- a store of a word into the row at the count
 abbrev pub Drafts : ℕ → ℕ → PassView → ℕ → PassView → Type 0
@@ -86,7 +104,8 @@ Drafts word value old found new = new ≡ drafted old (word - row_at (length old
 -- a store of the count, one higher
 abbrev pub Publishes : ℕ → ℕ → PassView → ℕ → PassView → Type 0
 Publishes word value old found new =
-    (word ≡ 0) × (value ≡ length old.known.seen + 1) × (entry : Entry) × IsEntry entry × (old.draft ≡ words_of entry) × (new ≡ published old entry)
+    (word ≡ 0) × (value ≡ length old.known.seen + 1) × (entry : Entry) × IsEntry entry × (old.draft ≡ words_of entry)
+    × (new ≡ published old entry)
 
 -- a store of 0 to the turn's word
 abbrev pub Releases : ℕ → ℕ → PassView → ℕ → PassView → Type 0

@@ -37,7 +37,8 @@ pub fn what_happens_leads_to_states()
     // Proved (log, machine-states): Every list of looks and appends leads to a state of the log machine. To
     //   each state whose entries are all of sessions 1 to S such a list leads, as far as the history and
     //   sessions 1 to S are concerned.
-    ensures { (capacity : ℕ) (events : List Event) (machine : Machine) → Runs events (opening_machine capacity) machine → IsState machine }
+    ensures { (capacity : ℕ) (events : List Event) (machine : Machine) → Runs events (opening_machine capacity) machine
+        → IsState machine }
 {}
 
 /// States the converse: if what each session knows fits the history, looks and appends lead there.
@@ -47,7 +48,8 @@ pub fn what_happens_leads_to_states()
 /// Own rule: docs/INTERNALS.md#what-a-log-promises.
 pub fn states_are_reached()
     // Proved (log, machine-states)
-    ensures { (sessions : ℕ) (machine : Machine) → IsState machine → AllOf sessions machine.history → IsReached sessions machine }
+    ensures { (sessions : ℕ) (machine : Machine) → IsState machine → AllOf sessions machine.history
+        → IsReached sessions machine }
 {}
 
 /// States that the history and the passes of a log with a turn are a state of the log machine.
@@ -69,7 +71,8 @@ pub fn turn_keeps_the_history()
     // Proved (log, steps-keep-the-history): No step that changes a word changes an entry of the history or
     //   removes one. A stored word leaves the history unchanged. A won exchange, or the count that the pass
     //   with the turn stores, puts one entry at its end.
-    ensures { (sizes : Sizes) (words : List ℕ) (views views' : List SeatView) (rule : TurnRule sizes words views) (turn : ℕ)
+    ensures { (sizes : Sizes) (words : List ℕ) (views views' : List SeatView) (rule : TurnRule sizes words views)
+        (turn : ℕ)
         (after : TurnRule sizes (set words 1 turn) views')
         → after.log ≡ rule.log }
 {}
@@ -81,7 +84,8 @@ pub fn turn_keeps_the_history()
 /// Own rule: docs/INTERNALS.md#the-log-with-a-turn.
 pub fn store_keeps_the_history()
     // Proved (log, steps-keep-the-history)
-    ensures { (sizes : Sizes) (words : List ℕ) (views views' : List SeatView) (rule : TurnRule sizes words views) (id : ℕ) (pass : PassView) (index word : ℕ)
+    ensures { (sizes : Sizes) (words : List ℕ) (views views' : List SeatView) (rule : TurnRule sizes words views)
+        (id : ℕ) (pass : PassView) (index word : ℕ)
         → get_elem? views id ≡ some (Single pass)
         → pass.turn ≡ Fresh
         → index ≤ length pass.draft
@@ -97,7 +101,8 @@ pub fn store_keeps_the_history()
 /// Own rule: docs/INTERNALS.md#the-log-with-a-turn.
 pub fn stored_count_adds_its_entry()
     // Proved (log, steps-keep-the-history)
-    ensures { (sizes : Sizes) (words : List ℕ) (views views' : List SeatView) (rule : TurnRule sizes words views) (id : ℕ) (pass : PassView) (entry : Entry)
+    ensures { (sizes : Sizes) (words : List ℕ) (views views' : List SeatView) (rule : TurnRule sizes words views)
+        (id : ℕ) (pass : PassView) (entry : Entry)
         → get_elem? views id ≡ some (Single pass)
         → pass.turn ≡ Fresh
         → IsEntry entry
@@ -117,7 +122,8 @@ pub fn each_look_sees_the_history()
     // Proved (log, looks-and-tries): A step by which `looks` rises leaves the history unchanged, and the
     //   pass has then seen all of it. A step by which `tries` rises exchanges the turn's word, or word 0 of
     //   a chain.
-    ensures { (sizes : Sizes) (words words' : List ℕ) (views views' : List SeatView) (before : TurnRule sizes words views)
+    ensures { (sizes : Sizes) (words words' : List ℕ) (views views' : List SeatView)
+        (before : TurnRule sizes words views)
         (after : TurnRule sizes words' views') (step : Atomic) (found id : ℕ) (old new : PassView)
         → Does step words found words'
         → Counts count_for turn_word step found old new

@@ -115,7 +115,8 @@ pub trait DecisionLog {
     fn meet(&self, first: &mut Self::Pass, second: &mut Self::Pass)
         requires first { belongs_to first.old ≡ identity self.now }
         requires second { belongs_to second.old ≡ identity self.now }
-        ensures belongs { (belongs_to first.new ≡ belongs_to first.old) × (belongs_to second.new ≡ belongs_to second.old) }
+        ensures belongs { (belongs_to first.new ≡ belongs_to first.old)
+            × (belongs_to second.new ≡ belongs_to second.old) }
         // Proved (log, meet): After two passes meet, the second has seen all that the first has.
         ensures first { MeetsFirst (known first.old) (known first.new) }
         // Proved (log, meet)
@@ -132,7 +133,8 @@ pub trait DecisionLog {
 
     // its number is one of the log's sessions
     // Proved (log, passes-in-range)
-    ghost numbered: { (pass : Self.Pass) → (1 ≤ (known pass).number) × ((known pass).number ≤ (belongs_to pass).sessions) };
+    ghost numbered: { (pass : Self.Pass) → (1 ≤ (known pass).number)
+        × ((known pass).number ≤ (belongs_to pass).sessions) };
 
     // it hasn't seen more than the log can have
     // Proved (log, passes-in-range)

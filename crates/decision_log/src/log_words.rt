@@ -25,5 +25,6 @@ pub trait LogTransition<R: LogWords> {
 
     // whatever else changes, the counts rise as they should
     // Proved (log, counts)
-    ghost counts: { (step : Atomic) (old : PassView) (found : ℕ) (new : PassView) → then step old found new → Counts R.newest R.tried step found old new };
+    ghost counts: { (step : Atomic) (old : PassView) (found : ℕ) (new : PassView) → then step old found new
+        → Counts R.newest R.tried step found old new };
 }

@@ -52,7 +52,8 @@ pub fn open_seats<R: LogWords, P: SeatedPass + Drop>(
     ensures sized { IfOk result (λ opened. opened.0.inner.shared.key ≡ sizes.now) }
     // Proved (log, opening)
     ensures passes { IfOk result
-        (λ opened. Opens P.belongs_to P.known sizes.now.capacity sizes.now.sessions (identity_at opened.0.inner.shared.table_id sizes.now) opened.1.items) }
+        (λ opened. Opens P.belongs_to P.known sizes.now.capacity sizes.now.sessions
+        (identity_at opened.0.inner.shared.table_id sizes.now) opened.1.items) }
     // Proved (log, opening)
     ensures err { IfErr result (λ fault. Refuses sizes.now.capacity sizes.now.sessions fault) }
 {
@@ -89,7 +90,8 @@ fn deal_all<R: LogWords, P: SeatedPass + Drop>(
     requires rest { KnowsRest table.now.inner.shared.table_id rest }
     requires all { pass_view rest ≡ newcomer_view sizes.now.sessions sizes.now.capacity 1 }
     ensures { IfOk result
-        (λ passes. Opens P.belongs_to P.known sizes.now.capacity sizes.now.sessions (identity_at table.now.inner.shared.table_id sizes.now) passes.items) }
+        (λ passes. Opens P.belongs_to P.known sizes.now.capacity sizes.now.sessions
+        (identity_at table.now.inner.shared.table_id sizes.now) passes.items) }
 {
     let mut passes = Vec::with_capacity(alloc, sizes.sessions as usize)?;
     for index in 0..sizes.sessions {

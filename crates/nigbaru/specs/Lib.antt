@@ -3,7 +3,7 @@ pub use Rattle.xa_statement.specs as statement
 pub use Rattle.xa_server.specs as server
 pub use Rattle.xa_words.specs as words
 pub use Rattle.decision_log.specs as log
-pub use Rattle.ring_log.specs as ring
+pub use Rattle.chain_log.specs as chain
 pub use Rattle.xa_session.specs as session
 pub use Rattle.xa_store.specs as store
 pub use Rattle.xa_coordinator.specs as coordinator

@@ -2,8 +2,8 @@
 //!
 //! The root has identifiers, statements, the server, stores with sessions and races, stores without an end,
 //! and coordinators. `script` runs and races scripts, `conversation` answers clients line by line, `history`
-//! has entries and logs, `records` the judge, `manager` a transaction manager. A clause of yours finds definitions in `specs/`, as in `Rattle.nigbaru.specs.store.Passes.{log_of}`. Read
-//! docs/RATTLE.md first.
+//! has entries and logs, `records` the judge, `manager` a transaction manager. A clause of yours finds definitions in
+//! `specs/`, as in `Rattle.nigbaru.specs.store.Passes.{log_of}`. Read docs/RATTLE.md first.
 #![tactic(auto)]
 
 pub mod conversation;

@@ -5,7 +5,6 @@ pub use xa_judge::{
     SharedSeen, Silent, Verdict, judge, judge_telling,
 };
 pub use xa_record::{
-    AllowFault, Allowance, Asked, Form, Judged, Outcome, StatementKind, judge_record,
-    judge_record_from, judge_text, judge_text_from, read_allowances,
+    AllowFault, Allowance, Asked, Form, Judged, Outcome, StateFault, StatementKind, judge_record,
+    judge_record_from, judge_text, judge_text_from, read_allowances, read_state,
 };
-pub use xa_state::{StateFault, read_state};

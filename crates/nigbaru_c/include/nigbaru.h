@@ -74,7 +74,7 @@ typedef atomic_flag nigbaru_flag;
 #define NIGBARU_REFUSED       4
 /* Another session added to the history first: call again. nigbaru_run does so by itself. */
 #define NIGBARU_OVERTAKEN     5
-/* An allocation failed, or the history has 2^59 entries: free some memory and call again. */
+/* An allocation failed, or the history has more than 2^59 entries: free some memory and call again. */
 #define NIGBARU_NO_MEMORY     7
 /* The text is no statement: answer.place is the first byte that doesn't fit, from 0. Correct the text. */
 #define NIGBARU_SYNTAX        8
@@ -105,7 +105,7 @@ typedef struct nigbaru_handle { void *at; } nigbaru_handle;
  * NIGBARU_BUSY. */
 typedef struct nigbaru_answer {
     /* At 0 to 4: how many entries of the history come before the answer, from the store's first on, in
-     * [0, 2^59]. At NIGBARU_SYNTAX: the first byte of the text that doesn't fit, from 0. Else 0. */
+     * [0, 2^59 + rows]. At NIGBARU_SYNTAX: the first byte of the text that doesn't fit, from 0. Else 0. */
     uint64_t place;
     /* At NIGBARU_VALUE: how many bytes of `value` are the row's, in [0, 64]. Else 0. */
     uint64_t length;

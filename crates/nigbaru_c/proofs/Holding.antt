@@ -43,13 +43,18 @@ word p = vstruct (vcons (ptr_val p) vnil)
 
 module _ {M : Type 1} {𝓤 : Ura M} (𝓛 : Logic 𝓤) where
   tested : (p : Ptr) (x : Chair.the_row.Denot) → ent 𝓤 (sem 𝓛 (boxed p x)) (guard 𝓤 (Testable p) (sem 𝓛 (boxed p x)))
-  tested p x = fact_use 𝓤 (Testable p) (via 𝓤 _ (snd∗ 𝓤 (sem 𝓛 (lies_at Chair.the_row full_share p x)) (sem 𝓛 (ghosts.dealloc_token the_heap (bare (lone Chair.the_row.mir)) p))) (dealloc_token-Testable 𝓛 the_heap (bare (lone Chair.the_row.mir)) p)) (guard_i 𝓤 (Testable p) (sem 𝓛 (boxed p x)))
+  tested p x = fact_use 𝓤 (Testable p) (via 𝓤 _ (snd∗ 𝓤 (sem 𝓛 (lies_at Chair.the_row full_share p x))
+      (sem 𝓛 (ghosts.dealloc_token the_heap (bare (lone Chair.the_row.mir)) p)))
+      (dealloc_token-Testable 𝓛 the_heap (bare (lone Chair.the_row.mir)) p))
+      (guard_i 𝓤 (Testable p) (sem 𝓛 (boxed p x)))
 
 module _ {M : Type 1} {𝓤 : Ura M} {𝓛 : Logic 𝓤} {K : Type 0} {Γ : List (Item 𝓤)} {G : Goal 𝓤 𝓛.H} where
   pub handle_in : K → (p : Ptr) (h : Option Chair.the_row.Denot)
       → Step K 𝓛 (‵ (handle.the_row.own_val (record { at = p; held = h }) (word p ∷ [])) ∷ Γ) G (‵ (holds p h) ∷ Γ) G
-  handle_in t p h = step (λ s. nothing t $ feq_i t (List Val) (ptr_val p ∷ []) (ptr_val p ∷ []) refl $ fjoin t $ feq_i t (List Val) (word p ∷ []) (word p ∷ []) refl $ fjoin t $
-      fpack t (Valss (RawPtr ∷ [])) (within (shape handle.the_type) (p, tt) (word p ∷ [])) (ptr_val p ∷ [], tt) $ fjoin t $ s)
+  handle_in t p h = step (λ s. nothing t $ feq_i t (List Val) (ptr_val p ∷ []) (ptr_val p ∷ []) refl $ fjoin t $ feq_i t
+      (List Val) (word p ∷ []) (word p ∷ []) refl $ fjoin t $
+      fpack t (Valss (RawPtr ∷ [])) (within (shape handle.the_type) (p, tt) (word p ∷ []))
+      (ptr_val p ∷ [], tt) $ fjoin t $ s)
 
   pub handle_out : K → (d : handle.the_row.Denot) (vs : List Val)
       → (vs ≡ word d.at ∷ [] → Seq K 𝓛 (‵ (holds d.at d.held) ∷ Γ) G) → Seq K 𝓛 (‵ (handle.the_row.own_val d vs) ∷ Γ) G
@@ -57,11 +62,14 @@ module _ {M : Type 1} {𝓤 : Ura M} {𝓛 : Logic 𝓤} {K : Type 0} {Γ : List
       k (subst (λ (ps : List Val). vs ≡ vstruct (of_list (ps ++ [])) ∷ []) ep ev))))
 
   pub either : K → (p : Ptr) (h : Option Chair.the_row.Denot) → (p ≡ null_ptr → h ≡ None → Seq K 𝓛 Γ G)
-      → ((b o : ℕ) (x : Chair.the_row.Denot) → p ≡ block_ptr b o → h ≡ Some x → Testable (block_ptr b o) → Seq K 𝓛 (‵ (boxed (block_ptr b o) x) ∷ Γ) G)
+      → ((b o : ℕ) (x : Chair.the_row.Denot) → p ≡ block_ptr b o → h ≡ Some x → Testable (block_ptr b o)
+      → Seq K 𝓛 (‵ (boxed (block_ptr b o) x) ∷ Γ) G)
       → Seq K 𝓛 (‵ (holds p h) ∷ Γ) G
   either t p None none one = fpick t (λ e. drop t $ none e refl)
-  either t p (Some x) none one = in_a_block t p (λ p. boxed p x) (fst∗ 𝓤 (never 𝓤) (sem 𝓛 (ghosts.dealloc_token the_heap (bare (lone Chair.the_row.mir)) null_ptr))) (λ b o e.
-      use1 𝓛 (given (Testable (block_ptr b o)) (‵ (boxed (block_ptr b o) x))) (tested 𝓛 (block_ptr b o) x) $ learn t (λ k. one b o x e refl k))
+  either t p (Some x) none one = in_a_block t p (λ p. boxed p x)
+      (fst∗ 𝓤 (never 𝓤) (sem 𝓛 (ghosts.dealloc_token the_heap (bare (lone Chair.the_row.mir)) null_ptr))) (λ b o e.
+      use1 𝓛 (given (Testable (block_ptr b o)) (‵ (boxed (block_ptr b o) x))) (tested 𝓛 (block_ptr b o) x) $ learn t
+      (λ k. one b o x e refl k))
 
 lies : (R : RattleType) → IsSend R → (p : Ptr) (x : R.Denot) → Keyless (lies_at R full_share p x)
 lies R s (block_ptr b o) x = part_keyless R s full_share x b o
@@ -76,4 +84,9 @@ keyless p None = λ _. tt
 keyless p (Some x) = (lies Chair.the_row sent p x, frees.frees the_heap (bare (lone Chair.the_row.mir)) p)
 
 abbrev pub E : Bx
-E = record { row = Chair.the_row; laws = chair.the_row_laws; al = record { row = Heap.the_row; laws = heap.the_row_laws; g = ghosts; d = dict; drops = impl [] tnil dnil } }
+E = record {
+  row = Chair.the_row;
+  laws = chair.the_row_laws;
+  al = record
+      { row = Heap.the_row; laws = heap.the_row_laws; g = ghosts; d = dict; drops = impl [] tnil dnil };
+}

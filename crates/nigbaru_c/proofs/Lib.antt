@@ -1,2 +1,3 @@
 mod Holding
 mod Laying
+mod Texts

@@ -1,10 +1,11 @@
 -- How C gets the history.
 --     status_of_next   the status of what comes next
+--     IsNumber, IsLength      the number of an entry's session, and the length of its text, in range
 --     Shows            how what comes next is written into the structure of C
 --     HandsOut         one more entry is handed out, or some are lost, or there is none
 --     Follows          HandsOut, of what a handle holds
-use Rattle.std.specs.Prelude.{◌≡◌, ℕ, length, take, Option, None, Some}
-use Rattle.ring_log.specs.RingPass.{known_of}
+use Rattle.std.specs.Prelude.{◌≡◌, ◌≤◌, ℕ, length, take, Option, None, Some}
+use Rattle.chain_log.specs.RingPass.{known_of}
 use Rattle.xa_statement.specs.Canonical.{statement_text}
 use Rattle.xa_endless.specs.Following.{Hands}
 use Rattle.xa_endless.specs.Seen.{HasOnlySeen}
@@ -20,10 +21,20 @@ status_of_next (Some End) = 2
 status_of_next (Some (Lost count)) = 16
 status_of_next None = 9
 
+-- from 1 to 16, as the numbers of sessions are
+abbrev pub IsNumber : ℕ → Type 0
+IsNumber number = (1 ≤ number) × (number ≤ 16)
+
+-- from 1 to 304, which is the room for a text
+abbrev pub IsLength : ℕ → Type 0
+IsLength count = (1 ≤ count) × (count ≤ 304)
+
 -- an entry's session and the canonical text of its statement, or how many entries are lost, and else nothing
 abbrev pub Shows : Option Next → Handed → Type 0
-Shows (Some (IsEntry entry)) handed = (handed.number ≡ entry.session) × (handed.length ≡ length (statement_text entry.statement))
+Shows (Some (IsEntry entry)) handed =
+    (handed.number ≡ entry.session) × (handed.length ≡ length (statement_text entry.statement))
     × (take handed.length handed.text ≡ statement_text entry.statement) × (handed.lost ≡ 0)
+    × IsNumber handed.number × IsLength handed.length
 Shows (Some (Lost count)) handed = (handed.number ≡ 0) × (handed.length ≡ 0) × (handed.lost ≡ count)
 Shows (Some End) handed = (handed.number ≡ 0) × (handed.length ≡ 0) × (handed.lost ≡ 0)
 Shows None handed = (handed.number ≡ 0) × (handed.length ≡ 0) × (handed.lost ≡ 0)

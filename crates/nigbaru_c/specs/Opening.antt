@@ -3,7 +3,7 @@
 --     IsOpenStatus     the cause of each status, in the order of test
 use Rattle.std.specs.Prelude.{◌≡◌, ◌≢◌, ◌⊎◌, ℕ, Option, None, Some}
 use Rattle.decision_log.specs.Opens.{IsCount}
-use Rattle.ring_log.specs.RingOpens.{AreRows}
+use Rattle.chain_log.specs.RingOpens.{AreRows}
 use Rattle.xa_endless.specs.Opens.{Opens}
 use Rattle.xa_endless.specs.declared.store.EndlessStore.{EndlessStore}
 use Rattle.nigbaru_c.specs.declared.chair.Chair.{Chair}
@@ -13,7 +13,8 @@ abbrev pub Opened : ℕ → ℕ → Option EndlessStore → Type 0
 Opened rows sessions None = ⊥
 Opened rows sessions (Some store) = Opens rows sessions store
 
--- each status but 0 has one cause: the handle that is to be filled held something, a number was out of its range, or memory was missing
+-- each status but 0 has one cause: the handle that is to be filled held something, a number was out of its range, or
+-- memory was missing
 pub record IsOpenStatus (rows sessions : ℕ) (held : Option Chair) (status : ℕ) : Type 0 where
   pub some : (status ≡ 0) ⊎ ((status ≡ 13) ⊎ ((status ≡ 10) ⊎ (status ≡ 7)))
   pub held_is : status ≡ 13 → held ≢ None

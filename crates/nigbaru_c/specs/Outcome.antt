@@ -6,13 +6,14 @@
 --     Comes            the same for the session that a handle holds
 use Rattle.std.specs.Prelude.{◌≡◌, ◌<◌, ◌^◌, ℕ, List, Result, Ok, Err, Option, None, Some}
 use Rattle.xa_xid.specs.declared.statement.Statement.{Statement}
-use Rattle.xa_xid.specs.declared.statement.Statement.TheVariants.{Start, End, Prepare, Commit, Rollback, Recover, Unsupported, Get, Put, Del, Disconnect}
+use Rattle.xa_xid.specs.declared.statement.Statement.TheVariants.{Start, End, Prepare, Commit, Rollback, Recover}
+use Rattle.xa_xid.specs.declared.statement.Statement.TheVariants.{Unsupported, Get, Put, Del, Disconnect}
 use Rattle.xa_statement.specs.Grammar.{Spells}
 use Rattle.xa_statement.specs.FaultPlace.{FaultAt}
 use Rattle.xa_server.specs.declared.reply.Reply.{Reply}
 use Rattle.xa_server.specs.declared.reply.Reply.TheVariants.{Ok as Accepted, Value, Recovered, Refused}
 use Rattle.xa_session.specs.declared.answer.Answer.{Answer}
-use Rattle.ring_log.specs.RingPass.{known_of}
+use Rattle.chain_log.specs.RingPass.{known_of}
 use Rattle.xa_endless.specs.Answers.{Finds, TriesOnce}
 use Rattle.xa_endless.specs.Stays.{Stays}
 use Rattle.xa_endless.specs.declared.fault.EndlessFault.{EndlessFault}
@@ -58,7 +59,8 @@ Fits (Del key) = Unit {0}
 Fits Disconnect = Unit {0}
 
 -- one try: the session is of its store, the statement is answered or not for a cause, and at most one exchange was made
-pub record HasTried (statement : Statement) (result : Result Answer EndlessFault) (old new : EndlessSession) : Type 0 where
+pub record HasTried (statement : Statement) (result : Result Answer EndlessFault)
+    (old new : EndlessSession) : Type 0 where
   pub stays : Stays old new
   pub finds : Finds old.store.value.log statement result new.member.replica old.member.pass new.member.pass
   pub once : TriesOnce result (known_of old.member.pass) (known_of new.member.pass)

@@ -4,7 +4,7 @@
 --     IsSeatStatus     the cause of each status, in the order of test, at a store
 --     IsTakeStatus     the same, if a store is held
 use Rattle.std.specs.Prelude.{◌≡◌, ◌≢◌, ◌≤◌, ◌⊎◌, ℕ, Option, None, Some}
-use Rattle.ring_log.specs.RingPass.{known_of}
+use Rattle.chain_log.specs.RingPass.{known_of}
 use Rattle.xa_endless.specs.declared.session.EndlessSession.{EndlessSession}
 use Rattle.xa_endless.specs.declared.store.EndlessStore.{EndlessStore}
 use Rattle.nigbaru_c.specs.declared.chair.Chair.{Chair}
@@ -23,8 +23,8 @@ Takes number store session = ⊥
 abbrev pub IsNumber : ℕ → EndlessStore → Type 0
 IsNumber number store = (1 ≤ number) × (number ≤ store.log.sessions)
 
--- each status but 0 has one cause: the handle that is to be filled held something, the store has no such session, memory was missing, or
--- somebody had the session
+-- each status but 0 has one cause: the handle that is to be filled held something, the store has no such session,
+-- memory was missing, or somebody had the session
 pub record IsSeatStatus (number : ℕ) (store : EndlessStore) (held : Option Chair) (status : ℕ) : Type 0 where
   pub some : (status ≡ 0) ⊎ ((status ≡ 13) ⊎ ((status ≡ 10) ⊎ ((status ≡ 7) ⊎ (status ≡ 11))))
   pub held_is : status ≡ 13 → held ≢ None

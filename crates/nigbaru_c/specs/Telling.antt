@@ -2,7 +2,8 @@
 --     Tells            the place, the counts and the bytes
 --     IsLaid           an identifier as X/Open lays it out
 --     Lists            the identifiers of an answer, as many as there is room for
-use Rattle.std.specs.Prelude.{◌≡◌, ◌<◌, ◌≤◌, ◌+◌, ◌^◌, ◌++◌, ℕ, pos, List, length, take, slice_index_or, Option, None, Some}
+use Rattle.std.specs.Prelude.{◌≡◌, ◌<◌, ◌≤◌, ◌+◌, ◌^◌, ◌++◌, ℕ, pos, negsuc, List, length, take}
+use Rattle.std.specs.Prelude.{slice_index_or, Option, Some, None}
 use Rattle.xa_xid.specs.declared.xid.Xid.{Xid}
 use Rattle.xa_server.specs.declared.reply.Reply.{Reply}
 use Rattle.xa_server.specs.declared.reply.Reply.TheVariants.{Ok as Accepted, Value, Recovered, Refused}
@@ -15,7 +16,8 @@ use Rattle.nigbaru_c.specs.declared.outcome.Outcome.TheVariants.{Vacant, Misspel
 -- the value, the count of identifiers, or the error of a reply, and only that
 abbrev pub TellsReply : Reply → Told → Type 0
 TellsReply Accepted told = (told.length ≡ 0) × (told.count ≡ 0) × (told.error ≡ 0)
-TellsReply (Value (Some value)) told = (told.length ≡ length value.items) × (take told.length told.value ≡ value.items) × (told.count ≡ 0) × (told.error ≡ 0)
+TellsReply (Value (Some value)) told = (told.length ≡ length value.items) × (take told.length told.value ≡ value.items)
+    × (told.count ≡ 0) × (told.error ≡ 0) × (told.length ≤ 64)
 TellsReply (Value None) told = (told.length ≡ 0) × (told.count ≡ 0) × (told.error ≡ 0)
 TellsReply (Recovered xids) told = (told.length ≡ 0) × (told.count ≡ length xids) × (told.error ≡ 0)
 TellsReply (Refused error) told = (told.length ≡ 0) × (told.count ≡ 0) × (told.error ≡ number_of error)
@@ -32,9 +34,11 @@ Tells (Unanswered fault) told = TellsPlace 0 told
 Tells Vacant told = TellsPlace 0 told
 Tells OutOfRange told = TellsPlace 0 told
 
--- X/Open's parts: the formatID, the two lengths, and the bytes of the gtrid followed by those of the bqual
+-- X/Open's parts: the formatID, or that of no identifier (-1) if it is too large, the two lengths, and the bytes of the
+-- gtrid followed by those of the bqual
 pub record IsLaid (xid : Xid) (part : XidPart) : Type 0 where
   pub format : xid.format_id < 2 ^ 63 → part.format_id ≡ pos xid.format_id
+  pub too_large : 2 ^ 63 ≤ xid.format_id → part.format_id ≡ negsuc 0
   pub gtrid : part.gtrid_length ≡ pos (length xid.gtrid.items)
   pub bqual : part.bqual_length ≡ pos (length xid.bqual.items)
   pub bytes : take (length (xid.gtrid.items ++ xid.bqual.items)) part.data ≡ xid.gtrid.items ++ xid.bqual.items
@@ -42,7 +46,8 @@ pub record IsLaid (xid : Xid) (part : XidPart) : Type 0 where
 -- each identifier for which there is room, at its place, and after the last of them what was there
 pub record LaidOut (xids : List Xid) (old new : List XidPart) : Type 0 where
   pub room : length new ≡ length old
-  pub each : (k : ℕ) (d : Xid) (e : XidPart) → k < length xids → k < length new → IsLaid (slice_index_or xids k d) (slice_index_or new k e)
+  pub each : (k : ℕ) (d : Xid) (e : XidPart) → k < length xids → k < length new
+      → IsLaid (slice_index_or xids k d) (slice_index_or new k e)
   pub rest : (k : ℕ) (e : XidPart) → length xids ≤ k → slice_index_or new k e ≡ slice_index_or old k e
 
 -- the identifiers of a list; after any other reply what was there

@@ -49,7 +49,9 @@ pub extern "C" fn nigbaru_raw_attempt(
     //   handle without a session stays as it is.
     // Proved (c, attempt-answer): The answer's fields and the identifiers that C gets are those of the reply, and 0
     //   where the reply has none. Identifiers are written only for a list.
-    ensures outcome { (outcome : OutcomeOf) × (result ≡ status_of outcome) × Tells outcome told.new × Lists outcome xids.old xids.new × Comes text.now outcome (session_of session.old.held) (session_of session.new.held) }
+    ensures outcome { (outcome : OutcomeOf) × (result ≡ status_of outcome) × Tells outcome told.new
+        × Lists outcome xids.old xids.new × Comes text.now outcome (session_of session.old.held)
+        (session_of session.new.held) }
     // Proved (c, attempt-fails)
     ensures same { session_of session.old.held ≡ None → session.new.held ≡ session.old.held }
 {

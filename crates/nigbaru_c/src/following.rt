@@ -26,6 +26,7 @@ impl Handed {
     }
 
     /// An entry.
+    #[tactic(auto, using(crate::proofs::Texts::some_text))]
     fn of_entry(entry: &Entry) -> Handed
         ensures { Shows (Some (IsEntry entry.now)) result }
     {
@@ -104,7 +105,8 @@ pub extern "C" fn nigbaru_raw_follow(alloc: Global, session: &mut Handle, entry:
     //   statement's canonical text, or is told how many entries are lost. Entries are counted as lost only if the
     //   history has, from the first of them on, at least as many as the ring has rows. `NONE` is returned only at the
     //   end of the history, at which the call has looked. A handle without a session stays as it is.
-    ensures next { (next : Option NextOf) × (result ≡ status_of_next next) × Shows next entry.new × Follows next (session_of session.old.held) (session_of session.new.held) }
+    ensures next { (next : Option NextOf) × (result ≡ status_of_next next) × Shows next entry.new
+        × Follows next (session_of session.old.held) (session_of session.new.held) }
     // Proved (c, follow)
     ensures same { session_of session.old.held ≡ None → session.new.held ≡ session.old.held }
 {

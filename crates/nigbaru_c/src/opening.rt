@@ -4,7 +4,7 @@ ghost use Rattle.nigbaru_c.specs.Holds.{store_of};
 ghost use Rattle.nigbaru_c.specs.Opening.{Opened, IsOpenStatus};
 
 use crate::{Chair, Handle, Hold, status};
-use ring_log::RingFault;
+use chain_log::RingFault;
 use std::alloc::Global;
 use xa_endless::EndlessStore;
 

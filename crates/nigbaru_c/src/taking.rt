@@ -65,7 +65,8 @@ pub extern "C" fn nigbaru_raw_take(
 ) -> u32
     // Proved (c, take): A session that C takes, for the first time or after it left, is of the store, and has the
     //   number that was asked for.
-    ensures ok { result ≡ 0 → (session.old.held ≡ None) × Takes number (store_of store.old.held) (session_of session.new.held) }
+    ensures ok { result ≡ 0 → (session.old.held ≡ None) × Takes number (store_of store.old.held)
+        (session_of session.new.held) }
     // Proved (c, take-fails): After a fault of taking a session no handle has changed. The fault is the first in the
     //   order of test whose cause holds.
     ensures err { result ≢ 0 → session.new.held ≡ session.old.held }

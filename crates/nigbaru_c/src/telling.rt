@@ -12,6 +12,7 @@ use xa_xid::{Bytes, Xid};
 pub(crate) fn copy_front(target: &mut [u8], source: &[u8])
     ensures room { length target.new ≡ length target.old }
     ensures whole { length source.now ≤ length target.old → take (length source.now) target.new ≡ source.now }
+    ensures cut { length target.old ≤ length source.now → target.new ≡ take (length target.old) source.now }
 {
     let count = source.len().min(target.len());
     target[..count].copy_from_slice(&source[..count]);
@@ -33,8 +34,9 @@ impl Told {
 
     /// A value.
     fn of_value(place: u64, bytes: &Bytes) -> Told
-        ensures { (result.place ≡ place) × (result.length ≡ length bytes.now.items) × (take result.length result.value ≡ bytes.now.items)
-            × (result.count ≡ 0) × (result.error ≡ 0) }
+        ensures { (result.place ≡ place) × (result.length ≡ length bytes.now.items)
+            × (take result.length result.value ≡ bytes.now.items)
+            × (result.count ≡ 0) × (result.error ≡ 0) × (result.length ≤ 64) }
     {
         let mut value = [0; 64];
         copy_front(&mut value, bytes.as_slice());

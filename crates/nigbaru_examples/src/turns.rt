@@ -9,7 +9,8 @@ use nigbaru::{Log, Reply, Session};
 use std::alloc::Global;
 use std::sync::Wait;
 
-/// Each text is said by the first session, which then meets the second, and by the second. They stay sessions of one store.
+/// Each text is said by the first session, which then meets the second, and by the second. They stay sessions of one
+/// store.
 pub fn say_in_turn<R: Wait>(
     rt: &R,
     first: &mut Session<'_, Log>,

@@ -1,5 +1,6 @@
 -- A branch fails by writes that were dropped.
-use Rattle.std.proofs.Common.{◌≡◌, ◌↔◌, List, [], ◌∷◌, ◌++◌, refl, ap, sym, ◌∙◌, subst, Bool, true, false, append_assoc, append-nil}
+use Rattle.std.proofs.Common.{◌≡◌, ◌↔◌, List, [], ◌∷◌, ◌++◌, refl, ap, sym, ◌∙◌, subst, Bool, true, false, append_assoc}
+use Rattle.std.proofs.Common.{append-nil}
 use Rattle.std.specs.Prelude.{Option, Some, None, ◌||◌, ◌&&◌, not}
 use Rattle.std.specs.List.{list_any, list_all}
 use Rattle.std.specs.Option.{option_map, option_map_or, unwrap_or}
@@ -13,7 +14,8 @@ use Rattle.xa_audit.specs.declared.lives.Life.{Life}
 use Rattle.xa_audit.specs.declared.lives.Lives.{Lives}
 use Rattle.xa_audit.specs.Globals.{is_committed, is_rolled_back, last_end}
 use Rattle.xa_audit.specs.Laws.{is_write, is_within, DropsWrites, FailsBy}
-use Rattle.xa_audit.specs.Lives.{no_lives, noted, dropped, dropped_by, written_life, prepared_life, left_by, left_going, ends_in, lives_after}
+use Rattle.xa_audit.specs.Lives.{no_lives, noted, dropped, dropped_by, written_life, prepared_life, left_by, left_going}
+use Rattle.xa_audit.specs.Lives.{ends_in, lives_after}
 use Rattle.xa_audit.proofs.Lists.{last_more}
 use Rattle.xa_audit.proofs.Taking.{took_by}
 
@@ -57,12 +59,15 @@ or_false false = refl
 one_within : (deed : Deed) → is_within deed ≡ true → list_all is_within (deed ∷ []) ≡ true
 one_within deed is = and_true (is_within deed) true is refl
 
-within_more : (life : List Deed) (deed : Deed) → list_all is_within life ≡ true → is_within deed ≡ true → list_all is_within (life ++ deed ∷ []) ≡ true
+within_more : (life : List Deed) (deed : Deed) → list_all is_within life ≡ true → is_within deed ≡ true
+    → list_all is_within (life ++ deed ∷ []) ≡ true
 within_more life deed all is =
-    list_all-append is_within life (deed ∷ []) ∙ and_true (list_all is_within life) (list_all is_within (deed ∷ [])) all (one_within deed is)
+    list_all-append is_within life (deed ∷ []) ∙ and_true (list_all is_within life) (list_all is_within (deed ∷ [])) all
+    (one_within deed is)
 
 -- a deed more within a life that goes on
-on_more : (wrote now : Bool) (deeds : List Deed) (deed : Deed) → is_within deed ≡ true → (wrote || (is_write deed || false)) ≡ now → GoesOn wrote deeds
+on_more : (wrote now : Bool) (deeds : List Deed) (deed : Deed) → is_within deed ≡ true
+    → (wrote || (is_write deed || false)) ≡ now → GoesOn wrote deeds
     → GoesOn now (deeds ++ deed ∷ [])
 on_more wrote now deeds deed is sum on = record {
   before = on.before;
@@ -73,13 +78,15 @@ on_more wrote now deeds deed is sum on = record {
 }
 
 -- a deed more after a life that was rolled back, which begins and ends none
-drops_more : (deeds : List Deed) (deed : Deed) → is_within deed ≡ true → DropsWrites deeds → DropsWrites (deeds ++ deed ∷ [])
+drops_more : (deeds : List Deed) (deed : Deed) → is_within deed ≡ true → DropsWrites deeds
+    → DropsWrites (deeds ++ deed ∷ [])
 drops_more deeds deed is drops = record {
   before = drops.before;
   life = drops.life;
   later = drops.later ++ deed ∷ [];
   cut =
-      ap (λ l. l ++ deed ∷ []) drops.cut ∙ append_assoc drops.before (Starts ∷ (drops.life ++ (RollsBack ∷ drops.later))) (deed ∷ [])
+      ap (λ l. l ++ deed ∷ []) drops.cut ∙ append_assoc drops.before
+      (Starts ∷ (drops.life ++ (RollsBack ∷ drops.later))) (deed ∷ [])
       ∙ ap (λ l. drops.before ++ (Starts ∷ l)) (append_assoc drops.life (RollsBack ∷ drops.later) (deed ∷ []));
   within = drops.within;
   wrote = drops.wrote;
@@ -99,10 +106,12 @@ now_dropped deeds on = record {
 }
 
 -- the last life didn't end so
-other_last : (over : List End) (end : End) (deeds : List Deed) → (Some end ≡ Some RolledBack → ⊥) → last_end (over ++ end ∷ []) ≡ Some RolledBack → DropsWrites deeds
+other_last : (over : List End) (end : End) (deeds : List Deed) → (Some end ≡ Some RolledBack → ⊥)
+    → last_end (over ++ end ∷ []) ≡ Some RolledBack → DropsWrites deeds
 other_last over end deeds apart is = absurd (apart (sym (last_more over end) ∙ is))
 
-writes_step : (going : Option Life) (over : List End) (deeds : List Deed) → Tells going over deeds → Tells (option_map written_life going) over (deeds ++ Writes ∷ [])
+writes_step : (going : Option Life) (over : List End) (deeds : List Deed) → Tells going over deeds
+    → Tells (option_map written_life going) over (deeds ++ Writes ∷ [])
 unfolding Tells
 writes_step None over deeds tells = λ is. drops_more deeds Writes refl (tells is)
 writes_step (Some life) over deeds tells = on_more life.wrote true deeds Writes refl (or_true life.wrote) tells
@@ -111,14 +120,17 @@ prepares_step : (going : Option Life) (over : List End) (deeds : List Deed) → 
     → Tells (option_map prepared_life going) over (deeds ++ Prepares ∷ [])
 unfolding Tells
 prepares_step None over deeds tells = λ is. drops_more deeds Prepares refl (tells is)
-prepares_step (Some life) over deeds tells = on_more life.wrote life.wrote deeds Prepares refl (or_false life.wrote) tells
+prepares_step (Some life) over deeds tells =
+    on_more life.wrote life.wrote deeds Prepares refl (or_false life.wrote) tells
 
-by_wrote : (wrote : Bool) (over : List End) (deeds : List Deed) → GoesOn wrote deeds → last_end (over ++ dropped_by wrote ∷ []) ≡ Some RolledBack
+by_wrote : (wrote : Bool) (over : List End) (deeds : List Deed) → GoesOn wrote deeds
+    → last_end (over ++ dropped_by wrote ∷ []) ≡ Some RolledBack
     → DropsWrites (deeds ++ RollsBack ∷ [])
 by_wrote true over deeds on is = now_dropped deeds on
 by_wrote false over deeds on is = other_last over Empty (deeds ++ RollsBack ∷ []) (λ e. absurd (cc)) is
 
-rolls_step : (going : Option Life) (over : List End) (deeds : List Deed) → Tells going over deeds → Tells None (over ++ dropped going ∷ []) (deeds ++ RollsBack ∷ [])
+rolls_step : (going : Option Life) (over : List End) (deeds : List Deed) → Tells going over deeds
+    → Tells None (over ++ dropped going ∷ []) (deeds ++ RollsBack ∷ [])
 unfolding Tells
 rolls_step None over deeds tells = λ is. other_last over Empty (deeds ++ RollsBack ∷ []) (λ e. absurd (cc)) is
 rolls_step (Some life) over deeds tells = λ is. by_wrote life.wrote over deeds tells is
@@ -136,18 +148,22 @@ step lives deeds RollsBack tells = rolls_step lives.going lives.over deeds tells
 TellsAll : Option Lives → List Deed → Type 0
 TellsAll lives deeds = Tells (unwrap_or lives no_lives).going (unwrap_or lives no_lives).over deeds
 
-steps : (deeds before : List Deed) (lives : Option Lives) → TellsAll lives before → TellsAll (lives_after lives deeds) (before ++ deeds)
+steps : (deeds before : List Deed) (lives : Option Lives) → TellsAll lives before
+    → TellsAll (lives_after lives deeds) (before ++ deeds)
 unfolding lives_after TellsAll
 steps [] before lives tells = subst (λ (l : List Deed). TellsAll lives l) (sym (append-nil before)) tells
 steps (deed ∷ deeds) before lives tells =
-    subst (λ (l : List Deed). TellsAll (lives_after (Some (noted (unwrap_or lives no_lives) deed)) deeds) l) (append_assoc before (deed ∷ []) deeds)
-    (steps deeds (before ++ deed ∷ []) (Some (noted (unwrap_or lives no_lives) deed)) (step (unwrap_or lives no_lives) before deed tells))
+    subst (λ (l : List Deed). TellsAll (lives_after (Some (noted (unwrap_or lives no_lives) deed)) deeds) l)
+    (append_assoc before (deed ∷ []) deeds)
+    (steps deeds (before ++ deed ∷ []) (Some (noted (unwrap_or lives no_lives) deed))
+    (step (unwrap_or lives no_lives) before deed tells))
 
 from_none : TellsAll None []
 unfolding TellsAll Tells
 from_none = λ is. absurd (cc)
 
-tells_of : (deeds : List Deed) (lives : Lives) → lives_after None deeds ≡ Some lives → Tells lives.going lives.over deeds
+tells_of : (deeds : List Deed) (lives : Lives) → lives_after None deeds ≡ Some lives
+    → Tells lives.going lives.over deeds
 unfolding TellsAll
 tells_of deeds lives is = subst (λ (l : Option Lives). TellsAll l deeds) is (steps deeds [] None from_none)
 
@@ -163,23 +179,28 @@ left_apart : (prepared : Bool) → Some (left_by prepared) ≡ Some RolledBack �
 left_apart true e = absurd (cc)
 left_apart false e = absurd (cc)
 
-drops_by : (going : Option Life) (over : List End) (deeds : List Deed) → Tells going over deeds → last_end (over ++ left_going going) ≡ Some RolledBack
+drops_by : (going : Option Life) (over : List End) (deeds : List Deed) → Tells going over deeds
+    → last_end (over ++ left_going going) ≡ Some RolledBack
     → DropsWrites deeds
 unfolding Tells
 drops_by None over deeds tells is = tells (ap last_end (sym (append-nil over)) ∙ is)
-drops_by (Some life) over deeds tells is = absurd (left_apart life.prepared (sym (last_more over (left_by life.prepared)) ∙ is))
+drops_by (Some life) over deeds tells is =
+    absurd (left_apart life.prepared (sym (last_more over (left_by life.prepared)) ∙ is))
 
 -- a branch that failed
 pub fails_by : (deeds : List Deed) (lives : Lives) → lives_after None deeds ≡ Some lives
-    → (not (list_any is_committed (ends_in lives)) && option_map_or is_rolled_back (last_end (ends_in lives)) false) ≡ true → FailsBy deeds
+    → (not (list_any is_committed (ends_in lives)) && option_map_or is_rolled_back (last_end (ends_in lives)) false)
+    ≡ true → FailsBy deeds
 fails_by deeds lives is failed = (
   sym (took_by deeds) ∙ ap (λ l. option_map_or (λ (x : Lives). list_any is_committed (ends_in x)) l false) is
       ∙ not_false (list_any is_committed (ends_in lives)) (and_left _ _ failed),
-  drops_by lives.going lives.over deeds (tells_of deeds lives is) (rolled (last_end (ends_in lives)) (and_right _ _ failed)),
+  drops_by lives.going lives.over deeds (tells_of deeds lives is)
+      (rolled (last_end (ends_in lives)) (and_right _ _ failed)),
 )
 
 -- The other way.
-after_more : (lives : Option Lives) (xs ys : List Deed) → lives_after lives (xs ++ ys) ≡ lives_after (lives_after lives xs) ys
+after_more : (lives : Option Lives) (xs ys : List Deed)
+    → lives_after lives (xs ++ ys) ≡ lives_after (lives_after lives xs) ys
 unfolding lives_after
 after_more lives [] ys = refl
 after_more lives (x ∷ xs) ys = after_more (Some (noted (unwrap_or lives no_lives) x)) xs ys
@@ -205,13 +226,20 @@ record Lived (lives : Lives) (wrote : Bool) (deeds : List Deed) : Type 0 where
   after : lives_after (Some lives) deeds ≡ Some now
   goes : Goes wrote now.going
 
-lived : (life : List Deed) (lives : Lives) (wrote : Bool) → Goes wrote lives.going → list_all is_within life ≡ true → Lived lives (wrote || list_any is_write life) life
+lived : (life : List Deed) (lives : Lives) (wrote : Bool) → Goes wrote lives.going → list_all is_within life ≡ true
+    → Lived lives (wrote || list_any is_write life) life
 unfolding lives_after
-lived [] lives wrote goes within = record { now = lives; after = refl; goes = subst (λ (b : Bool). Goes b lives.going) (sym (or_false wrote)) goes }
+lived [] lives wrote goes within =
+    record { now = lives; after = refl; goes = subst (λ (b : Bool). Goes b lives.going) (sym (or_false wrote)) goes }
 lived (Starts ∷ life) lives wrote goes within = absurd (true≢false (sym within))
 lived (Writes ∷ life) lives wrote goes within =
     let rest = lived life (noted lives Writes) true (wrote_now wrote lives.going goes) within in
-    record { now = rest.now; after = rest.after; goes = subst (λ (b : Bool). Goes b rest.now.going) (sym (or_true wrote)) rest.goes }
+    record {
+      now = rest.now;
+      after = rest.after;
+      goes = subst (λ (b : Bool). Goes b rest.now.going)
+          (sym (or_true wrote)) rest.goes;
+    }
 lived (Prepares ∷ life) lives wrote goes within =
     let rest = lived life (noted lives Prepares) wrote (prepared_now wrote lives.going goes) within in
     record { now = rest.now; after = rest.after; goes = rest.goes }
@@ -230,13 +258,16 @@ record Ended (lives : Option Lives) : Type 0 where
   going : now.going ≡ None
   last : last_end now.over ≡ Some RolledBack
 
-still : (later : List Deed) (lives : Lives) → lives.going ≡ None → last_end lives.over ≡ Some RolledBack → list_all is_within later ≡ true
+still : (later : List Deed) (lives : Lives) → lives.going ≡ None → last_end lives.over ≡ Some RolledBack
+    → list_all is_within later ≡ true
     → Ended (lives_after (Some lives) later)
 unfolding lives_after
 still [] lives none last within = record { now = lives; is = refl; going = none; last = last }
 still (Starts ∷ later) lives none last within = absurd (true≢false (sym within))
-still (Writes ∷ later) lives none last within = still later (noted lives Writes) (ap (option_map written_life) none) last within
-still (Prepares ∷ later) lives none last within = still later (noted lives Prepares) (ap (option_map prepared_life) none) last within
+still (Writes ∷ later) lives none last within =
+    still later (noted lives Writes) (ap (option_map written_life) none) last within
+still (Prepares ∷ later) lives none last within =
+    still later (noted lives Prepares) (ap (option_map prepared_life) none) last within
 still (Commits ∷ later) lives none last within = absurd (true≢false (sym within))
 still (RollsBack ∷ later) lives none last within = absurd (true≢false (sym within))
 
@@ -248,10 +279,12 @@ ended_after deeds drops =
     let life = lived drops.life begun false refl drops.within in
     let end : Lives = noted life.now RollsBack in
     let rolled_back = last_more life.now.over (dropped life.now.going)
-    ∙ ap (λ e. Some e) (dropped_then life.now.going (subst (λ (b : Bool). Goes b life.now.going) drops.wrote life.goes)) in
+    ∙ ap (λ e. Some e) (dropped_then life.now.going (subst
+    (λ (b : Bool). Goes b life.now.going) drops.wrote life.goes)) in
     let ended = still drops.later end refl rolled_back drops.last in
     subst (λ (l : Option Lives). Ended l)
-    (sym (ap (lives_after None) drops.cut ∙ after_more None drops.before (Starts ∷ (drops.life ++ (RollsBack ∷ drops.later)))
+    (sym (ap (lives_after None) drops.cut ∙ after_more None drops.before
+    (Starts ∷ (drops.life ++ (RollsBack ∷ drops.later)))
     ∙ after_more (Some begun) drops.life (RollsBack ∷ drops.later)
     ∙ ap (λ l. lives_after l (RollsBack ∷ drops.later)) life.after))
     ended
@@ -261,7 +294,8 @@ ended_is lives now is = cc
 
 -- a branch whose writes were dropped fails
 pub failed_by : (deeds : List Deed) (lives : Lives) → lives_after None deeds ≡ Some lives → FailsBy deeds
-    → (not (list_any is_committed (ends_in lives)) && option_map_or is_rolled_back (last_end (ends_in lives)) false) ≡ true
+    → (not (list_any is_committed (ends_in lives)) && option_map_or is_rolled_back (last_end (ends_in lives)) false)
+    ≡ true
 failed_by deeds lives is (none, drops) =
     let ended = ended_after deeds drops in
     let same : ended.now ≡ lives = ended_is ended.now lives (sym ended.is ∙ is) in
@@ -270,19 +304,24 @@ failed_by deeds lives is (none, drops) =
     ap (λ g. last_end (lives.over ++ left_going g)) going ∙ ap last_end (append-nil lives.over)
     ∙ ap (λ (l : Lives). last_end l.over) (sym same) ∙ ended.last in
     let untaken : list_any is_committed (ends_in lives) ≡ false =
-    sym (ap (λ l. option_map_or (λ (x : Lives). list_any is_committed (ends_in x)) l false) is) ∙ took_by deeds ∙ none in
-    and_true (not (list_any is_committed (ends_in lives))) (option_map_or is_rolled_back (last_end (ends_in lives)) false)
+    sym (ap (λ l. option_map_or (λ (x : Lives). list_any is_committed (ends_in x)) l false) is) ∙ took_by deeds
+    ∙ none in
+    and_true (not (list_any is_committed (ends_in lives)))
+    (option_map_or is_rolled_back (last_end (ends_in lives)) false)
     (ap not untaken) (ap (λ e. option_map_or is_rolled_back e false) last)
 
 -- whether the branch failed, by its lives
 abbrev has_failed : Lives → Bool
-has_failed lives = not (list_any is_committed (ends_in lives)) && option_map_or is_rolled_back (last_end (ends_in lives)) false
+has_failed lives =
+    not (list_any is_committed (ends_in lives)) && option_map_or is_rolled_back (last_end (ends_in lives)) false
 
-fails_of : (deeds : List Deed) (lives : Option Lives) → lives_after None deeds ≡ lives → option_map_or has_failed lives false ≡ true → FailsBy deeds
+fails_of : (deeds : List Deed) (lives : Option Lives) → lives_after None deeds ≡ lives
+    → option_map_or has_failed lives false ≡ true → FailsBy deeds
 fails_of deeds None is failed = absurd (true≢false (sym failed))
 fails_of deeds (Some lives) is failed = fails_by deeds lives is failed
 
-failed_of : (deeds : List Deed) (lives : Option Lives) → lives_after None deeds ≡ lives → FailsBy deeds → option_map_or has_failed lives false ≡ true
+failed_of : (deeds : List Deed) (lives : Option Lives) → lives_after None deeds ≡ lives → FailsBy deeds
+    → option_map_or has_failed lives false ≡ true
 failed_of deeds None is (none, drops) = absurd (cc (sym is ∙ (ended_after deeds drops).is))
 failed_of deeds (Some lives) is fails = failed_by deeds lives is fails
 

@@ -23,18 +23,24 @@ use Rattle.xa_audit.specs.Lives.{no_lives, noted, lives_after}
 use Rattle.xa_audit.specs.Following.{state_said, deed_said, Notes}
 
 -- the lives of a branch after a deed, and then these
-told_more : (told : Xid × Deed) (deeds : List (Xid × Deed)) (m n : BTreeMap Xid Lives) → Notes (Some told) m n → (xid : Xid)
-    → lives_after (get xid_cmp n xid) (deeds_about xid deeds) ≡ lives_after (get xid_cmp m xid) (deeds_about xid (told ∷ deeds))
+told_more : (told : Xid × Deed) (deeds : List (Xid × Deed)) (m n : BTreeMap Xid Lives) → Notes (Some told) m n
+    → (xid : Xid)
+    → lives_after (get xid_cmp n xid) (deeds_about xid deeds)
+    ≡ lives_after (get xid_cmp m xid) (deeds_about xid (told ∷ deeds))
 unfolding lives_after deeds_about
 told_more told deeds m n notes xid = elim (same_or_apart xids_total exact_xids xid told.0) [
   | inl is ↦
-      ap (λ found. lives_after found (deeds_about xid deeds)) (notes xid ∙ ap (λ b. cond b now (get xid_cmp m xid)) (turned ∙ ap (λ x. same_xid x told.0) is ∙ itself))
-      ∙ ap (λ x. lives_after (Some (noted (unwrap_or (get xid_cmp m x) no_lives) told.1)) (deeds_about xid deeds)) (sym is)
+      ap (λ found. lives_after found (deeds_about xid deeds))
+      (notes xid ∙ ap (λ b. cond b now (get xid_cmp m xid)) (turned ∙ ap (λ x. same_xid x told.0) is ∙ itself))
+      ∙ ap (λ x. lives_after (Some (noted (unwrap_or (get xid_cmp m x) no_lives) told.1)) (deeds_about xid deeds))
+      (sym is)
       ∙ ap (λ b. lives_after (get xid_cmp m xid) (cond b (told.1 ∷ deeds_about xid deeds) (deeds_about xid deeds)))
       (sym (ap (λ x. same_xid x told.0) is ∙ itself))
   | inr apart ↦
-      ap (λ found. lives_after found (deeds_about xid deeds)) (notes xid ∙ ap (λ b. cond b now (get xid_cmp m xid)) (turned ∙ apart))
-      ∙ ap (λ b. lives_after (get xid_cmp m xid) (cond b (told.1 ∷ deeds_about xid deeds) (deeds_about xid deeds))) (sym apart)
+      ap (λ found. lives_after found (deeds_about xid deeds))
+      (notes xid ∙ ap (λ b. cond b now (get xid_cmp m xid)) (turned ∙ apart))
+      ∙ ap (λ b. lives_after (get xid_cmp m xid) (cond b (told.1 ∷ deeds_about xid deeds) (deeds_about xid deeds)))
+      (sym apart)
 ]
   where
     now : Option Lives
@@ -47,23 +53,29 @@ told_more told deeds m n notes xid = elim (same_or_apart xids_total exact_xids x
     itself = same_itself xids_total exact_xids told.0
 
 -- the same of a statement, which may do nothing
-deed_more : (deed : Option (Xid × Deed)) (deeds : List (Xid × Deed)) (m n : BTreeMap Xid Lives) → Notes deed m n → (xid : Xid)
-    → lives_after (get xid_cmp n xid) (deeds_about xid deeds) ≡ lives_after (get xid_cmp m xid) (deeds_about xid (option_to_list deed ++ deeds))
+deed_more : (deed : Option (Xid × Deed)) (deeds : List (Xid × Deed)) (m n : BTreeMap Xid Lives) → Notes deed m n
+    → (xid : Xid)
+    → lives_after (get xid_cmp n xid) (deeds_about xid deeds)
+    ≡ lives_after (get xid_cmp m xid) (deeds_about xid (option_to_list deed ++ deeds))
 deed_more None deeds m n same xid = ap (λ map. lives_after (get xid_cmp map xid) (deeds_about xid deeds)) same
 deed_more (Some told) deeds m n notes xid = told_more told deeds m n notes xid
 
 -- what a line says, and then these statements
-pub said_more : (said : Said) (state : State) (m n : BTreeMap Xid Lives) (rest : List (ℕ × Statement)) → Notes (deed_said state said) m n → (xid : Xid)
+pub said_more : (said : Said) (state : State) (m n : BTreeMap Xid Lives) (rest : List (ℕ × Statement))
+    → Notes (deed_said state said) m n → (xid : Xid)
     → lives_after (get xid_cmp n xid) (deeds_about xid (deeds_from (state_said state said) rest))
     ≡ lives_after (get xid_cmp m xid) (deeds_about xid (deeds_from state (statement_said said ++ rest)))
 unfolding deeds_from
-said_more Nothing state m n rest same xid = ap (λ map. lives_after (get xid_cmp map xid) (deeds_about xid (deeds_from state rest))) same
+said_more Nothing state m n rest same xid =
+    ap (λ map. lives_after (get xid_cmp map xid) (deeds_about xid (deeds_from state rest))) same
 said_more (Given session statement) state m n rest notes xid =
     deed_more (deed_of state session statement) (deeds_from (after state session statement) rest) m n notes xid
-said_more (Unread place) state m n rest same xid = ap (λ map. lives_after (get xid_cmp map xid) (deeds_about xid (deeds_from state rest))) same
+said_more (Unread place) state m n rest same xid =
+    ap (λ map. lives_after (get xid_cmp map xid) (deeds_about xid (deeds_from state rest))) same
 
 -- a line more, of those that are left
-pub line_more : (line : List ℕ) (lines left : List (List ℕ)) (state new : State) (m n : BTreeMap Xid Lives) (whole : Option Lives) (xid : Xid)
+pub line_more : (line : List ℕ) (lines left : List (List ℕ)) (state new : State) (m n : BTreeMap Xid Lives)
+    (whole : Option Lives) (xid : Xid)
     → left ≡ line ∷ lines → new ≡ state_said state (said_on line) → Notes (deed_said state (said_on line)) m n
     → lives_after (get xid_cmp m xid) (deeds_about xid (deeds_from state (statements_in left))) ≡ whole
     → lives_after (get xid_cmp n xid) (deeds_about xid (deeds_from new (statements_in lines))) ≡ whole
@@ -71,7 +83,8 @@ unfolding statements_in
 line_more line lines left state new m n whole xid cut now notes before =
     ap (λ s. lives_after (get xid_cmp n xid) (deeds_about xid (deeds_from s (statements_in lines)))) now
     ∙ said_more (said_on line) state m n (statements_in lines) notes xid
-    ∙ ap (λ l. lives_after (get xid_cmp m xid) (deeds_about xid (deeds_from state (statements_in l)))) (sym cut) ∙ before
+    ∙ ap (λ l. lives_after (get xid_cmp m xid) (deeds_about xid (deeds_from state (statements_in l)))) (sym cut)
+    ∙ before
 
 -- no line is left
 pub lines_end : (left : List (List ℕ)) (state : State) (found whole : Option Lives) (xid : Xid) → left ≡ []
@@ -81,15 +94,18 @@ lines_end left state found whole xid none before =
     ap (λ l. lives_after found (deeds_about xid (deeds_from state (statements_in l)))) (sym none) ∙ before
 
 -- what is kept after a statement that was refused
-pub refused_notes : (state : State) (session : ℕ) (statement : Statement) (lives : BTreeMap Xid Lives) → is_refused (reply_to state session statement) ≡ true
+pub refused_notes : (state : State) (session : ℕ) (statement : Statement) (lives : BTreeMap Xid Lives)
+    → is_refused (reply_to state session statement) ≡ true
     → Notes (deed_of state session statement) lives lives
 unfolding deed_of
 refused_notes state session statement lives refused =
     subst (λ (b : Bool). Notes (cond b None (deed_by (own_xid state session) statement)) lives lives) (sym refused) refl
 
 -- and after one that was accepted
-pub accepted_notes : (state : State) (session : ℕ) (statement : Statement) (own : Option Xid) (old new : BTreeMap Xid Lives)
-    → is_refused (reply_to state session statement) ≡ false → own ≡ own_xid state session → Notes (deed_by own statement) old new
+pub accepted_notes : (state : State) (session : ℕ) (statement : Statement) (own : Option Xid)
+    (old new : BTreeMap Xid Lives)
+    → is_refused (reply_to state session statement) ≡ false → own ≡ own_xid state session
+    → Notes (deed_by own statement) old new
     → Notes (deed_of state session statement) old new
 unfolding deed_of
 accepted_notes state session statement own old new accepted is notes =

@@ -1,5 +1,6 @@
 -- Global transactions: the order of their names, and one more branch.
-use Rattle.std.proofs.Common.{◌≡◌, ℕ, ◌+◌, ◌<◌, List, [], ◌∷◌, ◌++◌, length, take, get_or, refl, ap, sym, ◌∙◌, subst, true, inl, inr}
+use Rattle.std.proofs.Common.{◌≡◌, ℕ, ◌+◌, ◌<◌, List, [], ◌∷◌, ◌++◌, length, take, get_or, refl, ap, sym, ◌∙◌, subst}
+use Rattle.std.proofs.Common.{true, inl, inr}
 use Rattle.std.specs.Prelude.{Option, Some, cond, filter}
 use Rattle.std.specs.Option.{unwrap_or}
 use Rattle.std.specs.BTreeMap.{BTreeMap, get}
@@ -18,7 +19,8 @@ use Rattle.xa_audit.specs.Globals.{global_cmp, global_of, is_of, if_any}
 use Rattle.xa_audit.proofs.Lists.{filter_more}
 
 pub globals_total : IsTotalOrder global_cmp
-globals_total = then_total (on_total (λ (g : GlobalName). g.format_id) nat_cmp_total) (on_total (λ (g : GlobalName). g.gtrid.items) bytes_total)
+globals_total = then_total (on_total (λ (g : GlobalName). g.format_id) nat_cmp_total)
+    (on_total (λ (g : GlobalName). g.gtrid.items) bytes_total)
 
 parts : GlobalName → ℕ × List ℕ
 parts g = (g.format_id, g.gtrid.items)
@@ -36,21 +38,26 @@ some_more [] x = refl
 some_more (y ∷ ys) x = refl
 
 -- one branch more
-pub branch_more : (m n : BTreeMap GlobalName (List Branch)) (branch d : Branch) (xs : List Branch) (i : ℕ) → i < length xs → branch ≡ get_or xs i d
-    → PutsAt global_cmp m (global_of branch.xid) (unwrap_or (get global_cmp m (global_of branch.xid)) [] ++ branch ∷ []) n
+pub branch_more : (m n : BTreeMap GlobalName (List Branch)) (branch d : Branch) (xs : List Branch) (i : ℕ)
+    → i < length xs → branch ≡ get_or xs i d
+    → PutsAt global_cmp m (global_of branch.xid) (unwrap_or (get global_cmp m (global_of branch.xid)) []
+    ++ branch ∷ []) n
     → ((name : GlobalName) → get global_cmp m name ≡ if_any (filter (is_of name) (take i xs)))
     → (name : GlobalName) → get global_cmp n name ≡ if_any (filter (is_of name) (take (i + 1) xs))
 branch_more m n branch d xs i below at updates before name =
     updates name ∙ ap (λ b. cond b now (get global_cmp m name)) turned
     ∙ (elim (same_or_apart globals_total exact_globals name key) [
       | inl is ↦
-          ap (λ b. cond b now (get global_cmp m name)) (here is) ∙ ap (λ found. Some (unwrap_or found [] ++ branch ∷ [])) (before key)
+          ap (λ b. cond b now (get global_cmp m name)) (here is)
+          ∙ ap (λ found. Some (unwrap_or found [] ++ branch ∷ [])) (before key)
           ∙ some_more (filter (is_of key) (take i xs)) branch
           ∙ ap (λ k. if_any (filter (is_of k) (take i xs) ++ branch ∷ [])) (sym is)
-          ∙ ap (λ b. if_any (cond b (filter (is_of name) (take i xs) ++ branch ∷ []) (filter (is_of name) (take i xs)))) (sym (here is))
+          ∙ ap (λ b. if_any (cond b (filter (is_of name) (take i xs) ++ branch ∷ []) (filter (is_of name) (take i xs))))
+          (sym (here is))
       | inr apart ↦
           ap (λ b. cond b now (get global_cmp m name)) apart ∙ before name
-          ∙ ap (λ b. if_any (cond b (filter (is_of name) (take i xs) ++ branch ∷ []) (filter (is_of name) (take i xs)))) (sym apart)
+          ∙ ap (λ b. if_any (cond b (filter (is_of name) (take i xs) ++ branch ∷ []) (filter (is_of name) (take i xs))))
+          (sym apart)
     ])
     ∙ ap if_any (sym (filter_more (is_of name) (take i xs) branch))
     ∙ ap (λ l. if_any (filter (is_of name) l)) (sym (take_more xs i d below ∙ ap (λ x. take i xs ++ x ∷ []) (sym at)))
@@ -68,7 +75,8 @@ branch_more m n branch d xs i below at updates before name =
     here is = ap (λ k. is_of k branch) is ∙ same_itself globals_total exact_globals key
 
 -- the same, where the name and the copy are what was made of the branch
-pub copy_more : (m n : BTreeMap GlobalName (List Branch)) (key : GlobalName) (copy branch d : Branch) (xs : List Branch) (i : ℕ) → i < length xs
+pub copy_more : (m n : BTreeMap GlobalName (List Branch)) (key : GlobalName) (copy branch d : Branch) (xs : List Branch)
+    (i : ℕ) → i < length xs
     → branch ≡ get_or xs i d → key ≡ global_of branch.xid → copy ≡ branch
     → PutsAt global_cmp m key (unwrap_or (get global_cmp m key) [] ++ copy ∷ []) n
     → ((name : GlobalName) → get global_cmp m name ≡ if_any (filter (is_of name) (take i xs)))

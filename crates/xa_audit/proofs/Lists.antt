@@ -1,5 +1,6 @@
 -- Lists: what a search among what is left finds, a filter and a place more.
-use Rattle.std.proofs.Common.{◌≡◌, ℕ, zero, suc, ◌+◌, ◌≤◌, List, [], ◌∷◌, ◌++◌, length, get_or, refl, ap, sym, ◌∙◌, Bool, true, false, arith}
+use Rattle.std.proofs.Common.{◌≡◌, ℕ, zero, suc, ◌+◌, ◌≤◌, List, [], ◌∷◌, ◌++◌, length, get_or, refl, ap, sym, ◌∙◌}
+use Rattle.std.proofs.Common.{Bool, true, false, arith}
 use Rattle.std.specs.Prelude.{Option, Some, None, cond, filter}
 use Rattle.std.specs.BTreeMap.{BTreeMap, get, is_at}
 use Rattle.std.specs.declared.cmp.Ordering.{Ordering}
@@ -16,16 +17,19 @@ one_more_place d (x ∷ xs) zero = refl
 one_more_place d (x ∷ xs) (suc i) = one_more_place d xs i
 
 keeps_first : {A : Type 0} (b c : Bool) (y x : A) (ys : List A)
-    → cond b (y ∷ cond c (ys ++ x ∷ []) ys) (cond c (ys ++ x ∷ []) ys) ≡ cond c (cond b (y ∷ ys) ys ++ x ∷ []) (cond b (y ∷ ys) ys)
+    → cond b (y ∷ cond c (ys ++ x ∷ []) ys) (cond c (ys ++ x ∷ []) ys)
+    ≡ cond c (cond b (y ∷ ys) ys ++ x ∷ []) (cond b (y ∷ ys) ys)
 keeps_first true true y x ys = refl
 keeps_first true false y x ys = refl
 keeps_first false true y x ys = refl
 keeps_first false false y x ys = refl
 
 -- one more to filter
-pub filter_more : {A : Type 0} (p : A → Bool) (xs : List A) (x : A) → filter p (xs ++ x ∷ []) ≡ cond (p x) (filter p xs ++ x ∷ []) (filter p xs)
+pub filter_more : {A : Type 0} (p : A → Bool) (xs : List A) (x : A)
+    → filter p (xs ++ x ∷ []) ≡ cond (p x) (filter p xs ++ x ∷ []) (filter p xs)
 filter_more p [] x = refl
-filter_more p (y ∷ ys) x = ap (λ l. cond (p y) (y ∷ l) l) (filter_more p ys x) ∙ keeps_first (p y) (p x) y x (filter p ys)
+filter_more p (y ∷ ys) x =
+    ap (λ l. cond (p y) (y ∷ l) l) (filter_more p ys x) ∙ keeps_first (p y) (p x) y x (filter p ys)
 
 -- the last of a list with one more
 pub last_more : (ends : List End) (end : End) → last_end (ends ++ end ∷ []) ≡ Some end
@@ -42,12 +46,14 @@ pub count_le : (verdict : Verdict) (globals : List Global) → count_of verdict 
 unfolding count_of
 count_le verdict [] = omega arith
 count_le verdict (global ∷ globals) =
-    let h = bounded (same_verdict verdict (verdict_of global.1)) (count_of verdict globals) (length globals) (count_le verdict globals) in
+    let h = bounded (same_verdict verdict (verdict_of global.1)) (count_of verdict globals) (length globals)
+    (count_le verdict globals) in
     omega (arith, h)
 
 -- one more is counted, of what is left
 pub count_in : (verdict : Verdict) (left rest : List Global) (global : Global) (count whole : ℕ) → left ≡ global ∷ rest
-    → true ≡ same_verdict verdict (verdict_of global.1) → count + count_of verdict left ≡ whole → count + 1 + count_of verdict rest ≡ whole
+    → true ≡ same_verdict verdict (verdict_of global.1) → count + count_of verdict left ≡ whole
+    → count + 1 + count_of verdict rest ≡ whole
 unfolding count_of
 count_in verdict left rest global count whole cut is before =
     let e : count_of verdict left ≡ 1 + count_of verdict rest =
@@ -56,27 +62,32 @@ count_in verdict left rest global count whole cut is before =
 
 -- or isn't
 pub count_out : (verdict : Verdict) (left rest : List Global) (global : Global) (count whole : ℕ) → left ≡ global ∷ rest
-    → false ≡ same_verdict verdict (verdict_of global.1) → count + count_of verdict left ≡ whole → count + count_of verdict rest ≡ whole
+    → false ≡ same_verdict verdict (verdict_of global.1) → count + count_of verdict left ≡ whole
+    → count + count_of verdict rest ≡ whole
 unfolding count_of
 count_out verdict left rest global count whole cut is before =
     let e : count_of verdict left ≡ 0 + count_of verdict rest =
     ap (count_of verdict) cut ∙ ap (λ b. cond b 1 0 + count_of verdict rest) (sym is) in
     omega (arith, e, before)
 
-pub count_done : (verdict : Verdict) (left : List Global) (count whole : ℕ) → left ≡ [] → count + count_of verdict left ≡ whole → count ≡ whole
+pub count_done : (verdict : Verdict) (left : List Global) (count whole : ℕ) → left ≡ []
+    → count + count_of verdict left ≡ whole → count ≡ whole
 unfolding count_of
 count_done verdict left count whole none before =
     let e : count_of verdict left ≡ 0 = ap (count_of verdict) none in
     omega (arith, e, before)
 
-twice : {A : Type 0} (b : Bool) (value : Option A) (found : Option A) → cond b value (cond b None found) ≡ cond b value found
+twice : {A : Type 0} (b : Bool) (value : Option A) (found : Option A)
+    → cond b value (cond b None found) ≡ cond b value found
 twice true value found = refl
 twice false value found = refl
 
 -- what was at the key is taken out, and a value put there
 pub put_again : {K V : Type 0} (cmp : K → K → Ordering) (old mid new : BTreeMap K V) (key : K) (value wanted : V)
-    → ((other : K) → get cmp mid other ≡ cond (is_at (cmp key) other) None (get cmp old other)) → PutsAt cmp mid key value new → value ≡ wanted
+    → ((other : K) → get cmp mid other ≡ cond (is_at (cmp key) other) None (get cmp old other))
+    → PutsAt cmp mid key value new → value ≡ wanted
     → PutsAt cmp old key wanted new
 put_again cmp old mid new key value wanted gone put is other =
-    put other ∙ ap (cond (is_at (cmp key) other) (Some value)) (gone other) ∙ twice (is_at (cmp key) other) (Some value) (get cmp old other)
+    put other ∙ ap (cond (is_at (cmp key) other) (Some value)) (gone other)
+    ∙ twice (is_at (cmp key) other) (Some value) (get cmp old other)
     ∙ ap (λ v. cond (is_at (cmp key) other) (Some v) (get cmp old other)) is

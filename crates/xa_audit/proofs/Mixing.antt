@@ -1,5 +1,6 @@
 -- MIXED, over the histories: one branch was committed, and another one's writes were dropped.
-use Rattle.std.proofs.Common.{◌≡◌, ◌↔◌, ℕ, zero, suc, ◌+◌, ◌<◌, List, [], ◌∷◌, length, refl, ap, sym, ◌∙◌, Bool, true, false, ◌⊎◌, inl, inr, arith}
+use Rattle.std.proofs.Common.{◌≡◌, ◌↔◌, ℕ, zero, suc, ◌+◌, ◌<◌, List, [], ◌∷◌, length, refl, ap, sym, ◌∙◌, Bool, true}
+use Rattle.std.proofs.Common.{false, ◌⊎◌, inl, inr, arith}
 use Rattle.std.specs.Prelude.{Option, Some, None, ◌||◌, ◌&&◌, cond, filter, map}
 use Rattle.std.specs.List.{list_any, Contains}
 use Rattle.std.specs.Map.{keys_of}
@@ -85,7 +86,8 @@ record Passing (test : Xid × Lives → Bool) (entries : List (Xid × Lives)) : 
 abbrev IsOfLives : (Branch → Bool) → (Xid × Lives → Bool) → Type 0
 IsOfLives test of_lives = (store : ℕ) (entry : Xid × Lives) → test (branch_in store entry) ≡ of_lives entry
 
-passing : (test : Branch → Bool) (of_lives : Xid × Lives → Bool) → IsOfLives test of_lives → (store : ℕ) (entries : List (Xid × Lives))
+passing : (test : Branch → Bool) (of_lives : Xid × Lives → Bool) → IsOfLives test of_lives
+    → (store : ℕ) (entries : List (Xid × Lives))
     → list_any test (map (branch_in store) entries) ≡ true → Passing of_lives entries
 passing test of_lives same store [] any = absurd (true≢false (sym any))
 passing test of_lives same store (entry ∷ entries) any =
@@ -96,35 +98,43 @@ passing test of_lives same store (entry ∷ entries) any =
           record { entry = it.entry; one = later entry entries it.entry it.one; passes = it.passes }
     ]
 
-passed : (test : Branch → Bool) (of_lives : Xid × Lives → Bool) → IsOfLives test of_lives → (store : ℕ) (entries : List (Xid × Lives)) (entry : Xid × Lives)
+passed : (test : Branch → Bool) (of_lives : Xid × Lives → Bool) → IsOfLives test of_lives
+    → (store : ℕ) (entries : List (Xid × Lives)) (entry : Xid × Lives)
     → Contains entries entry → of_lives entry ≡ true → list_any test (map (branch_in store) entries) ≡ true
 passed test of_lives same store [] entry (k, below, at) passes = absurd (omega (arith, below))
 passed test of_lives same store (first ∷ entries) entry among passes = elim (cons_cases first entries entry among) [
   | inl is ↦
-      or_left (test (branch_in store first)) (list_any test (map (branch_in store) entries)) (ap (λ e. test (branch_in store e)) is ∙ same store entry ∙ passes)
+      or_left (test (branch_in store first)) (list_any test (map (branch_in store) entries))
+      (ap (λ e. test (branch_in store e)) is ∙ same store entry ∙ passes)
   | inr rest ↦
-      or_right (test (branch_in store first)) (list_any test (map (branch_in store) entries)) (passed test of_lives same store entries entry rest passes)
+      or_right (test (branch_in store first)) (list_any test (map (branch_in store) entries))
+      (passed test of_lives same store entries entry rest passes)
 ]
 
 same_xids : (x y : Xid) → eq_by_cmp xid_cmp x y ≡ true → x ≡ y
 same_xids = same_is xids_total exact_xids
 
-told_of : (history : List ℕ) (entries : List (Xid × Lives)) (entry : Xid × Lives) → IsIndex xid_cmp (lives_in history) entries → Contains entries entry
+told_of : (history : List ℕ) (entries : List (Xid × Lives)) (entry : Xid × Lives)
+    → IsIndex xid_cmp (lives_in history) entries → Contains entries entry
     → lives_in history entry.0 ≡ Some entry.1
 told_of history entries entry index among =
     sym (index.found entry.0)
-    ∙ lookup-from_Contains (eq_by_cmp_equiv xids_total) entry.0 entry.1 entries (IsDistinct-from_sorted xid_cmp (keys_of entries) index.ascending) among
+    ∙ lookup-from_Contains (eq_by_cmp_equiv xids_total) entry.0 entry.1 entries
+    (IsDistinct-from_sorted xid_cmp (keys_of entries) index.ascending) among
 
-listed : (history : List ℕ) (entries : List (Xid × Lives)) (xid : Xid) (lives : Lives) → IsIndex xid_cmp (lives_in history) entries
+listed : (history : List ℕ) (entries : List (Xid × Lives)) (xid : Xid) (lives : Lives)
+    → IsIndex xid_cmp (lives_in history) entries
     → lives_in history xid ≡ Some lives → Contains entries (xid, lives)
 listed history entries xid lives index has = Contains-from_lookup same_xids xid lives entries (index.found xid ∙ has)
 
 -- of the branches of every store
-found : (test : Branch → Bool) (of_lives : Xid × Lives → Bool) → IsOfLives test of_lives → (store : ℕ) (histories : List (List ℕ)) (branches : List Branch)
+found : (test : Branch → Bool) (of_lives : Xid × Lives → Bool) → IsOfLives test of_lives
+    → (store : ℕ) (histories : List (List ℕ)) (branches : List Branch)
     → AreBranches store histories branches → list_any test branches ≡ true → IsFound of_lives histories
 found test of_lives same store [] branches none any = absurd (true≢false (sym (sym (ap (list_any test) none) ∙ any)))
 found test of_lives same store (history ∷ histories) branches (first, rest, (entries, index, are), are_rest, is) any =
-    elim (or_cases (list_any test first) (list_any test rest) (sym (list_any-append test first rest) ∙ sym (ap (list_any test) is) ∙ any)) [
+    elim (or_cases (list_any test first) (list_any test rest)
+    (sym (list_any-append test first rest) ∙ sym (ap (list_any test) is) ∙ any)) [
       | inl in_first ↦
           let it = passing test of_lives same store entries (sym (ap (list_any test) are) ∙ in_first) in
           record {
@@ -147,7 +157,8 @@ found test of_lives same store (history ∷ histories) branches (first, rest, (e
           }
     ]
 
-finds : (test : Branch → Bool) (of_lives : Xid × Lives → Bool) → IsOfLives test of_lives → (store : ℕ) (histories : List (List ℕ)) (branches : List Branch)
+finds : (test : Branch → Bool) (of_lives : Xid × Lives → Bool) → IsOfLives test of_lives
+    → (store : ℕ) (histories : List (List ℕ)) (branches : List Branch)
     → AreBranches store histories branches → IsFound of_lives histories → list_any test branches ≡ true
 finds test of_lives same store [] branches none it = absurd (omega (arith, it.one.1))
 finds test of_lives same store (history ∷ histories) branches (first, rest, (entries, index, are), are_rest, is) it =
@@ -161,24 +172,36 @@ finds test of_lives same store (history ∷ histories) branches (first, rest, (e
       | inr among ↦
           or_right (list_any test first) (list_any test rest)
           (finds test of_lives same (store + 1) histories rest are_rest
-          (record { history = it.history; xid = it.xid; lives = it.lives; one = among; has = it.has; passes = it.passes }))
+          (record {
+            history = it.history;
+            xid = it.xid;
+            lives = it.lives;
+            one = among;
+            has = it.has;
+            passes = it.passes;
+          }))
     ])
 
 -- a test of those that a filter lets through
-filtered : (p test : Branch → Bool) (branches : List Branch) → list_any test (filter p branches) ≡ list_any (λ branch. p branch && test branch) branches
+filtered : (p test : Branch → Bool) (branches : List Branch)
+    → list_any test (filter p branches) ≡ list_any (λ branch. p branch && test branch) branches
 filtered p test [] = refl
-filtered p test (branch ∷ branches) = by (p branch) (test branch) ∙ ap (λ b. (p branch && test branch) || b) (filtered p test branches)
+filtered p test (branch ∷ branches) =
+    by (p branch) (test branch) ∙ ap (λ b. (p branch && test branch) || b) (filtered p test branches)
   where
-    by : (b c : Bool) → list_any test (cond b (branch ∷ filter p branches) (filter p branches)) ≡ ((b && test branch) || list_any test (filter p branches))
+    by : (b c : Bool) → list_any test (cond b (branch ∷ filter p branches) (filter p branches))
+        ≡ ((b && test branch) || list_any test (filter p branches))
     by true c = refl
     by false c = refl
 
 -- the branches of a global transaction of an account
-own_branches : (histories : List (List ℕ)) (globals : List Global) (account : IsAccount histories globals) (global : Global) → Contains globals global
+own_branches : (histories : List (List ℕ)) (globals : List Global) (account : IsAccount histories globals)
+    (global : Global) → Contains globals global
     → global.1 ≡ filter (is_of global.0) account.branches
 own_branches histories globals account global among =
     some (filter (is_of global.0) account.branches)
-    (sym (lookup-from_Contains (eq_by_cmp_equiv globals_total) global.0 global.1 globals (IsDistinct-from_sorted global_cmp (keys_of globals) account.index.ascending) among)
+    (sym (lookup-from_Contains (eq_by_cmp_equiv globals_total) global.0 global.1 globals
+    (IsDistinct-from_sorted global_cmp (keys_of globals) account.index.ascending) among)
     ∙ account.index.found global.0)
   where
     some : (branches : List Branch) → Some global.1 ≡ if_any branches → global.1 ≡ branches
@@ -198,17 +221,21 @@ name_own name xid is = ap (λ n. eq_by_cmp global_cmp name n) is ∙ same_itself
 some_took : (history : List ℕ) (xid : Xid) (lives : Lives) → lives_in history xid ≡ Some lives
     → took (branch_in 1 (xid, lives)) ≡ list_any is_commit (deeds_about xid (deeds_in history))
 some_took history xid lives has =
-    sym (ap (λ l. option_map_or (λ (x : Lives). took (branch_in 1 (xid, x))) l false) has) ∙ took_by (deeds_about xid (deeds_in history))
+    sym (ap (λ l. option_map_or (λ (x : Lives). took (branch_in 1 (xid, x))) l false) has)
+    ∙ took_by (deeds_about xid (deeds_in history))
 
-some_failed : (history : List ℕ) (xid : Xid) (lives : Lives) → lives_in history xid ≡ Some lives → failed_in 1 history xid ≡ failed (branch_in 1 (xid, lives))
+some_failed : (history : List ℕ) (xid : Xid) (lives : Lives) → lives_in history xid ≡ Some lives
+    → failed_in 1 history xid ≡ failed (branch_in 1 (xid, lives))
 some_failed history xid lives has = ap (λ l. option_map_or (λ (x : Lives). failed (branch_in 1 (xid, x))) l false) has
 
 -- lives that are told of, where a test of them passes
-any_told : (lives : Option Lives) (test : Lives → Bool) → option_map_or test lives false ≡ true → (l : Lives) × (lives ≡ Some l)
+any_told : (lives : Option Lives) (test : Lives → Bool) → option_map_or test lives false ≡ true
+    → (l : Lives) × (lives ≡ Some l)
 any_told None test passes = absurd (true≢false (sym passes))
 any_told (Some lives) test passes = (lives, refl)
 
-committed_of : (histories : List (List ℕ)) (name : GlobalName) → IsFound (own_and name took) histories → HasCommitted histories name
+committed_of : (histories : List (List ℕ)) (name : GlobalName) → IsFound (own_and name took) histories
+    → HasCommitted histories name
 unfolding own_and
 committed_of histories name it = record {
   history = it.history;
@@ -218,10 +245,12 @@ committed_of histories name it = record {
   committed = sym (some_took it.history it.xid it.lives it.has) ∙ and_right _ _ it.passes;
 }
 
-of_committed : (histories : List (List ℕ)) (name : GlobalName) → HasCommitted histories name → IsFound (own_and name took) histories
+of_committed : (histories : List (List ℕ)) (name : GlobalName) → HasCommitted histories name
+    → IsFound (own_and name took) histories
 unfolding own_and
 of_committed histories name it =
-    let known = any_told (lives_in it.history it.xid) (λ (x : Lives). took (branch_in 1 (it.xid, x))) (took_by (deeds_about it.xid (deeds_in it.history)) ∙ it.committed) in
+    let known = any_told (lives_in it.history it.xid) (λ (x : Lives). took (branch_in 1 (it.xid, x)))
+    (took_by (deeds_about it.xid (deeds_in it.history)) ∙ it.committed) in
     record {
       history = it.history;
       xid = it.xid;
@@ -231,20 +260,24 @@ of_committed histories name it =
       passes = and_true _ _ (name_own name it.xid it.own) (some_took it.history it.xid known.0 known.1 ∙ it.committed);
     }
 
-dropped_of : (histories : List (List ℕ)) (name : GlobalName) → IsFound (own_and name failed) histories → HasDropped histories name
+dropped_of : (histories : List (List ℕ)) (name : GlobalName) → IsFound (own_and name failed) histories
+    → HasDropped histories name
 unfolding own_and
 dropped_of histories name it = record {
   history = it.history;
   xid = it.xid;
   one = it.one;
   own = own_name name it.xid (and_left _ _ it.passes);
-  dropped = (fails_iff (deeds_about it.xid (deeds_in it.history))).0 (some_failed it.history it.xid it.lives it.has ∙ and_right _ _ it.passes);
+  dropped = (fails_iff (deeds_about it.xid (deeds_in it.history))).0
+      (some_failed it.history it.xid it.lives it.has ∙ and_right _ _ it.passes);
 }
 
-of_dropped : (histories : List (List ℕ)) (name : GlobalName) → HasDropped histories name → IsFound (own_and name failed) histories
+of_dropped : (histories : List (List ℕ)) (name : GlobalName) → HasDropped histories name
+    → IsFound (own_and name failed) histories
 unfolding own_and
 of_dropped histories name it =
-    let fails : failed_in 1 it.history it.xid ≡ true = (fails_iff (deeds_about it.xid (deeds_in it.history))).1 it.dropped in
+    let fails : failed_in 1 it.history it.xid ≡ true = (fails_iff
+    (deeds_about it.xid (deeds_in it.history))).1 it.dropped in
     let known = any_told (lives_in it.history it.xid) (λ (x : Lives). failed (branch_in 1 (it.xid, x))) fails in
     record {
       history = it.history;
@@ -256,32 +289,40 @@ of_dropped histories name it =
     }
 
 -- some branch of a global transaction of the account passes a test
-own_any : (histories : List (List ℕ)) (globals : List Global) (account : IsAccount histories globals) (global : Global) → Contains globals global
-    → (test : Branch → Bool) → list_any test global.1 ≡ list_any (λ branch. is_of global.0 branch && test branch) account.branches
+own_any : (histories : List (List ℕ)) (globals : List Global) (account : IsAccount histories globals) (global : Global)
+    → Contains globals global
+    → (test : Branch → Bool) → list_any test global.1 ≡ list_any
+    (λ branch. is_of global.0 branch && test branch) account.branches
 own_any histories globals account global among test =
-    ap (list_any test) (own_branches histories globals account global among) ∙ filtered (is_of global.0) test account.branches
+    ap (list_any test) (own_branches histories globals account global among)
+    ∙ filtered (is_of global.0) test account.branches
 
 -- MIXED stands if, and only if, one branch was committed and another one's writes were dropped
-pub mixed_over : (histories : List (List ℕ)) (globals : List Global) → IsAccount histories globals → (global : Global) → Contains globals global
+pub mixed_over : (histories : List (List ℕ)) (globals : List Global) → IsAccount histories globals → (global : Global)
+    → Contains globals global
     → (verdict_of global.1 ≡ Mixed) ↔ (HasCommitted histories global.0 × HasDropped histories global.0)
 unfolding own_and
 mixed_over histories globals account global among = (
   λ mixed.
       let both = (mixed_iff global.1).0 mixed in (
         committed_of histories global.0
-            (found (λ branch. is_of global.0 branch && took branch) (own_and global.0 took) (λ store entry. refl) 1 histories account.branches account.all
+            (found (λ branch. is_of global.0 branch && took branch) (own_and global.0 took)
+            (λ store entry. refl) 1 histories account.branches account.all
             (sym (own_any histories globals account global among took) ∙ both.0)),
         dropped_of histories global.0
-            (found (λ branch. is_of global.0 branch && failed branch) (own_and global.0 failed) (λ store entry. refl) 1 histories account.branches account.all
+            (found (λ branch. is_of global.0 branch && failed branch) (own_and global.0 failed)
+            (λ store entry. refl) 1 histories account.branches account.all
             (sym (own_any histories globals account global among failed) ∙ both.1)),
       ),
   λ both.
       (mixed_iff global.1).1 (
         own_any histories globals account global among took
-            ∙ finds (λ branch. is_of global.0 branch && took branch) (own_and global.0 took) (λ store entry. refl) 1 histories account.branches account.all
+            ∙ finds (λ branch. is_of global.0 branch && took branch) (own_and global.0 took)
+            (λ store entry. refl) 1 histories account.branches account.all
             (of_committed histories global.0 both.0),
         own_any histories globals account global among failed
-            ∙ finds (λ branch. is_of global.0 branch && failed branch) (own_and global.0 failed) (λ store entry. refl) 1 histories account.branches account.all
+            ∙ finds (λ branch. is_of global.0 branch && failed branch) (own_and global.0 failed)
+            (λ store entry. refl) 1 histories account.branches account.all
             (of_dropped histories global.0 both.1),
       ),
 )

@@ -1,5 +1,6 @@
 -- What a session owns after its own accepted statement.
-use Rattle.std.proofs.Common.{◌≡◌, ◌≢◌, ℕ, refl, ap, sym, ◌∙◌, subst, eq-eqb, eqb-true, Bool, true, false, ◌⊎◌, inl, inr}
+use Rattle.std.proofs.Common.{◌≡◌, ◌≢◌, ℕ, refl, ap, sym, ◌∙◌, subst, eq-eqb, eqb-true, Bool, true, false, ◌⊎◌, inl}
+use Rattle.std.proofs.Common.{inr}
 use Rattle.std.specs.Prelude.{Option, Some, None, cond, ◌==◌}
 use Rattle.std.specs.Option.{option_map, option_map_or}
 use Rattle.std.specs.FinMap as map
@@ -9,12 +10,15 @@ use Rattle.std.specs.FinMap.{get-empty}
 use Rattle.xa_xid.specs.Xid.{xid_cmp, same_xid}
 use Rattle.xa_xid.proofs.Orders.{xids_total, exact_xids}
 use Rattle.xa_xid.specs.declared.statement.Statement.{Statement}
-use Rattle.xa_xid.specs.declared.statement.Statement.TheVariants.{Start, End, Prepare, Commit, Rollback, Recover, Unsupported, Get, Put, Del, Disconnect}
+use Rattle.xa_xid.specs.declared.statement.Statement.TheVariants.{Start, End, Prepare, Commit, Rollback, Recover}
+use Rattle.xa_xid.specs.declared.statement.Statement.TheVariants.{Unsupported, Get, Put, Del, Disconnect}
 use Rattle.xa_server.specs.declared.branch.Phase.{Phase}
-use Rattle.xa_server.specs.declared.branch.Phase.TheVariants.{Active as PhaseActive, Idle as PhaseIdle, Prepared as PhasePrepared}
+use Rattle.xa_server.specs.declared.branch.Phase.TheVariants.{Active as PhaseActive, Idle as PhaseIdle}
+use Rattle.xa_server.specs.declared.branch.Phase.TheVariants.{Prepared as PhasePrepared}
 use Rattle.xa_server.specs.declared.association.Association.{Association}
 use Rattle.xa_server.specs.declared.association.Association.TheVariants.{Free, Active, Idle}
-use Rattle.xa_server.specs.State.{Branch, State, no_state, is_prepared, is_prepared_phase, owner_at, owns, own_xid, phase_at, association_in, association_of, IsOpen}
+use Rattle.xa_server.specs.State.{Branch, State, no_state, is_prepared, is_prepared_phase, owner_at, owns, own_xid}
+use Rattle.xa_server.specs.State.{phase_at, association_in, association_of, IsOpen}
 use Rattle.xa_server.specs.Locks.{LockLaw}
 use Rattle.xa_server.specs.Replies.{table, reply_to}
 use Rattle.xa_server.specs.Step.{started_by, with_lock, with_own_write, is_refused, after}
@@ -23,7 +27,9 @@ use Rattle.xa_server.proofs.Index.{not_none}
 use Rattle.xa_server.proofs.Seen.{owned_is}
 use Rattle.xa_server.proofs.Changes.{idle, detached, branch_after, effect-branch, accepted_done}
 use Rattle.xa_server.proofs.Accepted.{accepted_there, open_association, own_is}
-use Rattle.xa_server.proofs.Others.{is_owned, IsOwn, own_association, own_found, none_found, find_owned, owned_before, IsStarted, IsFinishable, accepted_prepare_own, accepted_commit_own, accepted_rollback_own, others_left}
+use Rattle.xa_server.proofs.Others.{is_owned, IsOwn, own_association, own_found, none_found, find_owned, owned_before}
+use Rattle.xa_server.proofs.Others.{IsStarted, IsFinishable, accepted_prepare_own, accepted_commit_own}
+use Rattle.xa_server.proofs.Others.{accepted_rollback_own, others_left}
 use Rattle.xa_audit.specs.declared.owned.Owned.{Owned}
 use Rattle.xa_audit.specs.Following.{own_after, owned_at, IsFollowed}
 
@@ -33,17 +39,20 @@ never b e f = absurd (true≢false (sym f ∙ e))
 -- ---- what a session owns, by what it has open
 
 -- a session that owns a branch has it open
-owner_open : (state : State) (session : ℕ) → LockLaw state → (xid : Xid) → owns state session xid ≡ true → own_xid state session ≡ Some xid
+owner_open : (state : State) (session : ℕ) → LockLaw state → (xid : Xid) → owns state session xid ≡ true
+    → own_xid state session ≡ Some xid
 owner_open state session law xid e = own_found state session xid e (λ other f. law.one_branch session xid other e f)
 
 -- a session that owns nothing according to what is found
-none_owned : (state : State) (session : ℕ) → own_xid state session ≡ None → LockLaw state → (xid : Xid) → owns state session xid ≡ true → ⊥
+none_owned : (state : State) (session : ℕ) → own_xid state session ≡ None → LockLaw state → (xid : Xid)
+    → owns state session xid ≡ true → ⊥
 none_owned state session none law xid e = not_none xid (sym none ∙ owner_open state session law xid e)
 
 -- ---- a branch after a statement
 
 -- whether the session owns the branch after its accepted statement
-owned_then : (state : State) (session : ℕ) (statement : Statement) (at : Xid) → is_refused (reply_to state session statement) ≡ false →
+owned_then : (state : State) (session : ℕ) (statement : Statement) (at : Xid)
+    → is_refused (reply_to state session statement) ≡ false →
     owns (after state session statement) session at
     ≡ is_owned session (branch_after session (association_of state session) statement at (map.get state.branches at))
 unfolding is_owned
@@ -52,8 +61,10 @@ owned_then state session statement at accepted =
     ∙ ap (is_owned session) (effect-branch state session (association_of state session) statement at)
 
 -- what it owns then it owned before, or has just started
-before_then : (state : State) (session : ℕ) (statement : Statement) (at : Xid) → is_refused (reply_to state session statement) ≡ false →
-    owns (after state session statement) session at ≡ true → (owns state session at ≡ true) ⊎ IsStarted session session statement at
+before_then : (state : State) (session : ℕ) (statement : Statement) (at : Xid)
+    → is_refused (reply_to state session statement) ≡ false →
+    owns (after state session statement) session at ≡ true
+    → (owns state session at ≡ true) ⊎ IsStarted session session statement at
 unfolding is_owned
 before_then state session statement at accepted e =
     owned_before session session (association_of state session) statement at (map.get state.branches at)
@@ -65,12 +76,14 @@ before_then state session statement at accepted e =
 abbrev Leaves : (Branch → Branch) → Type 0
 Leaves change = (branch : Branch) → (change branch).owner ≡ branch.owner
 
-left_owned : (session : ℕ) (change : Branch → Branch) → Leaves change → (b : Bool) (found : Option Branch) → is_owned session found ≡ true
+left_owned : (session : ℕ) (change : Branch → Branch) → Leaves change → (b : Bool) (found : Option Branch)
+    → is_owned session found ≡ true
     → is_owned session (cond b (option_map change found) found) ≡ true
 unfolding is_owned
 left_owned session change same false found e = e
 left_owned session change same true None e = e
-left_owned session change same true (Some branch) e = ap (λ owner. option_map_or (λ o. o == session) owner false) (same branch) ∙ e
+left_owned session change same true (Some branch) e =
+    ap (λ owner. option_map_or (λ o. o == session) owner false) (same branch) ∙ e
 
 -- a statement that starts, prepares or ends no branch
 abbrev pub IsQuiet : Statement → Type 0
@@ -86,33 +99,39 @@ IsQuiet (Put key value) = Unit {0}
 IsQuiet (Del key) = Unit {0}
 IsQuiet Disconnect = ⊥
 
-still_owned : (session : ℕ) (association : Association) (statement : Statement) → IsQuiet statement → (at : Xid) (found : Option Branch)
+still_owned : (session : ℕ) (association : Association) (statement : Statement) → IsQuiet statement
+    → (at : Xid) (found : Option Branch)
     → is_owned session found ≡ true → is_owned session (branch_after session association statement at found) ≡ true
 unfolding branch_after idle
 still_owned session association (Start xid) quiet at found e = absurd quiet
-still_owned session association (End xid) quiet at found e = left_owned session idle (λ b. refl) (same_xid at xid) found e
+still_owned session association (End xid) quiet at found e =
+    left_owned session idle (λ b. refl) (same_xid at xid) found e
 still_owned session association (Prepare xid) quiet at found e = absurd quiet
 still_owned session association (Commit xid one_phase) quiet at found e = absurd quiet
 still_owned session association (Rollback xid) quiet at found e = absurd quiet
 still_owned session association (Recover convert) quiet at found e = e
 still_owned session association Unsupported quiet at found e = e
 still_owned session Free (Get key) quiet at found e = e
-still_owned session (Active own) (Get key) quiet at found e = left_owned session (with_lock key) (λ b. refl) (same_xid at own) found e
+still_owned session (Active own) (Get key) quiet at found e =
+    left_owned session (with_lock key) (λ b. refl) (same_xid at own) found e
 still_owned session (Idle own) (Get key) quiet at found e = e
 still_owned session Free (Put key value) quiet at found e = e
 still_owned session (Active own) (Put key value) quiet at found e =
     left_owned session (with_own_write key (Some value)) (λ b. refl) (same_xid at own) found e
 still_owned session (Idle own) (Put key value) quiet at found e = e
 still_owned session Free (Del key) quiet at found e = e
-still_owned session (Active own) (Del key) quiet at found e = left_owned session (with_own_write key None) (λ b. refl) (same_xid at own) found e
+still_owned session (Active own) (Del key) quiet at found e =
+    left_owned session (with_own_write key None) (λ b. refl) (same_xid at own) found e
 still_owned session (Idle own) (Del key) quiet at found e = e
 still_owned session association Disconnect quiet at found e = absurd quiet
 
 quiet_starts : (session : ℕ) (statement : Statement) (at : Xid) → IsQuiet statement → statement ≡ Start at → ⊥
 quiet_starts session statement at quiet is = subst IsQuiet is quiet
 
-quiet_own : (state : State) (session : ℕ) (statement : Statement) → LockLaw state → LockLaw (after state session statement) → IsQuiet statement
-    → is_refused (reply_to state session statement) ≡ false → own_xid (after state session statement) session ≡ own_xid state session
+quiet_own : (state : State) (session : ℕ) (statement : Statement) → LockLaw state
+    → LockLaw (after state session statement) → IsQuiet statement
+    → is_refused (reply_to state session statement) ≡ false
+    → own_xid (after state session statement) session ≡ own_xid state session
 unfolding is_owned
 quiet_own state session statement law later quiet accepted = by (own_xid state session) refl
   where
@@ -120,21 +139,25 @@ quiet_own state session statement law later quiet accepted = by (own_xid state s
     by (Some xid) is =
         owner_open (after state session statement) session later xid
         (owned_then state session statement xid accepted
-        ∙ still_owned session (association_of state session) statement quiet xid (map.get state.branches xid) (find_owned state session xid is))
-    by None is = none_found (after state session statement) session (λ xid e. elim (before_then state session statement xid accepted e) [
-      | inl before ↦ none_owned state session is law xid before
-      | inr started ↦ quiet_starts session statement xid quiet started.0
-    ])
+        ∙ still_owned session (association_of state session) statement quiet xid (map.get state.branches xid)
+        (find_owned state session xid is))
+    by None is = none_found (after state session statement) session
+        (λ xid e. elim (before_then state session statement xid accepted e) [
+          | inl before ↦ none_owned state session is law xid before
+          | inr started ↦ quiet_starts session statement xid quiet started.0
+        ])
 
 -- ---- XA START
 
 started_own : (state : State) (session : ℕ) (xid : Xid) → LockLaw (after state session (Start xid))
-    → is_refused (reply_to state session (Start xid)) ≡ false → own_xid (after state session (Start xid)) session ≡ Some xid
+    → is_refused (reply_to state session (Start xid)) ≡ false
+    → own_xid (after state session (Start xid)) session ≡ Some xid
 unfolding is_owned branch_after
 started_own state session xid later accepted =
     owner_open (after state session (Start xid)) session later xid
     (owned_then state session (Start xid) xid accepted
-    ∙ ap (λ b. is_owned session (cond b (Some (started_by session)) (map.get state.branches xid))) (same_itself xids_total exact_xids xid)
+    ∙ ap (λ b. is_owned session (cond b (Some (started_by session)) (map.get state.branches xid)))
+    (same_itself xids_total exact_xids xid)
     ∙ itself session)
   where
     itself : (n : ℕ) → (n == n) ≡ true
@@ -146,12 +169,15 @@ started_own state session xid later accepted =
 abbrev LeavesNone : State → ℕ → Statement → Type 0
 LeavesNone state session statement =
     (xid : Xid) → owns state session xid ≡ true
-    → is_owned session (branch_after session (association_of state session) statement xid (map.get state.branches xid)) ≡ false
+    → is_owned session (branch_after session (association_of state session) statement xid (map.get state.branches xid))
+    ≡ false
 
 none_own : (state : State) (session : ℕ) (statement : Statement) → ((xid : Xid) → statement ≢ Start xid)
-    → is_refused (reply_to state session statement) ≡ false → LeavesNone state session statement → own_xid (after state session statement) session ≡ None
+    → is_refused (reply_to state session statement) ≡ false → LeavesNone state session statement
+    → own_xid (after state session statement) session ≡ None
 none_own state session statement unstarted accepted leaves =
-    none_found (after state session statement) session (λ xid e. elim (before_then state session statement xid accepted e) [
+    none_found (after state session statement) session (λ xid e. elim
+    (before_then state session statement xid accepted e) [
       | inl before ↦ true≢false (sym e ∙ owned_then state session statement xid accepted ∙ leaves xid before)
       | inr started ↦ unstarted xid started.0
     ])
@@ -179,7 +205,8 @@ no_idle : (x : Xid) → Idle x ≡ Free → ⊥
 no_idle x f = cc
 
 -- a session whose branch is neither ACTIVE nor IDLE owns none
-free_owns : (state : State) (session : ℕ) → LockLaw state → association_of state session ≡ Free → (xid : Xid) → owns state session xid ≡ true → ⊥
+free_owns : (state : State) (session : ℕ) → LockLaw state → association_of state session ≡ Free → (xid : Xid)
+    → owns state session xid ≡ true → ⊥
 unfolding association_of is_owned
 free_owns state session law free xid e = by (map.get state.branches xid) refl
   where
@@ -204,23 +231,27 @@ free_owns state session law free xid e = by (map.get state.branches xid) refl
         phase PhaseIdle p = no_idle xid (sym (ap (λ f. association_in f xid) (at_phase PhaseIdle p)) ∙ here)
         phase PhasePrepared p =
             not_none session
-            (sym (law.detached xid (ap (λ f. option_map_or is_prepared_phase f false) (at_phase PhasePrepared p))) ∙ owner)
+            (sym (law.detached xid (ap (λ f. option_map_or is_prepared_phase f false) (at_phase PhasePrepared p)))
+            ∙ owner)
 
 -- the branch that it rolls back or commits is its own, or it owns none
 finished_none : (state : State) (session : ℕ) (xid : Xid) → LockLaw state → IsFinishable state session xid
-    → (is_prepared state xid ≡ true → association_of state session ≡ Free) → (at : Xid) → owns state session at ≡ true → xid ≡ at
+    → (is_prepared state xid ≡ true → association_of state session ≡ Free) → (at : Xid) → owns state session at ≡ true
+    → xid ≡ at
 finished_none state session xid law (inl e) free at f = law.one_branch session xid at e f
 finished_none state session xid law (inr e) free at f = absurd (free_owns state session law (free e) at f)
 
 commit_free : (state : State) (association : Association) (xid : Xid) (one_phase : Bool) → IsOpen state association
-    → is_refused (table state association (Commit xid one_phase)) ≡ false → is_prepared state xid ≡ true → association ≡ Free
+    → is_refused (table state association (Commit xid one_phase)) ≡ false → is_prepared state xid ≡ true
+    → association ≡ Free
 unfolding table
 commit_free state Free xid one_phase is e prepared = refl
 commit_free state (Active own) xid false is e prepared = absurd (true≢false e)
 commit_free state (Active own) xid true is e prepared = absurd (true≢false e)
 commit_free state (Idle own) xid false is e prepared = absurd (true≢false e)
 commit_free state (Idle own) xid true is e prepared =
-    absurd (true≢false (sym prepared ∙ ap (is_prepared state) (own_is xid own _ e) ∙ ap (λ f. option_map_or is_prepared_phase f false) is))
+    absurd (true≢false (sym prepared ∙ ap (is_prepared state) (own_is xid own _ e)
+    ∙ ap (λ f. option_map_or is_prepared_phase f false) is))
 
 rollback_free : (state : State) (association : Association) (xid : Xid) → IsOpen state association
     → is_refused (table state association (Rollback xid)) ≡ false → is_prepared state xid ≡ true → association ≡ Free
@@ -228,18 +259,23 @@ unfolding table
 rollback_free state Free xid is e prepared = refl
 rollback_free state (Active own) xid is e prepared = absurd (true≢false e)
 rollback_free state (Idle own) xid is e prepared =
-    absurd (true≢false (sym prepared ∙ ap (is_prepared state) (own_is xid own _ e) ∙ ap (λ f. option_map_or is_prepared_phase f false) is))
+    absurd (true≢false (sym prepared ∙ ap (is_prepared state) (own_is xid own _ e)
+    ∙ ap (λ f. option_map_or is_prepared_phase f false) is))
 
-disconnected : (state : State) (session : ℕ) → LockLaw state → (association : Association) → association_of state session ≡ association → (xid : Xid)
-    → owns state session xid ≡ true → is_owned session (branch_after session association Disconnect xid (map.get state.branches xid)) ≡ false
+disconnected : (state : State) (session : ℕ) → LockLaw state → (association : Association)
+    → association_of state session ≡ association → (xid : Xid)
+    → owns state session xid ≡ true → is_owned session (branch_after session association Disconnect xid
+    (map.get state.branches xid)) ≡ false
 unfolding branch_after
 disconnected state session law Free is xid e = absurd (free_owns state session law is xid e)
 disconnected state session law (Active own) is xid e =
     at_itself session None (map.get state.branches xid) xid own
-    (law.one_branch session own xid (subst (IsOwn state session) is (own_association state session)) e) (gone_owned session)
+    (law.one_branch session own xid (subst (IsOwn state session) is (own_association state session)) e)
+    (gone_owned session)
 disconnected state session law (Idle own) is xid e =
     at_itself session None (map.get state.branches xid) xid own
-    (law.one_branch session own xid (subst (IsOwn state session) is (own_association state session)) e) (gone_owned session)
+    (law.one_branch session own xid (subst (IsOwn state session) is (own_association state session)) e)
+    (gone_owned session)
 
 -- ---- every statement
 
@@ -256,22 +292,27 @@ disconnects_starts : (xid : Xid) → Disconnect ≢ Start xid
 disconnects_starts xid e = cc
 
 -- what a session owns after its own accepted statement
-pub own_then : (state : State) (session : ℕ) (statement : Statement) → LockLaw state → LockLaw (after state session statement)
-    → is_refused (reply_to state session statement) ≡ false → own_xid (after state session statement) session ≡ own_after (own_xid state session) statement
+pub own_then : (state : State) (session : ℕ) (statement : Statement) → LockLaw state
+    → LockLaw (after state session statement)
+    → is_refused (reply_to state session statement) ≡ false
+    → own_xid (after state session statement) session ≡ own_after (own_xid state session) statement
 unfolding branch_after
 own_then state session (Start xid) law later accepted = started_own state session xid later accepted
 own_then state session (End xid) law later accepted = quiet_own state session (End xid) law later tt accepted
-own_then state session (Prepare xid) law later accepted = none_own state session (Prepare xid) (prepares_starts xid) accepted (λ at e.
+own_then state session (Prepare xid) law later accepted =
+    none_own state session (Prepare xid) (prepares_starts xid) accepted (λ at e.
     at_itself session (option_map detached (map.get state.branches at)) (map.get state.branches at) at xid
     (law.one_branch session xid at
-    (accepted_prepare_own state session (association_of state session) xid (own_association state session) (accepted_there state session (Prepare xid) accepted)) e)
+    (accepted_prepare_own state session (association_of state session) xid (own_association state session)
+    (accepted_there state session (Prepare xid) accepted)) e)
     (detached_owned session (map.get state.branches at)))
 own_then state session (Commit xid one_phase) law later accepted =
     let there = accepted_there state session (Commit xid one_phase) accepted in
     none_own state session (Commit xid one_phase) (λ at. commits_starts xid at one_phase) accepted (λ at e.
     at_itself session None (map.get state.branches at) at xid
     (finished_none state session xid law
-    (accepted_commit_own state session (association_of state session) xid one_phase (own_association state session) there)
+    (accepted_commit_own state session (association_of state session) xid one_phase
+    (own_association state session) there)
     (commit_free state (association_of state session) xid one_phase (open_association state session) there) at e)
     (gone_owned session))
 own_then state session (Rollback xid) law later accepted =
@@ -282,32 +323,40 @@ own_then state session (Rollback xid) law later accepted =
     (accepted_rollback_own state session (association_of state session) xid (own_association state session) there)
     (rollback_free state (association_of state session) xid (open_association state session) there) at e)
     (gone_owned session))
-own_then state session (Recover convert) law later accepted = quiet_own state session (Recover convert) law later tt accepted
+own_then state session (Recover convert) law later accepted =
+    quiet_own state session (Recover convert) law later tt accepted
 own_then state session Unsupported law later accepted = quiet_own state session Unsupported law later tt accepted
 own_then state session (Get key) law later accepted = quiet_own state session (Get key) law later tt accepted
-own_then state session (Put key value) law later accepted = quiet_own state session (Put key value) law later tt accepted
+own_then state session (Put key value) law later accepted =
+    quiet_own state session (Put key value) law later tt accepted
 own_then state session (Del key) law later accepted = quiet_own state session (Del key) law later tt accepted
 own_then state session Disconnect law later accepted =
-    none_own state session Disconnect disconnects_starts accepted (λ at e. disconnected state session law (association_of state session) refl at e)
+    none_own state session Disconnect disconnects_starts accepted
+    (λ at e. disconnected state session law (association_of state session) refl at e)
 
 -- a server that holds nothing: nobody owns a branch
 pub nobody_owns : (session : ℕ) → own_xid no_state session ≡ None
 unfolding no_state is_owned
-nobody_owns session = none_found no_state session (λ xid e. true≢false (sym e ∙ ap (is_owned session) (get-empty xid_cmp xid)))
+nobody_owns session =
+    none_found no_state session (λ xid e. true≢false (sym e ∙ ap (is_owned session) (get-empty xid_cmp xid)))
 
 -- what is kept for sessions, after one of them was accepted a statement
-pub followed_then : (state : State) (session : ℕ) (statement : Statement) (old new : Owned) → LockLaw state → LockLaw (after state session statement)
+pub followed_then : (state : State) (session : ℕ) (statement : Statement) (old new : Owned) → LockLaw state
+    → LockLaw (after state session statement)
     → is_refused (reply_to state session statement) ≡ false → IsFollowed old state
     → ((at : ℕ) → owned_at new at ≡ cond (at == session) (own_after (owned_at old session) statement) (owned_at old at))
     → IsFollowed new (after state session statement)
 followed_then state session statement old new law later accepted followed set at = set at ∙ by (at == session) refl
   where
-    by : (b : Bool) → (at == session) ≡ b → cond b (own_after (owned_at old session) statement) (owned_at old at) ≡ own_xid (after state session statement) at
+    by : (b : Bool) → (at == session) ≡ b → cond b (own_after (owned_at old session) statement) (owned_at old at)
+        ≡ own_xid (after state session statement) at
     by true is =
-        ap (λ own. own_after own statement) (followed session) ∙ sym (own_then state session statement law later accepted)
+        ap (λ own. own_after own statement) (followed session)
+        ∙ sym (own_then state session statement law later accepted)
         ∙ ap (own_xid (after state session statement)) (sym (eqb-true at session is))
     by false is =
-        followed at ∙ sym ((others_left state law session at statement (λ same. true≢false (sym (eq-eqb at session (sym same)) ∙ is))).own)
+        followed at ∙ sym ((others_left state law session at statement
+        (λ same. true≢false (sym (eq-eqb at session (sym same)) ∙ is))).own)
 
 -- after one that was refused
 pub followed_still : (state new : State) (owned : Owned) → new ≡ state → IsFollowed owned state → IsFollowed owned new

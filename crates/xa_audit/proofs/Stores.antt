@@ -1,5 +1,6 @@
 -- One history more, and what an audit comes to.
-use Rattle.std.proofs.Common.{◌≡◌, ℕ, ◌+◌, List, [], ◌∷◌, ◌++◌, length, refl, ap, sym, ◌∙◌, subst, ◌==◌, false, arith, append_assoc, append-nil, length-append}
+use Rattle.std.proofs.Common.{◌≡◌, ℕ, ◌+◌, List, [], ◌∷◌, ◌++◌, length, refl, ap, sym, ◌∙◌, subst, ◌==◌, false, arith}
+use Rattle.std.proofs.Common.{append_assoc, append-nil, length-append}
 use mathlib.Core.Bool.{true≢false}
 use Rattle.xa_lines.specs.Script.{lines_of}
 use Rattle.xa_audit.specs.declared.audit.Audit.{Audit}
@@ -9,18 +10,24 @@ use Rattle.xa_audit.specs.Branches.{AreBranchesOf, AreBranches}
 use Rattle.xa_audit.specs.Audits.{IsAuditOf}
 
 pub faults_more : (store : ℕ) (histories : List (List ℕ)) (history : List ℕ)
-    → faults_from store (histories ++ history ∷ []) ≡ faults_from store histories ++ faults_in (store + length histories) 1 (lines_of history)
+    → faults_from store (histories ++ history ∷ []) ≡ faults_from store histories
+    ++ faults_in (store + length histories) 1 (lines_of history)
 unfolding faults_from
 faults_more store [] history =
-    append-nil (faults_in store 1 (lines_of history)) ∙ ap (λ n. faults_in n 1 (lines_of history)) (let e : store ≡ store + 0 = omega arith in e)
+    append-nil (faults_in store 1 (lines_of history)) ∙ ap (λ n. faults_in n 1 (lines_of history))
+    (let e : store ≡ store + 0 = omega arith in e)
 faults_more store (first ∷ histories) history =
     ap (λ l. faults_in store 1 (lines_of first) ++ l) (faults_more (store + 1) histories history)
-    ∙ sym (append_assoc (faults_in store 1 (lines_of first)) (faults_from (store + 1) histories) (faults_in (store + 1 + length histories) 1 (lines_of history)))
-    ∙ ap (λ n. (faults_in store 1 (lines_of first) ++ faults_from (store + 1) histories) ++ faults_in n 1 (lines_of history))
+    ∙ sym (append_assoc (faults_in store 1 (lines_of first)) (faults_from (store + 1) histories)
+    (faults_in (store + 1 + length histories) 1 (lines_of history)))
+    ∙ ap (λ n. (faults_in store 1 (lines_of first) ++ faults_from (store + 1) histories)
+    ++ faults_in n 1 (lines_of history))
     (let e : store + 1 + length histories ≡ store + length (first ∷ histories) = omega arith in e)
 
-pub branches_more : (store : ℕ) (histories : List (List ℕ)) (history : List ℕ) (branches more : List Branch) → AreBranches store histories branches
-    → AreBranchesOf (store + length histories) history more → AreBranches store (histories ++ history ∷ []) (branches ++ more)
+pub branches_more : (store : ℕ) (histories : List (List ℕ)) (history : List ℕ) (branches more : List Branch)
+    → AreBranches store histories branches
+    → AreBranchesOf (store + length histories) history more
+    → AreBranches store (histories ++ history ∷ []) (branches ++ more)
 branches_more store [] history branches more none are = (
   more,
   [],
@@ -33,7 +40,8 @@ branches_more store (first ∷ histories) history branches more (here, later, ar
   later ++ more,
   are_here,
   branches_more (store + 1) histories history later more are_later
-      (subst (λ n. AreBranchesOf n history more) (let e : store + length (first ∷ histories) ≡ store + 1 + length histories = omega arith in e) are),
+      (subst (λ n. AreBranchesOf n history more) (let e : store + length (first ∷ histories)
+      ≡ store + 1 + length histories = omega arith in e) are),
   ap (λ l. l ++ more) is ∙ append_assoc here later more,
 )
 
@@ -59,8 +67,10 @@ none_empty : (xs : List ℕ) → (length xs == 0) ≡ false → xs ≡ [] → �
 none_empty xs filled e = true≢false (sym (ap (λ (l : List ℕ). length l == 0) e) ∙ filled)
 
 -- one history more, each of whose lines is read, as those before are
-pub added : (histories : List (List ℕ)) (history : List ℕ) (old new : Audit) (more : List Branch) → IsAuditOf histories old → new.stores ≡ old.stores + 1
-    → new.faults.items ≡ old.faults.items ++ faults_in (old.stores + 1) 1 (lines_of history) → AreBranchesOf (old.stores + 1) history more
+pub added : (histories : List (List ℕ)) (history : List ℕ) (old new : Audit) (more : List Branch)
+    → IsAuditOf histories old → new.stores ≡ old.stores + 1
+    → new.faults.items ≡ old.faults.items ++ faults_in (old.stores + 1) 1 (lines_of history)
+    → AreBranchesOf (old.stores + 1) history more
     → new.branches ≡ old.branches ++ more → IsAuditOf (histories ++ history ∷ []) new
 added histories history old new more is stores faults are branches = record {
   stores = stores ∙ ap (λ n. n + 1) is.stores ∙ longer histories history;
@@ -68,17 +78,21 @@ added histories history old new more is stores faults are branches = record {
   branches = λ none.
       subst (AreBranches 1 (histories ++ history ∷ [])) (sym branches)
       (branches_more 1 histories history old.branches more
-      (is.branches (none_before (faults_of histories) (faults_in (1 + length histories) 1 (lines_of history)) (sym (faults_more 1 histories history) ∙ none)))
+      (is.branches (none_before (faults_of histories) (faults_in (1 + length histories) 1 (lines_of history))
+      (sym (faults_more 1 histories history) ∙ none)))
       (subst (λ (n : ℕ). AreBranchesOf n history more)
       (ap (λ n. n + 1) is.stores ∙ (let e : length histories + 1 ≡ 1 + length histories = omega arith in e)) are));
 }
 
 -- one history more, where a line isn't read
-pub blamed : (histories : List (List ℕ)) (history : List ℕ) (old new : Audit) → IsAuditOf histories old → new.stores ≡ old.stores + 1
-    → new.faults.items ≡ old.faults.items ++ faults_in (old.stores + 1) 1 (lines_of history) → (length new.faults.items == 0) ≡ false
+pub blamed : (histories : List (List ℕ)) (history : List ℕ) (old new : Audit) → IsAuditOf histories old
+    → new.stores ≡ old.stores + 1
+    → new.faults.items ≡ old.faults.items ++ faults_in (old.stores + 1) 1 (lines_of history)
+    → (length new.faults.items == 0) ≡ false
     → IsAuditOf (histories ++ history ∷ []) new
 blamed histories history old new is stores faults filled =
-    let whole : new.faults.items ≡ faults_of (histories ++ history ∷ []) = faults ∙ with_history histories history old is in
+    let whole : new.faults.items ≡ faults_of (histories ++ history ∷ []) =
+    faults ∙ with_history histories history old is in
     record {
       stores = stores ∙ ap (λ n. n + 1) is.stores ∙ longer histories history;
       faults = whole;

@@ -43,7 +43,8 @@ dropped_none (Some life) = by life.wrote
 ends_over : (lives : Lives) → list_any is_committed (ends_in lives) ≡ list_any is_committed lives.over
 ends_over lives =
     any_append is_committed lives.over (left_going lives.going)
-    ∙ ap (λ b. list_any is_committed lives.over || b) (left_none lives.going) ∙ or_false (list_any is_committed lives.over)
+    ∙ ap (λ b. list_any is_committed lives.over || b) (left_none lives.going)
+    ∙ or_false (list_any is_committed lives.over)
 
 noted_over : (lives : Lives) (deed : Deed)
     → list_any is_committed (noted lives deed).over ≡ (list_any is_committed lives.over || is_commit deed)
@@ -63,7 +64,8 @@ unfolding has
 or_none None = refl
 or_none (Some lives) = refl
 
-has_after : (lives : Option Lives) (deeds : List Deed) → has (lives_after lives deeds) ≡ (has lives || list_any is_commit deeds)
+has_after : (lives : Option Lives) (deeds : List Deed)
+    → has (lives_after lives deeds) ≡ (has lives || list_any is_commit deeds)
 unfolding has lives_after
 has_after lives [] = sym (or_false (has lives))
 has_after lives (deed ∷ deeds) =
@@ -72,12 +74,14 @@ has_after lives (deed ∷ deeds) =
     (noted_over (unwrap_or lives no_lives) deed ∙ ap (λ b. b || is_commit deed) (or_none lives))
     ∙ sym (or_assoc (has lives) (is_commit deed) (list_any is_commit deeds))
 
-has_is : (lives : Option Lives) → option_map_or (λ (l : Lives). list_any is_committed (ends_in l)) lives false ≡ has lives
+has_is : (lives : Option Lives) → option_map_or (λ (l : Lives). list_any is_committed (ends_in l)) lives false
+    ≡ has lives
 unfolding has
 has_is None = refl
 has_is (Some lives) = ends_over lives
 
 pub took_by : (deeds : List Deed)
-    → option_map_or (λ (l : Lives). list_any is_committed (ends_in l)) (lives_after None deeds) false ≡ list_any is_commit deeds
+    → option_map_or (λ (l : Lives). list_any is_committed (ends_in l)) (lives_after None deeds) false
+    ≡ list_any is_commit deeds
 unfolding has
 took_by deeds = has_is (lives_after None deeds) ∙ has_after None deeds

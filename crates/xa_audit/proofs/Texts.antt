@@ -1,5 +1,6 @@
 -- What is written for each of a list.
-use Rattle.std.proofs.Common.{◌≡◌, ℕ, ◌+◌, ◌<◌, ◌≤◌, List, [], ◌∷◌, ◌++◌, length, drop, get_or, refl, ap, sym, ◌∙◌, Bool, true, false, ◌==◌, arith, append_assoc, append-nil}
+use Rattle.std.proofs.Common.{◌≡◌, ℕ, ◌+◌, ◌<◌, ◌≤◌, List, [], ◌∷◌, ◌++◌, length, drop, get_or, refl, ap, sym, ◌∙◌}
+use Rattle.std.proofs.Common.{Bool, true, false, ◌==◌, arith, append_assoc, append-nil}
 use Rattle.std.proofs.lemmas.Grind.{common_steps}
 use Rattle.xa_lines.specs.Script.{lines_of}
 use Rattle.xa_audit.specs.Histories.{said_on, fault_said, faults_in}
@@ -7,24 +8,31 @@ use Rattle.std.proofs.lemmas.List.{drop_more, drop_all}
 use Rattle.xa_audit.specs.Written.{each_text, comma_unless, comma_before, each_json}
 
 -- one more was written, of what is left
-pub each_next : {A : Type 0} (text : A → List ℕ) (left rest : List A) (x : A) (whole old new : List ℕ) → left ≡ x ∷ rest → new ≡ old ++ text x
+pub each_next : {A : Type 0} (text : A → List ℕ) (left rest : List A) (x : A) (whole old new : List ℕ) → left ≡ x ∷ rest
+    → new ≡ old ++ text x
     → whole ≡ old ++ each_text text left → whole ≡ new ++ each_text text rest
 unfolding each_text
 each_next text left rest x whole old new cut put before =
-    before ∙ ap (λ l. old ++ each_text text l) cut ∙ sym (append_assoc old (text x) (each_text text rest)) ∙ ap (λ l. l ++ each_text text rest) (sym put)
+    before ∙ ap (λ l. old ++ each_text text l) cut ∙ sym (append_assoc old (text x) (each_text text rest))
+    ∙ ap (λ l. l ++ each_text text rest) (sym put)
 
 -- the same, of a list by its places
-pub each_step : {A : Type 0} (text : A → List ℕ) (xs : List A) (i : ℕ) (x d : A) (whole old new : List ℕ) → i < length xs → x ≡ get_or xs i d
+pub each_step : {A : Type 0} (text : A → List ℕ) (xs : List A) (i : ℕ) (x d : A) (whole old new : List ℕ)
+    → i < length xs → x ≡ get_or xs i d
     → new ≡ old ++ text x → whole ≡ old ++ each_text text (drop i xs) → whole ≡ new ++ each_text text (drop (i + 1) xs)
 each_step text xs i x d whole old new below at put before =
-    each_next text (drop i xs) (drop (i + 1) xs) x whole old new (drop_more xs i d below ∙ ap (λ y. y ∷ drop (i + 1) xs) (sym at)) put before
+    each_next text (drop i xs) (drop (i + 1) xs) x whole old new
+    (drop_more xs i d below ∙ ap (λ y. y ∷ drop (i + 1) xs) (sym at)) put before
 
 -- nothing is left
-pub each_done : {A : Type 0} (text : A → List ℕ) (left : List A) (whole old : List ℕ) → left ≡ [] → whole ≡ old ++ each_text text left → old ≡ whole
+pub each_done : {A : Type 0} (text : A → List ℕ) (left : List A) (whole old : List ℕ) → left ≡ []
+    → whole ≡ old ++ each_text text left → old ≡ whole
 unfolding each_text
-each_done text left whole old none before = sym (append-nil old) ∙ ap (λ l. old ++ each_text text l) (sym none) ∙ sym before
+each_done text left whole old none before =
+    sym (append-nil old) ∙ ap (λ l. old ++ each_text text l) (sym none) ∙ sym before
 
-pub each_end : {A : Type 0} (text : A → List ℕ) (xs : List A) (i : ℕ) (whole old : List ℕ) → length xs ≤ i → whole ≡ old ++ each_text text (drop i xs)
+pub each_end : {A : Type 0} (text : A → List ℕ) (xs : List A) (i : ℕ) (whole old : List ℕ) → length xs ≤ i
+    → whole ≡ old ++ each_text text (drop i xs)
     → old ≡ whole
 each_end text xs i whole old past before = each_done text (drop i xs) whole old (drop_all i xs past) before
 
@@ -41,7 +49,8 @@ lead_none : {A : Type 0} (first : Bool) (xs : List A) → xs ≡ [] → lead fir
 lead_none true xs none = refl
 lead_none false xs none = ap comma_before none
 
-pub json_next : {A : Type 0} (json : A → List ℕ) (first : Bool) (left rest : List A) (x : A) (whole old one new : List ℕ) → left ≡ x ∷ rest
+pub json_next : {A : Type 0} (json : A → List ℕ) (first : Bool) (left rest : List A) (x : A)
+    (whole old one new : List ℕ) → left ≡ x ∷ rest
     → one ≡ old ++ comma_unless first → new ≡ one ++ json x
     → whole ≡ (old ++ lead first left) ++ each_json json left → whole ≡ (new ++ lead false rest) ++ each_json json rest
 unfolding each_json
@@ -55,21 +64,25 @@ json_next json first left rest x whole old one new cut led put before =
     regroup : (a b c d : List ℕ) → a ++ ((b ++ c) ++ d) ≡ ((a ++ b) ++ c) ++ d
     regroup a b c d = simp append_assoc
 
-pub json_step : {A : Type 0} (json : A → List ℕ) (first : Bool) (xs : List A) (i : ℕ) (x d : A) (whole old one new : List ℕ) → i < length xs
+pub json_step : {A : Type 0} (json : A → List ℕ) (first : Bool) (xs : List A) (i : ℕ) (x d : A)
+    (whole old one new : List ℕ) → i < length xs
     → x ≡ get_or xs i d → one ≡ old ++ comma_unless first → new ≡ one ++ json x
     → whole ≡ (old ++ lead first (drop i xs)) ++ each_json json (drop i xs)
     → whole ≡ (new ++ lead false (drop (i + 1) xs)) ++ each_json json (drop (i + 1) xs)
 json_step json first xs i x d whole old one new below at led put before =
-    json_next json first (drop i xs) (drop (i + 1) xs) x whole old one new (drop_more xs i d below ∙ ap (λ y. y ∷ drop (i + 1) xs) (sym at)) led put before
+    json_next json first (drop i xs) (drop (i + 1) xs) x whole old one new
+    (drop_more xs i d below ∙ ap (λ y. y ∷ drop (i + 1) xs) (sym at)) led put before
 
 pub json_done : {A : Type 0} (json : A → List ℕ) (first : Bool) (left : List A) (whole old : List ℕ) → left ≡ []
     → whole ≡ (old ++ lead first left) ++ each_json json left → old ≡ whole
 unfolding each_json
 json_done json first left whole old none before =
-    sym (append-nil old) ∙ ap (λ l. old ++ l) (sym (lead_none first left none)) ∙ sym (append-nil (old ++ lead first left))
+    sym (append-nil old) ∙ ap (λ l. old ++ l) (sym (lead_none first left none))
+    ∙ sym (append-nil (old ++ lead first left))
     ∙ ap (λ l. (old ++ lead first left) ++ each_json json l) (sym none) ∙ sym before
 
-pub json_end : {A : Type 0} (json : A → List ℕ) (first : Bool) (xs : List A) (i : ℕ) (whole old : List ℕ) → length xs ≤ i
+pub json_end : {A : Type 0} (json : A → List ℕ) (first : Bool) (xs : List A) (i : ℕ) (whole old : List ℕ)
+    → length xs ≤ i
     → whole ≡ (old ++ lead first (drop i xs)) ++ each_json json (drop i xs) → old ≡ whole
 json_end json first xs i whole old past before = json_done json first (drop i xs) whole old (drop_all i xs past) before
 
@@ -89,13 +102,15 @@ faults_cut store number text line rest old new whole cut put before =
     ∙ sym (append_assoc old (fault_said store number (said_on line)) (faults_in store (number + 1) (lines_of rest)))
     ∙ ap (λ l. l ++ faults_in store (number + 1) (lines_of rest)) (sym put)
 
-pub faults_end : (store number : ℕ) (text old whole : List ℕ) → (length text == 0) ≡ true → whole ≡ old ++ faults_in store number (lines_of text) → old ≡ whole
+pub faults_end : (store number : ℕ) (text old whole : List ℕ) → (length text == 0) ≡ true
+    → whole ≡ old ++ faults_in store number (lines_of text) → old ≡ whole
 unfolding faults_in
 faults_end store number text old whole empty before =
     sym (append-nil old) ∙ ap (λ l. old ++ faults_in store number l) (sym (no_lines text empty)) ∙ sym before
 
 -- four words with numbers, one after another
-pub four_counts : (old one two three four a b c d : List ℕ) (words others more last : List ℕ) → one ≡ old ++ (words ++ a) → two ≡ one ++ (others ++ b)
+pub four_counts : (old one two three four a b c d : List ℕ) (words others more last : List ℕ)
+    → one ≡ old ++ (words ++ a) → two ≡ one ++ (others ++ b)
     → three ≡ two ++ (more ++ c) → four ≡ three ++ (last ++ d)
     → four ≡ old ++ (((((((words ++ a) ++ others) ++ b) ++ more) ++ c) ++ last) ++ d)
 four_counts old one two three four a b c d words others more last e f g h =

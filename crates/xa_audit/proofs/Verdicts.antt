@@ -7,7 +7,8 @@ use Rattle.xa_audit.specs.declared.branch.Branch.{Branch}
 use Rattle.xa_audit.specs.declared.verdict.Verdict.TheVariants.{Atomic, Mixed, InDoubt, Open}
 use Rattle.xa_audit.specs.Globals.{took, failed, ends_as, is_in_doubt, is_open, verdict_of}
 
-by_parts : (a b c d : Bool) → (if a && b then Mixed else (if c then InDoubt else (if d then Open else Atomic))) ≡ Mixed → (a ≡ true) × (b ≡ true)
+by_parts : (a b c d : Bool) → (if a && b then Mixed else (if c then InDoubt else (if d then Open else Atomic))) ≡ Mixed
+    → (a ≡ true) × (b ≡ true)
 by_parts true true c d e = (refl, refl)
 by_parts true false true d e = absurd (cc)
 by_parts true false false true e = absurd (cc)
@@ -16,15 +17,19 @@ by_parts false b true d e = absurd (cc)
 by_parts false b false true e = absurd (cc)
 by_parts false b false false e = absurd (cc)
 
-parts_by : (a b c d : Bool) → a ≡ true → b ≡ true → (if a && b then Mixed else (if c then InDoubt else (if d then Open else Atomic))) ≡ Mixed
+parts_by : (a b c d : Bool) → a ≡ true → b ≡ true → (if a
+    && b then Mixed else (if c then InDoubt else (if d then Open else Atomic))) ≡ Mixed
 parts_by true true c d p q = refl
 parts_by true false c d p q = absurd (true≢false (sym q))
 parts_by false b c d p q = absurd (true≢false (sym p))
 
-pub mixed_iff : (branches : List Branch) → (verdict_of branches ≡ Mixed) ↔ ((list_any took branches ≡ true) × (list_any failed branches ≡ true))
+pub mixed_iff : (branches : List Branch) → (verdict_of branches ≡ Mixed)
+    ↔ ((list_any took branches ≡ true) × (list_any failed branches ≡ true))
 mixed_iff branches = (
-  by_parts (list_any took branches) (list_any failed branches) (list_any (ends_as is_in_doubt) branches) (list_any (ends_as is_open) branches),
+  by_parts (list_any took branches) (list_any failed branches) (list_any (ends_as is_in_doubt) branches)
+      (list_any (ends_as is_open) branches),
   λ both.
-      parts_by (list_any took branches) (list_any failed branches) (list_any (ends_as is_in_doubt) branches) (list_any (ends_as is_open) branches) both.0
+      parts_by (list_any took branches) (list_any failed branches) (list_any (ends_as is_in_doubt) branches)
+      (list_any (ends_as is_open) branches) both.0
       both.1,
 )

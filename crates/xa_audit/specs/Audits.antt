@@ -8,7 +8,8 @@
 use Rattle.std.specs.Prelude.{◌≡◌, ℕ, ◌==◌, Bool, true, false, Option, List, [], ◌∷◌, length}
 use Rattle.std.specs.Io.KnownBytes.{Keeps, Appends}
 use Rattle.xa_lines.specs.declared.script_fault.ScriptFault.{ScriptFault}
-use Rattle.xa_lines.specs.declared.script_fault.ScriptFault.TheVariants.{Read, TooLong, Write, NoMemory, Full, GateShut, ThreadRefused}
+use Rattle.xa_lines.specs.declared.script_fault.ScriptFault.TheVariants.{Read, TooLong, Write, NoMemory, Full, GateShut}
+use Rattle.xa_lines.specs.declared.script_fault.ScriptFault.TheVariants.{ThreadRefused}
 use Rattle.xa_lines.specs.Transcript.{AppendsPrefix}
 use Rattle.xa_audit.specs.declared.audit.Audit.{Audit}
 use Rattle.xa_audit.specs.declared.ended.Ended.{Ended}
@@ -57,7 +58,8 @@ AppendsAudit histories form ended old new = (text : List ℕ) × IsAudited histo
 
 -- the writer got a prefix of that
 abbrev pub AppendsAuditPrefix : List (List ℕ) → Form → Option (List ℕ) → Option (List ℕ) → Type 0
-AppendsAuditPrefix histories form old new = (ended : Ended) × (text : List ℕ) × IsAudited histories form ended text × AppendsPrefix old new text
+AppendsAuditPrefix histories form old new =
+    (ended : Ended) × (text : List ℕ) × IsAudited histories form ended text × AppendsPrefix old new text
 
 -- what a fault leaves in the writer: a prefix of the text if a write failed, nothing if there was no memory
 abbrev pub AfterAuditFault : List (List ℕ) → Form → ScriptFault → Option (List ℕ) → Option (List ℕ) → Type 0

@@ -31,10 +31,12 @@ branch_in store named = record { store = store; xid = named.0; ends = ends_in na
 -- the branches of the store of this number that has this history, ascending by their identifiers
 abbrev pub AreBranchesOf : ℕ → List ℕ → List Branch → Type 0
 AreBranchesOf store history branches =
-    (entries : List (Xid × Lives)) × IsIndex xid_cmp (lives_in history) entries × (branches ≡ map (branch_in store) entries)
+    (entries : List (Xid × Lives)) × IsIndex xid_cmp (lives_in history) entries
+    × (branches ≡ map (branch_in store) entries)
 
 -- the branches of the stores that have these histories, the first of which has this number
 abbrev pub AreBranches : ℕ → List (List ℕ) → List Branch → Type 0
 AreBranches store [] branches = branches ≡ []
 AreBranches store (history ∷ histories) branches =
-    (here : List Branch) × (later : List Branch) × AreBranchesOf store history here × AreBranches (store + 1) histories later × (branches ≡ here ++ later)
+    (here : List Branch) × (later : List Branch) × AreBranchesOf store history here
+    × AreBranches (store + 1) histories later × (branches ≡ here ++ later)

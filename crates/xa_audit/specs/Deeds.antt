@@ -8,7 +8,8 @@ use Rattle.std.specs.Option.{option_map}
 use Rattle.xa_xid.specs.declared.xid.Xid.{Xid}
 use Rattle.xa_xid.specs.Xid.{same_xid}
 use Rattle.xa_xid.specs.declared.statement.Statement.{Statement}
-use Rattle.xa_xid.specs.declared.statement.Statement.TheVariants.{Start, End, Prepare, Commit, Rollback, Recover, Unsupported, Get, Put, Del, Disconnect}
+use Rattle.xa_xid.specs.declared.statement.Statement.TheVariants.{Start, End, Prepare, Commit, Rollback, Recover}
+use Rattle.xa_xid.specs.declared.statement.Statement.TheVariants.{Unsupported, Get, Put, Del, Disconnect}
 use Rattle.xa_server.specs.State.{State, no_state, own_xid}
 use Rattle.xa_server.specs.Replies.{reply_to}
 use Rattle.xa_server.specs.Step.{after, is_refused}
@@ -33,12 +34,14 @@ deed_by own Disconnect = option_map (λ xid. (xid, RollsBack)) own
 
 -- what a statement does in this state: nothing, if it is refused
 unfoldable pub deed_of : State → ℕ → Statement → Option (Xid × Deed)
-deed_of state session statement = cond (is_refused (reply_to state session statement)) None (deed_by (own_xid state session) statement)
+deed_of state session statement =
+    cond (is_refused (reply_to state session statement)) None (deed_by (own_xid state session) statement)
 
 -- the deeds of a history, in order
 unfoldable pub deeds_from : State → List (ℕ × Statement) → List (Xid × Deed)
 deeds_from state [] = []
-deeds_from state (entry ∷ entries) = option_to_list (deed_of state entry.0 entry.1) ++ deeds_from (after state entry.0 entry.1) entries
+deeds_from state (entry ∷ entries) =
+    option_to_list (deed_of state entry.0 entry.1) ++ deeds_from (after state entry.0 entry.1) entries
 
 -- the deeds of a history, by a server that holds nothing at first
 abbrev pub deeds_in : List ℕ → List (Xid × Deed)

@@ -11,7 +11,8 @@ use Rattle.std.specs.declared.cmp.Ordering.{Ordering}
 use Rattle.xa_xid.specs.declared.xid.Xid.{Xid}
 use Rattle.xa_xid.specs.Xid.{xid_cmp}
 use Rattle.xa_xid.specs.declared.statement.Statement.{Statement}
-use Rattle.xa_xid.specs.declared.statement.Statement.TheVariants.{Start, End, Prepare, Commit, Rollback, Recover, Unsupported, Get, Put, Del, Disconnect}
+use Rattle.xa_xid.specs.declared.statement.Statement.TheVariants.{Start, End, Prepare, Commit, Rollback, Recover}
+use Rattle.xa_xid.specs.declared.statement.Statement.TheVariants.{Unsupported, Get, Put, Del, Disconnect}
 use Rattle.xa_server.specs.State.{State, own_xid}
 use Rattle.xa_server.specs.Step.{after}
 use Rattle.xa_audit.specs.Deeds.{deed_of}
@@ -58,7 +59,8 @@ IsFollowed owned state = (session : ℕ) → owned_at owned session ≡ own_xid 
 
 -- the map has this value at the key, and is otherwise as it was
 abbrev pub PutsAt : {K V : Type 0} → (K → K → Ordering) → BTreeMap K V → K → V → BTreeMap K V → Type 0
-PutsAt {K} cmp old key value new = (other : K) → get cmp new other ≡ cond (is_at (cmp key) other) (Some value) (get cmp old other)
+PutsAt {K} cmp old key value new =
+    (other : K) → get cmp new other ≡ cond (is_at (cmp key) other) (Some value) (get cmp old other)
 
 -- what is kept of lives after a statement: the deed is noted, if there is one
 abbrev pub Notes : Option (Xid × Deed) → BTreeMap Xid Lives → BTreeMap Xid Lives → Type 0

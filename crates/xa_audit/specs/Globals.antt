@@ -4,7 +4,8 @@
 --     took, failed      some life of a branch is COMMITTED;  none is, and its last life is ROLLED BACK
 --     verdict_of        the verdict on a global transaction
 --     count_of          how many have this verdict
-use Rattle.std.specs.Prelude.{ℕ, ◌+◌, Bool, true, false, not, ◌&&◌, cond, if◌then◌else◌, Option, Some, None, List, [], ◌∷◌, filter}
+use Rattle.std.specs.Prelude.{ℕ, ◌+◌, Bool, true, false, not, ◌&&◌, cond, if◌then◌else◌, Option, Some, None, List, []}
+use Rattle.std.specs.Prelude.{◌∷◌, filter}
 use Rattle.std.specs.List.{list_any}
 use Rattle.std.specs.Option.{option_map_or}
 use Rattle.std.specs.declared.cmp.Ordering.{Ordering}
@@ -84,7 +85,8 @@ failed branch = not (took branch) && ends_as is_rolled_back branch
 abbrev pub verdict_of : List Branch → Verdict
 verdict_of branches =
     if list_any took branches && list_any failed branches then Mixed
-    else (if list_any (ends_as is_in_doubt) branches then LeftInDoubt else (if list_any (ends_as is_open) branches then LeftOpen else Atomic))
+    else (if list_any (ends_as is_in_doubt) branches then LeftInDoubt else (if list_any
+    (ends_as is_open) branches then LeftOpen else Atomic))
 
 abbrev pub same_verdict : Verdict → Verdict → Bool
 same_verdict Atomic Atomic = true

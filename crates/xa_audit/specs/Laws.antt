@@ -54,7 +54,8 @@ pub record DropsWrites (deeds : List Deed) : Type 0 where
 
 -- the branch failed in the history of the store of this number
 abbrev pub failed_in : ℕ → List ℕ → Xid → Bool
-failed_in store history xid = option_map_or (λ lives. failed (branch_in store (xid, lives))) (lives_in history xid) false
+failed_in store history xid =
+    option_map_or (λ lives. failed (branch_in store (xid, lives))) (lives_in history xid) false
 
 -- no `XA COMMIT` of the branch was accepted, and the last life of it wrote, and was rolled back
 abbrev pub FailsBy : List Deed → Type 0

@@ -32,7 +32,8 @@ verdict_text LeftOpen = codes "OPEN"
 -- the line of a life of a branch
 abbrev pub life_text : Branch → End → List ℕ
 life_text branch end =
-    codes "STORE " ++ decimal branch.store ++ codes " " ++ part_text branch.xid.bqual.items ++ codes " " ++ end_text end ++ codes "\n"
+    codes "STORE " ++ decimal branch.store ++ codes " " ++ part_text branch.xid.bqual.items ++ codes " " ++ end_text end
+    ++ codes "\n"
 
 -- what is written for each of a list
 unfoldable pub each_text : {A : Type 0} → (A → List ℕ) → List A → List ℕ
@@ -91,7 +92,8 @@ branch_json branch =
 -- what stands before the branches of a global transaction
 abbrev pub head_json : GlobalName → List ℕ
 head_json name =
-    codes "{\"format\":" ++ decimal name.format_id ++ codes ",\"gtrid\":" ++ string_text (part_text name.gtrid.items) ++ codes ",\"branches\":["
+    codes "{\"format\":" ++ decimal name.format_id ++ codes ",\"gtrid\":" ++ string_text (part_text name.gtrid.items)
+    ++ codes ",\"branches\":["
 
 -- and behind them
 abbrev pub tail_json : List Branch → List ℕ
@@ -103,10 +105,12 @@ global_json global = head_json global.0 ++ each_json branch_json global.1 ++ tai
 unfoldable pub counts_json : List Global → List ℕ
 counts_json globals =
     codes "\"atomic\":" ++ decimal (count_of Atomic globals) ++ codes ",\"mixed\":" ++ decimal (count_of Mixed globals)
-    ++ codes ",\"in_doubt\":" ++ decimal (count_of LeftInDoubt globals) ++ codes ",\"open\":" ++ decimal (count_of LeftOpen globals)
+    ++ codes ",\"in_doubt\":" ++ decimal (count_of LeftInDoubt globals) ++ codes ",\"open\":"
+    ++ decimal (count_of LeftOpen globals)
 
 abbrev pub json_text : List Global → List ℕ
-json_text globals = codes "{\"globals\":[" ++ each_json global_json globals ++ codes "]," ++ counts_json globals ++ codes "}\n"
+json_text globals =
+    codes "{\"globals\":[" ++ each_json global_json globals ++ codes "]," ++ counts_json globals ++ codes "}\n"
 
 abbrev pub text_in : Form → List Global → List ℕ
 text_in Lines globals = lines_text globals

@@ -42,7 +42,8 @@ impl Audit {
 
     /// Takes the branches of the store that was counted last, which have these lives.
     fn push_lives(&mut self, alloc: Global, lives: &BTreeMap<Xid, Lives>) -> Result<(), NoMemory>
-        ensures added { OnOk result (self.new.branches ≡ self.old.branches ++ map (branch_in self.old.stores) lives.now.entries) }
+        ensures added { OnOk result (self.new.branches ≡ self.old.branches
+            ++ map (branch_in self.old.stores) lives.now.entries) }
         ensures ordered { tree.IsOrdered xid_cmp lives.now }
         ensures stores { self.new.stores ≡ self.old.stores }
         ensures faults { self.new.faults ≡ self.old.faults }
@@ -57,7 +58,8 @@ impl Audit {
     /// Own rule: docs/HISTORIES.md#audits.
     pub fn add(&mut self, alloc: Global, history: &[u8]) -> Result<(), NoMemory>
         requires { self.old.stores < 64 }
-        ensures audit { OnOk result ((histories : List (List ℕ)) → IsAuditOf histories self.old → IsAuditOf (histories ++ history.now ∷ []) self.new) }
+        ensures audit { OnOk result ((histories : List (List ℕ)) → IsAuditOf histories self.old
+            → IsAuditOf (histories ++ history.now ∷ []) self.new) }
         ensures stores { OnOk result (self.new.stores ≡ self.old.stores + 1) }
     {
         self.stores += 1;

@@ -66,7 +66,8 @@ pub fn audit_text(alloc: Global, audit: Audit, form: Form) -> Result<Audited, No
     //   its store, its number and the place of its fault. Otherwise the text has exactly the global
     //   transactions of the histories, ascending, each with its branches, the ends of their lives in order,
     //   and its verdict, in the form that is asked for. The end that is returned belongs to this text.
-    ensures { IfOk result (λ audited. (histories : List (List ℕ)) → IsAuditOf histories audit → IsAudited histories form audited.ended audited.text.items) }
+    ensures { IfOk result (λ audited. (histories : List (List ℕ)) → IsAuditOf histories audit
+        → IsAudited histories form audited.ended audited.text.items) }
 {
     if !audit.faults.is_empty() {
         return Ok(Audited {

@@ -30,7 +30,8 @@ fn add(
     name: GlobalName,
     branch: Branch,
 ) -> Result<(), NoMemory>
-    ensures { OnOk result (PutsAt global_cmp globals.old name (unwrap_or (tree.get global_cmp globals.old name) [] ++ branch ∷ []) globals.new) }
+    ensures { OnOk result (PutsAt global_cmp globals.old name
+        (unwrap_or (tree.get global_cmp globals.old name) [] ++ branch ∷ []) globals.new) }
 {
     let mut branches = known_branches(alloc, globals.remove(&name));
     branches.push(branch)?;
@@ -45,7 +46,8 @@ pub fn globals_of(
     alloc: Global,
     branches: &[Branch],
 ) -> Result<BTreeMap<GlobalName, Branches>, NoMemory>
-    ensures { IfOk result (λ globals. (name : NameSeen) → tree.get global_cmp globals name ≡ if_any (filter (is_of name) branches.now)) }
+    ensures { IfOk result (λ globals. (name : NameSeen) → tree.get global_cmp globals name
+        ≡ if_any (filter (is_of name) branches.now)) }
 {
     let mut globals = BTreeMap::new(alloc);
     for branch in branches {

@@ -2,7 +2,8 @@
 ghost use Rattle.std.specs.Prelude.{◌≡◌, ◌≤◌, ◌++◌, length, OnOk, IfOk};
 ghost use Rattle.xa_xid.specs.Limits.{text_bytes};
 ghost use Rattle.xa_xid.specs.XidText.{part_text};
-ghost use Rattle.xa_audit.specs.Written.{string_text, comma_unless, each_json, end_json, branch_json, head_json, tail_json, global_json, counts_json, json_text as json};
+ghost use Rattle.xa_audit.specs.Written.{string_text, comma_unless, each_json, end_json, branch_json, head_json};
+ghost use Rattle.xa_audit.specs.Written.{tail_json, global_json, counts_json, json_text as json};
 
 use crate::branch::Branch;
 use crate::branches::Branches;

@@ -15,7 +15,8 @@ ghost use Rattle.xa_audit.specs.Laws.{is_commit, took_in, failed_in, FailsBy, Ha
 pub fn branch_takes_by_an_accepted_commit()
     // Proved (audit, took): Some life of a branch is COMMITTED if, and only if, its history has an accepted
     //   `XA COMMIT` of it.
-    ensures { (history : List ℕ) (xid : Xid) → took_in history xid ≡ list_any is_commit (deeds_about xid (deeds_in history)) }
+    ensures { (history : List ℕ) (xid : Xid) → took_in history xid
+        ≡ list_any is_commit (deeds_about xid (deeds_in history)) }
 {}
 
 /// States that a branch failed if, and only if, its writes were dropped: no `XA COMMIT` of it was accepted, and the
@@ -26,7 +27,8 @@ pub fn branch_takes_by_an_accepted_commit()
 pub fn branch_fails_by_dropped_writes()
     // Proved (audit, failed): A branch failed if, and only if, its history has no accepted `XA COMMIT` of it,
     //   and its last life has an accepted `PUT` or `DEL` and was rolled back.
-    ensures { (store : ℕ) (history : List ℕ) (xid : Xid) → (failed_in store history xid ≡ true) ↔ FailsBy (deeds_about xid (deeds_in history)) }
+    ensures { (store : ℕ) (history : List ℕ) (xid : Xid) → (failed_in store history xid ≡ true)
+        ↔ FailsBy (deeds_about xid (deeds_in history)) }
 {}
 
 /// States that MIXED stands if, and only if, one branch took and another one failed.

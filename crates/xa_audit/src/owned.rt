@@ -72,7 +72,8 @@ impl Owned {
     /// May return `NoMemory`.
     pub fn set(&mut self, session: SessionNo, own: Option<Xid>) -> Result<(), NoMemory>
         ensures { OnOk result
-            ((at : ℕ) → slice_index_or self.new.places.items at None ≡ cond (at == session) own (slice_index_or self.old.places.items at None)) }
+            ((at : ℕ) → slice_index_or self.new.places.items at None
+            ≡ cond (at == session) own (slice_index_or self.old.places.items at None)) }
     {
         make_place(&mut self.places, session)?;
         self.places[session.get() as usize] = own;

@@ -1,9 +1,11 @@
 //! Reads histories from readers, and writes the audit.
-ghost use Rattle.std.specs.Prelude.{◌≡◌, ◌≤◌, ◌<◌, ◌+◌, ◌++◌, ◌∷◌, [], ℕ, List, length, IfOk, IfErr, IfSome, OnOk, OnErr, Err};
+ghost use Rattle.std.specs.Prelude.{◌≡◌, ◌≤◌, ◌<◌, ◌+◌, ◌++◌, ◌∷◌, [], ℕ, List, length, IfOk, IfErr, IfSome, OnOk};
+ghost use Rattle.std.specs.Prelude.{OnErr, Err};
 ghost use Rattle.std.specs.Io.KnownBytes.{IsAtEnd, Consumes};
 ghost use Rattle.xa_lines.specs.Calls.{HasReadAll, StopsReading, HasWritten, StopsWriting};
 ghost use Rattle.xa_lines.specs.Transcript.{ConsumesMoreThan, IsOfReading};
-ghost use Rattle.xa_audit.specs.Audits.{history_bytes, history_reads, IsAuditOf, IsAudited, AppendsAudit, AppendsAuditPrefix, AfterAuditFault};
+ghost use Rattle.xa_audit.specs.Audits.{history_bytes, history_reads, IsAuditOf, IsAudited, AppendsAudit};
+ghost use Rattle.xa_audit.specs.Audits.{AppendsAuditPrefix, AfterAuditFault};
 
 use crate::audit::Audit;
 use crate::audited::audit_text;
@@ -37,13 +39,15 @@ pub fn add_history<R: PieceReader>(
     ensures read { OnOk result (IsAtEnd (R.remaining reader.new)) }
     // Proved (audit, history-reads-all)
     ensures taken { OnOk result (IfSome (R.remaining reader.old)
-        (λ history. (histories : List (List ℕ)) → IsAuditOf histories audit.old → IsAuditOf (histories ++ history ∷ []) audit.new)) }
+        (λ history. (histories : List (List ℕ)) → IsAuditOf histories audit.old
+        → IsAuditOf (histories ++ history ∷ []) audit.new)) }
     ensures stores { OnOk result (audit.new.stores ≡ audit.old.stores + 1) }
     // Proved (audit, history-length): A history that was taken has at most 16,777,216 bytes, and `TooLong`
     //   is returned only if more were read.
     ensures short { OnOk result (IfSome (R.remaining reader.old) (λ history. length history ≤ history_bytes)) }
     // Proved (audit, history-length)
-    ensures too_long { result ≡ Err ScriptFault.TooLong → ConsumesMoreThan history_bytes (R.remaining reader.old) (R.remaining reader.new) }
+    ensures too_long { result ≡ Err ScriptFault.TooLong → ConsumesMoreThan history_bytes (R.remaining reader.old)
+        (R.remaining reader.new) }
     // Proved (audit, history-faults): The fault of a history is `Read`, `TooLong` or `NoMemory`.
     ensures fault { IfErr result IsOfReading }
 {
@@ -68,11 +72,13 @@ pub fn write_audit<W: PieceWriter>(
     // Proved (audit, written): After Ok the whole text of an audit is written, and the end that is returned
     //   belongs to it.
     ensures written { IfOk result
-        (λ ended. (histories : List (List ℕ)) → IsAuditOf histories audit → AppendsAudit histories form ended (W.contents writer.old) (W.contents writer.new)) }
+        (λ ended. (histories : List (List ℕ)) → IsAuditOf histories audit
+        → AppendsAudit histories form ended (W.contents writer.old) (W.contents writer.new)) }
     // Proved (audit, fault): After `Write` a prefix of the text of an audit was written, after `NoMemory`
     //   nothing. There is no other fault.
     ensures fault { IfErr result
-        (λ fault. (histories : List (List ℕ)) → IsAuditOf histories audit → AfterAuditFault histories form fault (W.contents writer.old) (W.contents writer.new)) }
+        (λ fault. (histories : List (List ℕ)) → IsAuditOf histories audit
+        → AfterAuditFault histories form fault (W.contents writer.old) (W.contents writer.new)) }
 {
     let audited = audit_text(alloc, audit, form)?;
     write_whole(writer, audited.text.as_slice())?;

@@ -46,7 +46,8 @@ fn known_lives(alloc: Global, found: Option<Lives>) -> Lives
 /// Takes out the lives of a branch that are known.
 fn take_lives(alloc: Global, lives: &mut BTreeMap<Xid, Lives>, xid: &Xid) -> Lives
     ensures known { result ≡ unwrap_or (tree.get xid_cmp lives.old xid.now) no_lives }
-    ensures taken { (other : XidSeen) → tree.get xid_cmp lives.new other ≡ cond (tree.is_at (xid_cmp xid.now) other) None (tree.get xid_cmp lives.old other) }
+    ensures taken { (other : XidSeen) → tree.get xid_cmp lives.new other
+        ≡ cond (tree.is_at (xid_cmp xid.now) other) None (tree.get xid_cmp lives.old other) }
 {
     known_lives(alloc, lives.remove(xid))
 }
@@ -58,7 +59,8 @@ fn note(
     xid: Xid,
     deed: Deed,
 ) -> Result<(), NoMemory>
-    ensures { OnOk result (PutsAt xid_cmp lives.old xid (noted (unwrap_or (tree.get xid_cmp lives.old xid) no_lives) deed) lives.new) }
+    ensures { OnOk result (PutsAt xid_cmp lives.old xid (noted
+        (unwrap_or (tree.get xid_cmp lives.old xid) no_lives) deed) lives.new) }
 {
     let mut known = take_lives(alloc, lives, &xid);
     known.note(deed)?;
@@ -90,7 +92,8 @@ impl Store {
         ensures server { self.new.server ≡ self.old.server }
         ensures owned { OnOk result
             ((at : ℕ) → owned_at self.new.owned at
-            ≡ cond (at == session) (own_after (owned_at self.old.owned session) statement.now) (owned_at self.old.owned at)) }
+            ≡ cond (at == session) (own_after (owned_at self.old.owned session) statement.now)
+            (owned_at self.old.owned at)) }
         ensures lives { OnOk result (Notes (deed_of_statement (owned_at self.old.owned session) statement.now) self.old.lives self.new.lives) }
     {
         let own = self.owned.of(session);

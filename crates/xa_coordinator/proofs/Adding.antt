@@ -1,5 +1,6 @@
 -- How many entries the session of a store has added, before and after it was used.
-use Rattle.std.proofs.Common.{◌≡◌, ◌<◌, ◌≤◌, ◌+◌, ℕ, List, [], ◌∷◌, length, get_or, map, ap, sym, ◌∙◌, inl, inr, Result, Ok, Err, Some, arith, length-append}
+use Rattle.std.proofs.Common.{◌≡◌, ◌<◌, ◌≤◌, ◌+◌, ℕ, List, [], ◌∷◌, length, get_or, map, ap, sym, ◌∙◌, inl, inr, Result}
+use Rattle.std.proofs.Common.{Ok, Err, Some, arith, length-append}
 use Rattle.std.specs.Prelude.{IfOk, IfErr, slice_get, slice_set}
 use Rattle.std.proofs.lemmas.List.{length-map}
 use Rattle.std.proofs.lemmas.Option.{slice_get-get_or}
@@ -26,25 +27,36 @@ at_most_one statements (inl none) = omega (arith, ap length none)
 at_most_one statements (inr one) = omega (arith, ap length one)
 
 -- at most DISCONNECT was
-pub disconnect_adds : (old new : SessionView) → IsDisconnected old new → length new.known.mine ≤ length old.known.mine + 1
+pub disconnect_adds : (old new : SessionView) → IsDisconnected old new
+    → length new.known.mine ≤ length old.known.mine + 1
 disconnect_adds old new is = omega (arith, adds_so_many is.statements old new is.adds, at_most_one is.statements is.is)
 
 -- whatever was answered
-pub either_way : {A E : Type 0} (P : Type 0) (result : Result A E) (ok : A → Type 0) (err : E → Type 0) → ((a : A) → ok a → P) → ((e : E) → err e → P)
+pub either_way : {A E : Type 0} (P : Type 0) (result : Result A E) (ok : A → Type 0) (err : E → Type 0)
+    → ((a : A) → ok a → P) → ((e : E) → err e → P)
     → IfOk result ok → IfErr result err → P
 either_way P (Ok a) ok err from_ok from_err is_ok is_err = from_ok a is_ok
 either_way P (Err e) ok err from_ok from_err is_ok is_err = from_err e is_err
 
 module _ {S : Type 0} (view : S → SessionView) where
-  added_is : (stores : List S) (store : ℕ) (session : S) → slice_get stores store ≡ Some session → added_at view stores store ≡ length (view session).known.mine
+  added_is : (stores : List S) (store : ℕ) (session : S) → slice_get stores store ≡ Some session
+      → added_at view stores store ≡ length (view session).known.mine
   unfolding added_at
   added_is stores store session is = ap (added_by view) is
 
   -- a session was used, and added at most so many
-  pub added_next : (stores : List S) (store more : ℕ) (old session : S) → old ≡ get_or stores store old → store < length stores
+  pub added_next : (stores : List S) (store more : ℕ) (old session : S) → old ≡ get_or stores store old
+      → store < length stores
       → length (view session).known.mine ≤ length (view old).known.mine + more →
       added_at view (slice_set stores store session) store ≤ added_at view stores store + more
   added_next stores store more old session was below few =
       let before : slice_get stores store ≡ Some old = slice_get-get_or stores store old below ∙ ap Some (sym was) in
-      let after : slice_get (slice_set stores store session) store ≡ Some session = get_set_same stores store session below in
-      omega (arith, few, added_is stores store old before, added_is (slice_set stores store session) store session after)
+      let after : slice_get (slice_set stores store session) store ≡ Some session =
+      get_set_same stores store session below in
+      omega (
+        arith,
+        few,
+        added_is stores store old before,
+        added_is
+            (slice_set stores store session) store session after,
+      )

@@ -21,12 +21,15 @@ use Rattle.xa_coordinator.specs.Participants.{takes_part}
 use Rattle.xa_coordinator.specs.Agreement.{AddsStatements, AgreesWith, Agrees}
 use Rattle.xa_coordinator.specs.Stores.{EachStore}
 use Rattle.xa_coordinator.specs.Told.{IsDone, IsUndone, IsUndoneBehind, IsStopped, IsMissing, IsUnfinished}
-use Rattle.xa_coordinator.specs.Outcomes.{branch_of, finish_statement, ends_in, IsClosed, Settles, SettlesIn, IsVoted, IsEnded, EndsAs, VotesAs}
+use Rattle.xa_coordinator.specs.Outcomes.{branch_of, finish_statement, ends_in, IsClosed, Settles, SettlesIn, IsVoted}
+use Rattle.xa_coordinator.specs.Outcomes.{IsEnded, EndsAs, VotesAs}
 use Rattle.xa_coordinator.specs.Outcomes.{finish_for}
 use Rattle.xa_coordinator.specs.Outcomes.{lists_store}
 use Rattle.xa_coordinator.specs.Decisions.{is_decided}
 use Rattle.xa_coordinator.specs.declared.transaction.VoteKind.{VoteKind}
-use Rattle.xa_coordinator.specs.declared.transaction.VoteKind.TheVariants.{Ready as VoteKindReady, OnePhase as VoteKindOnePhase, No as VoteKindNo}
+use Rattle.xa_coordinator.specs.declared.transaction.VoteKind.TheVariants.{Ready as VoteKindReady}
+use Rattle.xa_coordinator.specs.declared.transaction.VoteKind.TheVariants.{OnePhase as VoteKindOnePhase}
+use Rattle.xa_coordinator.specs.declared.transaction.VoteKind.TheVariants.{No as VoteKindNo}
 use Rattle.xa_coordinator.proofs.Telling.{adds_then, adds_nothing}
 use Rattle.xa_coordinator.proofs.Walk.{at_weaker, from_ends, same_one}
 
@@ -38,10 +41,12 @@ Allows decisions number RollBack = is_decided decisions number ≡ false
 
 module _ (decisions : List Decision) (name : List ℕ) (store : ℕ) where
   pub nothing_agrees : (session : SessionView) → Agrees decisions name store session session
-  nothing_agrees session = record { statements = []; adds = adds_nothing session; each = All-nil (AgreesWith decisions name store) }
+  nothing_agrees session =
+      record { statements = []; adds = adds_nothing session; each = All-nil (AgreesWith decisions name store) }
 
   -- one statement
-  pub one_agrees : (statement : Statement) (old new : SessionView) → AgreesWith decisions name store statement → AddsStatements (statement ∷ []) old new
+  pub one_agrees : (statement : Statement) (old new : SessionView) → AgreesWith decisions name store statement
+      → AddsStatements (statement ∷ []) old new
       → Agrees decisions name store old new
   one_agrees statement old new is adds = record {
     statements = statement ∷ [];
@@ -50,7 +55,8 @@ module _ (decisions : List Decision) (name : List ℕ) (store : ℕ) where
   }
 
   -- two
-  pub two_agree : (first second : Statement) (old new : SessionView) → AgreesWith decisions name store first → AgreesWith decisions name store second
+  pub two_agree : (first second : Statement) (old new : SessionView) → AgreesWith decisions name store first
+      → AgreesWith decisions name store second
       → AddsStatements (first ∷ second ∷ []) old new → Agrees decisions name store old new
   two_agree first second old new is also adds = record {
     statements = first ∷ second ∷ [];
@@ -63,17 +69,22 @@ module _ (decisions : List Decision) (name : List ℕ) (store : ℕ) where
   none_agrees : (old new : SessionView) → AddsStatements [] old new → Agrees decisions name store old new
   none_agrees old new adds = record { statements = []; adds = adds; each = All-nil (AgreesWith decisions name store) }
 
-  pub undone_agrees : (statement : Statement) (cause : Cause) (old new : SessionView) → IsUndone statement cause old new → Agrees decisions name store old new
+  pub undone_agrees : (statement : Statement) (cause : Cause) (old new : SessionView) → IsUndone statement cause old new
+      → Agrees decisions name store old new
   undone_agrees statement cause old new is = none_agrees old new is.adds
 
-  ended_agrees : (xid : Xid) (old mid new : SessionView) → IsDone (End xid) old mid → AddsStatements [] mid new → Agrees decisions name store old new
-  ended_agrees xid old mid new ends nothing = one_agrees (End xid) old new tt (adds_then (End xid ∷ []) [] old mid new ends.adds nothing)
+  ended_agrees : (xid : Xid) (old mid new : SessionView) → IsDone (End xid) old mid → AddsStatements [] mid new
+      → Agrees decisions name store old new
+  ended_agrees xid old mid new ends nothing =
+      one_agrees (End xid) old new tt (adds_then (End xid ∷ []) [] old mid new ends.adds nothing)
 
-  behind_agrees : (statement : Statement) (xid : Xid) (cause : Cause) (old new : SessionView) → IsUndoneBehind statement xid cause old new
+  behind_agrees : (statement : Statement) (xid : Xid) (cause : Cause) (old new : SessionView)
+      → IsUndoneBehind statement xid cause old new
       → Agrees decisions name store old new
   behind_agrees statement xid cause old new is = ended_agrees xid old is.mid new is.ends is.undone.adds
 
-  pub stopped_agrees : (ends : Bool) (statement : Statement) (xid : Xid) (cause : Cause) (old new : SessionView) → IsStopped ends statement xid cause old new
+  pub stopped_agrees : (ends : Bool) (statement : Statement) (xid : Xid) (cause : Cause) (old new : SessionView)
+      → IsStopped ends statement xid cause old new
       → Agrees decisions name store old new
   stopped_agrees false statement xid cause old new is = undone_agrees statement cause old new is
   stopped_agrees true statement xid cause old new (inl is) = undone_agrees (End xid) cause old new is
@@ -85,16 +96,19 @@ module _ (decisions : List Decision) (name : List ℕ) (store : ℕ) where
   unfinished_agrees true statement xid cause old new (inl is) = undone_agrees (End xid) cause old new is
   unfinished_agrees true statement xid cause old new (inr is) = behind_agrees statement xid cause old new is.1
 
-  pub missing_agrees : (ends : Bool) (statement : Statement) (xid : Xid) (old new : SessionView) → IsMissing ends statement xid old new
+  pub missing_agrees : (ends : Bool) (statement : Statement) (xid : Xid) (old new : SessionView)
+      → IsMissing ends statement xid old new
       → Agrees decisions name store old new
   missing_agrees false statement xid old new is = undone_agrees statement _ old new is
   missing_agrees true statement xid old new is = behind_agrees statement xid _ old new is
 
-  pub voted_agrees : (xid : Xid) (takes : Bool) (old new : SessionView) → IsVoted xid takes old new → Agrees decisions name store old new
+  pub voted_agrees : (xid : Xid) (takes : Bool) (old new : SessionView) → IsVoted xid takes old new
+      → Agrees decisions name store old new
   voted_agrees xid false old new is = subst (λ s. Agrees decisions name store old s) (sym is) (nothing_agrees old)
   voted_agrees xid true old new is = two_agree (End xid) (Prepare xid) old new tt tt is
 
-  pub ends_agrees : (xid : Xid) (takes : Bool) (old new : SessionView) → IsEnded xid takes old new → Agrees decisions name store old new
+  pub ends_agrees : (xid : Xid) (takes : Bool) (old new : SessionView) → IsEnded xid takes old new
+      → Agrees decisions name store old new
   ends_agrees xid false old new is = subst (λ s. Agrees decisions name store old s) (sym is) (nothing_agrees old)
   ends_agrees xid true old new is = one_agrees (End xid) old new tt is
 
@@ -105,7 +119,8 @@ module _ (decisions : List Decision) (name : List ℕ) (store : ℕ) where
   closing_agrees number fits InOnePhase allows = (number, record { fits = fits; is = refl })
   closing_agrees number fits RollBack allows = (number, record { fits = fits; is = refl }, allows)
 
-  closed_agrees : (ends : Bool) (statement : Statement) (xid : Xid) → AgreesWith decisions name store statement → (old new : SessionView)
+  closed_agrees : (ends : Bool) (statement : Statement) (xid : Xid) → AgreesWith decisions name store statement
+      → (old new : SessionView)
       → IsClosed ends statement xid old new → Agrees decisions name store old new
   closed_agrees false statement xid agrees old new is = one_agrees statement old new agrees is
   closed_agrees true statement xid agrees old new is = two_agree (End xid) statement old new tt agrees is
@@ -113,7 +128,8 @@ module _ (decisions : List Decision) (name : List ℕ) (store : ℕ) where
   pub settled_agrees : (ends : Bool) (statement : Statement) (xid : Xid) → AgreesWith decisions name store statement
       → (takes listed : Bool) (old new : SessionView) → Settles ends statement xid takes listed old new →
       Agrees decisions name store old new
-  settled_agrees ends statement xid agrees false listed old new is = subst (λ s. Agrees decisions name store old s) (sym is) (nothing_agrees old)
+  settled_agrees ends statement xid agrees false listed old new is =
+      subst (λ s. Agrees decisions name store old s) (sym is) (nothing_agrees old)
   settled_agrees ends statement xid agrees true false old new is = closed_agrees ends statement xid agrees old new is
   settled_agrees ends statement xid agrees true true old new is = missing_agrees ends statement xid old new is
 
@@ -134,9 +150,11 @@ module _ {S : Type 0} (view : S → SessionView) (decisions : List Decision) (tr
       → Allows decisions transaction.number closing → EndsAs view branches transaction closing ending old new →
       EachStore view (Agrees decisions transaction.name.items) old new
   ending_agrees branches closing Committed old new allows is store =
-      at_weaker view store _ (Agrees decisions transaction.name.items store) (part_agrees branches closing allows store false) old new (is.1 store)
+      at_weaker view store _ (Agrees decisions transaction.name.items store)
+      (part_agrees branches closing allows store false) old new (is.1 store)
   ending_agrees branches closing RolledBack old new allows is store =
-      at_weaker view store _ (Agrees decisions transaction.name.items store) (part_agrees branches closing allows store false) old new (is.1 store)
+      at_weaker view store _ (Agrees decisions transaction.name.items store)
+      (part_agrees branches closing allows store false) old new (is.1 store)
   ending_agrees branches closing (Hazard stores) old new allows is store =
       at_weaker view store _ (Agrees decisions transaction.name.items store)
       (part_agrees branches closing allows store (lists_store stores.items store)) old new
@@ -144,19 +162,23 @@ module _ {S : Type 0} (view : S → SessionView) (decisions : List Decision) (tr
   ending_agrees branches closing (Unfinished last cause) old new allows is store =
       from_ends view _ (Agrees decisions transaction.name.items) last _ old new is.1
       (λ other a b settled. part_agrees branches closing allows other settled.0 a b settled.1)
-      (λ a b unfinished. unfinished_agrees decisions transaction.name.items last (ends_in branches transaction closing last)
+      (λ a b unfinished. unfinished_agrees decisions transaction.name.items last
+      (ends_in branches transaction closing last)
       (finish_statement closing (branch_of transaction last)) (branch_of transaction last) cause a b unfinished)
       (λ other a. nothing_agrees decisions transaction.name.items other a)
       store
 
   -- whatever the stores voted
-  pub vote_agrees : (vote : Vote) (old new : List S) → VotesAs view transaction vote old new → EachStore view (Agrees decisions transaction.name.items) old new
+  pub vote_agrees : (vote : Vote) (old new : List S) → VotesAs view transaction vote old new
+      → EachStore view (Agrees decisions transaction.name.items) old new
   vote_agrees (Ready prepared) old new is store =
       at_weaker view store _ (Agrees decisions transaction.name.items store)
-      (voted_agrees decisions transaction.name.items store (branch_of transaction store) (takes_part transaction.participants store)) old new (is.2 store)
+      (voted_agrees decisions transaction.name.items store (branch_of transaction store)
+      (takes_part transaction.participants store)) old new (is.2 store)
   vote_agrees (OnePhase prepared) old new is store =
       at_weaker view store _ (Agrees decisions transaction.name.items store)
-      (ends_agrees decisions transaction.name.items store (branch_of transaction store) (takes_part transaction.participants store)) old new (is.2 store)
+      (ends_agrees decisions transaction.name.items store (branch_of transaction store)
+      (takes_part transaction.participants store)) old new (is.2 store)
   vote_agrees (No prepared last cause) old new is store =
       from_ends view _ (Agrees decisions transaction.name.items) last _ old new is.2
       (λ other a b voted. voted_agrees decisions transaction.name.items other (branch_of transaction other)
@@ -167,14 +189,17 @@ module _ {S : Type 0} (view : S → SessionView) (decisions : List Decision) (tr
       store
   vote_agrees Nothing old new is store = λ before after is_before is_after.
       subst (λ (s : S). Agrees decisions transaction.name.items store (view before) (view s))
-      (same_one (slice_get new store) before after (subst (λ (list : List S). slice_get list store ≡ Some before) (sym is.1) is_before) is_after)
+      (same_one (slice_get new store) before after (subst (λ (list : List S). slice_get list store ≡ Some before)
+      (sym is.1) is_before) is_after)
       (nothing_agrees decisions transaction.name.items store (view before))
 
 -- a transaction that was voted on is finished as the decisions allow
-pub allows_for : (decisions : List Decision) (number : ℕ) (vote_kind : VoteKind) → Allows decisions number (finish_for (is_decided decisions number) vote_kind)
+pub allows_for : (decisions : List Decision) (number : ℕ) (vote_kind : VoteKind)
+    → Allows decisions number (finish_for (is_decided decisions number) vote_kind)
 allows_for decisions number vote_kind = by (is_decided decisions number) vote_kind refl
   where
-    by : (b : Bool) (vote_kind : VoteKind) → is_decided decisions number ≡ b → Allows decisions number (finish_for b vote_kind)
+    by : (b : Bool) (vote_kind : VoteKind) → is_decided decisions number ≡ b
+        → Allows decisions number (finish_for b vote_kind)
     by true vote_kind is = is
     by false VoteKindReady is = is
     by false VoteKindOnePhase is = tt

@@ -21,21 +21,25 @@ pub ended_prepared : (xid : Xid) (old mid new : SessionView) → IsDone (End xid
 ended_prepared xid old mid new one two = adds_then (End xid ∷ []) (Prepare xid ∷ []) old mid new one.adds two.adds
 
 -- the statement alone
-pub said_alone : (statement : Statement) (xid : Xid) (found : Result Found Cause) (old new : SessionView) → SaysAs statement found old new
+pub said_alone : (statement : Statement) (xid : Xid) (found : Result Found Cause) (old new : SessionView)
+    → SaysAs statement found old new
     → ClosesAs false statement xid found old new
 said_alone statement xid (Ok Closed) old new is = is
 said_alone statement xid (Ok Missing) old new is = is
 said_alone statement xid (Err cause) old new is = is
 
 -- behind XA END
-pub said_behind : (statement : Statement) (xid : Xid) (found : Result Found Cause) (old mid new : SessionView) → IsDone (End xid) old mid
+pub said_behind : (statement : Statement) (xid : Xid) (found : Result Found Cause) (old mid new : SessionView)
+    → IsDone (End xid) old mid
     → SaysAs statement found mid new → ClosesAs true statement xid found old new
-said_behind statement xid (Ok Closed) old mid new ends is = adds_then (End xid ∷ []) (statement ∷ []) old mid new ends.adds is
+said_behind statement xid (Ok Closed) old mid new ends is =
+    adds_then (End xid ∷ []) (statement ∷ []) old mid new ends.adds is
 said_behind statement xid (Ok Missing) old mid new ends is = record { mid = mid; ends = ends; undone = is }
 said_behind statement xid (Err cause) old mid new ends is = inr (is.0, record { mid = mid; ends = ends; undone = is.1 })
 
 -- XA PREPARE, by its answer, behind XA END
-pub prepared_behind : (xid : Xid) (said : Result (Unit {0}) Cause) (old mid new : SessionView) → IsDone (End xid) old mid → IsToldAs (Prepare xid) said mid new
+pub prepared_behind : (xid : Xid) (said : Result (Unit {0}) Cause) (old mid new : SessionView)
+    → IsDone (End xid) old mid → IsToldAs (Prepare xid) said mid new
     → PreparesAs xid said old new
 prepared_behind xid (Ok _) old mid new ends is = ended_prepared xid old mid new ends is
 prepared_behind xid (Err cause) old mid new ends is = inr (record { mid = mid; ends = ends; undone = is })

@@ -1,5 +1,6 @@
 -- How numbers stand, before and after a decision.
-use Rattle.std.proofs.Common.{◌≡◌, ◌≢◌, ◌<◌, ◌≤◌, ◌+◌, ◌-◌, ℕ, zero, suc, Bool, true, false, List, [], ◌∷◌, ◌++◌, take, drop, get_or, add-one, append-nil, sym}
+use Rattle.std.proofs.Common.{◌≡◌, ◌≢◌, ◌<◌, ◌≤◌, ◌+◌, ◌-◌, ℕ, zero, suc, Bool, true, false, List, [], ◌∷◌, ◌++◌, take}
+use Rattle.std.proofs.Common.{drop, get_or, add-one, append-nil, sym}
 use Rattle.std.proofs.Common.{length, refl, ap, ◌∙◌, Option, Some, None, cond, arith, ne_eqb, subst, inl, inr}
 use Rattle.std.proofs.lemmas.Bool.{eqb-false}
 use Rattle.std.proofs.lemmas.Bool.Decides.{eqb_tells}
@@ -9,7 +10,8 @@ use Rattle.std.specs.Option.{option_map}
 use Rattle.std.proofs.lemmas.List.{take_all}
 use Rattle.xa_coordinator.specs.declared.decisions.Decision.{Decision}
 use Rattle.xa_coordinator.specs.declared.decisions.Decision.TheVariants.{Undecided, Decided, Closed}
-use Rattle.xa_coordinator.specs.Decisions.{decision_of, is_not_closed, decides, may_be_decided, is_decided, with_decided, closed_of}
+use Rattle.xa_coordinator.specs.Decisions.{decision_of, is_not_closed, decides, may_be_decided, is_decided}
+use Rattle.xa_coordinator.specs.Decisions.{with_decided, closed_of}
 use Rattle.xa_coordinator.proofs.Places.{get_set_same, get_set_other}
 
 -- a number that was given has its place in the list
@@ -17,36 +19,46 @@ pub record HasPlace (decisions : List Decision) (number : ℕ) : Type 0 where
   pub first : 0 < number
   pub within : number - 1 < length decisions
 
-in_list : (decisions : List Decision) (place : ℕ) (found : Option Decision) → slice_get decisions place ≡ found → is_not_closed found ≡ true
+in_list : (decisions : List Decision) (place : ℕ) (found : Option Decision) → slice_get decisions place ≡ found
+    → is_not_closed found ≡ true
     → place < length decisions
 in_list decisions place None is given = absurd (cc)
 in_list decisions place (Some decision) is given = slice_get_within decisions place decision is
 
-pub given : (decisions : List Decision) (number : ℕ) → may_be_decided decisions number ≡ true → HasPlace decisions number
+pub given : (decisions : List Decision) (number : ℕ) → may_be_decided decisions number ≡ true
+    → HasPlace decisions number
 unfolding decision_of
 given decisions number is = by (number == 0) refl is
   where
-    by : (b : Bool) → (number == 0) ≡ b → is_not_closed (cond b None (slice_get decisions (number - 1))) ≡ true → HasPlace decisions number
+    by : (b : Bool) → (number == 0) ≡ b → is_not_closed (cond b None (slice_get decisions (number - 1))) ≡ true
+        → HasPlace decisions number
     by true zeroth none = absurd (cc)
     by false other there =
         let apart = eqb-false number 0 other in
-        record { first = omega (arith, apart); within = in_list decisions (number - 1) (slice_get decisions (number - 1)) refl there }
+        record {
+          first = omega (arith, apart);
+          within = in_list decisions (number - 1)
+              (slice_get decisions (number - 1)) refl there;
+        }
 
 -- once it is decided, it is
 pub decided_after : (decisions : List Decision) (place number : ℕ) → place + 1 ≡ number → place < length decisions
     → is_decided (slice_set decisions place Decided) number ≡ true
 unfolding decision_of
 decided_after decisions place number is below =
-    ap (λ b. decides (cond b None (slice_get (slice_set decisions place Decided) (number - 1)))) (ne_eqb number 0 (λ same. absurd (omega arith)))
+    ap (λ b. decides (cond b None (slice_get (slice_set decisions place Decided) (number - 1))))
+    (ne_eqb number 0 (λ same. absurd (omega arith)))
     ∙ ap (λ at. decides (slice_get (slice_set decisions place Decided) at)) (omega arith)
     ∙ ap decides (get_set_same decisions place Decided below)
 
-pub with_decided-at : (decisions : List Decision) (place number : ℕ) → place + 1 ≡ number → slice_set decisions place Decided ≡ with_decided decisions number
+pub with_decided-at : (decisions : List Decision) (place number : ℕ) → place + 1 ≡ number
+    → slice_set decisions place Decided ≡ with_decided decisions number
 unfolding with_decided
 with_decided-at decisions place number is = ap (λ at. slice_set decisions at Decided) (omega arith)
 
 -- what was decided stays so
-decided_in : (decisions : List Decision) (place : ℕ) (found : Option Decision) → slice_get decisions place ≡ found → decides found ≡ true
+decided_in : (decisions : List Decision) (place : ℕ) (found : Option Decision) → slice_get decisions place ≡ found
+    → decides found ≡ true
     → place < length decisions
 decided_in decisions place None is decided = absurd (cc)
 decided_in decisions place (Some decision) is decided = slice_get_within decisions place decision is
@@ -63,12 +75,14 @@ decided_kept decisions place other is = by (other == 0) is
       | inl (_, here) ↦
           ap (λ at. decides (slice_get (slice_set decisions place Decided) at)) here
           ∙ ap decides (get_set_same decisions place Decided
-          (subst (λ at. at < length decisions) here (decided_in decisions (other - 1) (slice_get decisions (other - 1)) refl was)))
+          (subst (λ at. at < length decisions) here (decided_in decisions (other - 1)
+          (slice_get decisions (other - 1)) refl was)))
       | inr (_, apart) ↦ ap decides (get_set_other decisions place (other - 1) Decided apart) ∙ was
     ]
 
 -- one number more is closed, where a list is closed from its head on
-pub closed_next : (xs now : List Decision) (place : ℕ) (d : Decision) → now ≡ map closed_of (take place xs) ++ drop place xs → place < length now →
+pub closed_next : (xs now : List Decision) (place : ℕ) (d : Decision)
+    → now ≡ map closed_of (take place xs) ++ drop place xs → place < length now →
     slice_set now place (closed_of (get_or now place d)) ≡ map closed_of (take (place + 1) xs) ++ drop (place + 1) xs
 closed_next xs now place d is below =
     ap (λ list. slice_set list place (closed_of (get_or list place d))) is
@@ -76,16 +90,19 @@ closed_next xs now place d is below =
     ∙ ap (λ n. map closed_of (take n xs) ++ drop n xs) (sym (add-one place))
   where
     by : (ys : List Decision) (n : ℕ) → n < length (map closed_of (take n ys) ++ drop n ys) →
-        slice_set (map closed_of (take n ys) ++ drop n ys) n (closed_of (get_or (map closed_of (take n ys) ++ drop n ys) n d))
+        slice_set (map closed_of (take n ys) ++ drop n ys) n
+        (closed_of (get_or (map closed_of (take n ys) ++ drop n ys) n d))
         ≡ map closed_of (take (suc n) ys) ++ drop (suc n) ys
     by [] zero less = absurd (omega arith)
     by [] (suc n) less = absurd (omega arith)
     by (y ∷ ys) zero less = refl
     by (y ∷ ys) (suc n) less = ap (λ rest. closed_of y ∷ rest) (by ys n (omega arith))
 
-pub closed_all : (xs now : List Decision) (place : ℕ) → now ≡ map closed_of (take place xs) ++ drop place xs → length xs ≤ place → now ≡ map closed_of xs
+pub closed_all : (xs now : List Decision) (place : ℕ) → now ≡ map closed_of (take place xs) ++ drop place xs
+    → length xs ≤ place → now ≡ map closed_of xs
 closed_all xs now place is whole =
-    is ∙ ap (λ list. map closed_of list ++ drop place xs) (take_all place xs whole) ∙ ap (λ list. map closed_of xs ++ list) (drop_all place xs whole)
+    is ∙ ap (λ list. map closed_of list ++ drop place xs) (take_all place xs whole)
+    ∙ ap (λ list. map closed_of xs ++ list) (drop_all place xs whole)
     ∙ append-nil (map closed_of xs)
   where
     drop_all : (n : ℕ) (ys : List Decision) → length ys ≤ n → drop n ys ≡ []
@@ -96,21 +113,26 @@ closed_all xs now place is whole =
 
 -- ---- what closing makes of how numbers stand
 
-get_closed : (xs : List Decision) (place : ℕ) → slice_get (map closed_of xs) place ≡ option_map closed_of (slice_get xs place)
+get_closed : (xs : List Decision) (place : ℕ) → slice_get (map closed_of xs) place
+    ≡ option_map closed_of (slice_get xs place)
 get_closed [] place = refl
 get_closed (x ∷ xs) zero = refl
 get_closed (x ∷ xs) (suc place) = get_closed xs place
 
-closed_decision : (decisions : List Decision) (number : ℕ) → decision_of (map closed_of decisions) number ≡ option_map closed_of (decision_of decisions number)
+closed_decision : (decisions : List Decision) (number : ℕ)
+    → decision_of (map closed_of decisions) number ≡ option_map closed_of (decision_of decisions number)
 unfolding decision_of
 closed_decision decisions number = by (number == 0) (get_closed decisions (number - 1))
   where
-    by : (b : Bool) → slice_get (map closed_of decisions) (number - 1) ≡ option_map closed_of (slice_get decisions (number - 1)) →
-        cond b None (slice_get (map closed_of decisions) (number - 1)) ≡ option_map closed_of (cond b None (slice_get decisions (number - 1)))
+    by : (b : Bool) → slice_get (map closed_of decisions) (number - 1)
+        ≡ option_map closed_of (slice_get decisions (number - 1)) →
+        cond b None (slice_get (map closed_of decisions) (number - 1))
+        ≡ option_map closed_of (cond b None (slice_get decisions (number - 1)))
     by true e = refl
     by false e = e
 
-pub closed_decides : (decisions : List Decision) (number : ℕ) → is_decided (map closed_of decisions) number ≡ is_decided decisions number
+pub closed_decides : (decisions : List Decision) (number : ℕ)
+    → is_decided (map closed_of decisions) number ≡ is_decided decisions number
 closed_decides decisions number = ap decides (closed_decision decisions number) ∙ by (decision_of decisions number)
   where
     by : (found : Option Decision) → decides (option_map closed_of found) ≡ decides found
@@ -119,7 +141,8 @@ closed_decides decisions number = ap decides (closed_decision decisions number) 
     by (Some Decided) = refl
     by (Some Closed) = refl
 
-pub closed_none : (decisions : List Decision) (number : ℕ) → decision_of (map closed_of decisions) number ≢ Some Undecided
+pub closed_none : (decisions : List Decision) (number : ℕ)
+    → decision_of (map closed_of decisions) number ≢ Some Undecided
 closed_none decisions number is = by (decision_of decisions number) (sym (closed_decision decisions number) ∙ is)
   where
     by : (found : Option Decision) → option_map closed_of found ≡ Some Undecided → ⊥

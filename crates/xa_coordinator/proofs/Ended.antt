@@ -10,7 +10,8 @@ use Rattle.xa_coordinator.specs.Outcomes.{branch_of, IsEnded}
 use Rattle.xa_coordinator.proofs.Walk.{at_weaker, only_at}
 
 -- another store doesn't take part
-others_out : (transaction : Transaction) (store other : ℕ) → OnlyTakesPart transaction.participants store → other ≢ store
+others_out : (transaction : Transaction) (store other : ℕ) → OnlyTakesPart transaction.participants store
+    → other ≢ store
     → takes_part transaction.participants other ≡ false
 others_out transaction store other only apart = by (takes_part transaction.participants other) refl
   where
@@ -18,12 +19,18 @@ others_out transaction store other only apart = by (takes_part transaction.parti
     by true is = absurd (apart (only.others other is))
     by false is = refl
 
-pub ended_each : {S : Type 0} (view : S → SessionView) (transaction : Transaction) (store : ℕ) (old new : List S) → OnlyTakesPart transaction.participants store
+pub ended_each : {S : Type 0} (view : S → SessionView) (transaction : Transaction) (store : ℕ) (old new : List S)
+    → OnlyTakesPart transaction.participants store
     → ChangesAt store old new →
     AtStore view store (IsDone (End (branch_of transaction store))) old new
-    → EachStore view (λ other. IsEnded (branch_of transaction other) (takes_part transaction.participants other)) old new
+    → EachStore view (λ other. IsEnded (branch_of transaction other)
+    (takes_part transaction.participants other)) old new
 ended_each view transaction store old new only changes is =
-    only_at view (λ other. IsEnded (branch_of transaction other) (takes_part transaction.participants other)) store old new changes
-    (at_weaker view store (IsDone (End (branch_of transaction store))) (IsEnded (branch_of transaction store) (takes_part transaction.participants store))
-    (λ a b done. subst (λ takes. IsEnded (branch_of transaction store) takes a b) (sym only.in_it) done.adds) old new is)
-    (λ other apart a. subst (λ takes. IsEnded (branch_of transaction other) takes a a) (sym (others_out transaction store other only apart)) refl)
+    only_at view (λ other. IsEnded (branch_of transaction other)
+    (takes_part transaction.participants other)) store old new changes
+    (at_weaker view store (IsDone (End (branch_of transaction store)))
+    (IsEnded (branch_of transaction store) (takes_part transaction.participants store))
+    (λ a b done. subst (λ takes. IsEnded (branch_of transaction store) takes a b)
+    (sym only.in_it) done.adds) old new is)
+    (λ other apart a. subst (λ takes. IsEnded (branch_of transaction other) takes a a)
+    (sym (others_out transaction store other only apart)) refl)

@@ -1,5 +1,6 @@
 -- The list of the stores whose branch wasn't known, as it grows.
-use Rattle.std.proofs.Common.{◌≡◌, ◌<◌, ◌≤◌, ◌+◌, ℕ, Bool, true, false, List, [], ◌∷◌, ◌++◌, length, refl, ap, sym, ◌∙◌, subst, inl, inr, arith, ne_eqb, eq-eqb}
+use Rattle.std.proofs.Common.{◌≡◌, ◌<◌, ◌≤◌, ◌+◌, ℕ, Bool, true, false, List, [], ◌∷◌, ◌++◌, length, refl, ap, sym, ◌∙◌}
+use Rattle.std.proofs.Common.{subst, inl, inr, arith, ne_eqb, eq-eqb}
 use Rattle.std.proofs.Common.{length-append}
 use Rattle.std.specs.Prelude.{All, nat_eq, ◌||◌, Option}
 use Rattle.std.proofs.lemmas.List.Elements.{All-nil, All-push, All-head, All-tail, All-weaker}
@@ -11,7 +12,8 @@ use Rattle.xa_coordinator.specs.declared.transaction.Transaction.{Transaction}
 use Rattle.xa_coordinator.specs.Participants.{takes_part}
 use Rattle.xa_coordinator.specs.Stores.{AtStore, EachStore, ChangesAt}
 use Rattle.xa_coordinator.specs.Told.{IsMissing}
-use Rattle.xa_coordinator.specs.Outcomes.{Ascends, lists_store, branch_of, finish_statement, ends_in, IsClosed, Settles, SettlesIn}
+use Rattle.xa_coordinator.specs.Outcomes.{Ascends, lists_store, branch_of, finish_statement, ends_in, IsClosed, Settles}
+use Rattle.xa_coordinator.specs.Outcomes.{SettlesIn}
 use Rattle.xa_coordinator.specs.Parts.{ClosesNext}
 use Rattle.xa_coordinator.specs.declared.branches.OpenBranch.{OpenBranch}
 use Rattle.xa_coordinator.proofs.Walk.{Reached, reached_skip, reached_next, reached_weaker, at_weaker}
@@ -25,9 +27,16 @@ pub record IsListed (participants : Participants) (place : ℕ) (stores : List �
 
 pub listed_none : (participants : Participants) → IsListed participants 0 []
 listed_none participants =
-    record { below = All-nil (λ store. store < 0); ascending = tt; participate = All-nil (λ store. takes_part participants store ≡ true); short = omega arith }
+    record {
+      below = All-nil (λ store. store < 0);
+      ascending = tt;
+      participate = All-nil
+          (λ store. takes_part participants store ≡ true);
+      short = omega arith;
+    }
 
-pub listed_skip : (participants : Participants) (place : ℕ) (stores : List ℕ) → IsListed participants place stores → IsListed participants (place + 1) stores
+pub listed_skip : (participants : Participants) (place : ℕ) (stores : List ℕ) → IsListed participants place stores
+    → IsListed participants (place + 1) stores
 listed_skip participants place stores is = record {
   below = All-weaker (λ store. store < place) (λ store. store < place + 1) (λ store less. omega arith) stores is.below;
   ascending = is.ascending;
@@ -35,26 +44,30 @@ listed_skip participants place stores is = record {
   short = omega (arith, is.short);
 }
 
-ascends_last : (stores : List ℕ) (last : ℕ) → Ascends stores → All (λ store. store < last) stores → Ascends (stores ++ last ∷ [])
+ascends_last : (stores : List ℕ) (last : ℕ) → Ascends stores → All (λ store. store < last) stores
+    → Ascends (stores ++ last ∷ [])
 ascends_last [] last ascending below = (All-nil (λ later. last < later), tt)
 ascends_last (store ∷ stores) last ascending below = (
   All-push (λ later. store < later) stores last ascending.0 (All-head (λ s. s < last) store stores below),
   ascends_last stores last ascending.1 (All-tail (λ s. s < last) store stores below),
 )
 
-pub listed_more : (participants : Participants) (place : ℕ) (stores : List ℕ) → IsListed participants place stores → takes_part participants place ≡ true
+pub listed_more : (participants : Participants) (place : ℕ) (stores : List ℕ) → IsListed participants place stores
+    → takes_part participants place ≡ true
     → IsListed participants (place + 1) (stores ++ place ∷ [])
 listed_more participants place stores is takes = record {
   below =
       All-push (λ store. store < place + 1) stores place
-      (All-weaker (λ store. store < place) (λ store. store < place + 1) (λ store less. omega arith) stores is.below) (omega arith);
+      (All-weaker (λ store. store < place) (λ store. store < place + 1) (λ store less. omega arith) stores is.below)
+      (omega arith);
   ascending = ascends_last stores place is.ascending is.below;
   participate = All-push (λ store. takes_part participants store ≡ true) stores place is.participate takes;
   short = omega (arith, is.short, length-append stores (place ∷ []));
 }
 
 -- a store that isn't below the list's end isn't in it
-not_listed : (participants : Participants) (place : ℕ) (stores : List ℕ) → IsListed participants place stores → lists_store stores place ≡ false
+not_listed : (participants : Participants) (place : ℕ) (stores : List ℕ) → IsListed participants place stores
+    → lists_store stores place ≡ false
 unfolding lists_store
 not_listed participants place stores is =
     list_any_none (nat_eq place) stores
@@ -64,7 +77,8 @@ not_listed participants place stores is =
 last_listed : (stores : List ℕ) (place : ℕ) → lists_store (stores ++ place ∷ []) place ≡ true
 unfolding lists_store
 last_listed stores place =
-    list_any-append (nat_eq place) stores (place ∷ []) ∙ ap (λ b. list_any' stores place || (b || false)) (eq-eqb place place refl)
+    list_any-append (nat_eq place) stores (place ∷ []) ∙ ap (λ b. list_any' stores place || (b || false))
+    (eq-eqb place place refl)
     ∙ or_true (list_any' stores place)
   where
     list_any' : List ℕ → ℕ → Bool
@@ -74,10 +88,12 @@ last_listed stores place =
     or_true true = refl
     or_true false = refl
 
-same_listed : (stores : List ℕ) (place store : ℕ) → store < place → lists_store (stores ++ place ∷ []) store ≡ lists_store stores store
+same_listed : (stores : List ℕ) (place store : ℕ) → store < place
+    → lists_store (stores ++ place ∷ []) store ≡ lists_store stores store
 unfolding lists_store
 same_listed stores place store less =
-    list_any-append (nat_eq store) stores (place ∷ []) ∙ ap (λ b. lists_store stores store || (b || false)) (ne_eqb store place (λ same. absurd (omega arith)))
+    list_any-append (nat_eq store) stores (place ∷ []) ∙ ap (λ b. lists_store stores store || (b || false))
+    (ne_eqb store place (λ same. absurd (omega arith)))
     ∙ or_false (lists_store stores store)
   where
     or_false : (b : Bool) → (b || false) ≡ b
@@ -85,69 +101,96 @@ same_listed stores place store less =
     or_false false = refl
 
 -- what holds of the stores that were passed, by the list
-abbrev pub SettledBy : List (Option OpenBranch) → Transaction → Closing → List ℕ → ℕ → SessionView → SessionView → Type 0
-SettledBy branches transaction closing stores store = SettlesIn branches transaction closing store (lists_store stores store)
+abbrev pub SettledBy : List (Option OpenBranch) → Transaction → Closing → List ℕ → ℕ → SessionView → SessionView
+    → Type 0
+SettledBy branches transaction closing stores store =
+    SettlesIn branches transaction closing store (lists_store stores store)
 
-module _ {S : Type 0} (view : S → SessionView) (branches : List (Option OpenBranch)) (transaction : Transaction) (closing : Closing) (stores : List ℕ)
+module _ {S : Type 0} (view : S → SessionView) (branches : List (Option OpenBranch)) (transaction : Transaction)
+    (closing : Closing) (stores : List ℕ)
     (place : ℕ) where
   pub settled_skip : (old now : List S) → takes_part transaction.participants place ≡ false
       → Reached view (SettledBy branches transaction closing stores) place old now
       → Reached view (SettledBy branches transaction closing stores) (place + 1) old now
   settled_skip old now out so_far =
       reached_skip view (SettledBy branches transaction closing stores) place old now so_far
-      (λ a. subst (λ takes. Settles (ends_in branches transaction closing place) (finish_statement closing (branch_of transaction place))
+      (λ a. subst (λ takes. Settles (ends_in branches transaction closing place)
+      (finish_statement closing (branch_of transaction place))
       (branch_of transaction place) takes (lists_store stores place) a a) (sym out) refl)
 
-  settled_as : (stores' : List ℕ) (listed : Bool) → takes_part transaction.participants place ≡ true → lists_store stores' place ≡ listed
+  settled_as : (stores' : List ℕ) (listed : Bool) → takes_part transaction.participants place ≡ true
+      → lists_store stores' place ≡ listed
       → (a b : SessionView) →
       Settles (ends_in branches transaction closing place) (finish_statement closing (branch_of transaction place))
       (branch_of transaction place) true listed a b
       → SettledBy branches transaction closing stores' place a b
   settled_as stores' listed takes is a b settled =
-      subst (λ t. Settles (ends_in branches transaction closing place) (finish_statement closing (branch_of transaction place)) (branch_of transaction place) t
+      subst (λ t. Settles (ends_in branches transaction closing place)
+      (finish_statement closing (branch_of transaction place)) (branch_of transaction place) t
       (lists_store stores' place) a b) (sym takes)
-      (subst (λ l. Settles (ends_in branches transaction closing place) (finish_statement closing (branch_of transaction place))
+      (subst (λ l. Settles (ends_in branches transaction closing place)
+      (finish_statement closing (branch_of transaction place))
       (branch_of transaction place) true l a b) (sym is) settled)
 
-  settled_closed : (old now next : List S) → takes_part transaction.participants place ≡ true → IsListed transaction.participants place stores
+  settled_closed : (old now next : List S) → takes_part transaction.participants place ≡ true
+      → IsListed transaction.participants place stores
       → Reached view (SettledBy branches transaction closing stores) place old now → ChangesAt place now next →
-      AtStore view place (IsClosed (ends_in branches transaction closing place) (finish_statement closing (branch_of transaction place))
+      AtStore view place (IsClosed (ends_in branches transaction closing place)
+      (finish_statement closing (branch_of transaction place))
       (branch_of transaction place)) now next →
       Reached view (SettledBy branches transaction closing stores) (place + 1) old next
   settled_closed old now next takes listed so_far changes is =
       reached_next view (SettledBy branches transaction closing stores) place old now next so_far changes
-      (at_weaker view place (IsClosed (ends_in branches transaction closing place) (finish_statement closing (branch_of transaction place))
+      (at_weaker view place (IsClosed (ends_in branches transaction closing place)
+      (finish_statement closing (branch_of transaction place))
       (branch_of transaction place)) (SettledBy branches transaction closing stores place)
       (settled_as stores false takes (not_listed transaction.participants place stores listed)) now next is)
 
   settled_missing : (old now next : List S) → takes_part transaction.participants place ≡ true
       → Reached view (SettledBy branches transaction closing stores) place old now → ChangesAt place now next →
-      AtStore view place (IsMissing (ends_in branches transaction closing place) (finish_statement closing (branch_of transaction place))
+      AtStore view place (IsMissing (ends_in branches transaction closing place)
+      (finish_statement closing (branch_of transaction place))
       (branch_of transaction place)) now next →
       Reached view (SettledBy branches transaction closing (stores ++ place ∷ [])) (place + 1) old next
   settled_missing old now next takes so_far changes is =
       reached_next view (SettledBy branches transaction closing (stores ++ place ∷ [])) place old now next
-      (reached_weaker view (SettledBy branches transaction closing stores) (SettledBy branches transaction closing (stores ++ place ∷ [])) place old now
-      (λ store less a b settled. subst (λ l. SettlesIn branches transaction closing store l a b) (sym (same_listed stores place store less)) settled) so_far)
+      (reached_weaker view (SettledBy branches transaction closing stores)
+      (SettledBy branches transaction closing (stores ++ place ∷ [])) place old now
+      (λ store less a b settled. subst (λ l. SettlesIn branches transaction closing store l a b)
+      (sym (same_listed stores place store less)) settled) so_far)
       changes
-      (at_weaker view place (IsMissing (ends_in branches transaction closing place) (finish_statement closing (branch_of transaction place))
+      (at_weaker view place (IsMissing (ends_in branches transaction closing place)
+      (finish_statement closing (branch_of transaction place))
       (branch_of transaction place)) (SettledBy branches transaction closing (stores ++ place ∷ []) place)
       (settled_as (stores ++ place ∷ []) true takes (last_listed stores place)) now next is)
 
   -- one store more, whatever its branch came to
   pub settled_next : (stores' : List ℕ) (old now next : List S) → takes_part transaction.participants place ≡ true
-      → IsListed transaction.participants place stores → Reached view (SettledBy branches transaction closing stores) place old now → ChangesAt place now next →
-      ClosesNext view (ends_in branches transaction closing place) (finish_statement closing (branch_of transaction place))
+      → IsListed transaction.participants place stores → Reached view
+      (SettledBy branches transaction closing stores) place old now → ChangesAt place now next →
+      ClosesNext view (ends_in branches transaction closing place)
+      (finish_statement closing (branch_of transaction place))
       (branch_of transaction place) place stores stores' now next →
-      IsListed transaction.participants (place + 1) stores' × Reached view (SettledBy branches transaction closing stores') (place + 1) old next
+      IsListed transaction.participants (place + 1) stores'
+      × Reached view (SettledBy branches transaction closing stores') (place + 1) old next
   settled_next stores' old now next takes listed so_far changes (inl (same, is)) =
       let P : List ℕ → Type 0 =
-      λ list. IsListed transaction.participants (place + 1) list × Reached view (SettledBy branches transaction closing list) (place + 1) old next in
-      subst P (sym same) (listed_skip transaction.participants place stores listed, settled_closed old now next takes listed so_far changes is)
+      λ list. IsListed transaction.participants (place + 1) list
+      × Reached view (SettledBy branches transaction closing list) (place + 1) old next in
+      subst P (sym same) (
+        listed_skip transaction.participants place stores listed,
+        settled_closed old now next takes listed so_far changes
+            is,
+      )
   settled_next stores' old now next takes listed so_far changes (inr (more, is)) =
       let P : List ℕ → Type 0 =
-      λ list. IsListed transaction.participants (place + 1) list × Reached view (SettledBy branches transaction closing list) (place + 1) old next in
-      subst P (sym more) (listed_more transaction.participants place stores listed takes, settled_missing old now next takes so_far changes is)
+      λ list. IsListed transaction.participants (place + 1) list
+      × Reached view (SettledBy branches transaction closing list) (place + 1) old next in
+      subst P (sym more) (
+        listed_more transaction.participants place stores listed takes,
+        settled_missing old now next takes so_far changes
+            is,
+      )
 
 -- where none is listed
 pub none_listed : (stores : List ℕ) (store : ℕ) → length stores ≡ 0 → lists_store stores store ≡ false
@@ -155,10 +198,13 @@ unfolding lists_store
 none_listed [] store none = refl
 none_listed (x ∷ stores) store none = absurd (omega arith)
 
-pub settled_none : {S : Type 0} (view : S → SessionView) (branches : List (Option OpenBranch)) (transaction : Transaction) (closing : Closing) (stores : List ℕ)
+pub settled_none : {S : Type 0} (view : S → SessionView) (branches : List (Option OpenBranch))
+    (transaction : Transaction) (closing : Closing) (stores : List ℕ)
     (old new : List S) → length stores ≡ 0 →
     EachStore view (SettledBy branches transaction closing stores) old new
     → EachStore view (λ store. SettlesIn branches transaction closing store false) old new
 settled_none view branches transaction closing stores old new none is store =
-    at_weaker view store (SettledBy branches transaction closing stores store) (SettlesIn branches transaction closing store false)
-    (λ a b settled. subst (λ l. SettlesIn branches transaction closing store l a b) (none_listed stores store none) settled) old new (is store)
+    at_weaker view store (SettledBy branches transaction closing stores store)
+    (SettlesIn branches transaction closing store false)
+    (λ a b settled. subst (λ l. SettlesIn branches transaction closing store l a b)
+    (none_listed stores store none) settled) old new (is store)

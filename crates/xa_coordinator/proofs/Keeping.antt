@@ -20,16 +20,20 @@ use Rattle.xa_coordinator.proofs.Places.{get_set_other, get_set_is, get_before_s
 
 module _ {S : Type 0} (view : S → SessionView) (name : List ℕ) where
   -- a session was used, and the coordinator keeps another mark of its store
-  pub marked : (stores : List S) (branches : List (Option OpenBranch)) (store : ℕ) (session : S) (mark : Option OpenBranch)
+  pub marked : (stores : List S) (branches : List (Option OpenBranch)) (store : ℕ) (session : S)
+      (mark : Option OpenBranch)
       → OpenThere view name stores branches →
-      ((branch : OpenBranch) → mark ≡ Some branch → association_seen (view session) ≡ association_in branch.phase (branch_xid name branch.number store)) →
+      ((branch : OpenBranch) → mark ≡ Some branch → association_seen (view session)
+      ≡ association_in branch.phase (branch_xid name branch.number store)) →
       OpenThere view name (slice_set stores store session) (slice_set branches store mark)
   marked stores branches store session mark kept at_mark = λ at other branch is_there is_marked.
       elim (eqb_tells at store) [
         | inl (_, here) ↦
-            let is_s : session ≡ other = get_set_is stores store session other (ap (slice_get (slice_set stores store session)) (sym here) ∙ is_there) in
+            let is_s : session ≡ other = get_set_is stores store session other
+            (ap (slice_get (slice_set stores store session)) (sym here) ∙ is_there) in
             let is_m : mark ≡ Some branch =
-            get_set_is branches store mark (Some branch) (ap (slice_get (slice_set branches store mark)) (sym here) ∙ is_marked) in
+            get_set_is branches store mark (Some branch) (ap (slice_get (slice_set branches store mark)) (sym here)
+            ∙ is_marked) in
             ap (λ s. association_seen (view s)) (sym is_s) ∙ at_mark branch is_m
             ∙ ap (λ n. association_in branch.phase (branch_xid name branch.number n)) (sym here)
         | inr (_, apart) ↦ kept at other branch (sym (get_set_other stores store at session apart) ∙ is_there)
@@ -37,21 +41,26 @@ module _ {S : Type 0} (view : S → SessionView) (name : List ℕ) where
       ]
 
   -- a session was used, and has the same open
-  pub unmarked : (stores : List S) (branches : List (Option OpenBranch)) (store : ℕ) (old session : S) → old ≡ get_or stores store old
+  pub unmarked : (stores : List S) (branches : List (Option OpenBranch)) (store : ℕ) (old session : S)
+      → old ≡ get_or stores store old
       → OpenThere view name stores branches →
-      association_seen (view session) ≡ association_seen (view old) → OpenThere view name (slice_set stores store session) branches
+      association_seen (view session) ≡ association_seen (view old)
+      → OpenThere view name (slice_set stores store session) branches
   unmarked stores branches store old session was kept same = λ at other branch is_there is_marked.
       elim (eqb_tells at store) [
         | inl (_, here) ↦
-            let is_s : session ≡ other = get_set_is stores store session other (ap (slice_get (slice_set stores store session)) (sym here) ∙ is_there) in
+            let is_s : session ≡ other = get_set_is stores store session other
+            (ap (slice_get (slice_set stores store session)) (sym here) ∙ is_there) in
             ap (λ s. association_seen (view s)) (sym is_s) ∙ same ∙ kept at old branch
-            (ap (slice_get stores) here ∙ get_before_set stores store session other old (ap (slice_get (slice_set stores store session)) (sym here) ∙ is_there)
+            (ap (slice_get stores) here ∙ get_before_set stores store session other old
+            (ap (slice_get (slice_set stores store session)) (sym here) ∙ is_there)
             ∙ ap Some (sym was)) is_marked
         | inr (_, apart) ↦ kept at other branch (sym (get_set_other stores store at session apart) ∙ is_there) is_marked
       ]
 
   -- a fact of the session that was used is one of its store
-  pub at_place : (fact : SessionView → SessionView → Type 0) (stores : List S) (store : ℕ) (old session : S) → old ≡ get_or stores store old
+  pub at_place : (fact : SessionView → SessionView → Type 0) (stores : List S) (store : ℕ) (old session : S)
+      → old ≡ get_or stores store old
       → fact (view old) (view session) →
       AtStore view store fact stores (slice_set stores store session)
   at_place fact stores store old session was is = λ before after is_before is_after.
@@ -61,15 +70,24 @@ module _ {S : Type 0} (view : S → SessionView) (name : List ℕ) where
       subst (λ b. P b after) (sym is_old) (subst (P old) is_new is)
 
 -- the sessions of other stores weren't used
-pub changes_at : {S : Type 0} (stores : List S) (store : ℕ) (session : S) → ChangesAt store stores (slice_set stores store session)
-changes_at stores store session = record { count = length-set stores store session; others = λ other apart. get_set_other stores store other session apart }
+pub changes_at : {S : Type 0} (stores : List S) (store : ℕ) (session : S)
+    → ChangesAt store stores (slice_set stores store session)
+changes_at stores store session =
+    record {
+      count = length-set stores store session;
+      others = λ other apart.
+          get_set_other stores store other session apart;
+    }
 
 -- a statement that was carried out leaves open what it says
-pub leaves_association : (name : List ℕ) (store : ℕ) (statement : Statement) (mark : Option OpenBranch) (old new : SessionView)
+pub leaves_association : (name : List ℕ) (store : ℕ) (statement : Statement) (mark : Option OpenBranch)
+    (old new : SessionView)
     → LeavesOpen name store statement mark
     → LockLaw new.base →
-    entries_of old.known.number old.known.seen ≡ old.known.mine → entries_of new.known.number new.known.seen ≡ new.known.mine → IsDone statement old new →
-    (branch : OpenBranch) → mark ≡ Some branch → association_seen new ≡ association_in branch.phase (branch_xid name branch.number store)
+    entries_of old.known.number old.known.seen ≡ old.known.mine
+    → entries_of new.known.number new.known.seen ≡ new.known.mine → IsDone statement old new →
+    (branch : OpenBranch) → mark ≡ Some branch → association_seen new
+    ≡ association_in branch.phase (branch_xid name branch.number store)
 leaves_association name store statement None old new leaves law own_old own_new is branch marked = absurd (cc)
 leaves_association name store statement (Some open_one) old new leaves law own_old own_new is branch marked =
     let same : open_one ≡ branch = cc in

@@ -44,15 +44,18 @@ disconnected_as answer old new law stays is = by (enters there old.known.number 
       is = inr refl;
       adds = record { log = stays; advances = is.advances; mine = (is.entered entering).mine };
       free =
-          association_is ∙ ap (λ state. association_of state old.known.number) (state_entered old.base Disconnect answer old.known new.known is entering)
+          association_is ∙ ap (λ state. association_of state old.known.number)
+          (state_entered old.base Disconnect answer old.known new.known is entering)
           ∙ let_go there law_there old.known.number;
     }
     by false outside = record {
       statements = [];
       is = inl refl;
-      adds = record { log = stays; advances = is.advances; mine = (is.outside outside).mine ∙ sym (append-nil old.known.mine) };
+      adds = record
+          { log = stays; advances = is.advances; mine = (is.outside outside).mine ∙ sym (append-nil old.known.mine) };
       free =
-          association_is ∙ ap (λ state. association_of state old.known.number) (state_outside old.base Disconnect answer old.known new.known is outside)
+          association_is ∙ ap (λ state. association_of state old.known.number)
+          (state_outside old.base Disconnect answer old.known new.known is outside)
           ∙ outside_free there old.known.number outside;
     }
 
@@ -62,43 +65,55 @@ pub listed_as : (convert : Bool) (answer : Answer) (xids : List Xid) (old new : 
     ListsPrepared xids answer.place old new
 listed_as convert answer xids old new stays is reply =
     let there : State = state_at old.base new.known.seen answer.place in
-    let outside : enters there old.known.number (Recover convert) ≡ false = recover_outside there old.known.number convert in
-    let whole : state_after old.base new.known.seen ≡ there = state_outside old.base (Recover convert) answer old.known new.known is outside in
-    let same : Recovered xids ≡ Recovered (prepared_xids there) = sym reply ∙ is.at.reply_is ∙ recover_reply there old.known.number convert in
+    let outside : enters there old.known.number (Recover convert) ≡ false =
+    recover_outside there old.known.number convert in
+    let whole : state_after old.base new.known.seen ≡ there =
+    state_outside old.base (Recover convert) answer old.known new.known is outside in
+    let same : Recovered xids ≡ Recovered (prepared_xids there) =
+    sym reply ∙ is.at.reply_is ∙ recover_reply there old.known.number convert in
     let list : xids ≡ prepared_xids there = cc in
     record {
-      adds = record { log = stays; advances = is.advances; mine = (is.outside outside).mine ∙ sym (append-nil old.known.mine) };
+      adds = record
+          { log = stays; advances = is.advances; mine = (is.outside outside).mine ∙ sym (append-nil old.known.mine) };
       looked = is.looked;
       front = sym (is.outside outside).whole;
       list = list ∙ ap prepared_xids (sym whole ∙ ap (λ b. state_after b new.known.seen) (sym stays.base));
     }
 
 -- it adds nothing
-pub listed_quietly : (base : State) (convert : Bool) (answer : Answer) (old new : Known) → IsAnswered base (Recover convert) answer old new
+pub listed_quietly : (base : State) (convert : Bool) (answer : Answer) (old new : Known)
+    → IsAnswered base (Recover convert) answer old new
     → new.mine ≡ old.mine
 listed_quietly base convert answer old new is =
     (is.outside (recover_outside (state_at base new.seen answer.place) old.number convert)).mine
 
 -- it leaves what the session has open
-pub listed_association : (convert : Bool) (answer : Answer) (old new : SessionView) → LockLaw new.base → StaysOfLog old new
-    → entries_of old.known.number old.known.seen ≡ old.known.mine → entries_of new.known.number new.known.seen ≡ new.known.mine →
+pub listed_association : (convert : Bool) (answer : Answer) (old new : SessionView) → LockLaw new.base
+    → StaysOfLog old new
+    → entries_of old.known.number old.known.seen ≡ old.known.mine
+    → entries_of new.known.number new.known.seen ≡ new.known.mine →
     IsAnswered old.base (Recover convert) answer old.known new.known → association_seen new ≡ association_seen old
 listed_association convert answer old new law stays own_old own_new is =
     let nothing : IsUnanswered old.known new.known =
     record {
       advances = is.advances;
-      mine = (is.outside (recover_outside (state_at old.base new.known.seen answer.place) old.known.number convert)).mine;
+      mine = (is.outside
+          (recover_outside (state_at old.base new.known.seen answer.place) old.known.number convert)).mine;
     } in
     ap (λ b. association_of (state_after b new.known.seen) new.known.number) stays.base
     ∙ association_unanswered old.base (subst LockLaw stays.base law) old.known new.known nothing own_old own_new
 
 -- whatever the session answered
-pub listed_still : (convert : Bool) (result : Result Answer Fault) (old new : SessionView) → LockLaw new.base → StaysOfLog old new
-    → entries_of old.known.number old.known.seen ≡ old.known.mine → entries_of new.known.number new.known.seen ≡ new.known.mine →
+pub listed_still : (convert : Bool) (result : Result Answer Fault) (old new : SessionView) → LockLaw new.base
+    → StaysOfLog old new
+    → entries_of old.known.number old.known.seen ≡ old.known.mine
+    → entries_of new.known.number new.known.seen ≡ new.known.mine →
     IfOk result (λ answer. IsAnswered old.base (Recover convert) answer old.known new.known)
-    → IfErr result (λ fault. Fails old.turns old.identity.capacity old.base (Recover convert) fault old.known new.known) → IfErr result IsFinal →
+    → IfErr result (λ fault. Fails old.turns old.identity.capacity old.base (Recover convert) fault old.known new.known)
+    → IfErr result IsFinal →
     association_seen new ≡ association_seen old
 listed_still convert (Ok answer) old new law stays own_old own_new answered fails final =
     listed_association convert answer old new law stays own_old own_new answered
 listed_still convert (Err fault) old new law stays own_old own_new answered fails final =
-    association_refused (Recover convert) (Session fault) old new law own_old own_new (is_undone (Recover convert) (Session fault) old new stays (fails, final))
+    association_refused (Recover convert) (Session fault) old new law own_old own_new
+    (is_undone (Recover convert) (Session fault) old new stays (fails, final))

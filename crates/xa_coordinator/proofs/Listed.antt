@@ -1,5 +1,6 @@
 -- Which branches of a list are of a coordinator's naming.
-use Rattle.std.proofs.Common.{◌≡◌, ◌<◌, ◌+◌, ◌^◌, ℕ, Bool, true, false, List, [], ◌∷◌, ◌++◌, length, take, drop, get_or, zero, suc, refl, ap, sym}
+use Rattle.std.proofs.Common.{◌≡◌, ◌<◌, ◌+◌, ◌^◌, ℕ, Bool, true, false, List, [], ◌∷◌, ◌++◌, length, take, drop, get_or}
+use Rattle.std.proofs.Common.{zero, suc, refl, ap, sym}
 use Rattle.std.proofs.Common.{◌∙◌, subst, inl, inr, Some, add-one, length-append}
 use Rattle.std.specs.Prelude.{All, slice_get, ◌||◌, ◌&&◌, ◌⊎◌}
 use Rattle.std.specs.List.{list_any}
@@ -21,7 +22,8 @@ use Rattle.xa_coordinator.specs.Branch.{branch_xid, IsBranchOf}
 use Rattle.xa_coordinator.specs.Recovery.{IsNamed, ListsPrepared, NoneLeft}
 
 -- the prefix with one more
-pub take_next : (xs : List Xid) (place : ℕ) (x : Xid) → slice_get xs place ≡ Some x → take (place + 1) xs ≡ take place xs ++ x ∷ []
+pub take_next : (xs : List Xid) (place : ℕ) (x : Xid) → slice_get xs place ≡ Some x
+    → take (place + 1) xs ≡ take place xs ++ x ∷ []
 take_next xs place x is = ap (λ n. take n xs) (add-one place) ∙ by xs place is
   where
     by : (ys : List Xid) (n : ℕ) → slice_get ys n ≡ Some x → take (suc n) ys ≡ take n ys ++ x ∷ []
@@ -29,11 +31,13 @@ take_next xs place x is = ap (λ n. take n xs) (add-one place) ∙ by xs place i
     by (y ∷ ys) zero e = let same : y ≡ x = cc in ap (λ z. z ∷ []) same
     by (y ∷ ys) (suc n) e = ap (λ rest. y ∷ rest) (by ys n e)
 
-pub at_index : (xs : List Xid) (place : ℕ) (x : Xid) → x ≡ get_or xs place x → place < length xs → slice_get xs place ≡ Some x
+pub at_index : (xs : List Xid) (place : ℕ) (x : Xid) → x ≡ get_or xs place x → place < length xs
+    → slice_get xs place ≡ Some x
 at_index xs place x is below = slice_get-get_or xs place x below ∙ ap Some (sym is)
 
 -- one that is there is found
-pub any_there : (p : Xid → Bool) (xs : List Xid) (place : ℕ) (x : Xid) → slice_get xs place ≡ Some x → p x ≡ true → list_any p xs ≡ true
+pub any_there : (p : Xid → Bool) (xs : List Xid) (place : ℕ) (x : Xid) → slice_get xs place ≡ Some x → p x ≡ true
+    → list_any p xs ≡ true
 any_there p [] place x there is = absurd (cc)
 any_there p (y ∷ ys) zero x there is = let same : y ≡ x = cc in ap (λ b. b || list_any p ys) (ap p same ∙ is)
 any_there p (y ∷ ys) (suc place) x there is = ap (λ b. p y || b) (any_there p ys place x there is) ∙ or_true (p y)
@@ -42,39 +46,49 @@ any_there p (y ∷ ys) (suc place) x there is = ap (λ b. p y || b) (any_there p
     or_true true = refl
     or_true false = refl
 
-pub same_branch : (name : List ℕ) (number store : ℕ) (xid : Xid) → IsBranchOf name number store xid → same_xid (branch_xid name number store) xid ≡ true
-same_branch name number store xid is = ap (same_xid (branch_xid name number store)) is.is ∙ same_itself xids_total exact_xids (branch_xid name number store)
+pub same_branch : (name : List ℕ) (number store : ℕ) (xid : Xid) → IsBranchOf name number store xid
+    → same_xid (branch_xid name number store) xid ≡ true
+same_branch name number store xid is = ap (same_xid (branch_xid name number store)) is.is
+    ∙ same_itself xids_total exact_xids (branch_xid name number store)
 
 apart_branch : (name : List ℕ) (number store : ℕ) → number < 2 ^ 64 → (xid : Xid) → (IsNamed name store xid → ⊥)
     → same_xid (branch_xid name number store) xid ≡ false
-apart_branch name number store fits xid out = elim (same_or_apart xids_total exact_xids (branch_xid name number store) xid) [
-  | inl same ↦ absurd (out (number, record { fits = fits; is = sym same }))
-  | inr apart ↦ apart
-]
+apart_branch name number store fits xid out =
+    elim (same_or_apart xids_total exact_xids (branch_xid name number store) xid) [
+      | inl same ↦ absurd (out (number, record { fits = fits; is = sym same }))
+      | inr apart ↦ apart
+    ]
 
 -- where none is named so, no branch of the naming is in the list
-pub none_named_in : (name : List ℕ) (store : ℕ) (xids : List Xid) → All (λ xid. IsNamed name store xid → ⊥) xids → (number : ℕ) → number < 2 ^ 64
+pub none_named_in : (name : List ℕ) (store : ℕ) (xids : List Xid) → All (λ xid. IsNamed name store xid → ⊥) xids
+    → (number : ℕ) → number < 2 ^ 64
     → list_any (same_xid (branch_xid name number store)) xids ≡ false
 none_named_in name store xids none number fits =
     list_any_none (same_xid (branch_xid name number store)) xids
     (All-weaker (λ xid. IsNamed name store xid → ⊥) (λ xid. same_xid (branch_xid name number store) xid ≡ false)
     (apart_branch name number store fits) xids none)
 
-pub none_more : (name : List ℕ) (store : ℕ) (xids : List Xid) (place : ℕ) (xid : Xid) → slice_get xids place ≡ Some xid → (IsNamed name store xid → ⊥)
+pub none_more : (name : List ℕ) (store : ℕ) (xids : List Xid) (place : ℕ) (xid : Xid) → slice_get xids place ≡ Some xid
+    → (IsNamed name store xid → ⊥)
     → All (λ x. IsNamed name store x → ⊥) (take place xids) →
     All (λ x. IsNamed name store x → ⊥) (take (place + 1) xids)
 none_more name store xids place xid there out none =
-    subst (All (λ x. IsNamed name store x → ⊥)) (sym (take_next xids place xid there)) (All-push (λ x. IsNamed name store x → ⊥) (take place xids) xid none out)
+    subst (All (λ x. IsNamed name store x → ⊥)) (sym (take_next xids place xid there))
+    (All-push (λ x. IsNamed name store x → ⊥) (take place xids) xid none out)
 
 -- what the list says of a branch is what is prepared
-pub listed_prepared : (xids : List Xid) (place : ℕ) (old new : SessionView) → ListsPrepared xids place old new → (xid : Xid)
+pub listed_prepared : (xids : List Xid) (place : ℕ) (old new : SessionView) → ListsPrepared xids place old new
+    → (xid : Xid)
     → is_prepared (state_after new.base new.known.seen) xid ≡ list_any (same_xid xid) xids
-listed_prepared xids place old new is xid = sym (ap (list_any (same_xid xid)) is.list ∙ prepared_exactly (state_after new.base new.known.seen) xid)
+listed_prepared xids place old new is xid =
+    sym (ap (list_any (same_xid xid)) is.list ∙ prepared_exactly (state_after new.base new.known.seen) xid)
 
-pub none_left_there : (name : List ℕ) (store : ℕ) (xids : List Xid) (place : ℕ) (old new : SessionView) → ListsPrepared xids place old new
+pub none_left_there : (name : List ℕ) (store : ℕ) (xids : List Xid) (place : ℕ) (old new : SessionView)
+    → ListsPrepared xids place old new
     → ((number : ℕ) → number < 2 ^ 64 → list_any (same_xid (branch_xid name number store)) xids ≡ false) →
     NoneLeft name store new
-none_left_there name store xids place old new is none = λ number fits. listed_prepared xids place old new is (branch_xid name number store) ∙ none number fits
+none_left_there name store xids place old new is none =
+    λ number fits. listed_prepared xids place old new is (branch_xid name number store) ∙ none number fits
 
 -- ---- reading the number of a name
 
@@ -92,7 +106,8 @@ unfolding branch_xid
 number_behind_is name number store xid is =
     let text : xid.gtrid.items ≡ name ++ to_be_bytes w64 number = ap (λ (x : Xid). x.gtrid.items) is.is in (
       ap length text ∙ length-append name (to_be_bytes w64 number) ∙ ap (λ n. length name + n) (eight number),
-      ap (λ list. from_be_bytes w64 (drop (length name) list)) text ∙ ap (from_be_bytes w64) (drop-append_seam name (to_be_bytes w64 number))
+      ap (λ list. from_be_bytes w64 (drop (length name) list)) text
+          ∙ ap (from_be_bytes w64) (drop-append_seam name (to_be_bytes w64 number))
           ∙ from_be_bytes-to_be_bytes_8 number is.fits,
     )
   where

@@ -6,6 +6,8 @@ use Rattle.xa_coordinator.specs.declared.participants.Participants.{Participants
 use Rattle.xa_coordinator.specs.Participants.{takes_part}
 
 -- no store from the sixteenth on
-pub beyond : (participants : Participants) (store : ℕ) → 16 ≤ store → length participants.members ≡ 16 → takes_part participants store ≡ false
+pub beyond : (participants : Participants) (store : ℕ) → 16 ≤ store → length participants.members ≡ 16
+    → takes_part participants store ≡ false
 unfolding takes_part
-beyond participants store past sixteen = ap (λ found. unwrap_or found false) (slice_get_past participants.members store (omega arith))
+beyond participants store past sixteen =
+    ap (λ found. unwrap_or found false) (slice_get_past participants.members store (omega arith))

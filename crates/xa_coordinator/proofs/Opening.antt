@@ -14,18 +14,22 @@ abbrev branch_with : ℕ → Phase → OpenBranch
 branch_with number phase = record { number = number; phase = phase }
 
 -- the branch that takes work is open there
-pub working : (branches : List (Option OpenBranch)) (store number : ℕ) → has_working_branch branches store number ≡ true → IsWorking branches store number
+pub working : (branches : List (Option OpenBranch)) (store number : ℕ) → has_working_branch branches store number ≡ true
+    → IsWorking branches store number
 unfolding has_working_branch
 working branches store number is = by (slice_get branches store) refl is
   where
-    of_phase : (phase : Phase) (n : ℕ) → (is_active phase && (n == number)) ≡ true → branch_with n phase ≡ branch_with number Active
+    of_phase : (phase : Phase) (n : ℕ) → (is_active phase && (n == number)) ≡ true
+        → branch_with n phase ≡ branch_with number Active
     of_phase Active n e = ap (λ m. branch_with m Active) (eqb-true n number e)
     of_phase Idle n e = absurd (cc)
 
-    by : (found : Option (Option OpenBranch)) → slice_get branches store ≡ found → works_for number found ≡ true → IsWorking branches store number
+    by : (found : Option (Option OpenBranch)) → slice_get branches store ≡ found → works_for number found ≡ true
+        → IsWorking branches store number
     by None there e = absurd (cc)
     by (Some None) there e = absurd (cc)
-    by (Some (Some branch)) there e = there ∙ ap (λ (b : OpenBranch). Some (Some b)) (of_phase branch.phase branch.number e)
+    by (Some (Some branch)) there e =
+        there ∙ ap (λ (b : OpenBranch). Some (Some b)) (of_phase branch.phase branch.number e)
 
 -- what is open in another store tells nothing of it
 pub working_kept : (old new : List (Option OpenBranch)) (store number : ℕ) → slice_get new store ≡ slice_get old store
@@ -33,21 +37,26 @@ pub working_kept : (old new : List (Option OpenBranch)) (store number : ℕ) →
 unfolding has_working_branch
 working_kept old new store number same = ap (works_for number) same
 
-pub keeps_none : (participants : Participants) (branches : List (Option OpenBranch)) (place : ℕ) → KeepsOpen participants place branches branches
+pub keeps_none : (participants : Participants) (branches : List (Option OpenBranch)) (place : ℕ)
+    → KeepsOpen participants place branches branches
 keeps_none participants branches place = record { apart = λ store out. refl; behind = λ store from. refl }
 
 -- as far as a later store
-pub keeps_farther : (participants : Participants) (place farther : ℕ) (old new : List (Option OpenBranch)) → place ≤ farther
+pub keeps_farther : (participants : Participants) (place farther : ℕ) (old new : List (Option OpenBranch))
+    → place ≤ farther
     → KeepsOpen participants place old new → KeepsOpen participants farther old new
-keeps_farther participants place farther old new less keeps = record { apart = keeps.apart; behind = λ store from. keeps.behind store (omega arith) }
+keeps_farther participants place farther old new less keeps =
+    record { apart = keeps.apart; behind = λ store from. keeps.behind store (omega arith) }
 
 -- a store that takes part was spoken to
-pub keeps_next : (participants : Participants) (place : ℕ) (old now next : List (Option OpenBranch)) → KeepsOpen participants place old now
+pub keeps_next : (participants : Participants) (place : ℕ) (old now next : List (Option OpenBranch))
+    → KeepsOpen participants place old now
     → takes_part participants place ≡ true → ChangesAt place now next →
     KeepsOpen participants (place + 1) old next
 keeps_next participants place old now next keeps takes changes = record {
   apart =
-      λ store out. changes.others store (λ (same : store ≡ place). absurd (true_is_false (sym takes ∙ ap (takes_part participants) (sym same) ∙ out)))
+      λ store out. changes.others store (λ (same : store ≡ place). absurd
+      (true_is_false (sym takes ∙ ap (takes_part participants) (sym same) ∙ out)))
       ∙ keeps.apart store out;
   behind = λ store from. changes.others store (omega arith) ∙ keeps.behind store (omega arith);
 }

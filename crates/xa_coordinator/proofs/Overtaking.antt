@@ -1,5 +1,6 @@
 -- A walk over how numbers stand: which is undecided first, and that none behind it is closed so far.
-use Rattle.std.proofs.Common.{◌≡◌, ◌≢◌, ◌<◌, ◌≤◌, ◌+◌, ◌-◌, ℕ, zero, suc, Bool, true, false, List, Option, Some, None, length, refl, ap, ◌∙◌, sym, arith, cond, ne_eqb, subst, get_or}
+use Rattle.std.proofs.Common.{◌≡◌, ◌≢◌, ◌<◌, ◌≤◌, ◌+◌, ◌-◌, ℕ, zero, suc, Bool, true, false, List, Option, Some, None}
+use Rattle.std.proofs.Common.{length, refl, ap, ◌∙◌, sym, arith, cond, ne_eqb, subst, get_or}
 use Rattle.std.proofs.Common.{inl, inr}
 use Rattle.std.proofs.lemmas.Bool.{cases_eq}
 use Rattle.std.proofs.lemmas.Option.{slice_get-get_or, slice_get_within}
@@ -10,11 +11,14 @@ use Rattle.xa_coordinator.specs.Decisions.{decision_of, IsOvertaken}
 
 -- so many numbers were looked at
 pub record Walked (decisions : List Decision) (count : ℕ) (undecided : Option ℕ) : Type 0 where
-  pub first : (number : ℕ) → undecided ≡ Some number → (decision_of decisions number ≡ Some Undecided) × (number ≤ count)
+  pub first : (number : ℕ) → undecided ≡ Some number → (decision_of decisions number ≡ Some Undecided)
+      × (number ≤ count)
   pub none : undecided ≡ None → (number : ℕ) → number ≤ count → decision_of decisions number ≢ Some Undecided
-  pub behind : (number later : ℕ) → number < later → later ≤ count → decision_of decisions number ≡ Some Undecided → decision_of decisions later ≢ Some Closed
+  pub behind : (number later : ℕ) → number < later → later ≤ count → decision_of decisions number ≡ Some Undecided
+      → decision_of decisions later ≢ Some Closed
 
-at_place : (decisions : List Decision) (place : ℕ) (found : Option Decision) → slice_get decisions place ≡ found → decision_of decisions (place + 1) ≡ found
+at_place : (decisions : List Decision) (place : ℕ) (found : Option Decision) → slice_get decisions place ≡ found
+    → decision_of decisions (place + 1) ≡ found
 unfolding decision_of
 at_place decisions place found is =
     ap (λ b. cond b None (slice_get decisions (place + 1 - 1))) (ne_eqb (place + 1) 0 (λ same. absurd (omega arith)))
@@ -29,11 +33,13 @@ some_is_none one is = cc
 some_same : (one other : Decision) → Some one ≡ Some other → one ≡ other
 some_same one other is = cc
 
-within_list : (decisions : List Decision) (number : ℕ) (decision : Decision) → decision_of decisions number ≡ Some decision → number ≤ length decisions
+within_list : (decisions : List Decision) (number : ℕ) (decision : Decision)
+    → decision_of decisions number ≡ Some decision → number ≤ length decisions
 unfolding decision_of
 within_list decisions number decision is = by (number == 0) refl is
   where
-    by : (b : Bool) → (number == 0) ≡ b → cond b None (slice_get decisions (number - 1)) ≡ Some decision → number ≤ length decisions
+    by : (b : Bool) → (number == 0) ≡ b → cond b None (slice_get decisions (number - 1)) ≡ Some decision
+        → number ≤ length decisions
     by true zeroth none = absurd (cc)
     by false other there = omega (arith, slice_get_within decisions (number - 1) decision there)
 
@@ -50,9 +56,11 @@ walked_none decisions = record {
     no zero less given = cc
     no (suc number) less given = absurd (omega arith)
 
-module _ (decisions : List Decision) (place : ℕ) (undecided : Option ℕ) (walked : Walked decisions place undecided) where
+module _ (decisions : List Decision) (place : ℕ) (undecided : Option ℕ)
+    (walked : Walked decisions place undecided) where
   -- a number behind an undecided one is closed
-  pub overtaken_at : (first : ℕ) → undecided ≡ Some first → slice_get decisions place ≡ Some Closed → IsOvertaken decisions first
+  pub overtaken_at : (first : ℕ) → undecided ≡ Some first → slice_get decisions place ≡ Some Closed
+      → IsOvertaken decisions first
   overtaken_at first is closed = record {
     undecided = (walked.first first is).0;
     later = place + 1;
@@ -69,14 +77,17 @@ module _ (decisions : List Decision) (place : ℕ) (undecided : Option ℕ) (wal
     where
       none_now : now ≡ None → (number : ℕ) → number ≤ place + 1 → decision_of decisions number ≢ Some Undecided
       none_now none number within given = elim (cases_eq number (place + 1)) [
-        | inl here ↦ (lacks none).1 (some_same _ _ (sym (at_place decisions place (Some decision) is) ∙ ap (decision_of decisions) (sym here) ∙ given))
+        | inl here ↦ (lacks none).1 (some_same _ _ (sym (at_place decisions place (Some decision) is)
+            ∙ ap (decision_of decisions) (sym here) ∙ given))
         | inr apart ↦ walked.none (lacks none).0 number (omega (arith, apart, within)) given
       ]
 
-      behind_now : (number later : ℕ) → number < later → later ≤ place + 1 → decision_of decisions number ≡ Some Undecided → decision_of decisions later ≢ Some Closed
+      behind_now : (number later : ℕ) → number < later → later ≤ place + 1
+          → decision_of decisions number ≡ Some Undecided → decision_of decisions later ≢ Some Closed
       behind_now number later less within given shut = elim (cases_eq later (place + 1)) [
         | inl here ↦
-            walked.none (closed (some_same _ _ (sym (at_place decisions place (Some decision) is) ∙ ap (decision_of decisions) (sym here) ∙ shut))) number
+            walked.none (closed (some_same _ _ (sym (at_place decisions place (Some decision) is)
+            ∙ ap (decision_of decisions) (sym here) ∙ shut))) number
             (omega (arith, here, less)) given
         | inr apart ↦ walked.behind number later less (omega (arith, apart, within)) given shut
       ]
@@ -84,23 +95,32 @@ module _ (decisions : List Decision) (place : ℕ) (undecided : Option ℕ) (wal
   -- all were looked at
   pub walked_all : length decisions ≤ place → (number : ℕ) → IsOvertaken decisions number → ⊥
   walked_all all number it =
-      walked.behind number it.later it.behind (omega (arith, all, within_list decisions it.later Closed it.closed)) it.undecided it.closed
+      walked.behind number it.later it.behind (omega (arith, all, within_list decisions it.later Closed it.closed))
+      it.undecided it.closed
 
   module _ (fallback : Decision) (below : place < length decisions) where
-    read : (decision : Decision) → get_or decisions place fallback ≡ decision → slice_get decisions place ≡ Some decision
+    read : (decision : Decision) → get_or decisions place fallback ≡ decision
+        → slice_get decisions place ≡ Some decision
     read decision is = slice_get-get_or decisions place fallback below ∙ ap Some is
 
-    pub overtaken_here : (first : ℕ) → undecided ≡ Some first → get_or decisions place fallback ≡ Closed → IsOvertaken decisions first
+    pub overtaken_here : (first : ℕ) → undecided ≡ Some first → get_or decisions place fallback ≡ Closed
+        → IsOvertaken decisions first
     overtaken_here first is closed = overtaken_at first is (read Closed closed)
 
     -- an undecided number, the first one
-    pub step_first : undecided ≡ None → get_or decisions place fallback ≡ Undecided → Walked decisions (place + 1) (Some (place + 1))
+    pub step_first : undecided ≡ None → get_or decisions place fallback ≡ Undecided
+        → Walked decisions (place + 1) (Some (place + 1))
     step_first none is = step Undecided (Some (place + 1)) (read Undecided is)
-        (λ number same. (subst (λ n. decision_of decisions n ≡ Some Undecided) (some_number _ _ same) (at_place decisions place (Some Undecided) (read Undecided is)), omega (arith, some_number _ _ same)))
+        (λ number same. (
+          subst (λ n. decision_of decisions n ≡ Some Undecided) (some_number _ _ same)
+              (at_place decisions place (Some Undecided) (read Undecided is)),
+          omega (arith, some_number _ _ same),
+        ))
         (λ lacks. absurd (cc)) (λ closed. absurd (cc))
 
     -- any other
-    pub step_on : (decision : Decision) → get_or decisions place fallback ≡ decision → (decision ≡ Undecided → undecided ≢ None) → (decision ≡ Closed → undecided ≡ None)
+    pub step_on : (decision : Decision) → get_or decisions place fallback ≡ decision
+        → (decision ≡ Undecided → undecided ≢ None) → (decision ≡ Closed → undecided ≡ None)
         → Walked decisions (place + 1) undecided
     step_on decision is one other = step decision undecided (read decision is)
         (λ number same. ((walked.first number same).0, omega (arith, (walked.first number same).1)))

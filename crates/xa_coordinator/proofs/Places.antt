@@ -4,13 +4,15 @@ use Rattle.std.specs.Prelude.{slice_get, slice_set}
 
 module _ {A : Type 0} where
   -- the place that was written
-  pub get_set_same : (xs : List A) (place : ℕ) (x : A) → place < length xs → slice_get (slice_set xs place x) place ≡ Some x
+  pub get_set_same : (xs : List A) (place : ℕ) (x : A) → place < length xs
+      → slice_get (slice_set xs place x) place ≡ Some x
   get_set_same [] place x below = absurd (omega arith)
   get_set_same (y ∷ ys) zero x below = refl
   get_set_same (y ∷ ys) (suc place) x below = get_set_same ys place x (omega arith)
 
   -- another place
-  pub get_set_other : (xs : List A) (place other : ℕ) (x : A) → other ≢ place → slice_get (slice_set xs place x) other ≡ slice_get xs other
+  pub get_set_other : (xs : List A) (place other : ℕ) (x : A) → other ≢ place
+      → slice_get (slice_set xs place x) other ≡ slice_get xs other
   get_set_other [] place other x apart = refl
   get_set_other (y ∷ ys) zero zero x apart = absurd (apart refl)
   get_set_other (y ∷ ys) zero (suc other) x apart = refl
@@ -24,7 +26,8 @@ module _ {A : Type 0} where
   get_set_is (z ∷ zs) (suc place) x y is = get_set_is zs place x y is
 
   -- a place that is written was there before
-  pub get_before_set : (xs : List A) (place : ℕ) (x y d : A) → slice_get (slice_set xs place x) place ≡ Some y → slice_get xs place ≡ Some (get_or xs place d)
+  pub get_before_set : (xs : List A) (place : ℕ) (x y d : A) → slice_get (slice_set xs place x) place ≡ Some y
+      → slice_get xs place ≡ Some (get_or xs place d)
   get_before_set [] place x y d is = absurd (cc)
   get_before_set (z ∷ zs) zero x y d is = refl
   get_before_set (z ∷ zs) (suc place) x y d is = get_before_set zs place x y d is

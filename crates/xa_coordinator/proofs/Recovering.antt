@@ -1,5 +1,6 @@
 -- Recovering store after store.
-use Rattle.std.proofs.Common.{◌≡◌, ◌<◌, ◌≤◌, ◌+◌, ℕ, zero, suc, List, [], ◌∷◌, ◌++◌, length, refl, ap, sym, ◌∙◌, subst, inl, inr, Option, Some}
+use Rattle.std.proofs.Common.{◌≡◌, ◌<◌, ◌≤◌, ◌+◌, ℕ, zero, suc, List, [], ◌∷◌, ◌++◌, length, refl, ap, sym, ◌∙◌, subst}
+use Rattle.std.proofs.Common.{inl, inr, Option, Some}
 use Rattle.std.proofs.Common.{None, arith, length-append}
 use Rattle.std.specs.Prelude.{slice_get, map, Result, Ok, Err, IfOk, IfErr}
 use Rattle.std.specs.List.{sum_by}
@@ -19,10 +20,12 @@ use Rattle.xa_xid.specs.declared.statement.Statement.TheVariants.{Disconnect}
 use Rattle.xa_coordinator.specs.Told.{IsUndone}
 use Rattle.xa_coordinator.specs.Agreement.{Agrees}
 use Rattle.xa_coordinator.specs.Stores.{AtStore, EachStore, ChangesAt, EndsAt}
-use Rattle.xa_coordinator.specs.Recovery.{IsRecovered, RecoveredBy, Recovers, BreaksBy, BreaksHere, BreaksOff, asked_by_fault}
+use Rattle.xa_coordinator.specs.Recovery.{IsRecovered, RecoveredBy, Recovers, BreaksBy, BreaksHere, BreaksOff}
+use Rattle.xa_coordinator.specs.Recovery.{asked_by_fault}
 use Rattle.xa_coordinator.specs.Parts.{fault_by}
 use Rattle.xa_coordinator.specs.Recovery.{IsCutOff, IsStillPrepared}
-use Rattle.xa_coordinator.proofs.Walk.{Reached, reached_none, reached_next, reached_weaker, reached_all, from_ends, at_weaker, at_same}
+use Rattle.xa_coordinator.proofs.Walk.{Reached, reached_none, reached_next, reached_weaker, reached_all, from_ends}
+use Rattle.xa_coordinator.proofs.Walk.{at_weaker, at_same}
 use Rattle.xa_coordinator.proofs.Settling.{IsBroken, recovered_agrees, broken_agrees, still_agrees}
 use Rattle.xa_coordinator.proofs.Agreeing.{nothing_agrees}
 
@@ -34,7 +37,8 @@ pub record FreesOpen (place : ℕ) (old new : List (Option OpenBranch)) : Type 0
 pub frees_none : (branches : List (Option OpenBranch)) → FreesOpen 0 branches branches
 frees_none branches = record { below = λ store none. absurd (omega arith); behind = λ store from. refl }
 
-pub frees_next : (place : ℕ) (old now next : List (Option OpenBranch)) → FreesOpen place old now → ChangesAt place now next → slice_get next place ≡ Some None
+pub frees_next : (place : ℕ) (old now next : List (Option OpenBranch)) → FreesOpen place old now
+    → ChangesAt place now next → slice_get next place ≡ Some None
     → FreesOpen (place + 1) old next
 frees_next place old now next frees changes free = record {
   below = λ store less.
@@ -45,15 +49,19 @@ frees_next place old now next frees changes free = record {
   behind = λ store from. changes.others store (omega arith) ∙ frees.behind store (omega arith);
 }
 
-pub frees_below : (place : ℕ) (old now next : List (Option OpenBranch)) → FreesOpen place old now → ChangesAt place now next → (store : ℕ) → store < place
+pub frees_below : (place : ℕ) (old now next : List (Option OpenBranch)) → FreesOpen place old now
+    → ChangesAt place now next → (store : ℕ) → store < place
     → slice_get next store ≡ Some None
 frees_below place old now next frees changes store less = changes.others store (omega arith) ∙ frees.below store less
 
-pub frees_behind : (place : ℕ) (old now next : List (Option OpenBranch)) → FreesOpen place old now → ChangesAt place now next → (store : ℕ) → place + 1 ≤ store
+pub frees_behind : (place : ℕ) (old now next : List (Option OpenBranch)) → FreesOpen place old now
+    → ChangesAt place now next → (store : ℕ) → place + 1 ≤ store
     → slice_get next store ≡ slice_get old store
-frees_behind place old now next frees changes store from = changes.others store (omega arith) ∙ frees.behind store (omega arith)
+frees_behind place old now next frees changes store from =
+    changes.others store (omega arith) ∙ frees.behind store (omega arith)
 
-found_there : {A : Type 0} (xs : List A) (y : A) (store : ℕ) (one : A) → slice_get xs store ≡ Some one → slice_get (xs ++ y ∷ []) store ≡ Some one
+found_there : {A : Type 0} (xs : List A) (y : A) (store : ℕ) (one : A) → slice_get xs store ≡ Some one
+    → slice_get (xs ++ y ∷ []) store ≡ Some one
 found_there [] y store one is = absurd (cc)
 found_there (x ∷ xs) y zero one is = is
 found_there (x ∷ xs) y (suc store) one is = found_there xs y store one is
@@ -73,7 +81,8 @@ module _ {S : Type 0} (view : S → SessionView) (decisions : List Decision) (na
     pub rolled_back : report.rolled_back ≡ sum_by (λ one. one.0.rolled_back) found
     pub missing : report.missing ≡ sum_by (λ one. one.0.missing) found
 
-  pub recovers_none : (report : Report) (old : List S) → report.fronts.items ≡ [] → report.committed ≡ 0 → report.rolled_back ≡ 0 → report.missing ≡ 0
+  pub recovers_none : (report : Report) (old : List S) → report.fronts.items ≡ [] → report.committed ≡ 0
+      → report.rolled_back ≡ 0 → report.missing ≡ 0
       → RecoversBelow 0 report old old
   recovers_none report old fronts committed rolled_back missing = record {
     found = [];
@@ -86,37 +95,47 @@ module _ {S : Type 0} (view : S → SessionView) (decisions : List Decision) (na
   }
 
   -- one store more
-  pub recovers_next : (place : ℕ) (report more : Report) (one : Tally × ℕ) (old now next : List S) → RecoversBelow place report old now
+  pub recovers_next : (place : ℕ) (report more : Report) (one : Tally × ℕ) (old now next : List S)
+      → RecoversBelow place report old now
       → ChangesAt place now next → AtStore view place (IsRecovered decisions name place one.0 one.1) now next →
       more.fronts.items ≡ report.fronts.items ++ one.1 ∷ [] → more.committed ≡ report.committed + one.0.committed
       → more.rolled_back ≡ report.rolled_back + one.0.rolled_back → more.missing ≡ report.missing + one.0.missing →
       RecoversBelow (place + 1) more old next
   recovers_next place report more one old now next so_far changes is fronts committed rolled_back missing =
       let longer : List (Tally × ℕ) = so_far.found ++ one ∷ [] in
-      let last : slice_get longer place ≡ Some one = subst (λ n. slice_get longer n ≡ Some one) so_far.count (found_last so_far.found one) in
+      let last : slice_get longer place ≡ Some one = subst (λ n. slice_get longer n ≡ Some one) so_far.count
+      (found_last so_far.found one) in
       record {
         found = longer;
         count = length-append so_far.found (one ∷ []) ∙ omega (arith, so_far.count);
         reached = reached_next view (RecoveredBy decisions name longer) place old now next
-            (reached_weaker view (RecoveredBy decisions name so_far.found) (RecoveredBy decisions name longer) place old now
+            (reached_weaker view (RecoveredBy decisions name so_far.found)
+            (RecoveredBy decisions name longer) place old now
             (λ store less a b by. (by.0, found_there so_far.found one store by.0 by.1, by.2)) so_far.reached)
             changes
-            (at_weaker view place (IsRecovered decisions name place one.0 one.1) (RecoveredBy decisions name longer place)
+            (at_weaker view place (IsRecovered decisions name place one.0 one.1)
+            (RecoveredBy decisions name longer place)
             (λ a b recovered. (one, last, recovered)) now next is);
-        fronts = fronts ∙ ap (λ list. list ++ one.1 ∷ []) so_far.fronts ∙ sym (map_push (λ (o : Tally × ℕ). o.1) so_far.found one);
-        committed = committed ∙ ap (λ n. n + one.0.committed) so_far.committed ∙ sym (sum_by_push (λ (o : Tally × ℕ). o.0.committed) so_far.found one);
+        fronts = fronts ∙ ap (λ list. list ++ one.1 ∷ []) so_far.fronts
+            ∙ sym (map_push (λ (o : Tally × ℕ). o.1) so_far.found one);
+        committed = committed ∙ ap (λ n. n + one.0.committed) so_far.committed
+            ∙ sym (sum_by_push (λ (o : Tally × ℕ). o.0.committed) so_far.found one);
         rolled_back =
-            rolled_back ∙ ap (λ n. n + one.0.rolled_back) so_far.rolled_back ∙ sym (sum_by_push (λ (o : Tally × ℕ). o.0.rolled_back) so_far.found one);
-        missing = missing ∙ ap (λ n. n + one.0.missing) so_far.missing ∙ sym (sum_by_push (λ (o : Tally × ℕ). o.0.missing) so_far.found one);
+            rolled_back ∙ ap (λ n. n + one.0.rolled_back) so_far.rolled_back
+            ∙ sym (sum_by_push (λ (o : Tally × ℕ). o.0.rolled_back) so_far.found one);
+        missing = missing ∙ ap (λ n. n + one.0.missing) so_far.missing
+            ∙ sym (sum_by_push (λ (o : Tally × ℕ). o.0.missing) so_far.found one);
       }
 
   -- all of them
-  pub recovers_all : (place : ℕ) (report : Report) (old now : List S) → RecoversBelow place report old now → place ≡ length old
+  pub recovers_all : (place : ℕ) (report : Report) (old now : List S) → RecoversBelow place report old now
+      → place ≡ length old
       → Recovers view decisions name report old now
   recovers_all place report old now so_far whole = record {
     found = so_far.found;
     count = so_far.count ∙ whole;
-    each = reached_all view (RecoveredBy decisions name so_far.found) place old now so_far.reached (omega (arith, whole));
+    each = reached_all view (RecoveredBy decisions name so_far.found) place old now so_far.reached
+        (omega (arith, whole));
     fronts = so_far.fronts;
     committed = so_far.committed;
     rolled_back = so_far.rolled_back;
@@ -125,29 +144,43 @@ module _ {S : Type 0} (view : S → SessionView) (decisions : List Decision) (na
 
   -- what was broken, whatever the coordinator has open
   broken_at : (place : ℕ) (cause : Cause) (marks marks' : List (Option OpenBranch)) (old new : List S)
-      → BreaksBy view decisions name place cause marks marks' old new → AtStore view place (IsBroken decisions name place cause) old new
+      → BreaksBy view decisions name place cause marks marks' old new
+      → AtStore view place (IsBroken decisions name place cause) old new
   broken_at place (CauseSession fault) marks marks' old new (inl is) = λ a b is_a is_b. inl (is.1 a b is_a is_b)
   broken_at place (CauseSession fault) marks marks' old new (inr is) = λ a b is_a is_b. inr (is.1 a b is_a is_b)
   broken_at place (CauseRefused error) marks marks' old new is = is.1
 
   -- the store behind those that were recovered was as at first
-  here_at : (place : ℕ) (report : Report) (last : SessionView → SessionView → Type 0) (old now next : List S) → RecoversBelow place report old now
+  here_at : (place : ℕ) (report : Report) (last : SessionView → SessionView → Type 0) (old now next : List S)
+      → RecoversBelow place report old now
       → AtStore view place last now next → AtStore view place last old next
-  here_at place report last old now next so_far is = λ a b is_a is_b. is a b (so_far.reached.behind place (omega arith) ∙ is_a) is_b
+  here_at place report last old now next so_far is =
+      λ a b is_a is_b. is a b (so_far.reached.behind place (omega arith) ∙ is_a) is_b
 
-  broke_by : (place : ℕ) (report : Report) (cause : Cause) (marks now_marks marks' : List (Option OpenBranch)) (old now next : List S)
+  broke_by : (place : ℕ) (report : Report) (cause : Cause) (marks now_marks marks' : List (Option OpenBranch))
+      (old now next : List S)
       → RecoversBelow place report old now → slice_get now_marks place ≡ slice_get marks place →
-      BreaksBy view decisions name place cause now_marks marks' now next → BreaksBy view decisions name place cause marks marks' old next
+      BreaksBy view decisions name place cause now_marks marks' now next
+      → BreaksBy view decisions name place cause marks marks' old next
   broke_by place report (CauseSession fault) marks now_marks marks' old now next so_far same (inl is) =
       inl (is.0 ∙ same, here_at place report (IsUndone Disconnect (CauseSession fault)) old now next so_far is.1)
   broke_by place report (CauseSession fault) marks now_marks marks' old now next so_far same (inr is) =
-      inr (is.0, here_at place report (λ before after. IsCutOff decisions name place before (CauseSession fault) after) old now next so_far is.1)
-  broke_by place report (CauseRefused error) marks now_marks marks' old now next so_far same is =
-      (is.0, here_at place report (λ before after. IsCutOff decisions name place before (CauseRefused error) after) old now next so_far is.1)
+      inr (
+        is.0,
+        here_at place report (λ before after. IsCutOff decisions name place before
+            (CauseSession fault) after) old now next so_far is.1,
+      )
+  broke_by place report (CauseRefused error) marks now_marks marks' old now next so_far same is = (
+    is.0,
+    here_at place report (λ before after. IsCutOff decisions name place before
+        (CauseRefused error) after) old now next so_far is.1,
+  )
 
   -- and what the coordinator has open there
-  pub breaks_there : (place : ℕ) (report : Report) (fault : RecoverFault) (marks now_marks marks' : List (Option OpenBranch)) (old now next : List S)
-      → RecoversBelow place report old now → slice_get now_marks place ≡ slice_get marks place → asked_by_fault fault ≡ place + 1
+  pub breaks_there : (place : ℕ) (report : Report) (fault : RecoverFault)
+      (marks now_marks marks' : List (Option OpenBranch)) (old now next : List S)
+      → RecoversBelow place report old now → slice_get now_marks place ≡ slice_get marks place
+      → asked_by_fault fault ≡ place + 1
       → BreaksHere view decisions name fault now_marks marks' now next →
       BreaksHere view decisions name fault marks marks' old next
   breaks_there place report (Session at fault) marks now_marks marks' old now next so_far same asked is =
@@ -161,7 +194,8 @@ module _ {S : Type 0} (view : S → SessionView) (decisions : List Decision) (na
       let here : place ≡ at = omega (arith, there) in (
         is.0,
         subst (λ n. AtStore view n (IsStillPrepared decisions name n) old next) here
-            (here_at place report (IsStillPrepared decisions name place) old now next so_far (subst (λ n. AtStore view n (IsStillPrepared decisions name n) now next) (sym here) is.1)),
+            (here_at place report (IsStillPrepared decisions name place) old now next so_far
+            (subst (λ n. AtStore view n (IsStillPrepared decisions name n) now next) (sym here) is.1)),
       )
   breaks_there place report NoMemory marks now_marks marks' old now next so_far same asked is =
       let none : 0 ≡ place + 1 = asked in absurd (omega (arith, none))
@@ -173,8 +207,10 @@ module _ {S : Type 0} (view : S → SessionView) (decisions : List Decision) (na
       (subst (λ n. BreaksBy view decisions name n (CauseRefused error) now_marks marks' now next) (sym here) is))
 
   -- the store at which it came to no end
-  pub breaks_at : (place : ℕ) (report : Report) (fault : RecoverFault) (marks now_marks marks' : List (Option OpenBranch)) (old now next : List S)
-      → place < length old → RecoversBelow place report old now → slice_get now_marks place ≡ slice_get marks place → ChangesAt place now next
+  pub breaks_at : (place : ℕ) (report : Report) (fault : RecoverFault)
+      (marks now_marks marks' : List (Option OpenBranch)) (old now next : List S)
+      → place < length old → RecoversBelow place report old now → slice_get now_marks place ≡ slice_get marks place
+      → ChangesAt place now next
       → asked_by_fault fault ≡ place + 1 → BreaksHere view decisions name fault now_marks marks' now next
       → BreaksOff view decisions name fault marks marks' old next
   breaks_at place report fault marks now_marks marks' old now next within so_far same changes asked is = record {
@@ -184,7 +220,8 @@ module _ {S : Type 0} (view : S → SessionView) (decisions : List Decision) (na
         (sym (changes.others store (omega (arith, less, asked))) ∙ is_after) in
         (by.0, by.2);
     here = breaks_there place report fault marks now_marks marks' old now next so_far same asked is;
-    behind = λ store from. changes.others store (omega (arith, from, asked)) ∙ so_far.reached.behind store (omega (arith, from, asked));
+    behind = λ store from. changes.others store (omega (arith, from, asked))
+        ∙ so_far.reached.behind store (omega (arith, from, asked));
   }
 
   -- a cause is told as the fault of the store
@@ -199,16 +236,20 @@ module _ {S : Type 0} (view : S → SessionView) (decisions : List Decision) (na
   asked_for place (CauseRefused error) = refl
 
   -- whatever it came to agrees with the decisions
-  pub recovers_agree : (report : Report) (old now : List S) → Recovers view decisions name report old now → EachStore view (Agrees decisions name) old now
+  pub recovers_agree : (report : Report) (old now : List S) → Recovers view decisions name report old now
+      → EachStore view (Agrees decisions name) old now
   recovers_agree report old now is store =
       at_weaker view store (RecoveredBy decisions name is.found store) (Agrees decisions name store)
       (λ a b by. recovered_agrees decisions name store by.0.0 by.0.1 a b by.2) old now (is.each store)
 
-  ends_agree : (place : ℕ) (last : SessionView → SessionView → Type 0) (old new : List S) → ((a b : SessionView) → last a b → Agrees decisions name place a b) →
-      EndsAt view (λ other before after. (one : Tally × ℕ) × IsRecovered decisions name other one.0 one.1 before after) place last old new
+  ends_agree : (place : ℕ) (last : SessionView → SessionView → Type 0) (old new : List S)
+      → ((a b : SessionView) → last a b → Agrees decisions name place a b) →
+      EndsAt view (λ other before after. (one : Tally × ℕ)
+      × IsRecovered decisions name other one.0 one.1 before after) place last old new
       → EachStore view (Agrees decisions name) old new
   ends_agree place last old new at_last is =
-      from_ends view _ (Agrees decisions name) place last old new is (λ other a b by. recovered_agrees decisions name other by.0.0 by.0.1 a b by.1) at_last
+      from_ends view _ (Agrees decisions name) place last old new is
+      (λ other a b by. recovered_agrees decisions name other by.0.0 by.0.1 a b by.1) at_last
       (λ other a. nothing_agrees decisions name other a)
 
   pub breaks_agree : (fault : RecoverFault) (marks marks' : List (Option OpenBranch)) (old new : List S)
@@ -222,10 +263,17 @@ module _ {S : Type 0} (view : S → SessionView) (decisions : List Decision) (na
         behind = λ other more. is.behind other (omega (arith, more));
       })
   breaks_agree (StillPrepared store) marks marks' old new is =
-      ends_agree store (IsStillPrepared decisions name store) old new (λ a b still. still_agrees decisions name store a b still)
-      (record { below = λ other less. is.below other (omega (arith, less)); at = is.here.1; behind = λ other more. is.behind other (omega (arith, more)) })
+      ends_agree store (IsStillPrepared decisions name store) old new
+      (λ a b still. still_agrees decisions name store a b still)
+      (record {
+        below = λ other less. is.below other (omega
+            (arith, less));
+        at = is.here.1;
+        behind = λ other more. is.behind other (omega (arith, more));
+      })
   breaks_agree NoMemory marks marks' old new is =
-      λ store. at_same view store (Agrees decisions name store) (λ a. nothing_agrees decisions name store a) old new (is.behind store (omega arith))
+      λ store. at_same view store (Agrees decisions name store) (λ a. nothing_agrees decisions name store a) old new
+      (is.behind store (omega arith))
   breaks_agree (Refused store error) marks marks' old new is =
       ends_agree store (IsBroken decisions name store (CauseRefused error)) old new
       (λ a b broken. broken_agrees decisions name store (CauseRefused error) a b broken)

@@ -1,5 +1,6 @@
 -- What serving a statement makes of what the sessions of a store know.
-use Rattle.std.proofs.Common.{◌≡◌, ◌≢◌, inl, inr, ◌≤◌, ◌+◌, ℕ, zero, suc, Bool, true, false, List, [], ◌∷◌, ◌++◌, length, take, refl, ap, sym, ◌∙◌, subst, arith}
+use Rattle.std.proofs.Common.{◌≡◌, ◌≢◌, inl, inr, ◌≤◌, ◌+◌, ℕ, zero, suc, Bool, true, false, List, [], ◌∷◌, ◌++◌}
+use Rattle.std.proofs.Common.{length, take, refl, ap, sym, ◌∙◌, subst, arith}
 use Rattle.std.proofs.Common.{append-nil, length-append}
 use Rattle.std.proofs.lemmas.List.{take_all, take-append-le}
 use Rattle.std.specs.Prelude.{Result, Ok, Err, IfOk, OnErr, slice_get, Some}
@@ -24,9 +25,11 @@ use Rattle.decision_log.proofs.Histories.{own_last, own_other}
 
 -- what a session knows, from the parts that differ
 abbrev known_from : ℕ → List Entry → List Entry → ℕ → Known
-known_from session seen mine looks = record { number = session; seen = seen; mine = mine; looks = looks; tries = length mine; since = looks }
+known_from session seen mine looks =
+    record { number = session; seen = seen; mine = mine; looks = looks; tries = length mine; since = looks }
 
-known_same : (session : ℕ) (seen seen' mine mine' : List Entry) (looks looks' : ℕ) → seen ≡ seen' → mine ≡ mine' → looks ≡ looks'
+known_same : (session : ℕ) (seen seen' mine mine' : List Entry) (looks looks' : ℕ) → seen ≡ seen' → mine ≡ mine'
+    → looks ≡ looks'
     → known_from session seen mine looks ≡ known_from session seen' mine' looks'
 known_same session seen seen' mine mine' looks looks' same_seen same_mine same_looks =
     ap (λ s. known_from session s mine looks) same_seen ∙ ap (λ m. known_from session seen' m looks) same_mine
@@ -51,7 +54,8 @@ pub none_entered : (base : State) → AllEntered base []
 none_entered base = record { entered = λ place entry is. absurd (cc); two = λ place entry is. absurd (cc) }
 
 -- one entry more, which entered
-entered_more : (base : State) (history : List Entry) (last : Entry) → enters (state_after base history) last.session last.statement ≡ true
+entered_more : (base : State) (history : List Entry) (last : Entry)
+    → enters (state_after base history) last.session last.statement ≡ true
     → (1 ≤ last.session) × (last.session ≤ 2) → AllEntered base history → AllEntered base (history ++ last ∷ [])
 entered_more base history last entering number all = record {
   entered = λ place entry is.
@@ -64,7 +68,8 @@ entered_more base history last entering number all = record {
         | inr at ↦
             let there : state_at base (history ++ last ∷ []) place ≡ state_after base history =
             ap (state_at base (history ++ last ∷ [])) at.0
-            ∙ state_at-begins base history (history ++ last ∷ []) (length history) (begins_append history (last ∷ [])) (omega arith)
+            ∙ state_at-begins base history (history ++ last ∷ []) (length history) (begins_append history (last ∷ []))
+            (omega arith)
             ∙ state_at-whole base history in
             subst (λ (e : Entry). enters (state_at base (history ++ last ∷ []) place) e.session e.statement ≡ true) at.1
             (ap (λ s. enters s last.session last.statement) there ∙ entering)
@@ -76,7 +81,8 @@ entered_more base history last entering number all = record {
       ];
 }
 
-module _ (session : ℕ) (statement : Statement) (answer : Answer) (base old new : State) (history history' : List Entry) (watch watch' : Watch)
+module _ (session : ℕ) (statement : Statement) (answer : Answer) (base old new : State) (history history' : List Entry)
+    (watch watch' : Watch)
     (serves : Serves session statement answer old history watch new history' watch') where
   abbrev entry : Entry
   entry = entry_of session statement
@@ -88,7 +94,8 @@ module _ (session : ℕ) (statement : Statement) (answer : Answer) (base old new
   kept = (history' ≡ history) × (new ≡ old)
 
   -- a statement enters or doesn't
-  either : (P : Type 0) → (enters old session statement ≡ true → grown → P) → (enters old session statement ≡ false → kept → P) → P
+  either : (P : Type 0) → (enters old session statement ≡ true → grown → P)
+      → (enters old session statement ≡ false → kept → P) → P
   either P entered outside = by (enters old session statement) refl
     where
       by : (b : Bool) → enters old session statement ≡ b → P
@@ -99,14 +106,17 @@ module _ (session : ℕ) (statement : Statement) (answer : Answer) (base old new
   pub stands_still : old ≡ state_after base history → new ≡ state_after base history'
   stands_still stands =
       either (new ≡ state_after base history')
-      (λ is e. e.1 ∙ ap (λ s. after s session statement) stands ∙ sym (state_after-last base history entry) ∙ ap (state_after base) (sym e.0))
+      (λ is e. e.1 ∙ ap (λ s. after s session statement) stands ∙ sym (state_after-last base history entry)
+      ∙ ap (state_after base) (sym e.0))
       (λ is e. e.1 ∙ stands ∙ ap (state_after base) (sym e.0))
 
   -- each entry entered
-  pub entered_still : old ≡ state_after base history → (1 ≤ session) × (session ≤ 2) → AllEntered base history → AllEntered base history'
+  pub entered_still : old ≡ state_after base history → (1 ≤ session) × (session ≤ 2) → AllEntered base history
+      → AllEntered base history'
   entered_still stands number all =
       either (AllEntered base history')
-      (λ is e. subst (AllEntered base) (sym e.0) (entered_more base history entry (ap (λ s. enters s session statement) (sym stands) ∙ is) number all))
+      (λ is e. subst (AllEntered base) (sym e.0) (entered_more base history entry
+      (ap (λ s. enters s session statement) (sym stands) ∙ is) number all))
       (λ is e. subst (AllEntered base) (sym e.0) all)
 
   -- the session has seen all entries of its own
@@ -117,13 +127,15 @@ module _ (session : ℕ) (statement : Statement) (answer : Answer) (base old new
   }
 
   -- another session has seen what it had, and no entry is its own
-  pub other_sees : (other : ℕ) (mark : Watch) → (session ≡ other → ⊥) → HasSeenOwn other mark history → HasSeenOwn other mark history'
+  pub other_sees : (other : ℕ) (mark : Watch) → (session ≡ other → ⊥) → HasSeenOwn other mark history
+      → HasSeenOwn other mark history'
   other_sees other mark apart sees =
       either (HasSeenOwn other mark history')
       (λ is e. subst (HasSeenOwn other mark) (sym e.0) (record {
         within = omega (arith, sees.within, length-append history (entry ∷ []));
         own =
-            ap (entries_of other) (take-append-le mark.seen history (entry ∷ []) sees.within) ∙ sees.own ∙ sym (own_other other history entry apart);
+            ap (entries_of other) (take-append-le mark.seen history (entry ∷ []) sees.within) ∙ sees.own
+            ∙ sym (own_other other history entry apart);
       }))
       (λ is e. subst (HasSeenOwn other mark) (sym e.0) sees)
 
@@ -132,7 +144,8 @@ module _ (session : ℕ) (statement : Statement) (answer : Answer) (base old new
   other_knows other mark apart sees =
       either (known_by other mark history' ≡ known_by other mark history)
       (λ is e. ap (known_by other mark) e.0
-      ∙ known_same other _ _ _ _ mark.looks mark.looks (take-append-le mark.seen history (entry ∷ []) sees.within) (own_other other history entry apart) refl)
+      ∙ known_same other _ _ _ _ mark.looks mark.looks (take-append-le mark.seen history (entry ∷ []) sees.within)
+      (own_other other history entry apart) refl)
       (λ is e. ap (known_by other mark) e.0)
 
   abbrev before : Known
@@ -142,12 +155,14 @@ module _ (session : ℕ) (statement : Statement) (answer : Answer) (base old new
   mid = known_from session history (entries_of session history) (watch.looks + 1)
 
   looked : Looked before mid
-  looked = record { number = refl; seen = begins_take watch.seen history; mine = refl; looks = refl; tries = refl; since = refl }
+  looked = record
+      { number = refl; seen = begins_take watch.seen history; mine = refl; looks = refl; tries = refl; since = refl }
 
   there : old ≡ state_after base history → old ≡ state_at base history (length history)
   there stands = stands ∙ sym (state_at-whole base history)
 
-  is_reply : (entering : Bool) → old ≡ state_after base history → enters old session statement ≡ entering → IsReply base statement answer entering mid
+  is_reply : (entering : Bool) → old ≡ state_after base history → enters old session statement ≡ entering
+      → IsReply base statement answer entering mid
   is_reply entering stands is = record {
     place = serves.place;
     reply_is = serves.reply_is ∙ ap (λ s. reply_to s session statement) (there stands);
@@ -155,11 +170,13 @@ module _ (session : ℕ) (statement : Statement) (answer : Answer) (base old new
   }
 
   -- the statement was answered
-  pub served : old ≡ state_after base history → IsAnswered base statement answer before (known_by session watch' history')
+  pub served : old ≡ state_after base history → IsAnswered base statement answer before
+      (known_by session watch' history')
   served stands =
       either (IsAnswered base statement answer before (known_by session watch' history'))
       (λ is e.
-      let last : Known = known_from session (history ++ entry ∷ []) (entries_of session history ++ entry ∷ []) (watch.looks + 1) in
+      let last : Known = known_from session (history ++ entry ∷ []) (entries_of session history ++ entry ∷ [])
+      (watch.looks + 1) in
       let same : known_by session watch' history' ≡ last =
       known_same session _ _ _ _ _ _ (whole_taken watch'.seen history' serves.whole ∙ e.0)
       (ap (entries_of session) e.0 ∙ own_last session history entry refl) serves.looked in
@@ -170,28 +187,38 @@ module _ (session : ℕ) (statement : Statement) (answer : Answer) (base old new
         looks = omega arith;
         tries = length-append (entries_of session history) (entry ∷ []);
       } in
-      subst (IsAnswered base statement answer before) (sym same) (answered_entered base statement answer before mid last looked (is_reply true stands is) added))
+      subst (IsAnswered base statement answer before) (sym same)
+      (answered_entered base statement answer before mid last looked (is_reply true stands is) added))
       (λ is e.
       let same : known_by session watch' history' ≡ mid =
-      known_same session _ _ _ _ _ _ (whole_taken watch'.seen history' serves.whole ∙ e.0) (ap (entries_of session) e.0) serves.looked in
-      subst (IsAnswered base statement answer before) (sym same) (answered_outside base statement answer before mid looked (is_reply false stands is)))
+      known_same session _ _ _ _ _ _ (whole_taken watch'.seen history' serves.whole ∙ e.0)
+      (ap (entries_of session) e.0) serves.looked in
+      subst (IsAnswered base statement answer before) (sym same)
+      (answered_outside base statement answer before mid looked (is_reply false stands is)))
 
--- however serving ends, the server is what the history leaves, both sessions have seen their own entries, and each entry entered
-pub after_serving : (session other : ℕ) (statement : Statement) (result : Result Answer Fault) (base old new : State) (history history' : List Entry)
+-- however serving ends, the server is what the history leaves, both sessions have seen their own entries, and each
+-- entry entered
+pub after_serving : (session other : ℕ) (statement : Statement) (result : Result Answer Fault) (base old new : State)
+    (history history' : List Entry)
     (watch watch' mark : Watch)
     → IfOk result (λ answer. Serves session statement answer old history watch new history' watch')
-    → OnErr result (new ≡ old) → OnErr result (history' ≡ history) → OnErr result (watch' ≡ watch) → (session ≡ other → ⊥) → old ≡ state_after base history
-    → HasSeenOwn session watch history → HasSeenOwn other mark history → (1 ≤ session) × (session ≤ 2) → AllEntered base history
-    → (new ≡ state_after base history') × HasSeenOwn session watch' history' × HasSeenOwn other mark history' × AllEntered base history'
-after_serving session other statement (Ok answer) base old new history history' watch watch' mark serves same none still apart stands own others number all = (
-  stands_still session statement answer base old new history history' watch watch' serves stands,
-  sees_own session statement answer base old new history history' watch watch' serves,
-  other_sees session statement answer base old new history history' watch watch' serves other mark apart others,
-  entered_still session statement answer base old new history history' watch watch' serves stands number all,
-)
-after_serving session other statement (Err fault) base old new history history' watch watch' mark serves same none still apart stands own others number all = (
-  same ∙ stands ∙ ap (state_after base) (sym none),
-  subst (HasSeenOwn session watch') (sym none) (subst (λ w. HasSeenOwn session w history) (sym still) own),
-  subst (HasSeenOwn other mark) (sym none) others,
-  subst (AllEntered base) (sym none) all,
-)
+    → OnErr result (new ≡ old) → OnErr result (history' ≡ history) → OnErr result (watch' ≡ watch)
+    → (session ≡ other → ⊥) → old ≡ state_after base history
+    → HasSeenOwn session watch history → HasSeenOwn other mark history → (1 ≤ session) × (session ≤ 2)
+    → AllEntered base history
+    → (new ≡ state_after base history') × HasSeenOwn session watch' history' × HasSeenOwn other mark history'
+    × AllEntered base history'
+after_serving session other statement (Ok answer) base old new history history' watch watch' mark serves same none still
+    apart stands own others number all = (
+      stands_still session statement answer base old new history history' watch watch' serves stands,
+      sees_own session statement answer base old new history history' watch watch' serves,
+      other_sees session statement answer base old new history history' watch watch' serves other mark apart others,
+      entered_still session statement answer base old new history history' watch watch' serves stands number all,
+    )
+after_serving session other statement (Err fault) base old new history history' watch watch' mark serves same none still
+    apart stands own others number all = (
+      same ∙ stands ∙ ap (state_after base) (sym none),
+      subst (HasSeenOwn session watch') (sym none) (subst (λ w. HasSeenOwn session w history) (sym still) own),
+      subst (HasSeenOwn other mark) (sym none) others,
+      subst (AllEntered base) (sym none) all,
+    )

@@ -1,5 +1,6 @@
 -- What a recovery does with the prepared branches of a store, and what it counts.
-use Rattle.std.proofs.Common.{◌≡◌, ℕ, Bool, true, false, List, [], ◌∷◌, ◌++◌, length, take, sym, subst, inl, inr, Result, Ok, Err, Option, Some, None}
+use Rattle.std.proofs.Common.{◌≡◌, ℕ, Bool, true, false, List, [], ◌∷◌, ◌++◌, length, take, sym, subst, inl, inr}
+use Rattle.std.proofs.Common.{Result, Ok, Err, Option, Some, None}
 use Rattle.std.specs.Prelude.{◌⊎◌, All, IfOk, IfErr, slice_get}
 use Rattle.std.proofs.lemmas.List.Elements.{All-nil, All-cons, All-append}
 use Rattle.xa_xid.specs.declared.xid.Xid.{Xid}
@@ -22,8 +23,10 @@ use Rattle.xa_coordinator.specs.Parts.{SaysAs, counted}
 use Rattle.xa_coordinator.specs.Stores.{AtStore}
 use Rattle.xa_coordinator.specs.Told.{IsUndone}
 use Rattle.xa_coordinator.specs.Work.{MayBe}
-use Rattle.xa_coordinator.specs.Recovery.{IsDisconnected, ListsPrepared, finish_decided, SettlesOne, foreign, committed, rolled_back, missing}
-use Rattle.xa_coordinator.specs.Recovery.{Settled, nothing, one_more, IsFinished, IsSettled, IsRecovered, IsUnsettled, StopsAmong}
+use Rattle.xa_coordinator.specs.Recovery.{IsDisconnected, ListsPrepared, finish_decided, SettlesOne, foreign, committed}
+use Rattle.xa_coordinator.specs.Recovery.{rolled_back, missing}
+use Rattle.xa_coordinator.specs.Recovery.{Settled, nothing, one_more, IsFinished, IsSettled, IsRecovered, IsUnsettled}
+use Rattle.xa_coordinator.specs.Recovery.{StopsAmong}
 use Rattle.xa_coordinator.specs.Recovery.{IsCutOff, unlisted, unsettled, unlisted_again, IsStillPrepared, BreaksBy}
 use Rattle.xa_coordinator.proofs.Walk.{at_then}
 use Rattle.xa_coordinator.proofs.Agreeing.{nothing_agrees, one_agrees, undone_agrees}
@@ -35,7 +38,8 @@ IsBroken decisions name store (Session fault) old new =
     IsUndone Disconnect (Session fault) old new ⊎ IsCutOff decisions name store old (Session fault) new
 IsBroken decisions name store (RefusedBy error) old new = IsCutOff decisions name store old (RefusedBy error) new
 
-pub two_agreements : (decisions : List Decision) (name : List ℕ) (store : ℕ) (old mid new : SessionView) → Agrees decisions name store old mid
+pub two_agreements : (decisions : List Decision) (name : List ℕ) (store : ℕ) (old mid new : SessionView)
+    → Agrees decisions name store old mid
     → Agrees decisions name store mid new → Agrees decisions name store old new
 two_agreements decisions name store old mid new one two = record {
   statements = one.statements ++ two.statements;
@@ -45,7 +49,8 @@ two_agreements decisions name store old mid new one two = record {
 
 module _ (decisions : List Decision) (name : List ℕ) (store : ℕ) where
   -- one branch that was found or not
-  pub settles : (number : ℕ) (xid : Xid) → IsBranchOf name number store xid → (tally : Tally) (decided : Bool) → is_decided decisions number ≡ decided
+  pub settles : (number : ℕ) (xid : Xid) → IsBranchOf name number store xid → (tally : Tally) (decided : Bool)
+      → is_decided decisions number ≡ decided
       → (found : Found) (old new : SessionView) →
       SaysAs (finish_statement (finish_decided decided) (branch_xid name number store)) (Ok found) old new
       → SettlesOne decisions name store xid tally old (counted tally decided found) new
@@ -63,7 +68,8 @@ module _ (decisions : List Decision) (name : List ℕ) (store : ℕ) where
       (subst (λ x. IsUndone (Rollback x) (RefusedBy Nota) old new) (sym named.is) said))
 
   -- a branch that wasn't finished
-  pub unsettled_by : (number : ℕ) (xid : Xid) → IsBranchOf name number store xid → (decided : Bool) → is_decided decisions number ≡ decided
+  pub unsettled_by : (number : ℕ) (xid : Xid) → IsBranchOf name number store xid → (decided : Bool)
+      → is_decided decisions number ≡ decided
       → (cause : Cause) (old new : SessionView) →
       SaysAs (finish_statement (finish_decided decided) (branch_xid name number store)) (Err cause) old new
       → IsUnsettled decisions name store xid cause old new
@@ -78,7 +84,8 @@ module _ (decisions : List Decision) (name : List ℕ) (store : ℕ) where
 
   -- ---- agreement
 
-  one_settled_agrees : (xid : Xid) (before after : Tally) (old new : SessionView) → SettlesOne decisions name store xid before old after new
+  one_settled_agrees : (xid : Xid) (before after : Tally) (old new : SessionView)
+      → SettlesOne decisions name store xid before old after new
       → Agrees decisions name store old new
   one_settled_agrees xid before same old here (foreign out) = nothing_agrees decisions name store old
   one_settled_agrees xid before after old end (committed number named decided new adds) =
@@ -86,65 +93,85 @@ module _ (decisions : List Decision) (name : List ℕ) (store : ℕ) where
   one_settled_agrees xid before after old end (rolled_back number named decided new adds) =
       one_agrees decisions name store (Rollback xid) old new (number, named, decided) adds
   one_settled_agrees xid before after old end (missing number named new undone) =
-      undone_agrees decisions name store (finish_statement (finish_decided (is_decided decisions number)) xid) (RefusedBy Nota) old new undone
+      undone_agrees decisions name store (finish_statement (finish_decided (is_decided decisions number)) xid)
+      (RefusedBy Nota) old new undone
 
-  pub settled_agrees : (old : SessionView) (xids : List Xid) (tally : Tally) (new : SessionView) → Settled decisions name store old xids tally new
+  pub settled_agrees : (old : SessionView) (xids : List Xid) (tally : Tally) (new : SessionView)
+      → Settled decisions name store old xids tally new
       → Agrees decisions name store old new
   settled_agrees old list tally end nothing = nothing_agrees decisions name store old
   settled_agrees old list tally end (one_more xids before mid settled xid after new one) =
-      two_agreements decisions name store old mid new (settled_agrees old xids before mid settled) (one_settled_agrees xid before after mid new one)
+      two_agreements decisions name store old mid new (settled_agrees old xids before mid settled)
+      (one_settled_agrees xid before after mid new one)
 
-  let_go_agrees : (statements : List Statement) → MayBe Disconnect statements → All (AgreesWith decisions name store) statements
-  let_go_agrees statements (inl none) = subst (All (AgreesWith decisions name store)) (sym none) (All-nil (AgreesWith decisions name store))
+  let_go_agrees : (statements : List Statement) → MayBe Disconnect statements
+      → All (AgreesWith decisions name store) statements
+  let_go_agrees statements (inl none) =
+      subst (All (AgreesWith decisions name store)) (sym none) (All-nil (AgreesWith decisions name store))
   let_go_agrees statements (inr one) =
       subst (All (AgreesWith decisions name store)) (sym one)
       (All-cons (AgreesWith decisions name store) Disconnect [] tt (All-nil (AgreesWith decisions name store)))
 
   disconnected_agrees : (old new : SessionView) → IsDisconnected old new → Agrees decisions name store old new
-  disconnected_agrees old new is = record { statements = is.statements; adds = is.adds; each = let_go_agrees is.statements is.is }
+  disconnected_agrees old new is =
+      record { statements = is.statements; adds = is.adds; each = let_go_agrees is.statements is.is }
 
-  listed_agrees : (xids : List Xid) (place : ℕ) (old new : SessionView) → ListsPrepared xids place old new → Agrees decisions name store old new
-  listed_agrees xids place old new is = record { statements = []; adds = is.adds; each = All-nil (AgreesWith decisions name store) }
+  listed_agrees : (xids : List Xid) (place : ℕ) (old new : SessionView) → ListsPrepared xids place old new
+      → Agrees decisions name store old new
+  listed_agrees xids place old new is =
+      record { statements = []; adds = is.adds; each = All-nil (AgreesWith decisions name store) }
 
-  finished_agrees : (tally : Tally) (old new : SessionView) → IsFinished decisions name store tally old new → Agrees decisions name store old new
+  finished_agrees : (tally : Tally) (old new : SessionView) → IsFinished decisions name store tally old new
+      → Agrees decisions name store old new
   finished_agrees tally old new is =
       two_agreements decisions name store old is.listing new (listed_agrees is.xids is.place old is.listing is.listed)
       (settled_agrees is.listing is.xids tally new is.settled)
 
-  settled_store_agrees : (tally : Tally) (old new : SessionView) → IsSettled decisions name store tally old new → Agrees decisions name store old new
+  settled_store_agrees : (tally : Tally) (old new : SessionView) → IsSettled decisions name store tally old new
+      → Agrees decisions name store old new
   settled_store_agrees tally old new is =
-      two_agreements decisions name store old is.freed new (disconnected_agrees old is.freed is.disconnected) (finished_agrees tally is.freed new is.rest)
+      two_agreements decisions name store old is.freed new (disconnected_agrees old is.freed is.disconnected)
+      (finished_agrees tally is.freed new is.rest)
 
-  pub recovered_agrees : (tally : Tally) (front : ℕ) (old new : SessionView) → IsRecovered decisions name store tally front old new
+  pub recovered_agrees : (tally : Tally) (front : ℕ) (old new : SessionView)
+      → IsRecovered decisions name store tally front old new
       → Agrees decisions name store old new
   recovered_agrees tally front old new is =
       two_agreements decisions name store old is.finished new (settled_store_agrees tally old is.finished is.settled)
       (listed_agrees is.clear.xids front is.finished new is.clear.listed)
 
-  stops_agrees : (xids : List Xid) (cause : Cause) (old new : SessionView) → StopsAmong decisions name store xids cause old new
+  stops_agrees : (xids : List Xid) (cause : Cause) (old new : SessionView)
+      → StopsAmong decisions name store xids cause old new
       → Agrees decisions name store old new
   stops_agrees xids cause old new is =
-      two_agreements decisions name store old is.mid new (settled_agrees old (take is.place xids) is.tally is.mid is.settled)
-      (undone_agrees decisions name store (finish_statement (finish_decided (is_decided decisions is.unsettled.number)) is.xid) cause is.mid new
+      two_agreements decisions name store old is.mid new (settled_agrees old
+      (take is.place xids) is.tally is.mid is.settled)
+      (undone_agrees decisions name store (finish_statement
+      (finish_decided (is_decided decisions is.unsettled.number)) is.xid) cause is.mid new
       is.unsettled.undone)
 
-  cut_off_agrees : (cause : Cause) (old new : SessionView) → IsCutOff decisions name store old cause new → Agrees decisions name store old new
+  cut_off_agrees : (cause : Cause) (old new : SessionView) → IsCutOff decisions name store old cause new
+      → Agrees decisions name store old new
   cut_off_agrees by old end (unlisted freed disconnected fault new undone) =
       two_agreements decisions name store old freed new (disconnected_agrees old freed disconnected)
       (undone_agrees decisions name store (Recover false) (Session fault) freed new undone)
   cut_off_agrees by old end (unsettled freed disconnected listing xids place listed cause new stops) =
       two_agreements decisions name store old freed new (disconnected_agrees old freed disconnected)
-      (two_agreements decisions name store freed listing new (listed_agrees xids place freed listing listed) (stops_agrees xids cause listing new stops))
+      (two_agreements decisions name store freed listing new (listed_agrees xids place freed listing listed)
+      (stops_agrees xids cause listing new stops))
   cut_off_agrees by old end (unlisted_again tally finished settled fault new undone) =
       two_agreements decisions name store old finished new (settled_store_agrees tally old finished settled)
       (undone_agrees decisions name store (Recover false) (Session fault) finished new undone)
 
-  pub broken_agrees : (cause : Cause) (old new : SessionView) → IsBroken decisions name store cause old new → Agrees decisions name store old new
-  broken_agrees (Session fault) old new (inl undone) = undone_agrees decisions name store Disconnect (Session fault) old new undone
+  pub broken_agrees : (cause : Cause) (old new : SessionView) → IsBroken decisions name store cause old new
+      → Agrees decisions name store old new
+  broken_agrees (Session fault) old new (inl undone) =
+      undone_agrees decisions name store Disconnect (Session fault) old new undone
   broken_agrees (Session fault) old new (inr is) = cut_off_agrees (Session fault) old new is
   broken_agrees (RefusedBy error) old new is = cut_off_agrees (RefusedBy error) old new is
 
-  pub still_agrees : (old new : SessionView) → IsStillPrepared decisions name store old new → Agrees decisions name store old new
+  pub still_agrees : (old new : SessionView) → IsStillPrepared decisions name store old new
+      → Agrees decisions name store old new
   still_agrees old new is =
       two_agreements decisions name store old is.finished new (settled_store_agrees is.tally old is.finished is.settled)
       (listed_agrees is.xids is.place is.finished new is.listed)
@@ -152,39 +179,51 @@ module _ (decisions : List Decision) (name : List ℕ) (store : ℕ) where
 -- ---- what a call came to, by its result
 
 module _ {S : Type 0} (view : S → SessionView) (decisions : List Decision) (name : List ℕ) (store : ℕ) where
-  pub listed_finished : (result : Result Tally Cause) (xids : List Xid) (place : ℕ) (old mid new : List S) → length mid ≡ length old
+  pub listed_finished : (result : Result Tally Cause) (xids : List Xid) (place : ℕ) (old mid new : List S)
+      → length mid ≡ length old
       → AtStore view store (ListsPrepared xids place) old mid →
       IfOk result (λ tally. AtStore view store (λ a b. Settled decisions name store a xids tally b) mid new)
       → IfOk result (λ tally. AtStore view store (IsFinished decisions name store tally) old new)
   listed_finished (Ok tally) xids place old mid new count listed settled =
-      at_then view store (ListsPrepared xids place) (λ a b. Settled decisions name store a xids tally b) (IsFinished decisions name store tally)
-      (λ a m b is then_settled. record { listing = m; xids = xids; place = place; listed = is; settled = then_settled }) old mid new count listed settled
+      at_then view store (ListsPrepared xids place) (λ a b. Settled decisions name store a xids tally b)
+      (IsFinished decisions name store tally)
+      (λ a m b is then_settled. record { listing = m; xids = xids; place = place; listed = is; settled = then_settled })
+      old mid new count listed settled
   listed_finished (Err cause) xids place old mid new count listed settled = tt
 
   -- a listed branch wasn't finished, once the session had let go
-  pub unsettled_listed : (result : Result Tally Cause) (xids : List Xid) (place : ℕ) (old mid new : List S) → length mid ≡ length old
+  pub unsettled_listed : (result : Result Tally Cause) (xids : List Xid) (place : ℕ) (old mid new : List S)
+      → length mid ≡ length old
       → AtStore view store (ListsPrepared xids place) old mid →
       IfErr result (λ cause. AtStore view store (StopsAmong decisions name store xids cause) mid new)
       → IfErr result
-      (λ cause. AtStore view store (λ freed b. (before : SessionView) → IsDisconnected before freed → IsCutOff decisions name store before cause b) old new)
+      (λ cause. AtStore view store (λ freed b. (before : SessionView) → IsDisconnected before freed
+      → IsCutOff decisions name store before cause b) old new)
   unsettled_listed (Ok tally) xids place old mid new count listed stops = tt
   unsettled_listed (Err cause) xids place old mid new count listed stops =
       at_then view store (ListsPrepared xids place) (StopsAmong decisions name store xids cause)
       (λ freed b. (before : SessionView) → IsDisconnected before freed → IsCutOff decisions name store before cause b)
-      (λ freed listing b is stop before disconnected. unsettled freed disconnected listing xids place is cause b stop) old mid new count listed stops
+      (λ freed listing b is stop before disconnected. unsettled freed disconnected listing xids place is cause b stop)
+      old mid new count listed stops
 
   -- it let go, and then a statement wasn't carried out
-  cut_off_freed : (cause : Cause) (old mid new : List S) → length mid ≡ length old → AtStore view store IsDisconnected old mid
-      → AtStore view store (λ freed b. (before : SessionView) → IsDisconnected before freed → IsCutOff decisions name store before cause b) mid new →
+  cut_off_freed : (cause : Cause) (old mid new : List S) → length mid ≡ length old
+      → AtStore view store IsDisconnected old mid
+      → AtStore view store (λ freed b. (before : SessionView) → IsDisconnected before freed
+      → IsCutOff decisions name store before cause b) mid new →
       AtStore view store (λ before after. IsCutOff decisions name store before cause after) old new
   cut_off_freed cause old mid new count freed cut =
-      at_then view store IsDisconnected (λ f b. (before : SessionView) → IsDisconnected before f → IsCutOff decisions name store before cause b)
-      (λ before after. IsCutOff decisions name store before cause after) (λ a f b is by. by a is) old mid new count freed cut
+      at_then view store IsDisconnected (λ f b. (before : SessionView) → IsDisconnected before f
+      → IsCutOff decisions name store before cause b)
+      (λ before after. IsCutOff decisions name store before cause after)
+      (λ a f b is by. by a is) old mid new count freed cut
 
-  pub breaks_freed : (result : Result Tally Cause) (marks marks' : List (Option OpenBranch)) (old mid new : List S) → length mid ≡ length old
+  pub breaks_freed : (result : Result Tally Cause) (marks marks' : List (Option OpenBranch)) (old mid new : List S)
+      → length mid ≡ length old
       → slice_get marks' store ≡ Some None → AtStore view store IsDisconnected old mid →
       IfErr result
-      (λ cause. AtStore view store (λ freed b. (before : SessionView) → IsDisconnected before freed → IsCutOff decisions name store before cause b) mid new)
+      (λ cause. AtStore view store (λ freed b. (before : SessionView) → IsDisconnected before freed
+      → IsCutOff decisions name store before cause b) mid new)
       → IfErr result (λ cause. BreaksBy view decisions name store cause marks marks' old new)
   breaks_freed (Ok tally) marks marks' old mid new count free freed cut = tt
   breaks_freed (Err (Session fault)) marks marks' old mid new count free freed cut =
@@ -192,7 +231,8 @@ module _ {S : Type 0} (view : S → SessionView) (decisions : List Decision) (na
   breaks_freed (Err (RefusedBy error)) marks marks' old mid new count free freed cut =
       (free, cut_off_freed (RefusedBy error) old mid new count freed cut)
 
-  pub freed_finished : (result : Result Tally Cause) (old mid new : List S) → length mid ≡ length old → AtStore view store IsDisconnected old mid
+  pub freed_finished : (result : Result Tally Cause) (old mid new : List S) → length mid ≡ length old
+      → AtStore view store IsDisconnected old mid
       → IfOk result (λ tally. AtStore view store (IsFinished decisions name store tally) mid new) →
       IfOk result (λ tally. AtStore view store (IsSettled decisions name store tally) old new)
   freed_finished (Ok tally) old mid new count freed finished =

@@ -1,10 +1,12 @@
 -- What an answered statement adds, and what it leaves open.
-use Rattle.std.proofs.Common.{◌≡◌, ℕ, true, false, List, [], ◌++◌, take, refl, ap, sym, ◌∙◌, subst, append-nil, append_assoc}
+use Rattle.std.proofs.Common.{◌≡◌, ℕ, true, false, List, [], ◌++◌, take, refl, ap, sym, ◌∙◌, subst, append-nil}
+use Rattle.std.proofs.Common.{append_assoc}
 use Rattle.std.specs.Prelude.{not, ◌&&◌, map}
 use Rattle.std.proofs.lemmas.List.{map-append}
 use Rattle.xa_xid.specs.declared.xid.Xid.{Xid}
 use Rattle.xa_xid.specs.declared.statement.Statement.{Statement}
-use Rattle.xa_xid.specs.declared.statement.Statement.TheVariants.{Start, End, Prepare, Commit, Rollback, Recover, Unsupported, Get, Put, Del, Disconnect}
+use Rattle.xa_xid.specs.declared.statement.Statement.TheVariants.{Start, End, Prepare, Commit, Rollback, Recover}
+use Rattle.xa_xid.specs.declared.statement.Statement.TheVariants.{Unsupported, Get, Put, Del, Disconnect}
 use Rattle.xa_server.specs.State.{State, association_of}
 use Rattle.xa_server.specs.Locks.{LockLaw}
 use Rattle.xa_server.specs.declared.association.Association.TheVariants.{Free}
@@ -18,7 +20,8 @@ use Rattle.decision_log.specs.declared.known.Known.{Known}
 use Rattle.xa_session.specs.Answer.{entry_of, IsAnswered, IsUnanswered}
 use Rattle.xa_session.specs.Replay.{state_after, state_at}
 use Rattle.xa_session.specs.declared.answer.Answer.{Answer}
-use Rattle.xa_session.proofs.Answering.{accepted_there, refused_unanswered, advances_through, fails_unanswered, unanswered_itself}
+use Rattle.xa_session.proofs.Answering.{accepted_there, refused_unanswered, advances_through, fails_unanswered}
+use Rattle.xa_session.proofs.Answering.{unanswered_itself}
 use Rattle.xa_session.proofs.Views.{stays_itself, stays_through}
 use Rattle.xa_session.specs.View.{SessionView, StaysOfLog}
 use Rattle.xa_session.proofs.OwnAssociations.{started, ended}
@@ -33,7 +36,8 @@ use Rattle.xa_coordinator.specs.declared.fault.Cause.{Cause}
 use Rattle.xa_coordinator.specs.declared.fault.Cause.TheVariants.{Session, Refused as RefusedBy}
 
 -- a statement about a branch enters where it isn't refused
-enters_unrefused : (state : State) (session : ℕ) (statement : Statement) → IsOfBranch statement → is_refused (reply_to state session statement) ≡ false
+enters_unrefused : (state : State) (session : ℕ) (statement : Statement) → IsOfBranch statement
+    → is_refused (reply_to state session statement) ≡ false
     → enters state session statement ≡ true
 unfolding enters may_enter
 enters_unrefused state session (Start xid) is accepted = ap (λ b. not b && true) accepted
@@ -52,23 +56,32 @@ pub entering_there : (base : State) (statement : Statement) (answer : Answer) (o
     → IsAnswered base statement answer old new → is_refused answer.reply ≡ false →
     enters (state_at base new.seen answer.place) old.number statement ≡ true
 entering_there base statement answer old new kind is accepted =
-    enters_unrefused (state_at base new.seen answer.place) old.number statement kind (accepted_there base statement answer old new is accepted)
+    enters_unrefused (state_at base new.seen answer.place) old.number statement kind
+    (accepted_there base statement answer old new is accepted)
 
 -- it was carried out
-pub is_done : (statement : Statement) (answer : Answer) (old new : SessionView) → IsOfBranch statement → StaysOfLog old new
-    → IsAnswered old.base statement answer old.known new.known → is_refused answer.reply ≡ false → IsDone statement old new
+pub is_done : (statement : Statement) (answer : Answer) (old new : SessionView) → IsOfBranch statement
+    → StaysOfLog old new
+    → IsAnswered old.base statement answer old.known new.known → is_refused answer.reply ≡ false
+    → IsDone statement old new
 is_done statement answer old new kind stays is accepted = record {
   answer = answer;
   answered = is;
   accepted = accepted;
   adds =
-      record { log = stays; advances = is.advances; mine = (is.entered (entering_there old.base statement answer old.known new.known kind is accepted)).mine };
+      record {
+        log = stays;
+        advances = is.advances;
+        mine = (is.entered
+            (entering_there old.base statement answer old.known new.known kind is accepted)).mine;
+      };
 }
 
 -- ---- what the session has open
 
 -- after XA START or XA END
-pub association_done : (old new : SessionView) (phase : Phase) (xid : Xid) → LockLaw new.base → entries_of old.known.number old.known.seen ≡ old.known.mine
+pub association_done : (old new : SessionView) (phase : Phase) (xid : Xid) → LockLaw new.base
+    → entries_of old.known.number old.known.seen ≡ old.known.mine
     → entries_of new.known.number new.known.seen ≡ new.known.mine →
     IsDone (statement_into phase xid) old new → association_seen new ≡ association_in phase xid
 association_done old new phase xid law own_old own_new is =
@@ -79,25 +92,30 @@ association_done old new phase xid law own_old own_new is =
     let law_base : LockLaw base = subst LockLaw stays.base law in
     let there : State = state_at base new.known.seen place in
     let kept : LockLaw there = law_seen base (take place new.known.seen) law_base in
-    let accepted = accepted_there base (statement_into phase xid) is.answer old.known new.known is.answered is.accepted in
-    let entering = entering_there base (statement_into phase xid) is.answer old.known new.known (of_branch phase xid) is.answered is.accepted in
+    let accepted = accepted_there base (statement_into phase xid) is.answer old.known new.known is.answered
+    is.accepted in
+    let entering = entering_there base (statement_into phase xid) is.answer old.known new.known
+    (of_branch phase xid) is.answered is.accepted in
     ap (λ b. association_of (state_after b new.known.seen) new.known.number) stays.base
     ∙ ap (association_of (state_after base new.known.seen)) is.answered.advances.number
-    ∙ ap (λ state. association_of state number) (state_entered base (statement_into phase xid) is.answer old.known new.known is.answered entering)
+    ∙ ap (λ state. association_of state number) (state_entered base
+    (statement_into phase xid) is.answer old.known new.known is.answered entering)
     ∙ opened phase there kept number accepted
   where
     of_branch : (phase : Phase) (xid : Xid) → IsOfBranch (statement_into phase xid)
     of_branch Active xid = tt
     of_branch Idle xid = tt
 
-    opened : (phase : Phase) (state : State) → LockLaw state → (session : ℕ) → is_refused (reply_to state session (statement_into phase xid)) ≡ false
+    opened : (phase : Phase) (state : State) → LockLaw state → (session : ℕ)
+        → is_refused (reply_to state session (statement_into phase xid)) ≡ false
         → association_of (after state session (statement_into phase xid)) session ≡ association_in phase xid
     opened Active state law session accepted = started state law session xid accepted
     opened Idle state law session accepted = ended state law session xid accepted
 
 -- XA START isn't carried out where the session has a branch open
 pub open_unstarted : (xid : Xid) (phase : Phase) (other : Xid) (old new : SessionView) → LockLaw new.base
-    → entries_of old.known.number old.known.seen ≡ old.known.mine → entries_of new.known.number new.known.seen ≡ new.known.mine →
+    → entries_of old.known.number old.known.seen ≡ old.known.mine
+    → entries_of new.known.number new.known.seen ≡ new.known.mine →
     association_seen old ≡ association_in phase other → IsDone (Start xid) old new → ⊥
 unfolding reply_to
 open_unstarted xid phase other old new law own_old own_new open_one is =
@@ -108,7 +126,8 @@ open_unstarted xid phase other old new law own_old own_new open_one is =
     (accepted_there base (Start xid) is.answer old.known new.known is.answered is.accepted)).0 in
     apart phase
     (sym free
-    ∙ association_at base (subst LockLaw is.adds.log.base law) (Start xid) is.answer old.known new.known is.answered own_old own_new
+    ∙ association_at base (subst LockLaw is.adds.log.base law)
+    (Start xid) is.answer old.known new.known is.answered own_old own_new
     ∙ open_one)
   where
     apart : (phase : Phase) → Free ≡ association_in phase other → ⊥
@@ -116,43 +135,61 @@ open_unstarted xid phase other old new law own_old own_new open_one is =
     apart Idle e = cc
 
 -- nothing is added by a statement that is refused, or that a session couldn't answer
-cause_unanswered : (statement : Statement) (cause : Cause) (old new : SessionView) → HasCause statement cause old new → IsUnanswered old.known new.known
-cause_unanswered statement (Session fault) old new is = fails_unanswered old.turns old.identity.capacity old.base statement fault old.known new.known is.0
+cause_unanswered : (statement : Statement) (cause : Cause) (old new : SessionView) → HasCause statement cause old new
+    → IsUnanswered old.known new.known
+cause_unanswered statement (Session fault) old new is =
+    fails_unanswered old.turns old.identity.capacity old.base statement fault old.known new.known is.0
 cause_unanswered statement (RefusedBy error) old new is =
-    refused_unanswered old.base statement (record { place = is.place; reply = Refused error }) old.known new.known is.answered refl
+    refused_unanswered old.base statement (record { place = is.place; reply = Refused error }) old.known new.known
+    is.answered refl
 
-pub is_undone : (statement : Statement) (cause : Cause) (old new : SessionView) → StaysOfLog old new → HasCause statement cause old new
+pub is_undone : (statement : Statement) (cause : Cause) (old new : SessionView) → StaysOfLog old new
+    → HasCause statement cause old new
     → IsUndone statement cause old new
 is_undone statement cause old new stays why =
     let nothing = cause_unanswered statement cause old new why in
-    record { adds = record { log = stays; advances = nothing.advances; mine = nothing.mine ∙ sym (append-nil old.known.mine) }; why = why }
+    record {
+      adds = record {
+        log = stays;
+        advances = nothing.advances;
+        mine = nothing.mine
+            ∙ sym (append-nil old.known.mine);
+      };
+      why = why;
+    }
 
 pub refused : (statement : Statement) (answer : Answer) (error : XaError) (old new : SessionView) → StaysOfLog old new
-    → IsAnswered old.base statement answer old.known new.known → answer.reply ≡ Refused error → IsUndone statement (RefusedBy error) old new
+    → IsAnswered old.base statement answer old.known new.known → answer.reply ≡ Refused error
+    → IsUndone statement (RefusedBy error) old new
 refused statement answer error old new stays is reply =
     is_undone statement (RefusedBy error) old new stays
     (record {
       place = answer.place;
-      answered = subst (λ r. IsAnswered old.base statement (record { place = answer.place; reply = r }) old.known new.known) reply is;
+      answered = subst (λ r. IsAnswered old.base statement
+          (record { place = answer.place; reply = r }) old.known new.known) reply is;
     })
 
 pub association_refused : (statement : Statement) (cause : Cause) (old new : SessionView) → LockLaw new.base
-    → entries_of old.known.number old.known.seen ≡ old.known.mine → entries_of new.known.number new.known.seen ≡ new.known.mine →
+    → entries_of old.known.number old.known.seen ≡ old.known.mine
+    → entries_of new.known.number new.known.seen ≡ new.known.mine →
     IsUndone statement cause old new → association_seen new ≡ association_seen old
 association_refused statement cause old new law own_old own_new is =
     ap (λ b. association_of (state_after b new.known.seen) new.known.number) is.adds.log.base
-    ∙ association_unanswered old.base (subst LockLaw is.adds.log.base law) old.known new.known (cause_unanswered statement cause old new is.why) own_old own_new
+    ∙ association_unanswered old.base (subst LockLaw is.adds.log.base law) old.known new.known
+    (cause_unanswered statement cause old new is.why) own_old own_new
 
 -- ---- one statement after another
 
-pub adds_then : (first second : List Statement) (old mid new : SessionView) → AddsStatements first old mid → AddsStatements second mid new
+pub adds_then : (first second : List Statement) (old mid new : SessionView) → AddsStatements first old mid
+    → AddsStatements second mid new
     → AddsStatements (first ++ second) old new
 adds_then first second old mid new one two = record {
   log = stays_through old mid new one.log two.log;
   advances = advances_through old.known mid.known new.known one.advances two.advances;
   mine = two.mine
       ∙ ap (λ list. list ++ map (entry_of mid.known.number) second) one.mine
-      ∙ ap (λ n. (old.known.mine ++ map (entry_of old.known.number) first) ++ map (entry_of n) second) one.advances.number
+      ∙ ap (λ n. (old.known.mine ++ map (entry_of old.known.number) first)
+      ++ map (entry_of n) second) one.advances.number
       ∙ append_assoc old.known.mine (map (entry_of old.known.number) first) (map (entry_of old.known.number) second)
       ∙ ap (λ list. old.known.mine ++ list) (sym (map-append (entry_of old.known.number) first second));
 }

@@ -3,7 +3,8 @@ use Rattle.std.proofs.Common.{◌≡◌, ℕ, Bool, true, false, take, refl, ap,
 use Rattle.std.specs.Prelude.{not, ◌&&◌}
 use Rattle.xa_xid.specs.declared.xid.Xid.{Xid}
 use Rattle.xa_xid.specs.declared.statement.Statement.{Statement}
-use Rattle.xa_xid.specs.declared.statement.Statement.TheVariants.{Start, End, Prepare, Commit, Rollback, Recover, Unsupported, Get, Put, Del, Disconnect}
+use Rattle.xa_xid.specs.declared.statement.Statement.TheVariants.{Start, End, Prepare, Commit, Rollback, Recover}
+use Rattle.xa_xid.specs.declared.statement.Statement.TheVariants.{Unsupported, Get, Put, Del, Disconnect}
 use Rattle.xa_server.specs.State.{State, association_of}
 use Rattle.xa_server.specs.declared.association.Association.TheVariants.{Active}
 use Rattle.xa_server.specs.Locks.{LockLaw}
@@ -28,18 +29,22 @@ unrefused true may is = absurd (cc)
 unrefused false may is = refl
 
 -- a row statement that enters leaves the branch ACTIVE
-row_entered : (state : State) → LockLaw state → (session : ℕ) (xid : Xid) (statement : Statement) → IsRow statement → association_of state session ≡ Active xid
+row_entered : (state : State) → LockLaw state → (session : ℕ) (xid : Xid) (statement : Statement) → IsRow statement
+    → association_of state session ≡ Active xid
     → enters state session statement ≡ true → association_of (after state session statement) session ≡ Active xid
 unfolding enters
 row_entered state law session xid (Get key) is association entering =
     read state law session xid key association
-    (unrefused (is_refused (reply_to state session (Get key))) (may_enter state (association_of state session) (Get key)) entering)
+    (unrefused (is_refused (reply_to state session (Get key)))
+    (may_enter state (association_of state session) (Get key)) entering)
 row_entered state law session xid (Put key value) is association entering =
     written state law session xid key value association
-    (unrefused (is_refused (reply_to state session (Put key value))) (may_enter state (association_of state session) (Put key value)) entering)
+    (unrefused (is_refused (reply_to state session (Put key value)))
+    (may_enter state (association_of state session) (Put key value)) entering)
 row_entered state law session xid (Del key) is association entering =
     deleted state law session xid key association
-    (unrefused (is_refused (reply_to state session (Del key))) (may_enter state (association_of state session) (Del key)) entering)
+    (unrefused (is_refused (reply_to state session (Del key)))
+    (may_enter state (association_of state session) (Del key)) entering)
 row_entered state law session xid (Start other) is association entering = absurd is
 row_entered state law session xid (End other) is association entering = absurd is
 row_entered state law session xid (Prepare other) is association entering = absurd is
@@ -53,13 +58,16 @@ module _ (statement : Statement) (answer : Answer) (xid : Xid) (old new : Sessio
   -- at the answer's place the branch is ACTIVE
   pub active_there : LockLaw new.base → StaysOfLog old new → entries_of old.known.number old.known.seen ≡ old.known.mine
       → entries_of new.known.number new.known.seen ≡ new.known.mine → association_seen old ≡ Active xid →
-      IsAnswered old.base statement answer old.known new.known → association_of (state_at old.base new.known.seen answer.place) old.known.number ≡ Active xid
+      IsAnswered old.base statement answer old.known new.known
+      → association_of (state_at old.base new.known.seen answer.place) old.known.number ≡ Active xid
   active_there law stays own_old own_new association is =
-      association_at old.base (subst LockLaw stays.base law) statement answer old.known new.known is own_old own_new ∙ association
+      association_at old.base (subst LockLaw stays.base law) statement answer old.known new.known is own_old own_new
+      ∙ association
 
   -- and it stays so
   pub active_after : LockLaw new.base → StaysOfLog old new → entries_of old.known.number old.known.seen ≡ old.known.mine
-      → entries_of new.known.number new.known.seen ≡ new.known.mine → association_seen old ≡ Active xid → IsRow statement →
+      → entries_of new.known.number new.known.seen ≡ new.known.mine → association_seen old ≡ Active xid
+      → IsRow statement →
       IsAnswered old.base statement answer old.known new.known → association_seen new ≡ Active xid
   active_after law stays own_old own_new association row is =
       ap (λ b. association_of (state_after b new.known.seen) new.known.number) stays.base
@@ -75,19 +83,27 @@ module _ (statement : Statement) (answer : Answer) (xid : Xid) (old new : Sessio
       by : (b : Bool) → enters (state_at old.base new.known.seen answer.place) old.known.number statement ≡ b
           → association_of (state_after old.base new.known.seen) old.known.number ≡ Active xid
       by true entering =
-          ap (λ state. association_of state old.known.number) (state_entered old.base statement answer old.known new.known is entering)
+          ap (λ state. association_of state old.known.number)
+          (state_entered old.base statement answer old.known new.known is entering)
           ∙ row_entered (state_at old.base new.known.seen answer.place)
-          (law_seen old.base (take answer.place new.known.seen) law_base) old.known.number xid statement row there entering
+          (law_seen old.base (take answer.place new.known.seen) law_base) old.known.number xid statement row there
+          entering
       by false outside =
-          ap (λ state. association_of state old.known.number) (state_outside old.base statement answer old.known new.known is outside) ∙ there
+          ap (λ state. association_of state old.known.number)
+          (state_outside old.base statement answer old.known new.known is outside) ∙ there
 
 -- and whatever the session answered
-pub active_still : (statement : Statement) (result : Result Answer Fault) (xid : Xid) (old new : SessionView) → LockLaw new.base → StaysOfLog old new
-    → entries_of old.known.number old.known.seen ≡ old.known.mine → entries_of new.known.number new.known.seen ≡ new.known.mine →
-    association_seen old ≡ Active xid → IsRow statement → IfOk result (λ answer. IsAnswered old.base statement answer old.known new.known) →
-    IfErr result (λ fault. Fails old.turns old.identity.capacity old.base statement fault old.known new.known) → IfErr result IsFinal
+pub active_still : (statement : Statement) (result : Result Answer Fault) (xid : Xid) (old new : SessionView)
+    → LockLaw new.base → StaysOfLog old new
+    → entries_of old.known.number old.known.seen ≡ old.known.mine
+    → entries_of new.known.number new.known.seen ≡ new.known.mine →
+    association_seen old ≡ Active xid → IsRow statement → IfOk result
+    (λ answer. IsAnswered old.base statement answer old.known new.known) →
+    IfErr result (λ fault. Fails old.turns old.identity.capacity old.base statement fault old.known new.known)
+    → IfErr result IsFinal
     → association_seen new ≡ association_seen old
 active_still statement (Ok answer) xid old new law stays own_old own_new association row answered fails final =
     active_after statement answer xid old new law stays own_old own_new association row answered ∙ sym association
 active_still statement (Err fault) xid old new law stays own_old own_new association row answered fails final =
-    association_refused statement (Session fault) old new law own_old own_new (is_undone statement (Session fault) old new stays (fails, final))
+    association_refused statement (Session fault) old new law own_old own_new
+    (is_undone statement (Session fault) old new stays (fails, final))

@@ -1,5 +1,6 @@
 -- What work in a store comes to, from its statements.
-use Rattle.std.proofs.Common.{◌≡◌, inl, inr, ℕ, Bool, true, false, List, [], ◌∷◌, ◌++◌, length, get_or, refl, ap, sym, ◌∙◌, subst, append-nil, arith}
+use Rattle.std.proofs.Common.{◌≡◌, inl, inr, ℕ, Bool, true, false, List, [], ◌∷◌, ◌++◌, length, get_or, refl, ap, sym}
+use Rattle.std.proofs.Common.{◌∙◌, subst, append-nil, arith}
 use Rattle.std.specs.Prelude.{slice_get, Option, Some, Result, Ok, Err, All}
 use Rattle.xa_session.specs.View.{SessionView}
 use Rattle.xa_coordinator.specs.declared.branches.OpenBranch.{OpenBranch}
@@ -7,7 +8,8 @@ use Rattle.std.proofs.lemmas.List.Elements.{All-nil, All-cons, All-append}
 use Rattle.std.proofs.lemmas.Option.{slice_get_within, slice_get-get_or}
 use Rattle.xa_xid.specs.declared.xid.Xid.{Xid}
 use Rattle.xa_xid.specs.declared.statement.Statement.{Statement}
-use Rattle.xa_xid.specs.declared.statement.Statement.TheVariants.{Start, End, Prepare, Commit, Rollback, Recover, Unsupported, Get, Put, Del, Disconnect}
+use Rattle.xa_xid.specs.declared.statement.Statement.TheVariants.{Start, End, Prepare, Commit, Rollback, Recover}
+use Rattle.xa_xid.specs.declared.statement.Statement.TheVariants.{Unsupported, Get, Put, Del, Disconnect}
 use Rattle.xa_server.specs.declared.association.Association.TheVariants.{Active}
 use Rattle.xa_server.specs.declared.reply.Reply.{Reply}
 use Rattle.xa_server.specs.Step.{enters}
@@ -27,7 +29,8 @@ use Rattle.xa_coordinator.specs.Outcomes.{branch_of}
 use Rattle.xa_coordinator.specs.Participants.{takes_part}
 use Rattle.xa_coordinator.specs.Stores.{AtStore, EachStore, ChangesAt}
 use Rattle.xa_coordinator.specs.Told.{IsDone, IsUndone}
-use Rattle.xa_coordinator.specs.Work.{IsRow, MayBe, AddsAtMost, AddsWork, MayStart, was_open, was_started, IsReplied, IsWorked, IsCut, WorksAs}
+use Rattle.xa_coordinator.specs.Work.{IsRow, MayBe, AddsAtMost, AddsWork, MayStart, was_open, was_started, IsReplied}
+use Rattle.xa_coordinator.specs.Work.{IsWorked, IsCut, WorksAs}
 use Rattle.xa_coordinator.specs.Parts.{WorksWithin}
 use Rattle.xa_coordinator.proofs.Telling.{adds_then, adds_nothing, open_unstarted}
 use Rattle.xa_coordinator.proofs.Agreeing.{nothing_agrees}
@@ -37,22 +40,37 @@ use Rattle.xa_coordinator.proofs.Walk.{at_then, at_weaker, at_same, only_at}
 
 may_start_adds : (xid : Xid) (old mid : SessionView) → MayStart xid old mid → AddsAtMost (Start xid) old mid
 may_start_adds xid old there (was_open association) = record { statements = []; is = inl refl; adds = adds_nothing old }
-may_start_adds xid old there (was_started mid done) = record { statements = Start xid ∷ []; is = inr refl; adds = done.adds }
+may_start_adds xid old there (was_started mid done) =
+    record { statements = Start xid ∷ []; is = inr refl; adds = done.adds }
 
-replied_adds : (row : Statement) (reply : Reply) (xid : Xid) (old new : SessionView) → IsReplied row reply xid old new → AddsAtMost row old new
-replied_adds row reply xid old new is = by (enters (state_at old.base new.known.seen is.place) old.known.number row) refl
+replied_adds : (row : Statement) (reply : Reply) (xid : Xid) (old new : SessionView) → IsReplied row reply xid old new
+    → AddsAtMost row old new
+replied_adds row reply xid old new is =
+    by (enters (state_at old.base new.known.seen is.place) old.known.number row) refl
   where
-    by : (b : Bool) → enters (state_at old.base new.known.seen is.place) old.known.number row ≡ b → AddsAtMost row old new
+    by : (b : Bool) → enters (state_at old.base new.known.seen is.place) old.known.number row ≡ b
+        → AddsAtMost row old new
     by true entering =
-        record { statements = row ∷ []; is = inr refl; adds = record { log = is.log; advances = is.answered.advances; mine = (is.answered.entered entering).mine } }
+        record {
+          statements = row ∷ [];
+          is = inr refl;
+          adds = record
+              { log = is.log; advances = is.answered.advances; mine = (is.answered.entered entering).mine };
+        }
     by false outside =
         record {
           statements = [];
           is = inl refl;
-          adds = record { log = is.log; advances = is.answered.advances; mine = (is.answered.outside outside).mine ∙ sym (append-nil old.known.mine) };
+          adds = record {
+            log = is.log;
+            advances = is.answered.advances;
+            mine = (is.answered.outside outside).mine
+                ∙ sym (append-nil old.known.mine);
+          };
         }
 
-both : (xid : Xid) (row : Statement) (old mid new : SessionView) → AddsAtMost (Start xid) old mid → AddsAtMost row mid new → AddsWork xid row old new
+both : (xid : Xid) (row : Statement) (old mid new : SessionView) → AddsAtMost (Start xid) old mid
+    → AddsAtMost row mid new → AddsWork xid row old new
 both xid row old mid new one two =
     record {
       started = one.statements;
@@ -65,18 +83,25 @@ both xid row old mid new one two =
 none : (statement : Statement) (old new : SessionView) → AddsStatements [] old new → AddsAtMost statement old new
 none statement old new adds = record { statements = []; is = inl refl; adds = adds }
 
-worked_adds : (row : Statement) (reply : Reply) (xid : Xid) (old new : SessionView) → IsWorked row reply xid old new → AddsWork xid row old new
-worked_adds row reply xid old new is = both xid row old is.mid new (may_start_adds xid old is.mid is.opened) (replied_adds row reply xid is.mid new is.replied)
+worked_adds : (row : Statement) (reply : Reply) (xid : Xid) (old new : SessionView) → IsWorked row reply xid old new
+    → AddsWork xid row old new
+worked_adds row reply xid old new is = both xid row old is.mid new (may_start_adds xid old is.mid is.opened)
+    (replied_adds row reply xid is.mid new is.replied)
 
-cut_adds : (row : Statement) (cause : Cause) (xid : Xid) (old new : SessionView) → IsCut row cause xid old new → AddsWork xid row old new
-cut_adds row cause xid old new is = both xid row old is.mid new (may_start_adds xid old is.mid is.opened) (none row is.mid new is.undone.adds)
+cut_adds : (row : Statement) (cause : Cause) (xid : Xid) (old new : SessionView) → IsCut row cause xid old new
+    → AddsWork xid row old new
+cut_adds row cause xid old new is =
+    both xid row old is.mid new (may_start_adds xid old is.mid is.opened) (none row is.mid new is.undone.adds)
 
-unstarted_adds : (row : Statement) (cause : Cause) (xid : Xid) (old new : SessionView) → IsUndone (Start xid) cause old new → AddsWork xid row old new
-unstarted_adds row cause xid old new is = both xid row old new new (none (Start xid) old new is.adds) (none row new new (adds_nothing new))
+unstarted_adds : (row : Statement) (cause : Cause) (xid : Xid) (old new : SessionView)
+    → IsUndone (Start xid) cause old new → AddsWork xid row old new
+unstarted_adds row cause xid old new is =
+    both xid row old new new (none (Start xid) old new is.adds) (none row new new (adds_nothing new))
 
 -- ---- agreement
 
-row_agrees : (decisions : List Decision) (name : List ℕ) (store : ℕ) (row : Statement) → IsRow row → AgreesWith decisions name store row
+row_agrees : (decisions : List Decision) (name : List ℕ) (store : ℕ) (row : Statement) → IsRow row
+    → AgreesWith decisions name store row
 row_agrees decisions name store (Start xid) is = tt
 row_agrees decisions name store (End xid) is = tt
 row_agrees decisions name store (Prepare xid) is = tt
@@ -89,11 +114,13 @@ row_agrees decisions name store (Put key value) is = tt
 row_agrees decisions name store (Del key) is = tt
 row_agrees decisions name store Disconnect is = tt
 
-maybe_all : (P : Statement → Type 0) (statement : Statement) (list : List Statement) → MayBe statement list → P statement → All P list
+maybe_all : (P : Statement → Type 0) (statement : Statement) (list : List Statement) → MayBe statement list
+    → P statement → All P list
 maybe_all P statement list (inl is) holds = subst (All P) (sym is) (All-nil P)
 maybe_all P statement list (inr is) holds = subst (All P) (sym is) (All-cons P statement [] holds (All-nil P))
 
-pub work_agrees : (decisions : List Decision) (name : List ℕ) (store : ℕ) (xid : Xid) (row : Statement) → IsRow row → (old new : SessionView)
+pub work_agrees : (decisions : List Decision) (name : List ℕ) (store : ℕ) (xid : Xid) (row : Statement) → IsRow row
+    → (old new : SessionView)
     → AddsWork xid row old new → Agrees decisions name store old new
 work_agrees decisions name store xid row is old new work = record {
   statements = work.started ++ work.worked;
@@ -101,15 +128,19 @@ work_agrees decisions name store xid row is old new work = record {
   each =
       All-append (AgreesWith decisions name store) work.started work.worked
       (maybe_all (AgreesWith decisions name store) (Start xid) work.started work.is_start tt)
-      (maybe_all (AgreesWith decisions name store) row work.worked work.is_row (row_agrees decisions name store row is));
+      (maybe_all (AgreesWith decisions name store) row work.worked work.is_row
+      (row_agrees decisions name store row is));
 }
 
 module _ {S : Type 0} (view : S → SessionView) where
-  pub work_agrees_each : (decisions : List Decision) (name : List ℕ) (store : ℕ) (xid : Xid) (row : Statement) → IsRow row → (old new : List S)
-      → ChangesAt store old new → AtStore view store (AddsWork xid row) old new → EachStore view (Agrees decisions name) old new
+  pub work_agrees_each : (decisions : List Decision) (name : List ℕ) (store : ℕ) (xid : Xid) (row : Statement)
+      → IsRow row → (old new : List S)
+      → ChangesAt store old new → AtStore view store (AddsWork xid row) old new
+      → EachStore view (Agrees decisions name) old new
   work_agrees_each decisions name store xid row is old new changes adds =
       only_at view (Agrees decisions name) store old new changes
-      (at_weaker view store (AddsWork xid row) (Agrees decisions name store) (work_agrees decisions name store xid row is) old new adds)
+      (at_weaker view store (AddsWork xid row) (Agrees decisions name store)
+      (work_agrees decisions name store xid row is) old new adds)
       (λ other apart a. nothing_agrees decisions name other a)
 
   -- ---- what work came to
@@ -117,38 +148,63 @@ module _ {S : Type 0} (view : S → SessionView) where
   module _ (marks marks' : List (Option OpenBranch)) (old new : Transaction) (store : ℕ) (row : Statement) where
     -- the branch was open
     pub works_open : (result : Result Reply WorkFault) (before after : List S)
-        → ((s : S) → slice_get before store ≡ Some s → association_seen (view s) ≡ Active (branch_of old store)) → takes_part new.participants store ≡ true →
+        → ((s : S) → slice_get before store ≡ Some s → association_seen (view s) ≡ Active (branch_of old store))
+        → takes_part new.participants store ≡ true →
         IsWorking marks' store old.number → WorksWithin view (branch_of old store) store row result before after
         → WorksAs view marks marks' old new store row result before after
-    works_open (Ok reply) before after association takes mark is =
-        (takes, mark, λ a b is_a is_b. record { mid = view a; opened = was_open (association a is_a); replied = is a b is_a is_b })
+    works_open (Ok reply) before after association takes mark is = (
+      takes,
+      mark,
+      λ a b is_a is_b. record {
+        mid = view a;
+        opened = was_open
+            (association a is_a);
+        replied = is a b is_a is_b;
+      },
+    )
     works_open (Err (Session fault)) before after association takes mark is =
-        inl (takes, mark, λ a b is_a is_b. record { mid = view a; opened = was_open (association a is_a); undone = is a b is_a is_b })
+        inl (
+          takes,
+          mark,
+          λ a b is_a is_b. record {
+            mid = view a;
+            opened = was_open
+                (association a is_a);
+            undone = is a b is_a is_b;
+          },
+        )
     works_open (Err (Refused error)) before after association takes mark is = absurd is
     works_open (Err Lost) before after association takes mark is = absurd is
 
     -- it was started
     pub works_started : (result : Result Reply WorkFault) (before mid after : List S) → length mid ≡ length before →
-        AtStore view store (IsDone (Start (branch_of old store))) before mid → takes_part new.participants store ≡ true → IsWorking marks' store old.number →
-        WorksWithin view (branch_of old store) store row result mid after → WorksAs view marks marks' old new store row result before after
+        AtStore view store (IsDone (Start (branch_of old store))) before mid → takes_part new.participants store ≡ true
+        → IsWorking marks' store old.number →
+        WorksWithin view (branch_of old store) store row result mid after
+        → WorksAs view marks marks' old new store row result before after
     works_started (Ok reply) before mid after count started takes mark is = (
       takes,
       mark,
-      at_then view store (IsDone (Start (branch_of old store))) (IsReplied row reply (branch_of old store)) (IsWorked row reply (branch_of old store))
-          (λ a m b done replied. record { mid = m; opened = was_started m done; replied = replied }) before mid after count started is,
+      at_then view store (IsDone (Start (branch_of old store))) (IsReplied row reply (branch_of old store))
+          (IsWorked row reply (branch_of old store))
+          (λ a m b done replied. record { mid = m; opened = was_started m done; replied = replied }) before mid after
+          count started is,
     )
     works_started (Err (Session fault)) before mid after count started takes mark is =
         inl (
           takes,
           mark,
-          at_then view store (IsDone (Start (branch_of old store))) (IsUndone row (CauseSession fault)) (IsCut row (CauseSession fault) (branch_of old store))
-              (λ a m b done undone. record { mid = m; opened = was_started m done; undone = undone }) before mid after count started is,
+          at_then view store (IsDone (Start (branch_of old store))) (IsUndone row (CauseSession fault))
+              (IsCut row (CauseSession fault) (branch_of old store))
+              (λ a m b done undone. record { mid = m; opened = was_started m done; undone = undone }) before mid after
+              count started is,
         )
     works_started (Err (Refused error)) before mid after count started takes mark is = absurd is
     works_started (Err Lost) before mid after count started takes mark is = absurd is
 
     -- in every case at most two statements were added
-    pub works_add : (result : Result Reply WorkFault) (before after : List S) → WorksAs view marks marks' old new store row result before after
+    pub works_add : (result : Result Reply WorkFault) (before after : List S)
+        → WorksAs view marks marks' old new store row result before after
         → AtStore view store (AddsWork (branch_of old store) row) before after
     works_add (Ok reply) before after is =
         at_weaker view store (IsWorked row reply (branch_of old store)) (AddsWork (branch_of old store) row)
@@ -157,14 +213,17 @@ module _ {S : Type 0} (view : S → SessionView) where
         at_weaker view store (IsCut row (CauseSession fault) (branch_of old store)) (AddsWork (branch_of old store) row)
         (cut_adds row (CauseSession fault) (branch_of old store)) before after is.2
     works_add (Err (Session fault)) before after (inr is) =
-        at_weaker view store (IsUndone (Start (branch_of old store)) (CauseSession fault)) (AddsWork (branch_of old store) row)
+        at_weaker view store (IsUndone (Start (branch_of old store)) (CauseSession fault))
+        (AddsWork (branch_of old store) row)
         (unstarted_adds row (CauseSession fault) (branch_of old store)) before after is.3
     works_add (Err (Refused error)) before after is =
-        at_weaker view store (IsUndone (Start (branch_of old store)) (CauseRefused error)) (AddsWork (branch_of old store) row)
+        at_weaker view store (IsUndone (Start (branch_of old store)) (CauseRefused error))
+        (AddsWork (branch_of old store) row)
         (unstarted_adds row (CauseRefused error) (branch_of old store)) before after is.3
     works_add (Err Lost) before after is =
         at_same view store (AddsWork (branch_of old store) row)
-        (λ a. both (branch_of old store) row a a a (none (Start (branch_of old store)) a a (adds_nothing a)) (none row a a (adds_nothing a)))
+        (λ a. both (branch_of old store) row a a a (none (Start (branch_of old store)) a a (adds_nothing a))
+        (none row a a (adds_nothing a)))
         before after (ap (λ (list : List S). slice_get list store) is.4)
 
   -- ---- a store that takes part
@@ -172,9 +231,11 @@ module _ {S : Type 0} (view : S → SessionView) where
   -- at most the row statement was added to a branch that was open
   pub within_adds : (store : ℕ) (xid : Xid) (row : Statement) (result : Result Reply WorkFault) (before after : List S)
       → WorksWithin view xid store row result before after → AtStore view store (AddsAtMost row) before after
-  within_adds store xid row (Ok reply) before after is = at_weaker view store (IsReplied row reply xid) (AddsAtMost row) (replied_adds row reply xid) before after is
+  within_adds store xid row (Ok reply) before after is =
+      at_weaker view store (IsReplied row reply xid) (AddsAtMost row) (replied_adds row reply xid) before after is
   within_adds store xid row (Err (Session fault)) before after is =
-      at_weaker view store (IsUndone row (CauseSession fault)) (AddsAtMost row) (λ a b undone. none row a b undone.adds) before after is
+      at_weaker view store (IsUndone row (CauseSession fault)) (AddsAtMost row)
+      (λ a b undone. none row a b undone.adds) before after is
   within_adds store xid row (Err (Refused error)) before after is = absurd is
   within_adds store xid row (Err Lost) before after is = absurd is
 
@@ -182,16 +243,21 @@ module _ {S : Type 0} (view : S → SessionView) where
   pub unsaid_adds : (store : ℕ) (row statement : Statement) (cause : Cause) (before after : List S)
       → AtStore view store (IsUndone statement cause) before after → AtStore view store (AddsAtMost row) before after
   unsaid_adds store row statement cause before after is =
-      at_weaker view store (IsUndone statement cause) (AddsAtMost row) (λ a b undone. none row a b undone.adds) before after is
+      at_weaker view store (IsUndone statement cause) (AddsAtMost row)
+      (λ a b undone. none row a b undone.adds) before after is
 
   -- XA START isn't carried out where the session has a branch open
-  pub never_started : ((s : S) → LockLaw (view s).base) → ((s : S) → entries_of (view s).known.number (view s).known.seen ≡ (view s).known.mine)
-      → (store : ℕ) (xid : Xid) (branch : OpenBranch) (name : List ℕ) (row : Statement) (before mid after : List S) → length mid ≡ length before →
-      ((s : S) → slice_get before store ≡ Some s → association_seen (view s) ≡ association_in branch.phase (branch_xid name branch.number store)) →
+  pub never_started : ((s : S) → LockLaw (view s).base) → ((s : S)
+      → entries_of (view s).known.number (view s).known.seen ≡ (view s).known.mine)
+      → (store : ℕ) (xid : Xid) (branch : OpenBranch) (name : List ℕ) (row : Statement) (before mid after : List S)
+      → length mid ≡ length before →
+      ((s : S) → slice_get before store ≡ Some s → association_seen (view s)
+      ≡ association_in branch.phase (branch_xid name branch.number store)) →
       AtStore view store (IsDone (Start xid)) before mid → AtStore view store (AddsAtMost row) before after
   never_started lawful own store xid branch name row before mid after count is_open started = λ a b is_a is_b.
       let between : S = get_or mid store a in
       let is_between : slice_get mid store ≡ Some between =
       slice_get-get_or mid store a (omega (arith, count, slice_get_within before store a is_a)) in
-      absurd (open_unstarted xid branch.phase (branch_xid name branch.number store) (view a) (view between) (lawful between) (own a) (own between) (is_open a is_a)
+      absurd (open_unstarted xid branch.phase (branch_xid name branch.number store) (view a) (view between)
+      (lawful between) (own a) (own between) (is_open a is_a)
       (started a between is_a is_between))

@@ -20,9 +20,11 @@ pub record AddsStatements (statements : List Statement) (old new : SessionView) 
 -- XA COMMIT is of a decided number's branch, with ONE PHASE of any number's; XA ROLLBACK is of a branch whose
 -- number isn't decided (presumed abort); every other statement agrees
 abbrev pub AgreesWith : List Decision → List ℕ → ℕ → Statement → Type 0
-AgreesWith decisions name store (Commit xid false) = (number : ℕ) × IsBranchOf name number store xid × (is_decided decisions number ≡ true)
+AgreesWith decisions name store (Commit xid false) =
+    (number : ℕ) × IsBranchOf name number store xid × (is_decided decisions number ≡ true)
 AgreesWith decisions name store (Commit xid true) = (number : ℕ) × IsBranchOf name number store xid
-AgreesWith decisions name store (Rollback xid) = (number : ℕ) × IsBranchOf name number store xid × (is_decided decisions number ≡ false)
+AgreesWith decisions name store (Rollback xid) =
+    (number : ℕ) × IsBranchOf name number store xid × (is_decided decisions number ≡ false)
 AgreesWith decisions name store statement = Unit {0}
 
 -- whatever was added agrees with the decisions

@@ -17,7 +17,8 @@ pub record IsLeftAlone (old new : SessionView) : Type 0 where
 
 abbrev pub AnswersSo : Statement → Result Answer Fault → SessionView → SessionView → Type 0
 AnswersSo statement (Ok answer) old new = IsAnswered old.base statement answer old.known new.known
-AnswersSo statement (Err fault) old new = Fails old.turns old.identity.capacity old.base statement fault old.known new.known
+AnswersSo statement (Err fault) old new =
+    Fails old.turns old.identity.capacity old.base statement fault old.known new.known
 
 -- it was given the statement, in the log that it was of, and this is the result
 pub record IsAnsweredSo (statement : Statement) (answered : Result Answer Fault) (old new : SessionView) : Type 0 where

@@ -8,7 +8,8 @@
 --     IsOvertaken      a number is undecided, and a later one closed
 --     CanStand         a list can be decisions
 --     IsNoList         why a list can't be taken as decisions
-use Rattle.std.specs.Prelude.{ℕ, ◌≡◌, ◌<◌, ◌≤◌, Bool, true, false, Option, Some, None, if◌then◌else◌, ◌==◌, ◌-◌, List, length, slice_get, slice_set}
+use Rattle.std.specs.Prelude.{ℕ, ◌≡◌, ◌<◌, ◌≤◌, Bool, true, false, Option, Some, None, if◌then◌else◌, ◌==◌, ◌-◌, List}
+use Rattle.std.specs.Prelude.{length, slice_get, slice_set}
 use Rattle.xa_coordinator.specs.Limits.{most_numbers}
 use Rattle.xa_coordinator.specs.declared.fault.DecisionsFault.{DecisionsFault}
 use Rattle.xa_coordinator.specs.declared.fault.DecisionsFault.TheVariants.{TooMany, Overtaken, NoMemory}

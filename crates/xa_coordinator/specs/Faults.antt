@@ -7,13 +7,15 @@
 --     number_of_ending           how a transaction ended
 use Rattle.std.specs.Prelude.{ℕ}
 use Rattle.xa_coordinator.specs.declared.fault.DecisionsFault.{DecisionsFault}
-use Rattle.xa_coordinator.specs.declared.fault.DecisionsFault.TheVariants.{TooMany, Overtaken, NoMemory as DecisionsNoMemory}
+use Rattle.xa_coordinator.specs.declared.fault.DecisionsFault.TheVariants.{TooMany, Overtaken}
+use Rattle.xa_coordinator.specs.declared.fault.DecisionsFault.TheVariants.{NoMemory as DecisionsNoMemory}
 use Rattle.xa_coordinator.specs.declared.fault.BeginFault.{BeginFault}
 use Rattle.xa_coordinator.specs.declared.fault.BeginFault.TheVariants.{NumbersSpent, NoMemory}
 use Rattle.xa_coordinator.specs.declared.fault.WorkFault.{WorkFault}
 use Rattle.xa_coordinator.specs.declared.fault.WorkFault.TheVariants.{Session, Refused, Lost}
 use Rattle.xa_coordinator.specs.declared.fault.RecoverFault.{RecoverFault}
-use Rattle.xa_coordinator.specs.declared.fault.RecoverFault.TheVariants.{Session as RecoverSession, StillPrepared, NoMemory as RecoverNoMemory}
+use Rattle.xa_coordinator.specs.declared.fault.RecoverFault.TheVariants.{Session as RecoverSession, StillPrepared}
+use Rattle.xa_coordinator.specs.declared.fault.RecoverFault.TheVariants.{NoMemory as RecoverNoMemory}
 use Rattle.xa_coordinator.specs.declared.fault.RecoverFault.TheVariants.{Refused as RecoverRefused}
 use Rattle.xa_coordinator.specs.declared.vote.Vote.{Vote}
 use Rattle.xa_coordinator.specs.declared.vote.Vote.TheVariants.{Ready, OnePhase, No, Nothing}

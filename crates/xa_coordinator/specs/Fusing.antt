@@ -9,7 +9,8 @@ use Rattle.xa_coordinator.specs.declared.fused.Fused.{Fused}
 
 -- if a call is left, the session within gave the answer, and one call less is left; else the answer is
 -- NoMemory, and it got no statement
-pub record AnswersAsWithin {S : Type 0} (gives : S → Statement → Result Answer Fault → S → Type 0) (old : Fused S) (statement : Statement)
+pub record AnswersAsWithin {S : Type 0} (gives : S → Statement → Result Answer Fault → S → Type 0) (old : Fused S)
+    (statement : Statement)
     (result : Result Answer Fault) (new : Fused S) : Type 0 where
   pub passed : old.left ≢ 0 → (new.left + 1 ≡ old.left) × gives old.inner statement result new.inner
   pub spent : old.left ≡ 0 → (result ≡ Err NoMemory) × (new.left ≡ 0) × (new.inner ≡ old.inner)

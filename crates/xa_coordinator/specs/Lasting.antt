@@ -67,6 +67,8 @@ head_is : (known known' : Known) → known ∷ [] ≡ known' ∷ [] → known �
 head_is known known' is = cc
 
 -- using its own session leaves the other client's as it was
-pub other-steady : (old new : LastingStore) → StaysOfLog (own_view old) (own_view new) → other_alone new ≡ other_alone old
+pub other-steady : (old new : LastingStore) → StaysOfLog (own_view old) (own_view new)
+    → other_alone new ≡ other_alone old
 other-steady old new stays =
-    ap (λ base. alone_at base (known_by 2 new.other (history_of new))) stays.base ∙ ap (alone_at old.first.value) (head_is _ _ stays.beside)
+    ap (λ base. alone_at base (known_by 2 new.other (history_of new))) stays.base
+    ∙ ap (alone_at old.first.value) (head_is _ _ stays.beside)

@@ -11,7 +11,8 @@ use Rattle.std.specs.Prelude.{◌≡◌, ◌≤◌, ◌==◌, ◌&&◌, ◌⊎�
 use Rattle.xa_xid.specs.declared.xid.Xid.{Xid}
 use Rattle.xa_server.specs.State.{association_of}
 use Rattle.xa_server.specs.declared.association.Association.{Association}
-use Rattle.xa_server.specs.declared.association.Association.TheVariants.{Active as AssociationActive, Idle as AssociationIdle}
+use Rattle.xa_server.specs.declared.association.Association.TheVariants.{Active as AssociationActive}
+use Rattle.xa_server.specs.declared.association.Association.TheVariants.{Idle as AssociationIdle}
 use Rattle.xa_session.specs.Replay.{state_after}
 use Rattle.xa_session.specs.View.{SessionView}
 use Rattle.xa_coordinator.specs.Branch.{branch_xid}
@@ -33,7 +34,8 @@ association_in Idle xid = AssociationIdle xid
 -- whatever branch the coordinator has open in a store, the session of that store has it open in that phase
 abbrev pub OpenThere : {S : Type 0} → (S → SessionView) → List ℕ → List S → List (Option OpenBranch) → Type 0
 OpenThere view name stores branches =
-    (store : ℕ) (session : _) (branch : OpenBranch) → slice_get stores store ≡ Some session → slice_get branches store ≡ Some (Some branch) →
+    (store : ℕ) (session : _) (branch : OpenBranch) → slice_get stores store ≡ Some session
+    → slice_get branches store ≡ Some (Some branch) →
     association_seen (view session) ≡ association_in branch.phase (branch_xid name branch.number store)
 
 -- the coordinator has the transaction's branch open in the store
@@ -67,4 +69,5 @@ pub record KeepsOpen (participants : Participants) (place : ℕ) (old new : List
 -- what the coordinator has open in a store is as before, or the transaction's branch is IDLE there
 abbrev pub IsAsBeforeOrEnded : ℕ → ℕ → List (Option OpenBranch) → List (Option OpenBranch) → Type 0
 IsAsBeforeOrEnded store number old new =
-    (slice_get new store ≡ slice_get old store) ⊎ (slice_get new store ≡ Some (Some (record { number = number; phase = Idle })))
+    (slice_get new store ≡ slice_get old store) ⊎ (slice_get new store
+    ≡ Some (Some (record { number = number; phase = Idle })))

@@ -11,9 +11,11 @@
 --     EndsAs           how the finishing of a transaction ended
 --     asked_by_ending, asked_by_vote      the stores below this number were spoken to
 --     VotesAs          what the stores voted
---     KeepsMark, KeepsUnfinished      what is open in the store that a vote names;  and in the one that an Unfinished names
+--     KeepsMark, KeepsUnfinished      what is open in the store that a vote names;  and in the one that an Unfinished
+--                                     names
 --     finish_for       how a transaction that was voted on is finished
-use Rattle.std.specs.Prelude.{◌≡◌, ◌<◌, ◌+◌, ℕ, Bool, true, false, nat_eq, List, [], ◌∷◌, length, All, Option, Some, slice_get}
+use Rattle.std.specs.Prelude.{◌≡◌, ◌<◌, ◌+◌, ℕ, Bool, true, false, nat_eq, List, [], ◌∷◌, length, All, Option, Some}
+use Rattle.std.specs.Prelude.{slice_get}
 use Rattle.std.specs.List.{list_any}
 use Rattle.xa_xid.specs.declared.xid.Xid.{Xid}
 use Rattle.xa_xid.specs.declared.statement.Statement.{Statement}
@@ -27,7 +29,9 @@ use Rattle.xa_coordinator.specs.Branch.{branch_xid}
 use Rattle.xa_coordinator.specs.Stores.{EachStore, EndsAt}
 use Rattle.xa_coordinator.specs.Participants.{takes_part, TwoTakePart, OnlyTakesPart}
 use Rattle.xa_coordinator.specs.declared.transaction.Transaction.{Transaction}
-use Rattle.xa_coordinator.specs.declared.transaction.VoteKind.TheVariants.{Ready as VoteKindReady, OnePhase as VoteKindOnePhase, No as VoteKindNo}
+use Rattle.xa_coordinator.specs.declared.transaction.VoteKind.TheVariants.{Ready as VoteKindReady}
+use Rattle.xa_coordinator.specs.declared.transaction.VoteKind.TheVariants.{OnePhase as VoteKindOnePhase}
+use Rattle.xa_coordinator.specs.declared.transaction.VoteKind.TheVariants.{No as VoteKindNo}
 use Rattle.xa_coordinator.specs.declared.ending.Ending.{Ending}
 use Rattle.xa_coordinator.specs.declared.ending.Ending.TheVariants.{Committed, RolledBack, Hazard, Unfinished}
 use Rattle.xa_coordinator.specs.declared.vote.Vote.{Vote}
@@ -99,13 +103,16 @@ abbrev pub ends_in : List (Option OpenBranch) → Transaction → Closing → �
 ends_in branches transaction closing store = ends_first closing (has_working_branch branches store transaction.number)
 
 -- the branch of a store was finished, or wasn't known there, if the store takes part
-abbrev pub SettlesIn : List (Option OpenBranch) → Transaction → Closing → ℕ → (listed : Bool) → SessionView → SessionView → Type 0
+abbrev pub SettlesIn : List (Option OpenBranch) → Transaction → Closing → ℕ → (listed : Bool) → SessionView
+    → SessionView → Type 0
 SettlesIn branches transaction closing store listed =
-    Settles (ends_in branches transaction closing store) (finish_statement closing (branch_of transaction store)) (branch_of transaction store)
+    Settles (ends_in branches transaction closing store) (finish_statement closing (branch_of transaction store))
+    (branch_of transaction store)
     (takes_part transaction.participants store) listed
 
 -- how the finishing of a transaction's branches ended, by what the coordinator had open
-abbrev pub EndsAs : {S : Type 0} → (S → SessionView) → List (Option OpenBranch) → Transaction → Closing → Ending → List S → List S → Type 0
+abbrev pub EndsAs : {S : Type 0} → (S → SessionView) → List (Option OpenBranch) → Transaction → Closing → Ending
+    → List S → List S → Type 0
 EndsAs view branches transaction closing Committed old new =
     (commits closing ≡ true) × EachStore view (λ store. SettlesIn branches transaction closing store false) old new
 EndsAs view branches transaction closing RolledBack old new =
@@ -115,8 +122,10 @@ EndsAs view branches transaction closing (Hazard stores) old new =
     × EachStore view (λ store. SettlesIn branches transaction closing store (lists_store stores.items store)) old new
 EndsAs view branches transaction closing (Unfinished store cause) old new =
     (takes_part transaction.participants store ≡ true)
-    × EndsAt view (λ other before after. (listed : Bool) × SettlesIn branches transaction closing other listed before after)
-    store (IsUnfinished (ends_in branches transaction closing store) (finish_statement closing (branch_of transaction store))
+    × EndsAt view
+    (λ other before after. (listed : Bool) × SettlesIn branches transaction closing other listed before after)
+    store (IsUnfinished (ends_in branches transaction closing store)
+    (finish_statement closing (branch_of transaction store))
     (branch_of transaction store) cause) old
     new
 
@@ -136,11 +145,13 @@ abbrev pub VotesAs : {S : Type 0} → (S → SessionView) → Transaction → Vo
 VotesAs view transaction (Ready prepared) old new =
     (prepared ≡ record { transaction = transaction; vote_kind = VoteKindReady })
     × TwoTakePart transaction.participants
-    × EachStore view (λ store. IsVoted (branch_of transaction store) (takes_part transaction.participants store)) old new
+    × EachStore view (λ store. IsVoted (branch_of transaction store)
+    (takes_part transaction.participants store)) old new
 VotesAs view transaction (OnePhase prepared) old new =
     (prepared ≡ record { transaction = transaction; vote_kind = VoteKindOnePhase })
     × ((store : ℕ) × OnlyTakesPart transaction.participants store)
-    × EachStore view (λ store. IsEnded (branch_of transaction store) (takes_part transaction.participants store)) old new
+    × EachStore view (λ store. IsEnded (branch_of transaction store)
+    (takes_part transaction.participants store)) old new
 VotesAs view transaction (No prepared store cause) old new =
     (prepared ≡ record { transaction = transaction; vote_kind = VoteKindNo })
     × (takes_part transaction.participants store ≡ true)

@@ -15,7 +15,8 @@
 --     total, counted   all that was counted;  with one more branch
 --     fault_by         the fault of a store, by its cause
 --     added_at         how many entries the session of a store has added
-use Rattle.std.specs.Prelude.{◌≡◌, ◌≢◌, ◌+◌, ◌⊎◌, ℕ, Bool, true, false, List, [], ◌∷◌, ◌++◌, length, slice_get, Option, Some, None, Result, Ok, Err}
+use Rattle.std.specs.Prelude.{◌≡◌, ◌≢◌, ◌+◌, ◌⊎◌, ℕ, Bool, true, false, List, [], ◌∷◌, ◌++◌, length, slice_get, Option}
+use Rattle.std.specs.Prelude.{Some, None, Result, Ok, Err}
 use Rattle.xa_coordinator.specs.Agreement.{AddsStatements}
 use Rattle.xa_coordinator.specs.Branch.{branch_xid}
 use Rattle.xa_coordinator.specs.Outcomes.{IsClosed, IsVoted, branch_of}
@@ -31,7 +32,8 @@ use Rattle.xa_coordinator.specs.declared.closing.Found.TheVariants.{Closed, Miss
 use Rattle.xa_coordinator.specs.declared.fault.Cause.{Cause}
 use Rattle.xa_coordinator.specs.declared.fault.Cause.TheVariants.{Refused as CauseRefused, Session as CauseSession}
 use Rattle.xa_coordinator.specs.declared.fault.RecoverFault.{RecoverFault}
-use Rattle.xa_coordinator.specs.declared.fault.RecoverFault.TheVariants.{Refused as RecoverRefused, Session as RecoverSession}
+use Rattle.xa_coordinator.specs.declared.fault.RecoverFault.TheVariants.{Refused as RecoverRefused}
+use Rattle.xa_coordinator.specs.declared.fault.RecoverFault.TheVariants.{Session as RecoverSession}
 use Rattle.xa_coordinator.specs.declared.fault.WorkFault.{WorkFault}
 use Rattle.xa_coordinator.specs.declared.fault.WorkFault.TheVariants.{Lost, Refused, Session}
 use Rattle.xa_coordinator.specs.declared.participants.Participants.{Participants}
@@ -68,7 +70,8 @@ statement_into Idle xid = End xid
 -- the statement, after it is carried out, leaves this branch open, or none that the coordinator keeps
 abbrev pub LeavesOpen : List ℕ → ℕ → Statement → Option OpenBranch → Type 0
 LeavesOpen name store statement None = Unit {0}
-LeavesOpen name store statement (Some branch) = statement ≡ statement_into branch.phase (branch_xid name branch.number store)
+LeavesOpen name store statement (Some branch) =
+    statement ≡ statement_into branch.phase (branch_xid name branch.number store)
 
 -- one statement that was to finish a branch
 abbrev pub SaysAs : Statement → Result Found Cause → SessionView → SessionView → Type 0
@@ -88,14 +91,17 @@ PreparesAs xid (Ok _) old new = AddsStatements (End xid ∷ Prepare xid ∷ []) 
 PreparesAs xid (Err cause) old new = IsStopped true (Prepare xid) xid cause old new
 
 -- the branch of a store was finished, or wasn't known there and the store was listed
-abbrev pub ClosesNext : {S : Type 0} → (S → SessionView) → (ends : Bool) → Statement → Xid → ℕ → (listed listed' : List ℕ) → List S → List S → Type 0
+abbrev pub ClosesNext : {S : Type 0} → (S → SessionView) → (ends : Bool) → Statement → Xid → ℕ
+    → (listed listed' : List ℕ) → List S → List S → Type 0
 ClosesNext view ends statement xid store listed listed' old new =
     ((listed' ≡ listed) × AtStore view store (IsClosed ends statement xid) old new)
     ⊎ ((listed' ≡ listed ++ store ∷ []) × AtStore view store (IsMissing ends statement xid) old new)
 
 -- the participants were asked to prepare, in ascending order, up to the first that didn't
-abbrev pub PollsAs : {S : Type 0} → (S → SessionView) → Transaction → Result (Unit {0}) (ℕ × Cause) → List S → List S → Type 0
-PollsAs view transaction (Ok _) old new = EachStore view (λ store. IsVoted (branch_of transaction store) (takes_part transaction.participants store)) old new
+abbrev pub PollsAs : {S : Type 0} → (S → SessionView) → Transaction → Result (Unit {0}) (ℕ × Cause) → List S → List S
+    → Type 0
+PollsAs view transaction (Ok _) old new =
+    EachStore view (λ store. IsVoted (branch_of transaction store) (takes_part transaction.participants store)) old new
 PollsAs view transaction (Err (store, cause)) old new =
     (takes_part transaction.participants store ≡ true)
     × EndsAt view (λ other. IsVoted (branch_of transaction other) (takes_part transaction.participants other))
@@ -113,9 +119,11 @@ IsParticipation participants (Single store) = OnlyTakesPart participants store
 IsParticipation participants Several = TwoTakePart participants
 
 -- what became of a row statement in a branch that is ACTIVE
-abbrev pub WorksWithin : {S : Type 0} → (S → SessionView) → Xid → ℕ → Statement → Result Reply WorkFault → List S → List S → Type 0
+abbrev pub WorksWithin : {S : Type 0} → (S → SessionView) → Xid → ℕ → Statement → Result Reply WorkFault → List S
+    → List S → Type 0
 WorksWithin view xid store row (Ok reply) before after = AtStore view store (IsReplied row reply xid) before after
-WorksWithin view xid store row (Err (Session fault)) before after = AtStore view store (IsUndone row (CauseSession fault)) before after
+WorksWithin view xid store row (Err (Session fault)) before after =
+    AtStore view store (IsUndone row (CauseSession fault)) before after
 WorksWithin view xid store row (Err (Refused error)) before after = ⊥
 WorksWithin view xid store row (Err Lost) before after = ⊥
 

@@ -13,7 +13,8 @@
 --     Recovers         all stores were recovered
 --     BreaksOff        the recovery failed
 --     asked_by_fault   how far it came
-use Rattle.std.specs.Prelude.{◌≡◌, ◌≢◌, ◌<◌, ◌≤◌, ◌+◌, ◌^◌, ◌⊎◌, ℕ, Bool, true, false, List, [], ◌∷◌, ◌++◌, length, take, map, slice_get, Option, Some, None}
+use Rattle.std.specs.Prelude.{◌≡◌, ◌≢◌, ◌<◌, ◌≤◌, ◌+◌, ◌^◌, ◌⊎◌, ℕ, Bool, true, false, List, [], ◌∷◌, ◌++◌, length}
+use Rattle.std.specs.Prelude.{take, map, slice_get, Option, Some, None}
 use Rattle.std.specs.List.{sum_by}
 use Rattle.xa_xid.specs.declared.xid.Xid.{Xid}
 use Rattle.xa_xid.specs.declared.statement.Statement.{Statement}
@@ -68,12 +69,14 @@ finish_decided false = RollBack
 
 -- what became of a listed branch, and what is counted then: one that isn't of this coordinator's naming gets
 -- no statement; another one is committed or rolled back as the decisions say, or was answered XAER_NOTA
-pub data SettlesOne (decisions : List Decision) (name : List ℕ) (store : ℕ) (xid : Xid) (tally : Tally) (old : SessionView) : Tally → SessionView → Type 0 where
+pub data SettlesOne (decisions : List Decision) (name : List ℕ) (store : ℕ) (xid : Xid) (tally : Tally)
+    (old : SessionView) : Tally → SessionView → Type 0 where
   foreign : (IsNamed name store xid → ⊥) → SettlesOne decisions name store xid tally old tally old
   committed : (number : ℕ) → IsBranchOf name number store xid → is_decided decisions number ≡ true → (new : SessionView)
       → AddsStatements (Commit xid false ∷ []) old new →
       SettlesOne decisions name store xid tally old (record tally { committed = tally.committed + 1 }) new
-  rolled_back : (number : ℕ) → IsBranchOf name number store xid → is_decided decisions number ≡ false → (new : SessionView)
+  rolled_back : (number : ℕ) → IsBranchOf name number store xid → is_decided decisions number ≡ false
+      → (new : SessionView)
       → AddsStatements (Rollback xid ∷ []) old new →
       SettlesOne decisions name store xid tally old (record tally { rolled_back = tally.rolled_back + 1 }) new
   missing : (number : ℕ) → IsBranchOf name number store xid → (new : SessionView)
@@ -81,14 +84,17 @@ pub data SettlesOne (decisions : List Decision) (name : List ℕ) (store : ℕ) 
       SettlesOne decisions name store xid tally old (record tally { missing = tally.missing + 1 }) new
 
 -- what became of the branches of a list, one after another
-pub data Settled (decisions : List Decision) (name : List ℕ) (store : ℕ) (old : SessionView) : List Xid → Tally → SessionView → Type 0 where
+pub data Settled (decisions : List Decision) (name : List ℕ) (store : ℕ) (old : SessionView) : List Xid → Tally
+    → SessionView → Type 0 where
   nothing : Settled decisions name store old [] (record { committed = 0; rolled_back = 0; missing = 0 }) old
   one_more : (xids : List Xid) (before : Tally) (mid : SessionView) → Settled decisions name store old xids before mid
       → (xid : Xid) (after : Tally) (new : SessionView) →
-      SettlesOne decisions name store xid before mid after new → Settled decisions name store old (xids ++ xid ∷ []) after new
+      SettlesOne decisions name store xid before mid after new
+      → Settled decisions name store old (xids ++ xid ∷ []) after new
 
 -- the prepared branches were listed, and each of them was settled
-pub record IsFinished (decisions : List Decision) (name : List ℕ) (store : ℕ) (tally : Tally) (old new : SessionView) : Type 0 where
+pub record IsFinished (decisions : List Decision) (name : List ℕ) (store : ℕ) (tally : Tally)
+    (old new : SessionView) : Type 0 where
   pub listing : SessionView
   pub xids : List Xid
   pub place : ℕ
@@ -96,14 +102,16 @@ pub record IsFinished (decisions : List Decision) (name : List ℕ) (store : ℕ
   pub settled : Settled decisions name store listing xids tally new
 
 -- the session ended what it had open, and then the prepared branches were finished
-pub record IsSettled (decisions : List Decision) (name : List ℕ) (store : ℕ) (tally : Tally) (old new : SessionView) : Type 0 where
+pub record IsSettled (decisions : List Decision) (name : List ℕ) (store : ℕ) (tally : Tally)
+    (old new : SessionView) : Type 0 where
   pub freed : SessionView
   pub disconnected : IsDisconnected old freed
   pub rest : IsFinished decisions name store tally freed new
 
 -- no branch of this coordinator's naming is prepared, as far as the session has seen
 abbrev pub NoneLeft : List ℕ → ℕ → SessionView → Type 0
-NoneLeft name store session = (number : ℕ) → number < 2 ^ 64 → is_prepared (state_after session.base session.known.seen) (branch_xid name number store) ≡ false
+NoneLeft name store session = (number : ℕ) → number < 2 ^ 64
+    → is_prepared (state_after session.base session.known.seen) (branch_xid name number store) ≡ false
 
 -- XA RECOVER was answered at this place, at which no branch of this coordinator's naming is prepared
 pub record IsClear (name : List ℕ) (store front : ℕ) (old new : SessionView) : Type 0 where
@@ -112,20 +120,23 @@ pub record IsClear (name : List ℕ) (store front : ℕ) (old new : SessionView)
   pub none_left : NoneLeft name store new
 
 -- what the recovery of a store did, with the place of its last list
-pub record IsRecovered (decisions : List Decision) (name : List ℕ) (store : ℕ) (tally : Tally) (front : ℕ) (old new : SessionView) : Type 0 where
+pub record IsRecovered (decisions : List Decision) (name : List ℕ) (store : ℕ) (tally : Tally) (front : ℕ)
+    (old new : SessionView) : Type 0 where
   pub finished : SessionView
   pub settled : IsSettled decisions name store tally old finished
   pub clear : IsClear name store front finished new
 
 -- a listed branch wasn't finished, for this cause, which isn't that it wasn't known
-pub record IsUnsettled (decisions : List Decision) (name : List ℕ) (store : ℕ) (xid : Xid) (cause : Cause) (old new : SessionView) : Type 0 where
+pub record IsUnsettled (decisions : List Decision) (name : List ℕ) (store : ℕ) (xid : Xid) (cause : Cause)
+    (old new : SessionView) : Type 0 where
   pub number : ℕ
   pub named : IsBranchOf name number store xid
   pub undone : IsUndone (finish_statement (finish_decided (is_decided decisions number)) xid) cause old new
   pub known : cause ≢ CauseRefused Nota
 
 -- the branches of a list were settled up to this place, and the branch there wasn't finished
-pub record StopsAmong (decisions : List Decision) (name : List ℕ) (store : ℕ) (xids : List Xid) (cause : Cause) (old new : SessionView) : Type 0 where
+pub record StopsAmong (decisions : List Decision) (name : List ℕ) (store : ℕ) (xids : List Xid) (cause : Cause)
+    (old new : SessionView) : Type 0 where
   pub place : ℕ
   pub xid : Xid
   pub there : slice_get xids place ≡ Some xid
@@ -136,16 +147,23 @@ pub record StopsAmong (decisions : List Decision) (name : List ℕ) (store : ℕ
 
 -- after the DISCONNECT the first list, the finish of a listed branch, or the last list wasn't carried out;
 -- everything before it was
-pub data IsCutOff (decisions : List Decision) (name : List ℕ) (store : ℕ) (old : SessionView) : Cause → SessionView → Type 0 where
-  unlisted : (freed : SessionView) → IsDisconnected old freed → (fault : Fault) (new : SessionView) → IsUndone (Recover false) (CauseSession fault) freed new
+pub data IsCutOff (decisions : List Decision) (name : List ℕ) (store : ℕ) (old : SessionView) : Cause → SessionView
+    → Type 0 where
+  unlisted : (freed : SessionView) → IsDisconnected old freed → (fault : Fault) (new : SessionView)
+      → IsUndone (Recover false) (CauseSession fault) freed new
       → IsCutOff decisions name store old (CauseSession fault) new
-  unsettled : (freed : SessionView) → IsDisconnected old freed → (listing : SessionView) (xids : List Xid) (place : ℕ) → ListsPrepared xids place freed listing
-      → (cause : Cause) (new : SessionView) → StopsAmong decisions name store xids cause listing new → IsCutOff decisions name store old cause new
-  unlisted_again : (tally : Tally) (finished : SessionView) → IsSettled decisions name store tally old finished → (fault : Fault) (new : SessionView)
-      → IsUndone (Recover false) (CauseSession fault) finished new → IsCutOff decisions name store old (CauseSession fault) new
+  unsettled : (freed : SessionView) → IsDisconnected old freed → (listing : SessionView) (xids : List Xid) (place : ℕ)
+      → ListsPrepared xids place freed listing
+      → (cause : Cause) (new : SessionView) → StopsAmong decisions name store xids cause listing new
+      → IsCutOff decisions name store old cause new
+  unlisted_again : (tally : Tally) (finished : SessionView) → IsSettled decisions name store tally old finished
+      → (fault : Fault) (new : SessionView)
+      → IsUndone (Recover false) (CauseSession fault) finished new
+      → IsCutOff decisions name store old (CauseSession fault) new
 
 -- the prepared branches were settled, and the last list has one of this coordinator's naming
-pub record IsStillPrepared (decisions : List Decision) (name : List ℕ) (store : ℕ) (old new : SessionView) : Type 0 where
+pub record IsStillPrepared (decisions : List Decision) (name : List ℕ) (store : ℕ)
+    (old new : SessionView) : Type 0 where
   pub tally : Tally
   pub finished : SessionView
   pub settled : IsSettled decisions name store tally old finished
@@ -158,10 +176,12 @@ pub record IsStillPrepared (decisions : List Decision) (name : List ℕ) (store 
 
 -- a store that was recovered with this tally and this place
 abbrev pub RecoveredBy : List Decision → List ℕ → List (Tally × ℕ) → ℕ → SessionView → SessionView → Type 0
-RecoveredBy decisions name found store old new = (one : Tally × ℕ) × (slice_get found store ≡ Some one) × IsRecovered decisions name store one.0 one.1 old new
+RecoveredBy decisions name found store old new =
+    (one : Tally × ℕ) × (slice_get found store ≡ Some one) × IsRecovered decisions name store one.0 one.1 old new
 
 -- each store was recovered, and the report has the places and the sums of what was counted
-pub record Recovers {S : Type 0} (view : S → SessionView) (decisions : List Decision) (name : List ℕ) (report : Report) (old new : List S) : Type 0 where
+pub record Recovers {S : Type 0} (view : S → SessionView) (decisions : List Decision) (name : List ℕ) (report : Report)
+    (old new : List S) : Type 0 where
   pub found : List (Tally × ℕ)
   pub count : length found ≡ length old
   pub each : EachStore view (RecoveredBy decisions name found) old new
@@ -172,21 +192,28 @@ pub record Recovers {S : Type 0} (view : S → SessionView) (decisions : List De
 
 -- a statement of the recovery of a store wasn't carried out for this cause: DISCONNECT, and the coordinator
 -- has open there what it had; or a later one, and it has nothing open there
-abbrev pub BreaksBy : {S : Type 0} → (S → SessionView) → List Decision → List ℕ → ℕ → Cause → (marks marks' : List (Option OpenBranch)) → List S → List S → Type 0
+abbrev pub BreaksBy : {S : Type 0} → (S → SessionView) → List Decision → List ℕ → ℕ → Cause
+    → (marks marks' : List (Option OpenBranch)) → List S → List S → Type 0
 BreaksBy view decisions name store (CauseSession fault) marks marks' old new =
-    ((slice_get marks' store ≡ slice_get marks store) × AtStore view store (IsUndone Disconnect (CauseSession fault)) old new)
-    ⊎ ((slice_get marks' store ≡ Some None) × AtStore view store (λ before after. IsCutOff decisions name store before (CauseSession fault) after) old new)
+    ((slice_get marks' store ≡ slice_get marks store) × AtStore view store
+    (IsUndone Disconnect (CauseSession fault)) old new)
+    ⊎ ((slice_get marks' store ≡ Some None) × AtStore view store
+    (λ before after. IsCutOff decisions name store before (CauseSession fault) after) old new)
 BreaksBy view decisions name store (CauseRefused error) marks marks' old new =
-    (slice_get marks' store ≡ Some None) × AtStore view store (λ before after. IsCutOff decisions name store before (CauseRefused error) after) old new
+    (slice_get marks' store ≡ Some None) × AtStore view store
+    (λ before after. IsCutOff decisions name store before (CauseRefused error) after) old new
 
 -- the recovery of the store that a fault names failed, by what the coordinator has open there
-abbrev pub BreaksHere : {S : Type 0} → (S → SessionView) → List Decision → List ℕ → RecoverFault → (marks marks' : List (Option OpenBranch)) → List S → List S
+abbrev pub BreaksHere : {S : Type 0} → (S → SessionView) → List Decision → List ℕ → RecoverFault
+    → (marks marks' : List (Option OpenBranch)) → List S → List S
     → Type 0
-BreaksHere view decisions name (Session store fault) marks marks' old new = BreaksBy view decisions name store (CauseSession fault) marks marks' old new
+BreaksHere view decisions name (Session store fault) marks marks' old new =
+    BreaksBy view decisions name store (CauseSession fault) marks marks' old new
 BreaksHere view decisions name (StillPrepared store) marks marks' old new =
     (slice_get marks' store ≡ Some None) × AtStore view store (IsStillPrepared decisions name store) old new
 BreaksHere view decisions name NoMemory marks marks' old new = (marks' ≡ marks) × (new ≡ old)
-BreaksHere view decisions name (Refused store error) marks marks' old new = BreaksBy view decisions name store (CauseRefused error) marks marks' old new
+BreaksHere view decisions name (Refused store error) marks marks' old new =
+    BreaksBy view decisions name store (CauseRefused error) marks marks' old new
 
 -- the stores below this number were spoken to
 abbrev pub asked_by_fault : RecoverFault → ℕ
@@ -197,10 +224,12 @@ asked_by_fault (Refused store error) = store + 1
 
 -- the recovery failed: the stores below the one that the fault names are recovered, and those above it got no
 -- statement
-pub record BreaksOff {S : Type 0} (view : S → SessionView) (decisions : List Decision) (name : List ℕ) (fault : RecoverFault)
+pub record BreaksOff {S : Type 0} (view : S → SessionView) (decisions : List Decision) (name : List ℕ)
+    (fault : RecoverFault)
     (marks marks' : List (Option OpenBranch)) (old new : List S) : Type 0 where
   pub within : asked_by_fault fault ≤ length old
   pub below : (store : ℕ) → store + 1 < asked_by_fault fault
-      → AtStore view store (λ before after. (one : Tally × ℕ) × IsRecovered decisions name store one.0 one.1 before after) old new
+      → AtStore view store (λ before after. (one : Tally × ℕ)
+      × IsRecovered decisions name store one.0 one.1 before after) old new
   pub here : BreaksHere view decisions name fault marks marks' old new
   pub behind : (store : ℕ) → asked_by_fault fault ≤ store → slice_get new store ≡ slice_get old store

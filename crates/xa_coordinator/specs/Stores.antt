@@ -7,12 +7,15 @@ use Rattle.std.specs.Prelude.{◌≡◌, ◌≢◌, ◌<◌, ℕ, List, Some, le
 use Rattle.xa_session.specs.View.{SessionView}
 
 -- a fact of one store, of what its session was and is
-abbrev pub AtStore : {S : Type 0} → (S → SessionView) → ℕ → (SessionView → SessionView → Type 0) → List S → List S → Type 0
+abbrev pub AtStore : {S : Type 0} → (S → SessionView) → ℕ → (SessionView → SessionView → Type 0) → List S → List S
+    → Type 0
 AtStore {S} view store fact old new =
-    (before after : S) → slice_get old store ≡ Some before → slice_get new store ≡ Some after → fact (view before) (view after)
+    (before after : S) → slice_get old store ≡ Some before → slice_get new store ≡ Some after
+    → fact (view before) (view after)
 
 -- a fact of each store
-abbrev pub EachStore : {S : Type 0} → (S → SessionView) → (ℕ → SessionView → SessionView → Type 0) → List S → List S → Type 0
+abbrev pub EachStore : {S : Type 0} → (S → SessionView) → (ℕ → SessionView → SessionView → Type 0) → List S → List S
+    → Type 0
 EachStore {S} view fact old new = (store : ℕ) → AtStore view store (fact store) old new
 
 -- as many stores, and the sessions of the others are as they were
@@ -22,7 +25,8 @@ pub record ChangesAt {S : Type 0} (store : ℕ) (old new : List S) : Type 0 wher
 
 -- a call ended at this store: those below it are done, it fared so, and the sessions of those above are as
 -- they were
-pub record EndsAt {S : Type 0} (view : S → SessionView) (fact : ℕ → SessionView → SessionView → Type 0) (store : ℕ) (last : SessionView → SessionView → Type 0)
+pub record EndsAt {S : Type 0} (view : S → SessionView) (fact : ℕ → SessionView → SessionView → Type 0) (store : ℕ)
+    (last : SessionView → SessionView → Type 0)
     (old new : List S) : Type 0 where
   pub below : (other : ℕ) → other < store → AtStore view other (fact other) old new
   pub at : AtStore view store last old new

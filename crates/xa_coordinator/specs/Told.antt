@@ -34,7 +34,8 @@ pub record IsRefused (statement : Statement) (error : XaError) (old new : Sessio
 
 -- the session's fault, or the refusal that the statement was answered
 abbrev pub HasCause : Statement → Cause → SessionView → SessionView → Type 0
-HasCause statement (Session fault) old new = Fails old.turns old.identity.capacity old.base statement fault old.known new.known × IsFinal fault
+HasCause statement (Session fault) old new =
+    Fails old.turns old.identity.capacity old.base statement fault old.known new.known × IsFinal fault
 HasCause statement (RefusedBy error) old new = IsRefused statement error old new
 
 -- the statement wasn't carried out, for this cause, and nothing was added
@@ -51,14 +52,17 @@ pub record IsUndoneBehind (statement : Statement) (xid : Xid) (cause : Cause) (o
 -- the statement, which XA END of the branch comes before or not, wasn't carried out, or that XA END wasn't
 abbrev pub IsStopped : (ends : Bool) → Statement → Xid → Cause → SessionView → SessionView → Type 0
 IsStopped false statement xid cause old new = IsUndone statement cause old new
-IsStopped true statement xid cause old new = IsUndone (End xid) cause old new ⊎ IsUndoneBehind statement xid cause old new
+IsStopped true statement xid cause old new =
+    IsUndone (End xid) cause old new ⊎ IsUndoneBehind statement xid cause old new
 
 -- the statement, which XA END of the branch comes before or not, was answered XAER_NOTA
 abbrev pub IsMissing : (ends : Bool) → Statement → Xid → SessionView → SessionView → Type 0
 IsMissing false statement xid old new = IsUndone statement (RefusedBy Nota) old new
 IsMissing true statement xid old new = IsUndoneBehind statement xid (RefusedBy Nota) old new
 
--- the statement, which XA END of the branch comes before or not, wasn't carried out, and wasn't answered XAER_NOTA, or that XA END wasn't carried out
+-- the statement, which XA END of the branch comes before or not, wasn't carried out, and wasn't answered XAER_NOTA, or
+-- that XA END wasn't carried out
 abbrev pub IsUnfinished : (ends : Bool) → Statement → Xid → Cause → SessionView → SessionView → Type 0
 IsUnfinished false statement xid cause old new = (cause ≢ RefusedBy Nota) × IsUndone statement cause old new
-IsUnfinished true statement xid cause old new = IsUndone (End xid) cause old new ⊎ ((cause ≢ RefusedBy Nota) × IsUndoneBehind statement xid cause old new)
+IsUnfinished true statement xid cause old new =
+    IsUndone (End xid) cause old new ⊎ ((cause ≢ RefusedBy Nota) × IsUndoneBehind statement xid cause old new)

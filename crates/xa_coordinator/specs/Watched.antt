@@ -16,7 +16,8 @@ use Rattle.xa_session.specs.Replay.{state_at}
 use Rattle.xa_session.specs.declared.answer.Answer.{Answer}
 use Rattle.xa_coordinator.specs.declared.watch.Watch.{Watch}
 
--- the entries that it has seen, and all of its own, each of which it tried to add once; its looks are counted from the first on
+-- the entries that it has seen, and all of its own, each of which it tried to add once; its looks are counted from the
+-- first on
 abbrev pub known_by : ℕ → Watch → List Entry → Known
 known_by session watch history = record {
   number = session;
@@ -36,15 +37,18 @@ pub record HasSeenOwn (session : ℕ) (watch : Watch) (history : List Entry) : T
 pub record AllEntered (base : State) (history : List Entry) : Type 0 where
   pub entered : (place : ℕ) (entry : Entry) → slice_get history place ≡ Some entry
       → enters (state_at base history place) entry.session entry.statement ≡ true
-  pub two : (place : ℕ) (entry : Entry) → slice_get history place ≡ Some entry → (1 ≤ entry.session) × (entry.session ≤ 2)
+  pub two : (place : ℕ) (entry : Entry) → slice_get history place ≡ Some entry
+      → (1 ≤ entry.session) × (entry.session ≤ 2)
 
 -- the reply is the server's, at the end of the history; a statement that is logged is carried out and becomes
 -- the next entry, else nothing changes; the session has looked, and has seen all
-pub record Serves (session : ℕ) (statement : Statement) (answer : Answer) (old : State) (history : List Entry) (watch : Watch) (new : State)
+pub record Serves (session : ℕ) (statement : Statement) (answer : Answer) (old : State) (history : List Entry)
+    (watch : Watch) (new : State)
     (history' : List Entry) (watch' : Watch) : Type 0 where
   pub place : answer.place ≡ length history
   pub reply_is : answer.reply ≡ reply_to old session statement
-  pub entered : enters old session statement ≡ true → (history' ≡ history ++ entry_of session statement ∷ []) × (new ≡ after old session statement)
+  pub entered : enters old session statement ≡ true → (history' ≡ history ++ entry_of session statement ∷ [])
+      × (new ≡ after old session statement)
   pub outside : enters old session statement ≡ false → (history' ≡ history) × (new ≡ old)
   pub looked : watch'.looks ≡ watch.looks + 1
   pub whole : watch'.seen ≡ length history'

@@ -91,10 +91,12 @@ pub record KeepsOthers (store : ℕ) (old new : Transaction) : Type 0 where
 
 -- what work did in its store, whether the store takes part then, and what the coordinator has open in its
 -- stores
-abbrev pub WorksAs : {S : Type 0} → (S → SessionView) → (marks marks' : List (Option OpenBranch)) → Transaction → Transaction → ℕ → Statement
+abbrev pub WorksAs : {S : Type 0} → (S → SessionView) → (marks marks' : List (Option OpenBranch)) → Transaction
+    → Transaction → ℕ → Statement
     → Result Reply WorkFault → List S → List S → Type 0
 WorksAs view marks marks' old new store row (Ok reply) before after =
-    (takes_part new.participants store ≡ true) × IsWorking marks' store old.number × AtStore view store (IsWorked row reply (branch_of old store)) before after
+    (takes_part new.participants store ≡ true) × IsWorking marks' store old.number
+    × AtStore view store (IsWorked row reply (branch_of old store)) before after
 WorksAs view marks marks' old new store row (Err (Session fault)) before after =
     ((takes_part new.participants store ≡ true) × IsWorking marks' store old.number
     × AtStore view store (IsCut row (CauseSession fault) (branch_of old store)) before after)
@@ -104,4 +106,5 @@ WorksAs view marks marks' old new store row (Err (Refused error)) before after =
     (new ≡ old) × (marks' ≡ marks) × (has_working_branch marks store old.number ≡ false)
     × AtStore view store (IsUndone (Start (branch_of old store)) (CauseRefused error)) before after
 WorksAs view marks marks' old new store row (Err Lost) before after =
-    (new ≡ old) × (marks' ≡ marks) × (takes_part old.participants store ≡ true) × (HasOpen marks store old.number → ⊥) × (after ≡ before)
+    (new ≡ old) × (marks' ≡ marks) × (takes_part old.participants store ≡ true) × (HasOpen marks store old.number → ⊥)
+    × (after ≡ before)

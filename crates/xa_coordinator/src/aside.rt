@@ -41,13 +41,15 @@ impl<S: Beside> Coordinator<Fused<S>> {
         // Proved (coordinator, other-client)
         ensures branches { self.new.branches ≡ self.old.branches }
         // Proved (coordinator, other-client)
-        ensures left { map (λ session. session.left) self.new.stores.items ≡ map (λ session. session.left) self.old.stores.items }
+        ensures left { map (λ session. session.left) self.new.stores.items
+            ≡ map (λ session. session.left) self.old.stores.items }
         // Proved (coordinator, other-client)
         ensures others { ChangesAt store self.old.stores.items self.new.stores.items }
         // Proved (coordinator, other-client)
         ensures alone { AtStore (λ session. S.view session.inner) store IsLeftAlone self.old.stores.items self.new.stores.items }
         // Proved (coordinator, other-client)
-        ensures given { AtStore (λ session. S.other session.inner) store (IsAnsweredSo statement.now result) self.old.stores.items self.new.stores.items }
+        ensures given { AtStore (λ session. S.other session.inner) store
+            (IsAnsweredSo statement.now result) self.old.stores.items self.new.stores.items }
     {
         self.stores[store as usize].execute_inner(rt, statement)
     }

@@ -1,5 +1,6 @@
 //! The branch of a transaction in one store, from its start to its end.
-ghost use Rattle.std.specs.Prelude.{◌≡◌, ◌<◌, ◌≤◌, ◌+◌, Some, None, Err, true, false, IfErr, OnOk, OnErr, slice_get, vec_len};
+ghost use Rattle.std.specs.Prelude.{◌≡◌, ◌<◌, ◌≤◌, ◌+◌, Some, None, Err, true, false, IfErr, OnOk, OnErr, slice_get};
+ghost use Rattle.std.specs.Prelude.{vec_len};
 ghost use Rattle.xa_session.specs.View.{SessionView};
 ghost use Rattle.xa_coordinator.specs.Branch.{branch_xid};
 ghost use Rattle.xa_coordinator.specs.OpenBranches.{HasOpen, IsAsBeforeOrEnded, has_working_branch as is_working_in};
@@ -17,7 +18,8 @@ use xa_xid::Statement;
 
 /// Whether the branch was known that a statement was to finish.
 fn found(said: Result<(), Cause>) -> Result<Found, Cause>
-    ensures says { (statement : Statement) (old new : SessionView) → IsToldAs statement said old new → SaysAs statement result old new }
+    ensures says { (statement : Statement) (old new : SessionView) → IsToldAs statement said old new
+        → SaysAs statement result old new }
     ensures fault { IfErr result (λ cause. said ≡ Err cause) }
 {
     match said {
@@ -40,9 +42,11 @@ impl<S: Speak> Coordinator<S> {
         ensures name { self.new.name ≡ self.old.name }
         ensures frame { ChangesAt store self.old.stores.items self.new.stores.items }
         ensures marks { ChangesAt store self.old.branches self.new.branches }
-        ensures mark { OnOk result (slice_get self.new.branches store ≡ Some (Some (record { number = number; phase = Phase.Active }))) }
+        ensures mark { OnOk result (slice_get self.new.branches store
+            ≡ Some (Some (record { number = number; phase = Phase.Active }))) }
         ensures unsaid { OnErr result (self.new.branches ≡ self.old.branches) }
-        ensures says { AtStore S.view store (IsToldAs (Start (branch_xid self.old.name.items number store)) result) self.old.stores.items
+        ensures says { AtStore S.view store (IsToldAs (Start (branch_xid self.old.name.items number store)) result)
+            self.old.stores.items
             self.new.stores.items }
     {
         let statement = Statement::Start(self.branch(number, store));
@@ -65,8 +69,10 @@ impl<S: Speak> Coordinator<S> {
         ensures frame { ChangesAt store self.old.stores.items self.new.stores.items }
         ensures marks { ChangesAt store self.old.branches self.new.branches }
         ensures unsaid { OnErr result (self.new.branches ≡ self.old.branches) }
-        ensures mark { OnOk result (slice_get self.new.branches store ≡ Some (Some (record { number = number; phase = Phase.Idle }))) }
-        ensures says { AtStore S.view store (IsToldAs (End (branch_xid self.old.name.items number store)) result) self.old.stores.items self.new.stores.items }
+        ensures mark { OnOk result (slice_get self.new.branches store
+            ≡ Some (Some (record { number = number; phase = Phase.Idle }))) }
+        ensures says { AtStore S.view store (IsToldAs (End (branch_xid self.old.name.items number store)) result)
+            self.old.stores.items self.new.stores.items }
     {
         let statement = Statement::End(self.branch(number, store));
         let then = OpenBranch {
@@ -83,7 +89,8 @@ impl<S: Speak> Coordinator<S> {
         ensures frame { ChangesAt store self.old.stores.items self.new.stores.items }
         ensures marks { ChangesAt store self.old.branches self.new.branches }
         ensures unsaid { OnErr result (self.new.branches ≡ self.old.branches) }
-        ensures says { AtStore S.view store (IsToldAs (Prepare (branch_xid self.old.name.items number store)) result) self.old.stores.items
+        ensures says { AtStore S.view store (IsToldAs (Prepare (branch_xid self.old.name.items number store)) result)
+            self.old.stores.items
             self.new.stores.items }
     {
         let statement = Statement::Prepare(self.branch(number, store));
@@ -102,7 +109,8 @@ impl<S: Speak> Coordinator<S> {
         ensures frame { ChangesAt store self.old.stores.items self.new.stores.items }
         ensures marks { ChangesAt store self.old.branches self.new.branches }
         ensures unsaid { OnErr result (IsAsBeforeOrEnded store number self.old.branches self.new.branches) }
-        ensures prepares { AtStore S.view store (PreparesAs (branch_xid self.old.name.items number store) result) self.old.stores.items self.new.stores.items }
+        ensures prepares { AtStore S.view store (PreparesAs
+            (branch_xid self.old.name.items number store) result) self.old.stores.items self.new.stores.items }
     {
         self.end_branch(rt, store, number)?;
         self.prepare_ended(rt, store, number)
@@ -138,7 +146,8 @@ impl<S: Speak> Coordinator<S> {
         ensures marks { ChangesAt store self.old.branches self.new.branches }
         ensures unsaid { OnErr result (IsAsBeforeOrEnded store number self.old.branches self.new.branches) }
         ensures closes { AtStore S.view store
-            (ClosesAs true (Rollback (branch_xid self.old.name.items number store)) (branch_xid self.old.name.items number store) result) self.old.stores.items
+            (ClosesAs true (Rollback (branch_xid self.old.name.items number store))
+            (branch_xid self.old.name.items number store) result) self.old.stores.items
             self.new.stores.items }
     {
         self.end_branch(rt, store, number)?;
@@ -184,7 +193,8 @@ impl<S: Speak> Coordinator<S> {
         ensures unsaid { OnErr result (IsAsBeforeOrEnded store number self.old.branches self.new.branches) }
         ensures closes { AtStore S.view store
             (ClosesAs (ends_first closing (is_working_in self.old.branches store number))
-            (finish_statement closing (branch_xid self.old.name.items number store)) (branch_xid self.old.name.items number store) result)
+            (finish_statement closing (branch_xid self.old.name.items number store))
+            (branch_xid self.old.name.items number store) result)
             self.old.stores.items self.new.stores.items }
     {
         let ends = closing.ends_first(self.is_working(store, number));

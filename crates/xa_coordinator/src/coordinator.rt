@@ -1,5 +1,6 @@
 //! A coordinator of global transactions over several stores.
-ghost use Rattle.std.specs.Prelude.{◌≡◌, ◌≤◌, ◌<◌, ◌+◌, ◌++◌, ◌∷◌, [], ℕ, false, Some, None, Err, IfOk, OnOk, OnErr, length, slice_get, vec_len};
+ghost use Rattle.std.specs.Prelude.{◌≡◌, ◌≤◌, ◌<◌, ◌+◌, ◌++◌, ◌∷◌, [], ℕ, false, Some, None, Err, IfOk, OnOk, OnErr};
+ghost use Rattle.std.specs.Prelude.{length, slice_get, vec_len};
 ghost use Rattle.arrayvec.specs.ArrayVec.{array_vec_len};
 ghost use Rattle.xa_coordinator.specs.Limits.{most_numbers};
 ghost use Rattle.xa_coordinator.specs.OpenBranches.{OpenThere};

@@ -1,8 +1,10 @@
 //! The decisions of a coordinator: the state of each transaction's number.
-ghost use Rattle.std.specs.Prelude.{ℕ, ◌≡◌, ◌≤◌, ◌<◌, ◌+◌, [], ◌∷◌, ◌++◌, true, false, length, map, OnOk, OnErr, IfOk, IfErr, IfSome, IfNone};
+ghost use Rattle.std.specs.Prelude.{ℕ, ◌≡◌, ◌≤◌, ◌<◌, ◌+◌, [], ◌∷◌, ◌++◌, true, false, length, map, OnOk, OnErr, IfOk};
+ghost use Rattle.std.specs.Prelude.{IfErr, IfSome, IfNone};
 ghost use Rattle.xa_coordinator.specs.declared.decisions.Decision.TheVariants.{Undecided as StandsUndecided};
 ghost use Rattle.xa_coordinator.specs.Limits.{most_numbers};
-ghost use Rattle.xa_coordinator.specs.Decisions.{decision_of, is_decided as is_decided_by, may_be_decided, with_decided, closed_of, CanStand, IsNoList, IsOvertaken};
+ghost use Rattle.xa_coordinator.specs.Decisions.{decision_of, is_decided as is_decided_by, may_be_decided};
+ghost use Rattle.xa_coordinator.specs.Decisions.{with_decided, closed_of, CanStand, IsNoList, IsOvertaken};
 
 use crate::fault::{BeginFault, DecisionsFault};
 use crate::transaction::{Prepared, VoteKind};
@@ -158,7 +160,8 @@ impl Decisions {
     /// The place of a number that was given and isn't closed.
     #[tactic(auto, using(crate::proofs::DecisionsOf::given))]
     fn place_to_decide(&self, number: u64) -> Option<usize>
-        ensures some { IfSome result (λ place. (place + 1 ≡ number) × (place < length self.now) × (may_be_decided self.now number ≡ true)) }
+        ensures some { IfSome result (λ place. (place + 1 ≡ number) × (place < length self.now)
+            × (may_be_decided self.now number ≡ true)) }
         ensures none { IfNone result (may_be_decided self.now number ≡ false) }
     {
         if !self.may_be_decided(number) {
@@ -205,7 +208,8 @@ impl Decisions {
         // Proved (coordinator, decide)
         ensures decided { OnOk result (is_decided_by self.new prepared.now.transaction.number ≡ true) }
         // Proved (coordinator, decide)
-        ensures kept { OnOk result ((other : ℕ) → is_decided_by self.old other ≡ true → is_decided_by self.new other ≡ true) }
+        ensures kept { OnOk result ((other : ℕ) → is_decided_by self.old other ≡ true
+            → is_decided_by self.new other ≡ true) }
         // Proved (coordinator, decide-fails): If `decide` returns `Closed`, the number is closed or was never
         //   given, and nothing is recorded.
         ensures closed { OnErr result (may_be_decided self.old prepared.now.transaction.number ≡ false) }

@@ -1,6 +1,7 @@
 //! The faults of a coordinator's calls, and why a store didn't carry a statement out.
 ghost use Rattle.std.specs.Prelude.{◌≡◌};
-ghost use Rattle.xa_coordinator.specs.Faults.{number_of_decisions_fault, number_of_work_fault, number_of_begin_fault, number_of_recover_fault};
+ghost use Rattle.xa_coordinator.specs.Faults.{number_of_decisions_fault, number_of_work_fault, number_of_begin_fault};
+ghost use Rattle.xa_coordinator.specs.Faults.{number_of_recover_fault};
 
 use std::alloc::{AllocError, AllocFailed};
 use thiserror::Error;

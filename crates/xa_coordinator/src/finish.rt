@@ -7,7 +7,8 @@ ghost use Rattle.xa_coordinator.specs.Told.{IsUnfinished};
 ghost use Rattle.xa_coordinator.specs.Branch.{branch_xid};
 ghost use Rattle.arrayvec.specs.ArrayVec.{array_vec_len};
 ghost use Rattle.xa_coordinator.specs.OpenBranches.{has_working_branch, IsAsBeforeOrEnded, KeepsOpen};
-ghost use Rattle.xa_coordinator.specs.Outcomes.{EndsAs, KeepsUnfinished, finish_statement, ends_first, asked_by_ending, finish_for as finish_of_vote};
+ghost use Rattle.xa_coordinator.specs.Outcomes.{EndsAs, KeepsUnfinished, finish_statement, ends_first, asked_by_ending};
+ghost use Rattle.xa_coordinator.specs.Outcomes.{finish_for as finish_of_vote};
 ghost use Rattle.xa_coordinator.specs.Parts.{ClosesNext};
 ghost use Rattle.xa_coordinator.specs.declared.decisions.Decision.{Decision};
 
@@ -49,12 +50,14 @@ impl<S: Speak> Coordinator<S> {
         ensures unsaid { OnErr result (IsAsBeforeOrEnded store number self.old.branches self.new.branches) }
         ensures closed { OnOk result
             (ClosesNext S.view (ends_first closing (has_working_branch self.old.branches store number))
-            (finish_statement closing (branch_xid self.old.name.items number store)) (branch_xid self.old.name.items number store) store missing.old.items
+            (finish_statement closing (branch_xid self.old.name.items number store))
+            (branch_xid self.old.name.items number store) store missing.old.items
             missing.new.items self.old.stores.items self.new.stores.items) }
         ensures stopped { IfErr result
             (λ cause. AtStore S.view store
             (IsUnfinished (ends_first closing (has_working_branch self.old.branches store number))
-            (finish_statement closing (branch_xid self.old.name.items number store)) (branch_xid self.old.name.items number store) cause)
+            (finish_statement closing (branch_xid self.old.name.items number store))
+            (branch_xid self.old.name.items number store) cause)
             self.old.stores.items self.new.stores.items) }
     {
         match self.finish_open(rt, store, number, closing)? {
@@ -77,9 +80,11 @@ impl<S: Speak> Coordinator<S> {
         requires stores { transaction.now.stores ≡ vec_len self.old.stores }
         ensures name { self.new.name ≡ self.old.name }
         ensures count { vec_len self.new.stores ≡ vec_len self.old.stores }
-        ensures elsewhere { KeepsOpen transaction.now.participants (asked_by_ending result) self.old.branches self.new.branches }
+        ensures elsewhere { KeepsOpen transaction.now.participants
+            (asked_by_ending result) self.old.branches self.new.branches }
         ensures cut { KeepsUnfinished transaction.now.number result self.old.branches self.new.branches }
-        ensures ends { EndsAs S.view self.old.branches transaction.now closing result self.old.stores.items self.new.stores.items }
+        ensures ends { EndsAs S.view self.old.branches transaction.now closing result self.old.stores.items
+            self.new.stores.items }
     {
         let mut missing = ArrayVec::<u8, 16>::new();
         for store in 0..transaction.stores {
@@ -118,7 +123,8 @@ impl<S: Speak> Coordinator<S> {
         ensures count { vec_len self.new.stores ≡ vec_len self.old.stores }
         // Proved (coordinator, finish-elsewhere): In the stores that `prepare`, `finish` or `abandon` doesn't
         //   speak to, the coordinator has open what it had.
-        ensures elsewhere { KeepsOpen prepared.transaction.participants (asked_by_ending result) self.old.branches self.new.branches }
+        ensures elsewhere { KeepsOpen prepared.transaction.participants
+            (asked_by_ending result) self.old.branches self.new.branches }
         // Proved (coordinator, finish-open): In the store that a No or an Unfinished names, what the
         //   coordinator has open is as before, or the transaction's branch is IDLE. After OnePhase the only
         //   participant's branch is IDLE.
@@ -133,7 +139,8 @@ impl<S: Speak> Coordinator<S> {
         //   for the session's fault or for the server's refusal at a place not before what had been seen. The
         //   cause is never XAER_NOTA of the statement that finishes the branch.
         ensures ends { EndsAs S.view self.old.branches prepared.transaction
-            (finish_of_vote (is_decided decisions.now prepared.transaction.number) prepared.vote_kind) result self.old.stores.items self.new.stores.items }
+            (finish_of_vote (is_decided decisions.now prepared.transaction.number) prepared.vote_kind) result
+            self.old.stores.items self.new.stores.items }
         // Proved (coordinator, agrees): Each call adds only entries that agree with the decisions, also if it
         //   ends in a fault: a commit or rollback is of a branch of this coordinator's naming, a commit
         //   without ONE PHASE of a decided number, a rollback of one that isn't decided. Of `abandon` this
@@ -162,14 +169,16 @@ impl<S: Speak> Coordinator<S> {
         ensures name { self.new.name ≡ self.old.name }
         ensures count { vec_len self.new.stores ≡ vec_len self.old.stores }
         // Proved (coordinator, finish-elsewhere)
-        ensures elsewhere { KeepsOpen transaction.participants (asked_by_ending result) self.old.branches self.new.branches }
+        ensures elsewhere { KeepsOpen transaction.participants
+            (asked_by_ending result) self.old.branches self.new.branches }
         // Proved (coordinator, finish-open)
         ensures cut { KeepsUnfinished transaction.number result self.old.branches self.new.branches }
         // Proved (coordinator, endings)
         // Proved (coordinator, hazard)
         // Proved (coordinator, end-first)
         // Proved (coordinator, unfinished)
-        ensures ends { EndsAs S.view self.old.branches transaction Closing.RollBack result self.old.stores.items self.new.stores.items }
+        ensures ends { EndsAs S.view self.old.branches transaction Closing.RollBack result self.old.stores.items
+            self.new.stores.items }
         // Proved (coordinator, agrees)
         ensures agrees { (decisions : List Decision)
             → is_decided decisions transaction.number ≡ false

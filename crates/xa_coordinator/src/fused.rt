@@ -51,7 +51,8 @@ impl<S: Speak> Fused<S> {
         //   done with it leaves the limit.
         ensures inner { result.now ≡ self.old.inner }
         // Proved (coordinator, limit-lends)
-        ensures* writes_back { sem 𝓛 (Lends (the_row S.row) S.row self.entry result (λ inner. record self.old { inner = inner })) }
+        ensures* writes_back { sem 𝓛 (Lends (the_row S.row) S.row self.entry result
+            (λ inner. record self.old { inner = inner })) }
     {
         &mut self.inner
     }
@@ -129,7 +130,8 @@ impl<S: Speak> Coordinator<Fused<S>> {
         //   limit. No session gets a statement, and what the coordinator has open stays.
         ensures branches { self.new.branches ≡ self.old.branches }
         // Proved (coordinator, allow)
-        ensures sessions { map (λ session. session.inner) self.new.stores.items ≡ map (λ session. session.inner) self.old.stores.items }
+        ensures sessions { map (λ session. session.inner) self.new.stores.items
+            ≡ map (λ session. session.inner) self.old.stores.items }
         // Proved (coordinator, allow)
         ensures left { slice_get (map (λ session. session.left) self.new.stores.items) store ≡ Some calls }
         // Proved (coordinator, allow)

@@ -2,12 +2,12 @@
 //!
 //! You keep the transactions' numbers and the decisions; the coordinator gives statements to one session of
 //! each store. A session is anything that keeps the promises of the trait `Speak`.
-//! A `LastingStore` is an unbounded store for one thread: it keeps the state that its history leaves, and of the history
-//! only its length. It holds two sessions: its own, of number 1, for a coordinator, and another client's, of number 2.
-//! For sessions on threads of their own, use `xa_endless` or `xa_store`.
-//! Read docs/COORDINATOR.md first, then `specs/Agreement.antt` and `specs/Outcomes.antt`, then `src/speak.rt`,
-//! `src/prepare.rt`, `src/finish.rt` and `src/work.rt`; of unbounded stores docs/COORDINATOR.md#unbounded-stores,
-//! `specs/Watched.antt`, `src/serving.rt` and `src/store.rt`.
+//! A `LastingStore` is an unbounded store for one thread: it keeps the state that its history leaves, and of the
+//! history only its length. It holds two sessions: its own, of number 1, for a coordinator, and another client's, of
+//! number 2. For sessions on threads of their own, use `xa_endless` or `xa_store`. Read docs/COORDINATOR.md first, then
+//! `specs/Agreement.antt` and `specs/Outcomes.antt`, then `src/speak.rt`, `src/prepare.rt`, `src/finish.rt` and
+//! `src/work.rt`; of unbounded stores docs/COORDINATOR.md#unbounded-stores, `specs/Watched.antt`, `src/serving.rt` and
+//! `src/store.rt`.
 #![tactic(auto)]
 
 mod aside;

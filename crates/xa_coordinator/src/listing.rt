@@ -1,11 +1,13 @@
 //! What a recovery asks of a store: to end what is open, and to list what is prepared.
-ghost use Rattle.std.specs.Prelude.{◌≡◌, ◌<◌, ◌≤◌, ◌+◌, Some, None, false, IfOk, IfErr, OnOk, OnErr, slice_get, vec_len};
+ghost use Rattle.std.specs.Prelude.{◌≡◌, ◌<◌, ◌≤◌, ◌+◌, Some, None, false, IfOk, IfErr, OnOk, OnErr, slice_get};
+ghost use Rattle.std.specs.Prelude.{vec_len};
 ghost use Rattle.xa_coordinator.specs.OpenBranches.{association_seen};
 ghost use Rattle.xa_coordinator.specs.Parts.{added_at};
 ghost use Rattle.xa_coordinator.specs.Stores.{AtStore, ChangesAt};
 ghost use Rattle.xa_coordinator.specs.Recovery.{IsDisconnected, ListsPrepared};
 ghost use Rattle.xa_coordinator.specs.Told.{IsUndone};
-ghost use Rattle.xa_xid.specs.declared.statement.Statement.TheVariants.{Recover as RecoverStatement, Disconnect as DisconnectStatement};
+ghost use Rattle.xa_xid.specs.declared.statement.Statement.TheVariants.{Recover as RecoverStatement};
+ghost use Rattle.xa_xid.specs.declared.statement.Statement.TheVariants.{Disconnect as DisconnectStatement};
 
 use crate::{Cause, Coordinator, Speak};
 use std::sync::Wait;
@@ -16,7 +18,8 @@ use xa_xid::Statement;
 /// Has a session end what it has open, by `DISCONNECT`. No server refuses that.
 fn let_go<S: Speak, R: Wait>(rt: &R, session: &mut S) -> Result<(), Fault>
     ensures done { OnOk result (IsDisconnected (S.view session.old) (S.view session.new)) }
-    ensures undone { IfErr result (λ fault. IsUndone DisconnectStatement (Cause.Session fault) (S.view session.old) (S.view session.new)) }
+    ensures undone { IfErr result (λ fault. IsUndone DisconnectStatement (Cause.Session fault) (S.view session.old)
+        (S.view session.new)) }
 {
     session.execute(rt, &Statement::Disconnect)?;
     Ok(())
@@ -28,7 +31,8 @@ fn list_prepared<S: Speak, R: Wait>(rt: &R, session: &mut S) -> Result<(XidList,
     ensures association { association_seen (S.view session.new) ≡ association_seen (S.view session.old) }
     ensures listed { IfOk result (λ found. ListsPrepared found.0 found.1 (S.view session.old) (S.view session.new)) }
     ensures quiet { OnOk result ((S.view session.new).known.mine ≡ (S.view session.old).known.mine) }
-    ensures undone { IfErr result (λ fault. IsUndone (RecoverStatement false) (Cause.Session fault) (S.view session.old) (S.view session.new)) }
+    ensures undone { IfErr result (λ fault. IsUndone (RecoverStatement false) (Cause.Session fault) (S.view session.old)
+        (S.view session.new)) }
 {
     let Answer { place, reply } = session.execute(rt, &Statement::Recover { convert: false })?;
     match reply {
@@ -48,7 +52,8 @@ impl<S: Speak> Coordinator<S> {
         ensures mark { OnOk result (slice_get self.new.branches store ≡ Some None) }
         ensures done { OnOk result (AtStore S.view store IsDisconnected self.old.stores.items self.new.stores.items) }
         ensures undone { IfErr result
-            (λ fault. AtStore S.view store (IsUndone DisconnectStatement (Cause.Session fault)) self.old.stores.items self.new.stores.items) }
+            (λ fault. AtStore S.view store (IsUndone DisconnectStatement
+            (Cause.Session fault)) self.old.stores.items self.new.stores.items) }
         ensures few { added_at S.view self.new.stores.items store ≤ added_at S.view self.old.stores.items store + 1 }
     {
         let_go(rt, &mut self.stores[store as usize])?;
@@ -66,10 +71,12 @@ impl<S: Speak> Coordinator<S> {
         ensures name { self.new.name ≡ self.old.name }
         ensures frame { ChangesAt store self.old.stores.items self.new.stores.items }
         ensures marks { self.new.branches ≡ self.old.branches }
-        ensures listed { IfOk result (λ found. AtStore S.view store (ListsPrepared found.0 found.1) self.old.stores.items self.new.stores.items) }
+        ensures listed { IfOk result (λ found. AtStore S.view store
+            (ListsPrepared found.0 found.1) self.old.stores.items self.new.stores.items) }
         ensures quiet { OnOk result (AtStore S.view store (λ old new. new.known.mine ≡ old.known.mine) self.old.stores.items self.new.stores.items) }
         ensures undone { IfErr result
-            (λ fault. AtStore S.view store (IsUndone (RecoverStatement false) (Cause.Session fault)) self.old.stores.items self.new.stores.items) }
+            (λ fault. AtStore S.view store (IsUndone (RecoverStatement false)
+            (Cause.Session fault)) self.old.stores.items self.new.stores.items) }
         ensures few { added_at S.view self.new.stores.items store ≤ added_at S.view self.old.stores.items store }
     {
         list_prepared(rt, &mut self.stores[store as usize])

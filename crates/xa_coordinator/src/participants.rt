@@ -57,7 +57,8 @@ impl Participants {
     /// The first store from `from` on that takes part.
     fn next_from(&self, from: u8) -> Option<u8>
         ensures some { IfSome result (λ store. (from ≤ store) × (store < 16) × (takes_part self.now store ≡ true)) }
-        ensures before { IfSome result (λ store. (other : ℕ) → from ≤ other → other < store → takes_part self.now other ≡ false) }
+        ensures before { IfSome result (λ store. (other : ℕ) → from ≤ other → other < store
+            → takes_part self.now other ≡ false) }
         ensures none { IfNone result ((other : ℕ) → from ≤ other → takes_part self.now other ≡ false) }
     {
         for store in from..16 {

@@ -35,8 +35,10 @@ impl<S: Speak> Coordinator<S> {
         requires stores { transaction.now.stores ≡ vec_len self.old.stores }
         ensures name { self.new.name ≡ self.old.name }
         ensures count { vec_len self.new.stores ≡ vec_len self.old.stores }
-        ensures elsewhere { KeepsOpen transaction.now.participants (asked_by_poll result) self.old.branches self.new.branches }
-        ensures cut { IfErr result (λ refused. IsAsBeforeOrEnded refused.0 transaction.now.number self.old.branches self.new.branches) }
+        ensures elsewhere { KeepsOpen transaction.now.participants
+            (asked_by_poll result) self.old.branches self.new.branches }
+        ensures cut { IfErr result
+            (λ refused. IsAsBeforeOrEnded refused.0 transaction.now.number self.old.branches self.new.branches) }
         ensures polls { PollsAs S.view transaction.now result self.old.stores.items self.new.stores.items }
     {
         for store in 0..transaction.stores {
@@ -57,7 +59,8 @@ impl<S: Speak> Coordinator<S> {
         requires only { OnlyTakesPart transaction.participants store }
         ensures name { self.new.name ≡ self.old.name }
         ensures count { vec_len self.new.stores ≡ vec_len self.old.stores }
-        ensures elsewhere { KeepsOpen transaction.participants (asked_by_vote result) self.old.branches self.new.branches }
+        ensures elsewhere { KeepsOpen transaction.participants
+            (asked_by_vote result) self.old.branches self.new.branches }
         ensures cut { KeepsMark transaction result self.old.branches self.new.branches }
         ensures vote { VotesAs S.view transaction result self.old.stores.items self.new.stores.items }
     {
@@ -80,7 +83,8 @@ impl<S: Speak> Coordinator<S> {
         requires several { TwoTakePart transaction.participants }
         ensures name { self.new.name ≡ self.old.name }
         ensures count { vec_len self.new.stores ≡ vec_len self.old.stores }
-        ensures elsewhere { KeepsOpen transaction.participants (asked_by_vote result) self.old.branches self.new.branches }
+        ensures elsewhere { KeepsOpen transaction.participants
+            (asked_by_vote result) self.old.branches self.new.branches }
         ensures cut { KeepsMark transaction result self.old.branches self.new.branches }
         ensures vote { VotesAs S.view transaction result self.old.stores.items self.new.stores.items }
     {
@@ -110,7 +114,8 @@ impl<S: Speak> Coordinator<S> {
         ensures name { self.new.name ≡ self.old.name }
         ensures count { vec_len self.new.stores ≡ vec_len self.old.stores }
         // Proved (coordinator, finish-elsewhere)
-        ensures elsewhere { KeepsOpen transaction.participants (asked_by_vote result) self.old.branches self.new.branches }
+        ensures elsewhere { KeepsOpen transaction.participants
+            (asked_by_vote result) self.old.branches self.new.branches }
         // Proved (coordinator, finish-open)
         ensures cut { KeepsMark transaction result self.old.branches self.new.branches }
         // Proved (coordinator, votes): After a vote of Ready at least two stores take part, and each
@@ -121,7 +126,8 @@ impl<S: Speak> Coordinator<S> {
         //   seen.
         ensures vote { VotesAs S.view transaction result self.old.stores.items self.new.stores.items }
         // Proved (coordinator, agrees)
-        ensures agrees { (decisions : List Decision) → EachStore S.view (Agrees decisions self.old.name.items) self.old.stores.items self.new.stores.items }
+        ensures agrees { (decisions : List Decision) → EachStore S.view
+            (Agrees decisions self.old.name.items) self.old.stores.items self.new.stores.items }
     {
         match transaction.participants.participation() {
             Participation::Nobody => Vote::Nothing,

@@ -1,9 +1,11 @@
 //! Recovery: finishing what a stopped coordinator left, as the decisions say.
-ghost use Rattle.std.specs.Prelude.{◌≡◌, ◌≢◌, ◌<◌, ◌≤◌, ◌+◌, ℕ, List, [], Option, Some, None, IfOk, IfErr, OnOk, length, slice_get, map, vec_len, vec_capacity};
+ghost use Rattle.std.specs.Prelude.{◌≡◌, ◌≢◌, ◌<◌, ◌≤◌, ◌+◌, ℕ, List, [], Option, Some, None, IfOk, IfErr, OnOk};
+ghost use Rattle.std.specs.Prelude.{length, slice_get, map, vec_len, vec_capacity};
 ghost use Rattle.xa_coordinator.specs.Agreement.{Agrees};
 ghost use Rattle.xa_coordinator.specs.Decisions.{closed_of, is_decided, decision_of};
 ghost use Rattle.xa_session.specs.View.{SessionView};
-ghost use Rattle.xa_coordinator.specs.Recovery.{IsDisconnected, IsFinished, IsSettled, IsClear, IsRecovered, IsCutOff, BreaksBy, BreaksHere, Recovers, BreaksOff};
+ghost use Rattle.xa_coordinator.specs.Recovery.{IsDisconnected, IsFinished, IsSettled, IsClear, IsRecovered, IsCutOff};
+ghost use Rattle.xa_coordinator.specs.Recovery.{BreaksBy, BreaksHere, Recovers, BreaksOff};
 ghost use Rattle.xa_coordinator.specs.Recovery.{asked_by_fault};
 ghost use Rattle.xa_coordinator.specs.Parts.{added_at, fault_by, total};
 ghost use Rattle.xa_coordinator.specs.declared.branches.OpenBranch.{OpenBranch as OpenBranchOf};
@@ -41,12 +43,16 @@ impl<S: Speak> Coordinator<S> {
         ensures marks { ChangesAt store self.old.branches self.new.branches }
         ensures free { slice_get self.new.branches store ≡ Some None }
         ensures finished { IfOk result
-            (λ tally. AtStore S.view store (IsFinished decisions.now self.old.name.items store tally) self.old.stores.items self.new.stores.items) }
+            (λ tally. AtStore S.view store (IsFinished decisions.now self.old.name.items store tally)
+            self.old.stores.items self.new.stores.items) }
         ensures broken { IfErr result
             (λ cause. AtStore S.view store
-            (λ freed new. (old : SessionView) → IsDisconnected old freed → IsCutOff decisions.now self.old.name.items store old cause new) self.old.stores.items
+            (λ freed new. (old : SessionView) → IsDisconnected old freed
+            → IsCutOff decisions.now self.old.name.items store old cause new) self.old.stores.items
             self.new.stores.items) }
-        ensures few { IfOk result (λ tally. added_at S.view self.new.stores.items store ≤ added_at S.view self.old.stores.items store + total tally) }
+        ensures few { IfOk result
+            (λ tally. added_at S.view self.new.stores.items store ≤ added_at S.view self.old.stores.items store
+            + total tally) }
     {
         match self.prepared_in(rt, store) {
             Ok(found) => self.settle_each(rt, decisions, store, found.0.as_slice()),
@@ -67,11 +73,15 @@ impl<S: Speak> Coordinator<S> {
         ensures marks { ChangesAt store self.old.branches self.new.branches }
         ensures free { OnOk result (slice_get self.new.branches store ≡ Some None) }
         ensures settled { IfOk result
-            (λ tally. AtStore S.view store (IsSettled decisions.now self.old.name.items store tally) self.old.stores.items self.new.stores.items) }
+            (λ tally. AtStore S.view store (IsSettled decisions.now self.old.name.items store tally)
+            self.old.stores.items self.new.stores.items) }
         ensures broken { IfErr result
-            (λ cause. BreaksBy S.view decisions.now self.old.name.items store cause self.old.branches self.new.branches self.old.stores.items
+            (λ cause. BreaksBy S.view decisions.now self.old.name.items store cause self.old.branches self.new.branches
+            self.old.stores.items
             self.new.stores.items) }
-        ensures few { IfOk result (λ tally. added_at S.view self.new.stores.items store ≤ added_at S.view self.old.stores.items store + 1 + total tally) }
+        ensures few { IfOk result
+            (λ tally. added_at S.view self.new.stores.items store ≤ added_at S.view self.old.stores.items store + 1
+            + total tally) }
     {
         match self.disconnect(rt, store) {
             Ok(()) => self.list_and_finish(rt, decisions, store),
@@ -87,14 +97,17 @@ impl<S: Speak> Coordinator<S> {
         ensures frame { ChangesAt store self.old.stores.items self.new.stores.items }
         ensures few { added_at S.view self.new.stores.items store ≤ added_at S.view self.old.stores.items store }
         ensures marks { self.new.branches ≡ self.old.branches }
-        ensures clear { IfOk result (λ front. AtStore S.view store (IsClear self.old.name.items store front) self.old.stores.items self.new.stores.items) }
+        ensures clear { IfOk result (λ front. AtStore S.view store
+            (IsClear self.old.name.items store front) self.old.stores.items self.new.stores.items) }
         ensures quiet { OnOk result (AtStore S.view store (λ old new. new.known.mine ≡ old.known.mine) self.old.stores.items self.new.stores.items) }
         ensures place { IfErr result (λ fault. asked_by_fault fault ≡ store + 1) }
         ensures fails { IfErr result
-            (λ fault. (decisions : List Decision) (tally : TallyOf) (marks : List (Option OpenBranchOf)) (before : List S)
+            (λ fault. (decisions : List Decision) (tally : TallyOf) (marks : List (Option OpenBranchOf))
+            (before : List S)
             → length self.old.stores.items ≡ length before
             → AtStore S.view store (IsSettled decisions self.old.name.items store tally) before self.old.stores.items
-            → BreaksHere S.view decisions self.old.name.items fault marks self.new.branches before self.new.stores.items) }
+            → BreaksHere S.view decisions self.old.name.items fault marks self.new.branches before
+            self.new.stores.items) }
     {
         let listed = self.prepared_in(rt, store);
         match listed {
@@ -119,11 +132,15 @@ impl<S: Speak> Coordinator<S> {
         ensures marks { ChangesAt store self.old.branches self.new.branches }
         ensures free { OnOk result (slice_get self.new.branches store ≡ Some None) }
         ensures recovered { IfOk result
-            (λ one. AtStore S.view store (IsRecovered decisions.now self.old.name.items store one.0 one.1) self.old.stores.items self.new.stores.items) }
+            (λ one. AtStore S.view store (IsRecovered decisions.now self.old.name.items store one.0 one.1)
+            self.old.stores.items self.new.stores.items) }
         ensures place { IfErr result (λ fault. asked_by_fault fault ≡ store + 1) }
         ensures fails { IfErr result
-            (λ fault. BreaksHere S.view decisions.now self.old.name.items fault self.old.branches self.new.branches self.old.stores.items self.new.stores.items) }
-        ensures few { IfOk result (λ one. added_at S.view self.new.stores.items store ≤ added_at S.view self.old.stores.items store + 1 + total one.0) }
+            (λ fault. BreaksHere S.view decisions.now self.old.name.items fault self.old.branches self.new.branches
+            self.old.stores.items self.new.stores.items) }
+        ensures few { IfOk result
+            (λ one. added_at S.view self.new.stores.items store ≤ added_at S.view self.old.stores.items store + 1
+            + total one.0) }
     {
         match self.finish_prepared(rt, decisions, store) {
             Ok(tally) => {
@@ -146,13 +163,17 @@ impl<S: Speak> Coordinator<S> {
         requires room { vec_len self.old.stores ≤ vec_capacity fronts }
         ensures name { self.new.name ≡ self.old.name }
         ensures count { vec_len self.new.stores ≡ vec_len self.old.stores }
-        ensures free { OnOk result ((store : ℕ) → store < vec_len self.new.stores → slice_get self.new.branches store ≡ Some None) }
+        ensures free { OnOk result ((store : ℕ) → store < vec_len self.new.stores
+            → slice_get self.new.branches store ≡ Some None) }
         ensures marks { IfErr result
-            (λ fault. (store : ℕ) → asked_by_fault fault ≤ store → slice_get self.new.branches store ≡ slice_get self.old.branches store) }
-        ensures below { IfErr result (λ fault. (store : ℕ) → store + 1 < asked_by_fault fault → slice_get self.new.branches store ≡ Some None) }
+            (λ fault. (store : ℕ) → asked_by_fault fault ≤ store
+            → slice_get self.new.branches store ≡ slice_get self.old.branches store) }
+        ensures below { IfErr result (λ fault. (store : ℕ) → store + 1 < asked_by_fault fault
+            → slice_get self.new.branches store ≡ Some None) }
         ensures recovers { IfOk result (λ report. Recovers S.view decisions.now self.old.name.items report self.old.stores.items self.new.stores.items) }
         ensures breaks { IfErr result
-            (λ fault. BreaksOff S.view decisions.now self.old.name.items fault self.old.branches self.new.branches self.old.stores.items self.new.stores.items) }
+            (λ fault. BreaksOff S.view decisions.now self.old.name.items fault self.old.branches self.new.branches
+            self.old.stores.items self.new.stores.items) }
     {
         let mut report = Report {
             fronts,
@@ -197,14 +218,17 @@ impl<S: Speak> Coordinator<S> {
         // Proved (coordinator, recovery-closes)
         ensures kept { (number : ℕ) → is_decided decisions.new number ≡ is_decided decisions.old number }
         // Proved (coordinator, nothing-open)
-        ensures free { OnOk result ((store : ℕ) → store < vec_len self.new.stores → slice_get self.new.branches store ≡ Some None) }
+        ensures free { OnOk result ((store : ℕ) → store < vec_len self.new.stores
+            → slice_get self.new.branches store ≡ Some None) }
         // Proved (coordinator, recovery-open): After a fault of recovery nothing is open in the stores below
         //   the named one. In the named store it is as before if `DISCONNECT` failed, else nothing is open.
         //   Above it is as before.
         ensures marks { IfErr result
-            (λ fault. (store : ℕ) → asked_by_fault fault ≤ store → slice_get self.new.branches store ≡ slice_get self.old.branches store) }
+            (λ fault. (store : ℕ) → asked_by_fault fault ≤ store
+            → slice_get self.new.branches store ≡ slice_get self.old.branches store) }
         // Proved (coordinator, recovery-open)
-        ensures below { IfErr result (λ fault. (store : ℕ) → store + 1 < asked_by_fault fault → slice_get self.new.branches store ≡ Some None) }
+        ensures below { IfErr result (λ fault. (store : ℕ) → store + 1 < asked_by_fault fault
+            → slice_get self.new.branches store ≡ Some None) }
         // Proved (coordinator, recovered): A recovery commits each branch of this coordinator's naming that
         //   was prepared at one place, not before what had been seen, if its number is decided, else rolls it
         //   back; or the branch was answered XAER_NOTA. Each is counted so.
@@ -221,7 +245,8 @@ impl<S: Speak> Coordinator<S> {
         //   the statements that come before the one that failed. After `NoMemory` no session got a statement.
         // Proved (coordinator, recovery-open)
         ensures breaks { IfErr result
-            (λ fault. BreaksOff S.view decisions.new self.old.name.items fault self.old.branches self.new.branches self.old.stores.items self.new.stores.items) }
+            (λ fault. BreaksOff S.view decisions.new self.old.name.items fault self.old.branches self.new.branches
+            self.old.stores.items self.new.stores.items) }
         // Proved (coordinator, agrees)
         ensures agrees { EachStore S.view (Agrees decisions.new self.old.name.items) self.old.stores.items self.new.stores.items }
     {

@@ -22,10 +22,12 @@ pub(crate) fn serve(
     statement: &Statement,
 ) -> Result<Answer, Fault>
     ensures ok { IfOk result
-        (λ answer. Serves session statement.now answer server.old (map (λ one. one.value) history.old.items) watch.old server.new
+        (λ answer. Serves session statement.now answer server.old
+        (map (λ one. one.value) history.old.items) watch.old server.new
         (map (λ one. one.value) history.new.items) watch.new) }
     ensures server { OnErr result (server.new ≡ server.old) }
-    ensures history { OnErr result (map (λ one. one.value) history.new.items ≡ map (λ one. one.value) history.old.items) }
+    ensures history { OnErr result (map (λ one. one.value) history.new.items
+        ≡ map (λ one. one.value) history.old.items) }
     ensures watch { OnErr result (watch.new ≡ watch.old) }
     ensures cause { OnErr result (result ≡ Err WantsMemory) }
 {

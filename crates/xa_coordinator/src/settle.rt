@@ -1,9 +1,11 @@
 //! What a recovery does with the prepared branches of one store.
-ghost use Rattle.std.specs.Prelude.{◌≡◌, ◌<◌, ◌≤◌, ◌+◌, ◌^◌, ℕ, true, false, IfOk, IfErr, IfSome, IfNone, slice_get, Some, None, vec_len};
+ghost use Rattle.std.specs.Prelude.{◌≡◌, ◌<◌, ◌≤◌, ◌+◌, ◌^◌, ℕ, true, false, IfOk, IfErr, IfSome, IfNone, slice_get};
+ghost use Rattle.std.specs.Prelude.{Some, None, vec_len};
 ghost use Rattle.std.specs.List.{list_any};
 ghost use Rattle.xa_xid.specs.Xid.{same_xid};
 ghost use Rattle.xa_coordinator.specs.Branch.{branch_xid};
-ghost use Rattle.xa_coordinator.specs.Recovery.{finish_decided as finish_by_decision, SettlesOne, Settled, IsUnsettled, StopsAmong};
+ghost use Rattle.xa_coordinator.specs.Recovery.{finish_decided as finish_by_decision, SettlesOne, Settled, IsUnsettled};
+ghost use Rattle.xa_coordinator.specs.Recovery.{StopsAmong};
 ghost use Rattle.xa_coordinator.specs.Parts.{added_at, counted, total};
 ghost use Rattle.xa_coordinator.specs.Stores.{AtStore, ChangesAt};
 
@@ -67,12 +69,16 @@ impl<S: Speak> Coordinator<S> {
         ensures free { slice_get self.new.branches store ≡ Some None }
         ensures more { IfOk result (λ after. total after ≤ total tally + 1) }
         ensures few { IfOk result
-            (λ after. added_at S.view self.new.stores.items store + total tally ≤ added_at S.view self.old.stores.items store + total after) }
+            (λ after. added_at S.view self.new.stores.items store + total tally
+            ≤ added_at S.view self.old.stores.items store + total after) }
         ensures settled { IfOk result
-            (λ after. AtStore S.view store (λ old new. SettlesOne decisions.now self.old.name.items store xid.now tally old after new) self.old.stores.items
+            (λ after. AtStore S.view store
+            (λ old new. SettlesOne decisions.now self.old.name.items store xid.now tally old after new)
+            self.old.stores.items
             self.new.stores.items) }
         ensures broken { IfErr result
-            (λ cause. AtStore S.view store (IsUnsettled decisions.now self.old.name.items store xid.now cause) self.old.stores.items self.new.stores.items) }
+            (λ cause. AtStore S.view store (IsUnsettled decisions.now self.old.name.items store xid.now cause)
+            self.old.stores.items self.new.stores.items) }
     {
         let Some(number) = number_of_branch(&self.name, store, xid) else {
             return Ok(tally);
@@ -97,11 +103,15 @@ impl<S: Speak> Coordinator<S> {
         ensures marks { ChangesAt store self.old.branches self.new.branches }
         ensures free { slice_get self.new.branches store ≡ Some None }
         ensures settled { IfOk result
-            (λ tally. AtStore S.view store (λ old new. Settled decisions.now self.old.name.items store old xids.now tally new) self.old.stores.items
+            (λ tally. AtStore S.view store
+            (λ old new. Settled decisions.now self.old.name.items store old xids.now tally new) self.old.stores.items
             self.new.stores.items) }
         ensures broken { IfErr result
-            (λ cause. AtStore S.view store (StopsAmong decisions.now self.old.name.items store xids.now cause) self.old.stores.items self.new.stores.items) }
-        ensures few { IfOk result (λ tally. added_at S.view self.new.stores.items store ≤ added_at S.view self.old.stores.items store + total tally) }
+            (λ cause. AtStore S.view store (StopsAmong decisions.now self.old.name.items store xids.now cause)
+            self.old.stores.items self.new.stores.items) }
+        ensures few { IfOk result
+            (λ tally. added_at S.view self.new.stores.items store ≤ added_at S.view self.old.stores.items store
+            + total tally) }
     {
         let mut tally = Tally {
             committed: 0,
@@ -117,8 +127,10 @@ impl<S: Speak> Coordinator<S> {
     /// The number of the first listed branch of this coordinator's naming, if there is one.
     pub(crate) fn own_number(&self, store: u8, xids: &[Xid]) -> Option<u64>
         ensures fits { IfSome result (λ number. number < 2 ^ 64) }
-        ensures some { IfSome result (λ number. list_any (same_xid (branch_xid self.now.name.items number store)) xids.now ≡ true) }
-        ensures none { IfNone result ((number : ℕ) → number < 2 ^ 64 → list_any (same_xid (branch_xid self.now.name.items number store)) xids.now ≡ false) }
+        ensures some { IfSome result (λ number. list_any (same_xid
+            (branch_xid self.now.name.items number store)) xids.now ≡ true) }
+        ensures none { IfNone result ((number : ℕ) → number < 2 ^ 64
+            → list_any (same_xid (branch_xid self.now.name.items number store)) xids.now ≡ false) }
     {
         for xid in xids {
             if let Some(number) = number_of_branch(&self.name, store, xid) {

@@ -32,9 +32,11 @@ pub trait Speak {
     /// Own rule: docs/COORDINATOR.md#sessions-of-a-coordinator.
     fn attempt(&mut self, statement: &Statement) -> Result<Answer, Fault>
         ensures stays { StaysOfLog (view self.old) (view self.new) }
-        ensures answered { IfOk result (λ answer. IsAnswered (view self.old).base statement.now answer (view self.old).known (view self.new).known) }
+        ensures answered { IfOk result (λ answer. IsAnswered (view self.old).base statement.now answer
+            (view self.old).known (view self.new).known) }
         ensures fails { IfErr result
-            (λ fault. Fails (view self.old).turns (view self.old).identity.capacity (view self.old).base statement.now fault (view self.old).known
+            (λ fault. Fails (view self.old).turns (view self.old).identity.capacity
+            (view self.old).base statement.now fault (view self.old).known
             (view self.new).known) }
         ensures tries { (view self.new).known.tries ≤ (view self.old).known.tries + 1 }
         ensures gives { attempts self.old statement.now result self.new };
@@ -46,15 +48,18 @@ pub trait Speak {
     /// Own rule: docs/COORDINATOR.md#sessions-of-a-coordinator.
     fn execute<R: Wait>(&mut self, rt: &R, statement: &Statement) -> Result<Answer, Fault>
         ensures stays { StaysOfLog (view self.old) (view self.new) }
-        ensures answered { IfOk result (λ answer. IsAnswered (view self.old).base statement.now answer (view self.old).known (view self.new).known) }
+        ensures answered { IfOk result (λ answer. IsAnswered (view self.old).base statement.now answer
+            (view self.old).known (view self.new).known) }
         ensures fails { IfErr result
-            (λ fault. Fails (view self.old).turns (view self.old).identity.capacity (view self.old).base statement.now fault (view self.old).known
+            (λ fault. Fails (view self.old).turns (view self.old).identity.capacity
+            (view self.old).base statement.now fault (view self.old).known
             (view self.new).known) }
         ensures lasts { IfErr result IsFinal }
         ensures gives { executes self.old statement.now result self.new };
 
     // the entries of its own number in what it has seen are its own
-    ghost own_part: { (session : Self) → entries_of (view session).known.number (view session).known.seen ≡ (view session).known.mine };
+    ghost own_part: { (session : Self) → entries_of (view session).known.number (view session).known.seen
+        ≡ (view session).known.mine };
 
     // the state in which its history begins keeps the lock law
     ghost lawful: { (session : Self) → LockLaw (view session).base };
@@ -63,14 +68,21 @@ pub trait Speak {
 // Proved (coordinator, session-speaks): A session, over any log, keeps the promises of `Speak`. It returns
 //   `NoMemory` only for the list of an `XA RECOVER`, or if its replica hasn't replayed all that it has seen.
 impl<'a, L: DecisionLog> Speak for Session<'a, L> {
-    ghost view = { λ session. record { identity = L.belongs_to session.pass; turns = L.TURNS; base = session.base.now; known = L.known session.pass; beside = [] } };
+    ghost view = { λ session. record {
+      identity = L.belongs_to session.pass;
+      turns = L.TURNS;
+      base = session.base.now;
+      known = L.known session.pass;
+      beside = [];
+    } };
 
     // a session looks at each attempt, and memory is missing only for a list, or for a replica that hasn't
     // replayed all that is seen
     ghost attempts = { λ old statement result new. ((L.known old.pass).looks < (L.known new.pass).looks)
         × IfErr result (λ fault. WantsMemory statement fault new.replica (L.known new.pass)) };
 
-    ghost executes = { λ old statement result new. IfErr result (λ fault. WantsMemory statement fault new.replica (L.known new.pass)) };
+    ghost executes = { λ old statement result new. IfErr result
+        (λ fault. WantsMemory statement fault new.replica (L.known new.pass)) };
 
     ghost own_part = { λ session. L.own_part session.pass };
 

@@ -29,15 +29,18 @@ impl<S: Speak> Coordinator<S> {
     ) -> Result<Reply, Fault>
         requires store { store < vec_len self.old.stores }
         requires row { IsRow statement.now }
-        requires working { slice_get self.old.branches store ≡ Some (Some (record { number = number; phase = PhaseActive })) }
+        requires working { slice_get self.old.branches store
+            ≡ Some (Some (record { number = number; phase = PhaseActive })) }
         ensures name { self.new.name ≡ self.old.name }
         ensures frame { ChangesAt store self.old.stores.items self.new.stores.items }
         ensures marks { self.new.branches ≡ self.old.branches }
         ensures replied { IfOk result
-            (λ reply. AtStore S.view store (IsReplied statement.now reply (branch_xid self.old.name.items number store)) self.old.stores.items
+            (λ reply. AtStore S.view store (IsReplied statement.now reply
+            (branch_xid self.old.name.items number store)) self.old.stores.items
             self.new.stores.items) }
         ensures undone { IfErr result
-            (λ fault. AtStore S.view store (IsUndone statement.now (Cause.Session fault)) self.old.stores.items self.new.stores.items) }
+            (λ fault. AtStore S.view store (IsUndone statement.now
+            (Cause.Session fault)) self.old.stores.items self.new.stores.items) }
     {
         let answer = self.stores[store as usize].execute(rt, statement)?;
         Ok(answer.reply)
@@ -55,7 +58,8 @@ impl<S: Speak> Coordinator<S> {
         requires stores { transaction.old.stores ≡ vec_len self.old.stores }
         requires store { store < vec_len self.old.stores }
         requires row { IsRow statement.now }
-        requires working { slice_get self.old.branches store ≡ Some (Some (record { number = transaction.old.number; phase = PhaseActive })) }
+        requires working { slice_get self.old.branches store
+            ≡ Some (Some (record { number = transaction.old.number; phase = PhaseActive })) }
         ensures name { self.new.name ≡ self.old.name }
         ensures frame { ChangesAt store self.old.stores.items self.new.stores.items }
         ensures marks { self.new.branches ≡ self.old.branches }
@@ -115,7 +119,8 @@ impl<S: Speak> Coordinator<S> {
         ensures frame { ChangesAt store self.old.stores.items self.new.stores.items }
         ensures marks { ChangesAt store self.old.branches self.new.branches }
         ensures keeps { KeepsOthers store transaction.old transaction.new }
-        ensures lost { takes_part transaction.old.participants store ≡ true → (HasOpen self.old.branches store transaction.old.number → ⊥)
+        ensures lost { takes_part transaction.old.participants store ≡ true
+            → (HasOpen self.old.branches store transaction.old.number → ⊥)
             → result ≡ Err WorkFault.Lost }
         ensures again { takes_part transaction.old.participants store ≡ true
             → AtStore S.view store (AddsAtMost statement.now) self.old.stores.items self.new.stores.items }
@@ -174,16 +179,19 @@ impl<S: Speak> Coordinator<S> {
             self.new.stores.items }
         // Proved (coordinator, work-lost): If the store takes part and the coordinator has no open branch of
         //   the transaction there, `work` returns `Lost`, and the session gets no statement.
-        ensures lost { takes_part transaction.old.participants store ≡ true → (HasOpen self.old.branches store transaction.old.number → ⊥)
+        ensures lost { takes_part transaction.old.participants store ≡ true
+            → (HasOpen self.old.branches store transaction.old.number → ⊥)
             → result ≡ Err WorkFault.Lost }
         // Proved (coordinator, work-starts-once): If the store took part before, `work` carries no `XA START`
         //   out.
         ensures again { takes_part transaction.old.participants store ≡ true
             → AtStore S.view store (AddsAtMost statement.now) self.old.stores.items self.new.stores.items }
         // Proved (coordinator, work-adds): Work adds at most its `XA START` and its row statement.
-        ensures adds { AtStore S.view store (AddsWork (branch_of transaction.old store) statement.now) self.old.stores.items self.new.stores.items }
+        ensures adds { AtStore S.view store (AddsWork (branch_of transaction.old store) statement.now)
+            self.old.stores.items self.new.stores.items }
         // Proved (coordinator, agrees)
-        ensures agrees { (decisions : List Decision) → EachStore S.view (Agrees decisions self.old.name.items) self.old.stores.items self.new.stores.items }
+        ensures agrees { (decisions : List Decision) → EachStore S.view
+            (Agrees decisions self.old.name.items) self.old.stores.items self.new.stores.items }
     {
         self.work_at(rt, transaction, store, statement)
     }

@@ -7,7 +7,8 @@ use Rattle.xa_session.specs.View.{SessionView}
 use Rattle.xa_coordinator.specs.declared.decisions.Decision.{Decision}
 use Rattle.xa_endless.specs.Course.{Course, stays, calls, joined, AgreesThroughout}
 
-pub throughout : (name : List ℕ) (store : ℕ) (decisions : List (List Decision)) (old new : SessionView) → Course name store decisions old new
+pub throughout : (name : List ℕ) (store : ℕ) (decisions : List (List Decision)) (old new : SessionView)
+    → Course name store decisions old new
     → AgreesThroughout name store decisions old new
 throughout name store _ _ _ (stays old) = record {
   identity = refl;
@@ -31,7 +32,9 @@ throughout name store _ _ _ (calls stood later old mid new agrees course) =
       mine =
           rest.mine ∙ ap (λ n. mid.known.mine ++ map (entry_of n) (joined rest.statements)) number
           ∙ ap (λ list. list ++ map (entry_of old.known.number) (joined rest.statements)) adds.mine
-          ∙ append_assoc old.known.mine (map (entry_of old.known.number) agrees.statements) (map (entry_of old.known.number) (joined rest.statements))
-          ∙ ap (λ list. old.known.mine ++ list) (sym (map-append (entry_of old.known.number) agrees.statements (joined rest.statements)));
+          ∙ append_assoc old.known.mine (map (entry_of old.known.number) agrees.statements)
+          (map (entry_of old.known.number) (joined rest.statements))
+          ∙ ap (λ list. old.known.mine ++ list) (sym (map-append (entry_of old.known.number) agrees.statements
+          (joined rest.statements)));
       each = (agrees.each, rest.each);
     }

@@ -1,14 +1,15 @@
 -- What calls come to after steps that append nothing.
-use Rattle.std.proofs.Common.{◌≡◌, [], ◌∷◌, ◌++◌, length, take, refl, ap, sym, subst, ◌∙◌, ⊎_elim, inl, inr, Ok, Err, ℕ, arith}
+use Rattle.std.proofs.Common.{◌≡◌, [], ◌∷◌, ◌++◌, length, take, refl, ap, sym, subst, ◌∙◌, ⊎_elim, inl, inr, Ok, Err, ℕ}
+use Rattle.std.proofs.Common.{arith}
 use Rattle.std.specs.Prelude.{Result}
 use Rattle.xa_xid.specs.declared.statement.Statement.{Statement}
 use Rattle.decision_log.specs.declared.known.Known.{Known}
 use Rattle.decision_log.specs.History.{Begins}
 use Rattle.decision_log.specs.Calls.{IsOvertaken, MeetsFirst, MeetsSecond}
 use Rattle.decision_log.proofs.Histories.{begins_itself, begins_through, length_begins}
-use Rattle.ring_log.specs.declared.ring.RingLog.{RingLog}
-use Rattle.ring_log.specs.declared.pass.RingPass.{RingPass}
-use Rattle.ring_log.specs.RingPass.{known_of}
+use Rattle.chain_log.specs.declared.ring.RingLog.{RingLog}
+use Rattle.chain_log.specs.declared.ring_pass.RingPass.{RingPass}
+use Rattle.chain_log.specs.RingPass.{known_of}
 use Rattle.xa_server.specs.State.{no_state}
 use Rattle.xa_server.specs.Step.{enters, may_take_memory}
 use Rattle.xa_session.specs.Answer.{entry_of, AnswersAt, IsAnswered, IsUnanswered, IsKept}
@@ -24,7 +25,8 @@ use Rattle.xa_endless.specs.declared.fault.EndlessFault.TheVariants.{Overtaken, 
 use Rattle.xa_endless.specs.declared.replica.Replica.{Replica}
 
 pub seen_itself : (known : Known) → HasOnlySeen known known
-seen_itself known = record { number = refl; seen = begins_itself known.seen; mine = refl; looks = omega arith; tries = refl }
+seen_itself known =
+    record { number = refl; seen = begins_itself known.seen; mine = refl; looks = omega arith; tries = refl }
 
 pub seen_through : (old mid new : Known) → HasOnlySeen old mid → HasOnlySeen mid new → HasOnlySeen old new
 seen_through old mid new first second = record {
@@ -60,7 +62,8 @@ seen_second other old new met = record {
   tries = met.tries;
 }
 
-overtaken_after : (front : ℕ) (old mid new : Known) → HasOnlySeen old mid → IsOvertaken front mid new → IsOvertaken front old new
+overtaken_after : (front : ℕ) (old mid new : Known) → HasOnlySeen old mid → IsOvertaken front mid new
+    → IsOvertaken front old new
 overtaken_after front old mid new seen lost = record {
   number = lost.number ∙ seen.number;
   seen = begins_through old.seen mid.seen new.seen seen.seen lost.seen;
@@ -72,31 +75,45 @@ overtaken_after front old mid new seen lost = record {
 }
 
 -- a statement's end, if nothing was tried before
-pub finds_after : (log : RingLog) (statement : Statement) (result : Result Answer EndlessFault) (replica : Replica) (old mid new : RingPass)
-    → HasOnlySeen (known_of old) (known_of mid) → Finds log statement result replica mid new → Finds log statement result replica old new
+pub finds_after : (log : RingLog) (statement : Statement) (result : Result Answer EndlessFault) (replica : Replica)
+    (old mid new : RingPass)
+    → HasOnlySeen (known_of old) (known_of mid) → Finds log statement result replica mid new
+    → Finds log statement result replica old new
 finds_after log statement (Ok answer) replica old mid new seen found = record {
-  answered = then_answered no_state statement answer (known_of old) (known_of mid) (known_of new) (unanswered_seen (known_of old) (known_of mid) seen) found.answered;
+  answered = then_answered no_state statement answer (known_of old) (known_of mid) (known_of new)
+      (unanswered_seen (known_of old) (known_of mid) seen) found.answered;
   replayed = found.replayed;
   kept = found.kept;
 }
 finds_after log statement (Err (Overtaken front)) replica old mid new seen found = record {
   fails = overtaken_after front (known_of old) (known_of mid) (known_of new) seen found.fails;
   cause = found.cause;
-  leaves = (omega (arith, length_begins (known_of old).seen (known_of mid).seen seen.seen, found.leaves.0), found.leaves.1);
+  leaves = (
+    omega (
+      arith,
+      length_begins (known_of old).seen
+          (known_of mid).seen seen.seen,
+      found.leaves.0,
+    ),
+    found.leaves.1,
+  );
 }
 finds_after log statement (Err NoMemory) replica old mid new seen found = record {
-  fails = unanswered_through (known_of old) (known_of mid) (known_of new) (unanswered_seen (known_of old) (known_of mid) seen) found.fails;
+  fails = unanswered_through (known_of old) (known_of mid) (known_of new)
+      (unanswered_seen (known_of old) (known_of mid) seen) found.fails;
   cause = found.cause;
   leaves = tt;
 }
 finds_after log statement (Err Behind) replica old mid new seen found = record {
-  fails = unanswered_through (known_of old) (known_of mid) (known_of new) (unanswered_seen (known_of old) (known_of mid) seen) found.fails;
+  fails = unanswered_through (known_of old) (known_of mid) (known_of new)
+      (unanswered_seen (known_of old) (known_of mid) seen) found.fails;
   cause = found.cause;
   leaves = tt;
 }
 
 -- how often it tried
-pub tries_after : (result : Result Answer EndlessFault) (old mid new : Known) → HasOnlySeen old mid → TriesOnce result mid new → TriesOnce result old new
+pub tries_after : (result : Result Answer EndlessFault) (old mid new : Known) → HasOnlySeen old mid
+    → TriesOnce result mid new → TriesOnce result old new
 tries_after (Ok answer) old mid new seen once = record {
   looked = omega (arith, seen.looks, once.looked);
   tries = omega (arith, seen.tries, once.tries);
@@ -120,7 +137,8 @@ tries_after (Err Behind) old mid new seen once = record {
 
 -- an attempt that found itself behind has tried nothing
 pub seen_behind : (log : RingLog) (statement : Statement) (replica : Replica) (old new : RingPass)
-    → HasFailed log statement Behind replica old new → TriesOnce (Err Behind) (known_of old) (known_of new) → HasOnlySeen (known_of old) (known_of new)
+    → HasFailed log statement Behind replica old new → TriesOnce (Err Behind) (known_of old) (known_of new)
+    → HasOnlySeen (known_of old) (known_of new)
 seen_behind log statement replica old new failed once = record {
   number = failed.fails.advances.number;
   seen = failed.fails.advances.seen;
@@ -142,10 +160,12 @@ met_through old mid new first second = record {
   tries = second.tries ∙ first.tries;
 }
 
-answered_met : (statement : Statement) (answer : Answer) (old mid new : Known) → IsAnswered no_state statement answer old mid → MeetsFirst mid new
+answered_met : (statement : Statement) (answer : Answer) (old mid new : Known)
+    → IsAnswered no_state statement answer old mid → MeetsFirst mid new
     → IsAnswered no_state statement answer old new
 answered_met statement answer old mid new is met =
-    let entering : enters (state_at no_state new.seen answer.place) old.number statement ≡ enters (state_at no_state mid.seen answer.place) old.number statement =
+    let entering : enters (state_at no_state new.seen answer.place) old.number statement
+    ≡ enters (state_at no_state mid.seen answer.place) old.number statement =
     ap (λ list. enters (state_at no_state list answer.place) old.number statement) met.seen in
     record {
       advances = record {
@@ -159,7 +179,8 @@ answered_met statement answer old mid new is met =
       at = subst (λ list. AnswersAt no_state list old.number statement answer.place answer.reply) (sym met.seen) is.at;
       entered = λ enters_there.
           let entered = is.entered (sym entering ∙ enters_there) in record {
-            seen = subst (λ list. list ≡ take answer.place list ++ entry_of old.number statement ∷ []) (sym met.seen) entered.seen;
+            seen = subst (λ list. list ≡ take answer.place list ++ entry_of old.number statement ∷ [])
+                (sym met.seen) entered.seen;
             mine = met.mine ∙ entered.mine;
           };
       outside = λ outside_there.
@@ -169,14 +190,16 @@ answered_met statement answer old mid new is met =
           };
     }
 
-kept_met : (statement : Statement) (answer : Answer) (replica : KeptReplica) (mid new : Known) → IsKept no_state statement answer replica mid → MeetsFirst mid new
+kept_met : (statement : Statement) (answer : Answer) (replica : KeptReplica) (mid new : Known)
+    → IsKept no_state statement answer replica mid → MeetsFirst mid new
     → IsKept no_state statement answer replica new
 kept_met statement answer replica mid new kept met =
     ⊎_elim (λ whole. inl (whole ∙ ap length (sym met.seen))) (λ memory. inr
     (ap (λ list. may_take_memory (state_at no_state list answer.place) new.number statement) met.seen
     ∙ ap (λ n. may_take_memory (state_at no_state mid.seen answer.place) n statement) met.number ∙ memory)) kept
 
-pub has_answered_met : (statement : Statement) (answer : Answer) (replica : Replica) (old mid new : Known) → HasAnswered statement answer replica old mid
+pub has_answered_met : (statement : Statement) (answer : Answer) (replica : Replica) (old mid new : Known)
+    → HasAnswered statement answer replica old mid
     → MeetsFirst mid new → HasAnswered statement answer replica old new
 has_answered_met statement answer replica old mid new has met = record {
   answered = answered_met statement answer old mid new has.answered met;
@@ -184,7 +207,8 @@ has_answered_met statement answer replica old mid new has met = record {
   kept = kept_met statement answer (kept_of replica) mid new has.kept met;
 }
 
-pub tries_met : (answer : Answer) (old mid new : Known) → TriesOnce (Ok answer) old mid → MeetsFirst mid new → TriesOnce (Ok answer) old new
+pub tries_met : (answer : Answer) (old mid new : Known) → TriesOnce (Ok answer) old mid → MeetsFirst mid new
+    → TriesOnce (Ok answer) old new
 tries_met answer old mid new once met = record {
   looked = omega (arith, once.looked, met.looks);
   tries = omega (arith, once.tries, met.tries);

@@ -6,7 +6,8 @@ use Rattle.xa_server.specs.State.{no_state}
 use Rattle.xa_server.specs.Step.{after}
 use Rattle.decision_log.specs.History.{Begins}
 use Rattle.xa_session.specs.Replay.{Stands as StandsFrom}
-use Rattle.xa_session.proofs.Replaying.{state_at-begins, stands_first as first_from, stands_next as next_from, stands_longer as longer_from}
+use Rattle.xa_session.proofs.Replaying.{state_at-begins, stands_first as first_from, stands_next as next_from}
+use Rattle.xa_session.proofs.Replaying.{stands_longer as longer_from}
 use Rattle.xa_endless.specs.Replicas.{Stands, kept_of}
 use Rattle.xa_endless.specs.declared.replica.Replica.{Replica}
 
@@ -16,19 +17,24 @@ from seen replica stands = record { within = stands.within; state = stands.state
 to : (seen : List Entry) (replica : Replica) → StandsFrom no_state seen (kept_of replica) → Stands seen replica
 to seen replica stands = record { within = stands.within; state = stands.state }
 
-pub stands_first : (seen : List Entry) (replica : Replica) → replica.server ≡ no_state → replica.replayed ≡ 0 → Stands seen replica
+pub stands_first : (seen : List Entry) (replica : Replica) → replica.server ≡ no_state → replica.replayed ≡ 0
+    → Stands seen replica
 stands_first seen replica server none = to seen replica (first_from no_state seen (kept_of replica) server none)
 
-pub stands_next : (seen : List Entry) (old new : Replica) (entry : Entry) → Stands seen old → slice_get seen old.replayed ≡ Some entry
+pub stands_next : (seen : List Entry) (old new : Replica) (entry : Entry) → Stands seen old
+    → slice_get seen old.replayed ≡ Some entry
     → new.server ≡ after old.server entry.session entry.statement → new.replayed ≡ old.replayed + 1 → Stands seen new
 stands_next seen old new entry stands is server next =
     to seen new (next_from no_state seen (kept_of old) (kept_of new) entry (from seen old stands) is server next)
 
-pub stands_longer : (seen longer : List Entry) (replica : Replica) → Begins seen longer → Stands seen replica → Stands longer replica
-stands_longer seen longer replica begins stands = to longer replica (longer_from no_state seen longer (kept_of replica) begins (from seen replica stands))
+pub stands_longer : (seen longer : List Entry) (replica : Replica) → Begins seen longer → Stands seen replica
+    → Stands longer replica
+stands_longer seen longer replica begins stands =
+    to longer replica (longer_from no_state seen longer (kept_of replica) begins (from seen replica stands))
 
 -- in a history that begins a longer one, if the replica has replayed no more of it
-pub stands_shorter : (seen longer : List Entry) (replica : Replica) → Begins seen longer → replica.replayed ≤ length seen → Stands longer replica
+pub stands_shorter : (seen longer : List Entry) (replica : Replica) → Begins seen longer
+    → replica.replayed ≤ length seen → Stands longer replica
     → Stands seen replica
 stands_shorter seen longer replica begins within stands = record {
   within = within;

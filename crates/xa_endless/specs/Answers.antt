@@ -1,29 +1,35 @@
 -- How a call for a statement ends, by what the session's pass knew and knows.
 --     HasAnswered      the statement was answered
 --     Fails            nothing of it was appended
+--     TakesMemory      an entry may take memory where it is replayed
+--     WantsMemory      the entry that the replica would replay next may take memory
+--     LacksMemory      entries are left to replay, and that may take memory
 --     IsCaused         the cause of a fault
 --     Leaves           what a lost try has seen
 --     IsLost           entries that the replica hasn't replayed may be overwritten
 --     HasFailed        it wasn't answered, for a cause of this fault
 --     Finds            HasAnswered after Ok, HasFailed after Err
 --     TriesOnce        an attempt has looked, and has tried to append at most once
-use Rattle.std.specs.Prelude.{◌≡◌, ◌<◌, ◌≤◌, ◌+◌, ℕ, true, ◌⊎◌, length, Result, Ok, Err, IfErr}
+use Rattle.std.specs.Prelude.{◌≡◌, ◌<◌, ◌≤◌, ◌+◌, ℕ, true, ◌⊎◌, length, slice_get, Option, Some, None}
+use Rattle.std.specs.Prelude.{Result, Ok, Err, IfErr}
+use Rattle.xa_words.specs.Entry.{Entry}
 use Rattle.decision_log.specs.declared.known.Known.{Known}
 use Rattle.decision_log.specs.Calls.{IsOvertaken}
 use Rattle.xa_xid.specs.declared.statement.Statement.{Statement}
-use Rattle.xa_server.specs.State.{no_state}
-use Rattle.xa_server.specs.Step.{is_recover}
+use Rattle.xa_server.specs.State.{State, no_state}
+use Rattle.xa_server.specs.Step.{is_recover, may_take_memory}
 use Rattle.xa_session.specs.Answer.{IsAnswered, IsUnanswered, IsKept}
 use Rattle.xa_session.specs.declared.answer.Answer.{Answer}
-use Rattle.ring_log.specs.declared.ring.RingLog.{RingLog}
-use Rattle.ring_log.specs.declared.pass.RingPass.{RingPass}
-use Rattle.ring_log.specs.RingPass.{known_of, least_of}
+use Rattle.chain_log.specs.declared.ring.RingLog.{RingLog}
+use Rattle.chain_log.specs.declared.ring_pass.RingPass.{RingPass}
+use Rattle.chain_log.specs.RingPass.{known_of, least_of}
 use Rattle.xa_endless.specs.Replicas.{kept_of}
 use Rattle.xa_endless.specs.declared.fault.EndlessFault.{EndlessFault}
 use Rattle.xa_endless.specs.declared.fault.EndlessFault.TheVariants.{Overtaken, NoMemory, Behind}
 use Rattle.xa_endless.specs.declared.replica.Replica.{Replica}
 
--- the reply is the server's at the answer's place, the replica had replayed what it was found on, and has replayed all that is seen since
+-- the reply is the server's at the answer's place, the replica had replayed what it was found on, and has replayed all
+-- that is seen since
 pub record HasAnswered (statement : Statement) (answer : Answer) (replica : Replica) (old new : Known) : Type 0 where
   pub answered : IsAnswered no_state statement answer old new
   pub replayed : answer.place ≤ replica.replayed
@@ -39,12 +45,28 @@ Fails Behind old new = IsUnanswered old new
 abbrev pub IsLost : ℕ → Replica → RingPass → Type 0
 IsLost rows replica pass = replica.replayed + rows ≤ least_of pass
 
--- there is no memory only for the list of an XA RECOVER, or for a replica that hasn't replayed all that is seen; or the history has all entries
--- that it can have, which are more than 2^59
+-- carrying the entry out may take memory
+abbrev pub TakesMemory : State → Option Entry → Type 0
+TakesMemory state None = ⊥
+TakesMemory state (Some entry) = may_take_memory state entry.session entry.statement ≡ true
+
+-- there is a next entry to replay, and it may take memory
+abbrev pub WantsMemory : Replica → Known → Type 0
+WantsMemory replica known = TakesMemory replica.server (slice_get known.seen replica.replayed)
+
+-- not all that is seen is replayed: the next entry may take memory, or as many are left as the ring has rows, so that a
+-- copy of all rows is needed
+abbrev pub LacksMemory : ℕ → Replica → Known → Type 0
+LacksMemory rows replica known = (replica.replayed < length known.seen)
+    × (WantsMemory replica known ⊎ (replica.replayed + rows ≤ length known.seen))
+
+-- there is no memory only for the list of an XA RECOVER, or for a replica that hasn't replayed all that is seen; or the
+-- history has all entries that it can have, which are more than 2^59
 abbrev pub IsCaused : RingLog → Statement → EndlessFault → Replica → RingPass → Type 0
 IsCaused log statement (Overtaken front) replica pass = Unit {0}
 IsCaused log statement NoMemory replica pass =
-    (is_recover statement ≡ true) ⊎ ((replica.replayed < length (known_of pass).seen) ⊎ (length (known_of pass).seen ≡ log.capacity))
+    (is_recover statement ≡ true) ⊎ (LacksMemory log.rows replica (known_of pass)
+    ⊎ (length (known_of pass).seen ≡ log.capacity))
 IsCaused log statement Behind replica pass = IsLost log.rows replica pass
 
 -- a try is lost after the replica has replayed all that was seen before, and to entries that it hasn't replayed
@@ -54,7 +76,8 @@ Leaves NoMemory replica old new = Unit {0}
 Leaves Behind replica old new = Unit {0}
 
 -- nothing of the statement was appended, for a cause of this fault
-pub record HasFailed (log : RingLog) (statement : Statement) (fault : EndlessFault) (replica : Replica) (old new : RingPass) : Type 0 where
+pub record HasFailed (log : RingLog) (statement : Statement) (fault : EndlessFault) (replica : Replica)
+    (old new : RingPass) : Type 0 where
   pub fails : Fails fault (known_of old) (known_of new)
   pub cause : IsCaused log statement fault replica new
   pub leaves : Leaves fault replica (known_of old) (known_of new)

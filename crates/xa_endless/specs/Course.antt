@@ -14,16 +14,18 @@ use Rattle.xa_coordinator.specs.declared.decisions.Decision.{Decision}
 -- from one session of the store to the session after calls, each with the decisions of its time
 pub data Course (name : List ℕ) (store : ℕ) : List (List Decision) → SessionView → SessionView → Type 0 where
   stays : (session : SessionView) → Course name store [] session session
-  calls : (decisions : List Decision) (later : List (List Decision)) (old mid new : SessionView) → Agrees decisions name store old mid
+  calls : (decisions : List Decision) (later : List (List Decision)) (old mid new : SessionView)
+      → Agrees decisions name store old mid
       → Course name store later mid new → Course name store (decisions ∷ later) old new
 
 abbrev pub joined : List (List Statement) → List Statement
 joined [] = []
 joined (list ∷ lists) = list ++ joined lists
 
--- the session is of its log, and its history begins as it did; exactly these statements of the session were added, those of each call as its
--- decisions allow
-pub record AgreesThroughout (name : List ℕ) (store : ℕ) (decisions : List (List Decision)) (old new : SessionView) : Type 0 where
+-- the session is of its log, and its history begins as it did; exactly these statements of the session were added,
+-- those of each call as its decisions allow
+pub record AgreesThroughout (name : List ℕ) (store : ℕ) (decisions : List (List Decision))
+    (old new : SessionView) : Type 0 where
   pub identity : new.identity ≡ old.identity
   pub base : new.base ≡ old.base
   pub number : new.known.number ≡ old.known.number

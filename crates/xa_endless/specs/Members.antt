@@ -5,7 +5,7 @@
 --     Serves           a replica that the session can go on from
 use Rattle.std.specs.Prelude.{◌≡◌, ◌<◌, ◌≤◌}
 use Rattle.decision_log.specs.Calls.{MeetsFirst}
-use Rattle.ring_log.specs.RingPass.{known_of}
+use Rattle.chain_log.specs.RingPass.{known_of}
 use Rattle.xa_endless.specs.Replicas.{Stands}
 use Rattle.xa_endless.specs.Seen.{HasOnlySeen}
 use Rattle.xa_endless.specs.declared.member.Member.{Member}

@@ -1,10 +1,16 @@
 -- How a store opens.
+--     checkpoints_of   how many checkpoints a store of so many sessions has
 --     Opens            a store of so many rows and sessions
-use Rattle.std.specs.Prelude.{◌≡◌, ℕ, length}
+use Rattle.std.specs.Prelude.{◌≡◌, ℕ, length, min, nat_le, if◌then◌else◌}
 use Rattle.xa_endless.specs.declared.store.EndlessStore.{EndlessStore}
+
+-- none for one session, which nobody can leave behind, and else as many as sessions, but at most four
+abbrev pub checkpoints_of : ℕ → ℕ
+checkpoints_of sessions = if nat_le sessions 1 then 0 else min sessions 4
 
 -- of so many rows and sessions, each of which has a place
 pub record Opens (rows sessions : ℕ) (store : EndlessStore) : Type 0 where
   pub rows_are : store.log.rows ≡ rows
   pub sessions_are : store.log.sessions ≡ sessions
   pub places_are : length store.places.items ≡ sessions
+  pub checkpoints_are : length store.checkpoints.items ≡ checkpoints_of sessions

@@ -15,7 +15,8 @@ use Rattle.xa_endless.specs.declared.replica.Replica.{Replica}
 abbrev pub kept_of : Replica → KeptReplica
 kept_of replica = record { server = replica.server; replayed = replica.replayed }
 
--- it has replayed no more entries than were seen, and is the server after them; a store begins with no branch and no row
+-- it has replayed no more entries than were seen, and is the server after them; a store begins with no branch and no
+-- row
 pub record Stands (seen : List Entry) (replica : Replica) : Type 0 where
   pub within : replica.replayed ≤ length seen
   pub state : replica.server ≡ state_at no_state seen replica.replayed

@@ -2,9 +2,9 @@
 --     IsAtRest         the member, with its pass at rest
 --     IsLeft           the checkpoint, with its spare at rest
 use Rattle.std.specs.Prelude.{◌≡◌}
-use Rattle.ring_log.specs.RingPass.{log_of, known_of}
-use Rattle.ring_log.specs.RingSpare.{spare_log_of, spare_known_of}
-use Rattle.ring_log.specs.Resting.{resting_log_of, resting_known_of, resting_spare_log_of, resting_spare_known_of}
+use Rattle.chain_log.specs.RingPass.{log_of, known_of}
+use Rattle.chain_log.specs.RingSpare.{spare_log_of, spare_known_of}
+use Rattle.chain_log.specs.Resting.{resting_log_of, resting_known_of, resting_spare_log_of, resting_spare_known_of}
 use Rattle.xa_endless.specs.declared.member.Member.{Member}
 use Rattle.xa_endless.specs.declared.checkpoint.Checkpoint.{Checkpoint}
 use Rattle.xa_endless.specs.declared.resting.RestingMember.{RestingMember}

@@ -3,31 +3,46 @@
 --     keeps-law        a store begins in a state that keeps the lock law
 --     MayFail          the causes of a fault of `execute`
 --     MayFailOnce      the causes of a fault of `attempt`
-use Rattle.std.specs.Prelude.{false, [], ◌⊎◌}
+--     SpeaksOnce       what `attempt` does
+--     SpeaksOn         what `execute` does
+use Rattle.std.specs.Prelude.{false, [], ◌⊎◌, Result, IfOk, IfErr, OnErr}
 use Rattle.xa_xid.specs.declared.statement.Statement.{Statement}
-use Rattle.ring_log.specs.RingPass.{log_of, known_of}
+use Rattle.chain_log.specs.RingPass.{log_of, known_of}
 use Rattle.xa_server.specs.Locks.{LockLaw}
 use Rattle.xa_server.specs.State.{no_state}
 use Rattle.xa_server.proofs.Keeping.{law_no_state}
 use Rattle.xa_session.specs.View.{SessionView}
+use Rattle.xa_session.specs.Tries.{TriesOnce, LooksLast}
+use Rattle.xa_session.specs.declared.answer.Answer.{Answer}
 use Rattle.xa_session.specs.declared.fault.Fault.{Fault}
 use Rattle.xa_session.specs.declared.fault.Fault.TheVariants.{Overtaken, Full, NoMemory, Busy}
-use Rattle.xa_endless.specs.Answers.{IsCaused}
+use Rattle.xa_endless.specs.Answers.{IsCaused, HasAnswered}
+use Rattle.xa_endless.specs.Stays.{Stays}
 use Rattle.xa_endless.specs.declared.fault.EndlessFault.TheVariants.{NoMemory as WantsMemory, Behind as IsBehind}
 use Rattle.xa_endless.specs.declared.session.EndlessSession.{EndlessSession}
 
 -- its history begins with the store's first entry, and no other session is in it
 abbrev pub view_of : EndlessSession → SessionView
-view_of session = record { identity = log_of session.member.pass; turns = false; base = no_state; known = known_of session.member.pass; beside = [] }
+view_of session =
+    record {
+      identity = log_of session.member.pass;
+      turns = false;
+      base = no_state;
+      known = known_of
+          session.member.pass;
+      beside = [];
+    }
 
 pub keeps-law : (session : EndlessSession) → LockLaw (view_of session).base
 keeps-law session = law_no_state
 
--- memory is missing only for a list, for a replica that hasn't replayed all that is seen, or after 2^59 entries; the store is never full and has no turn
+-- memory is missing only for a list, for a replica that hasn't replayed all that is seen, or after 2^59 entries; the
+-- store is never full and has no turn
 abbrev pub MayFail : Statement → Fault → EndlessSession → Type 0
 MayFail statement (Overtaken front) session = ⊥
 MayFail statement Full session = ⊥
-MayFail statement NoMemory session = IsCaused session.store.value.log statement WantsMemory session.member.replica session.member.pass
+MayFail statement NoMemory session =
+    IsCaused session.store.value.log statement WantsMemory session.member.replica session.member.pass
 MayFail statement Busy session = ⊥
 
 -- a single try may be overtaken, and is out of memory also if entries that the replica needs may be overwritten
@@ -37,3 +52,20 @@ MayFailOnce statement Full session = ⊥
 MayFailOnce statement NoMemory session = MayFail statement NoMemory session
     ⊎ IsCaused session.store.value.log statement IsBehind session.member.replica session.member.pass
 MayFailOnce statement Busy session = ⊥
+
+-- the session is of its store, and the statement is answered or not for a cause; it has looked, and has tried to append
+-- at most once, at a fault other than Overtaken not at all
+pub record SpeaksOnce (statement : Statement) (result : Result Answer Fault) (old new : EndlessSession) : Type 0 where
+  pub stays : Stays old new
+  pub answered : IfOk result (λ answer. HasAnswered statement answer new.member.replica (known_of old.member.pass)
+      (known_of new.member.pass))
+  pub cause : IfErr result (λ fault. MayFailOnce statement fault new)
+  pub once : TriesOnce result (known_of old.member.pass) (known_of new.member.pass)
+
+-- the same of tries until one is answered: its fault doesn't come in place of a try that was lost
+pub record SpeaksOn (statement : Statement) (result : Result Answer Fault) (old new : EndlessSession) : Type 0 where
+  pub stays : Stays old new
+  pub answered : IfOk result (λ answer. HasAnswered statement answer new.member.replica (known_of old.member.pass)
+      (known_of new.member.pass))
+  pub cause : IfErr result (λ fault. MayFail statement fault new)
+  pub tried : OnErr result (LooksLast (known_of old.member.pass) (known_of new.member.pass))

@@ -1,7 +1,8 @@
 //! How a session answers a statement, and catches up.
 ghost use Rattle.std.specs.Prelude.{◌≡◌, ◌≤◌, length, IfOk, IfErr, OnErr};
-ghost use Rattle.ring_log.specs.RingPass.{identity_of, log_of, known_of};
+ghost use Rattle.chain_log.specs.RingPass.{identity_of, log_of, known_of};
 ghost use Rattle.xa_session.specs.Answer.{IsUnanswered};
+ghost use Rattle.xa_session.specs.Tries.{LooksLast};
 ghost use Rattle.xa_endless.specs.Answers.{Finds, HasAnswered, HasFailed, TriesOnce};
 ghost use Rattle.xa_endless.specs.Stays.{Stays};
 ghost use Rattle.xa_endless.specs.declared.fault.EndlessFault.TheVariants.{NoMemory as IsNoMemory};
@@ -70,7 +71,8 @@ impl EndlessSession {
     /// The answer's place is the length of the history at that step. Errors: `Behind` if entries that the session
     /// hasn't replayed were overwritten, and it found no checkpoint that is nearer to the end, or others added as many
     /// entries as the ring has rows while it copied one. Try again: no number of tries is promised. `NoMemory` if an
-    /// entry couldn't be replayed, or the list of `XA RECOVER` couldn't be made, or the history has 2^59 entries;
+    /// entry couldn't be replayed, or a checkpoint couldn't be copied, or the list of `XA RECOVER` couldn't be made, or
+    /// the history has more than 2^59 entries;
     /// `Overtaken` if another session appended after this attempt looked. After an error the history has nothing of the
     /// statement, and the session may have seen and replayed more. `NoMemory` is never returned after an append.
     ///
@@ -84,9 +86,11 @@ impl EndlessSession {
         //   prefix of the store's one history, which has all that the session had seen. A statement that is logged is
         //   the entry right after that prefix, once. After a fault nothing of the statement was appended.
         // Proved (endless, causes): `Behind` is returned only if the history has at least as many entries as the ring
-        //   has rows, from the next one on that the session would replay. `Overtaken` only if a try was lost to a longer
-        //   history, after the session had replayed all that it had seen before. `NoMemory` only for a list, for a
-        //   replica that hasn't replayed all that is seen, or after 2^59 entries.
+        //   has rows, from the next one on that the session would replay. `Overtaken` only if a try was lost to a
+        //   longer history, after the session had replayed all that it had seen before. `NoMemory` only for a list, for
+        //   a replica that hasn't replayed all that is seen, or after 2^59 entries. Such a replica's next entry is one
+        //   that may take memory, or the replica needs a copy of all rows: as many entries as the ring has rows are
+        //   left to replay.
         ensures finds { Finds self.old.store.value.log statement.now result self.new.member.replica self.old.member.pass self.new.member.pass }
         // Proved (endless, one-try): An attempt looks, and makes at most one exchange of the word that sessions share.
         ensures once { TriesOnce result (known_of self.old.member.pass) (known_of self.new.member.pass) }
@@ -102,10 +106,17 @@ impl EndlessSession {
         // Proved (endless, stays)
         ensures stays { Stays self.old self.new }
         // Proved (endless, answers)
-        ensures ok { IfOk result (λ answer. HasAnswered statement.now answer self.new.member.replica (known_of self.old.member.pass) (known_of self.new.member.pass)) }
+        ensures ok { IfOk result (λ answer. HasAnswered statement.now answer self.new.member.replica
+            (known_of self.old.member.pass) (known_of self.new.member.pass)) }
         // Proved (endless, answers)
         // Proved (endless, causes)
-        ensures err { OnErr result (HasFailed self.old.store.value.log statement.now IsNoMemory self.new.member.replica self.old.member.pass self.new.member.pass) }
+        ensures err { OnErr result
+            (HasFailed self.old.store.value.log statement.now IsNoMemory self.new.member.replica self.old.member.pass
+            self.new.member.pass) }
+        // Proved (endless, how-executing-ends): Executing returns `NoMemory` only after more looks than tries, so never
+        //   in place of a try that was lost.
+        ensures tried { OnErr result
+            (LooksLast (known_of self.old.member.pass) (known_of self.new.member.pass)) }
     {
         for _ in rt.forever() {
             let tended = self.member.tended;

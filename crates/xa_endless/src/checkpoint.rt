@@ -1,8 +1,8 @@
 //! A replica that no session owns.
 ghost use Rattle.std.specs.Prelude.{◌≡◌, ◌<◌, ◌≤◌, false, length, IfSome, IfNone};
 ghost use Rattle.std.specs.Coded.{Coded-set};
-ghost use Rattle.ring_log.specs.RingPass.{identity_of, log_of, known_of};
-ghost use Rattle.ring_log.specs.RingSpare.{spare_log_of, spare_known_of};
+ghost use Rattle.chain_log.specs.RingPass.{identity_of, log_of, known_of, least_of};
+ghost use Rattle.chain_log.specs.RingSpare.{spare_log_of, spare_known_of};
 ghost use Rattle.xa_endless.specs.Members.{Hears, Keeps, Serves, Tends};
 ghost use Rattle.xa_endless.specs.Replicas.{Stands};
 ghost use Rattle.xa_server.specs.Coding.{coded_state};
@@ -11,7 +11,7 @@ ghost use Rattle.xa_session.specs.Replay.{state_at};
 
 use crate::upkeep::Upkeep;
 use crate::{EndlessFault, Member, Replica};
-use ring_log::{RingLog, RingSpare};
+use chain_log::{RingLog, RingSpare};
 use std::mem;
 use std::sync::Arc;
 
@@ -55,10 +55,13 @@ impl Checkpoint {
         ensures belongs { log_of member.new.pass ≡ log_of member.old.pass }
         ensures hears { Hears member.old member.new }
         ensures serves { IfSome result (λ shared. Serves member.new shared.value) }
+        ensures least { IfSome result (λ _. least_of member.old.pass ≤ length (known_of member.new.pass).seen) }
         ensures none { IfNone result (member.new ≡ member.old) }
     {
         self.offers(log, member)?;
         let shared = Arc::try_clone(&self.replica).ok()?;
+        // The session has then seen as much as it knew to be there, also if the copy can't be had.
+        log.look(&mut member.pass);
         // Both have seen first parts of one history, so what the replica has replayed begins what the session has seen.
         log.hear(&mut self.spare, &mut member.pass);
         Some(shared)

@@ -1,6 +1,6 @@
 //! Handing out the history, entry by entry.
 ghost use Rattle.std.specs.Prelude.{◌≡◌, ◌<◌, ◌≤◌, ◌+◌, length};
-ghost use Rattle.ring_log.specs.RingPass.{known_of};
+ghost use Rattle.chain_log.specs.RingPass.{known_of};
 ghost use Rattle.xa_endless.specs.Following.{Hands};
 ghost use Rattle.xa_endless.specs.Seen.{HasOnlySeen};
 

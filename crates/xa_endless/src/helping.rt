@@ -1,6 +1,6 @@
 //! How a session that is behind goes on from a checkpoint.
-ghost use Rattle.std.specs.Prelude.{◌≡◌, ◌<◌, false, length, IfOk, IfSome, OnErr};
-ghost use Rattle.ring_log.specs.RingPass.{identity_of, log_of, known_of};
+ghost use Rattle.std.specs.Prelude.{◌≡◌, ◌<◌, ◌≤◌, false, length, IfOk, IfSome, OnErr};
+ghost use Rattle.chain_log.specs.RingPass.{identity_of, log_of, known_of, least_of};
 ghost use Rattle.xa_endless.specs.Members.{Keeps};
 
 use crate::{EndlessStore, Member};
@@ -10,8 +10,8 @@ use xa_xid::NoMemory;
 const LEAST_JUMP: u64 = 512;
 
 impl EndlessStore {
-    /// How many entries the replica of a checkpoint has replayed, or 0 if a session can't go on from there, or if another
-    /// session has the checkpoint just now.
+    /// How many entries the replica of a checkpoint has replayed, or 0 if a session can't go on from there, or if
+    /// another session has the checkpoint just now.
     fn offered(&self, index: usize, member: &Member) -> u64
         requires index { index < length self.now.checkpoints.items }
         requires belongs { log_of member.now.pass ≡ identity_of self.now.log }
@@ -41,8 +41,8 @@ impl EndlessStore {
         best
     }
 
-    /// Has a session that is behind go on from the replica of a checkpoint. Returns whether it does; if not, nothing has
-    /// changed.
+    /// Has a session that is behind go on from the replica of a checkpoint. Returns whether it does; if not, nothing
+    /// has changed.
     ///
     /// May return `NoMemory`.
     pub(crate) fn help(&self, member: &mut Member) -> Result<bool, NoMemory>
@@ -51,6 +51,8 @@ impl EndlessStore {
         ensures keeps { Keeps member.old member.new }
         ensures no { IfOk result (λ helped. helped ≡ false → member.new ≡ member.old) }
         ensures err { OnErr result (member.new.replica.replayed < length (known_of member.new.pass).seen) }
+        ensures same { OnErr result (member.new.replica ≡ member.old.replica) }
+        ensures least { OnErr result (least_of member.old.pass ≤ length (known_of member.new.pass).seen) }
     {
         let Some(index) = self.best(member) else {
             return Ok(false);
@@ -93,6 +95,8 @@ impl EndlessStore {
         ensures keeps { Keeps member.old member.new }
         ensures no { IfOk result (λ helped. helped ≡ false → member.new ≡ member.old) }
         ensures err { OnErr result (member.new.replica.replayed < length (known_of member.new.pass).seen) }
+        ensures same { OnErr result (member.new.replica ≡ member.old.replica) }
+        ensures least { OnErr result (least_of member.old.pass ≤ length (known_of member.new.pass).seen) }
     {
         let Some(mut checkpoint) = self.take_checkpoint(index) else {
             return Ok(false);

@@ -11,5 +11,6 @@ ghost use Rattle.xa_endless.specs.Course.{Course, AgreesThroughout};
 pub fn calls_keep_agreement()
     // Proved (coordinator, agrees-throughout): Whatever a coordinator adds in a store, in any number of calls, agrees
     //   with its decisions, as they were at each call. This follows from the clause `agrees` of each call.
-    ensures { (name : List ℕ) (store : ℕ) (decisions : List (List Decision)) (old new : SessionView) → Course name store decisions old new → AgreesThroughout name store decisions old new }
+    ensures { (name : List ℕ) (store : ℕ) (decisions : List (List Decision)) (old new : SessionView)
+        → Course name store decisions old new → AgreesThroughout name store decisions old new }
 {}

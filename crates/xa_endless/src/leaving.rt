@@ -1,5 +1,5 @@
 //! What a session leaves for others when it has no more statements.
-ghost use Rattle.ring_log.specs.RingPass.{known_of};
+ghost use Rattle.chain_log.specs.RingPass.{known_of};
 ghost use Rattle.xa_endless.specs.Seen.{HasOnlySeen};
 ghost use Rattle.xa_endless.specs.Stays.{Stays};
 

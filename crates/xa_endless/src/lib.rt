@@ -1,9 +1,9 @@
-//! A store whose history has no end. Its sessions share a ring (`ring_log`), in which the memory of old entries is used
+//! A store whose history has no end. Its sessions share a ring (`RingLog`), in which the memory of old entries is used
 //! again, so no session ever changes its log.
 //!
 //! Read docs/RATTLE.md#a-store-without-an-end first, then `specs/Answers.antt`, `src/trying.rt`, `src/session.rt`,
-//! `src/store.rt`, `src/checkpoint.rt`, `src/helping.rt` and `src/tending.rt`. `src/speaking.rt` lets a coordinator use a
-//! session.
+//! `src/store.rt`, `src/checkpoint.rt`, `src/helping.rt` and `src/tending.rt`. `src/speaking.rt` lets a coordinator use
+//! a session.
 #![tactic(auto)]
 
 mod answering;

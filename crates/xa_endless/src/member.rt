@@ -1,13 +1,13 @@
 //! What a session keeps between its calls.
 ghost use Rattle.std.specs.Prelude.{◌≡◌, ◌≤◌, length};
 ghost use Rattle.std.specs.Coded.{Coded-set};
-ghost use Rattle.ring_log.specs.RingPass.{known_of};
+ghost use Rattle.chain_log.specs.RingPass.{known_of};
 ghost use Rattle.xa_server.specs.Coding.{coded_state};
 ghost use Rattle.xa_server.specs.State.{no_state};
 ghost use Rattle.xa_session.specs.Replay.{state_at};
 
 use crate::Replica;
-use ring_log::RingPass;
+use chain_log::RingPass;
 
 /// What a session keeps between its calls: its pass, its replica, and how far it has handed out the history.
 #[derive(Drop)]

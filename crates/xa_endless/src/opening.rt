@@ -1,23 +1,24 @@
 //! Opening a store.
 ghost use Rattle.std.specs.Prelude.{◌≡◌, ◌≤◌, length, IfOk, IfErr};
 ghost use Rattle.std.specs.List.{All};
-ghost use Rattle.ring_log.specs.RingOpens.{Refuses};
-ghost use Rattle.ring_log.specs.RingPass.{identity_of, log_of};
-ghost use Rattle.ring_log.specs.RingSpare.{spare_log_of};
-ghost use Rattle.xa_endless.specs.Opens.{Opens};
+ghost use Rattle.chain_log.specs.RingOpens.{Refuses};
+ghost use Rattle.chain_log.specs.RingPass.{identity_of, log_of};
+ghost use Rattle.chain_log.specs.RingSpare.{spare_log_of};
+ghost use Rattle.xa_endless.specs.Opens.{Opens, checkpoints_of};
 
 use crate::checkpoint::Checkpoint;
 use crate::progress::Progress;
 use crate::resting::{RestingCheckpoint, RestingMember};
 use crate::slot::Slot;
 use crate::{EndlessStore, Member, Replica};
-use ring_log::{RingFault, RingLog, RingPass, RingSpare};
+use chain_log::{RingFault, RingLog, RingPass, RingSpare};
 use std::alloc::{AllocError, Global};
 use std::sync::Arc;
 
 /// How many checkpoints a store has: none if nobody can be behind, and at most four.
 fn count_checkpoints(sessions: u64) -> u64
-    ensures { result ≤ 4 }
+    ensures value { result ≡ checkpoints_of sessions }
+    ensures most { result ≤ 4 }
 {
     if sessions <= 1 { 0 } else { sessions.min(4) }
 }
@@ -52,7 +53,8 @@ fn place_checkpoints(
     spares: Vec<RingSpare>,
 ) -> Result<Vec<Slot<RestingCheckpoint>>, AllocError>
     requires { All (λ spare. spare_log_of spare ≡ identity_of log.now) spares.items }
-    ensures { IfOk result (λ places. All (λ slot. identity_of slot.value ≡ identity_of log.now) places.items) }
+    ensures ours { IfOk result (λ places. All (λ slot. identity_of slot.value ≡ identity_of log.now) places.items) }
+    ensures count { IfOk result (λ places. length places.items ≡ length spares.items) }
 {
     let mut places = Vec::new(alloc);
     for spare in spares {
@@ -70,13 +72,14 @@ impl EndlessStore {
     /// Opens a store with no branch and no row, for 1 to 16 sessions. Its ring has `rows` rows, in `[1, 65536]`.
     ///
     /// A session may sleep while fewer entries than `rows` are added, and then replays them. After more than that it
-    /// goes on from a checkpoint: from a copy of all rows, or if these are many, from the checkpoint's own. A row of the ring takes 184 bytes for each session and
-    /// each checkpoint; there are up to 4 checkpoints. Errors, in the order of test: `RowsOutOfRange`,
-    /// `SessionsOutOfRange`, `NoMemory`. Doesn't wait.
+    /// goes on from a checkpoint: from a copy of all rows, or if these are many, from the checkpoint's own. A row of
+    /// the ring takes 184 bytes for each session and each checkpoint; there are up to 4 checkpoints. Errors, in the
+    /// order of test: `RowsOutOfRange`, `SessionsOutOfRange`, `NoMemory`. Doesn't wait.
     /// Own rule: docs/RATTLE.md#a-store-without-an-end.
     pub fn open(alloc: Global, rows: u64, sessions: u64) -> Result<Arc<EndlessStore>, RingFault>
-        // Proved (endless, open): A store opens with as many sessions as were asked for, or with the first fault, in the
-        //   order of test, whose cause holds.
+        // Proved (endless, open): A store opens with as many rows and sessions as were asked for, and with a checkpoint
+        //   for each session, but at most four, and none for a single one; or with the first fault, in the order of
+        //   test, whose cause holds.
         ensures ok { IfOk result (λ store. Opens rows sessions store.value) }
         // Proved (endless, open)
         ensures err { IfErr result (Refuses rows sessions 0) }

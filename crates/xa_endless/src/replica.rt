@@ -53,8 +53,11 @@ impl Replica {
     pub(crate) fn replay(&mut self, entry: &Entry) -> Result<(), NoMemory>
         requires { self.old.replayed + 1 < 2 ^ 64 }
         ensures ok { OnOk result
-            ((seen : List EntryValue) → Stands seen self.old → slice_get seen self.old.replayed ≡ Some entry.now → Stands seen self.new) }
+            ((seen : List EntryValue) → Stands seen self.old → slice_get seen self.old.replayed ≡ Some entry.now
+            → Stands seen self.new) }
         ensures replays { ReplaysOne result self.old self.new }
+        ensures memory { OnErr result
+            (may_take_memory self.old.server entry.now.session entry.now.statement ≡ true) }
     {
         self.server.apply(entry.session(), entry.statement())?;
         self.replayed += 1;

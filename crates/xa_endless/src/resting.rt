@@ -1,15 +1,16 @@
 //! What lies in the slots of a store, where threads share it: sessions that nobody has, and checkpoints.
 ghost use Rattle.std.specs.Prelude.{◌≡◌, ◌≤◌, length, IfSome};
 ghost use Rattle.std.specs.Coded.{Coded-set};
-ghost use Rattle.ring_log.specs.RingPass.{identity_of};
-ghost use Rattle.ring_log.specs.Resting.{resting_log_of, resting_known_of, resting_spare_log_of, resting_spare_known_of};
+ghost use Rattle.chain_log.specs.RingPass.{identity_of};
+ghost use Rattle.chain_log.specs.Resting.{resting_log_of, resting_known_of, resting_spare_log_of};
+ghost use Rattle.chain_log.specs.Resting.{resting_spare_known_of};
 ghost use Rattle.xa_server.specs.Coding.{coded_state};
 ghost use Rattle.xa_server.specs.State.{no_state};
 ghost use Rattle.xa_session.specs.Replay.{state_at};
 
 use crate::Replica;
+use chain_log::{RestingPass, RestingSpare, RingLog};
 use counted_slot::Fits;
-use ring_log::{RestingPass, RestingSpare, RingLog};
 use std::sync::Arc;
 
 /// A session that nobody has.
@@ -36,7 +37,8 @@ pub(crate) struct RestingCheckpoint {
     pub(crate) spare: RestingSpare,
     pub(crate) replica: Arc<Replica>,
     ghost within: { replica.value.replayed ≤ length (resting_spare_known_of spare).seen },
-    ghost state: { replica.value.server ≡ state_at no_state (resting_spare_known_of spare).seen replica.value.replayed } by { Coded-set coded_state _ _ },
+    ghost state: { replica.value.server ≡ state_at no_state
+        (resting_spare_known_of spare).seen replica.value.replayed } by { Coded-set coded_state _ _ },
 }
 
 impl Fits for RestingCheckpoint {

@@ -1,7 +1,7 @@
 //! A session of an endless store.
 ghost use Rattle.std.specs.Prelude.{◌≡◌, ◌≤◌, length};
 ghost use Rattle.decision_log.specs.Calls.{MeetsFirst, MeetsSecond};
-ghost use Rattle.ring_log.specs.RingPass.{identity_of, log_of, known_of};
+ghost use Rattle.chain_log.specs.RingPass.{identity_of, log_of, known_of};
 ghost use Rattle.xa_session.specs.Replay.{state_at};
 ghost use Rattle.xa_server.specs.State.{no_state};
 
@@ -71,7 +71,8 @@ impl EndlessSession {
         //   first's own entries there are as the first knows them.
         ensures first { MeetsFirst (known_of self.old.member.pass) (known_of self.new.member.pass) }
         // Proved (endless, meet)
-        ensures second { MeetsSecond (known_of self.old.member.pass) (known_of other.old.member.pass) (known_of other.new.member.pass) }
+        ensures second { MeetsSecond (known_of self.old.member.pass) (known_of other.old.member.pass)
+            (known_of other.new.member.pass) }
     {
         self.store
             .log

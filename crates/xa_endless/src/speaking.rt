@@ -7,20 +7,18 @@ use xa_session::{Answer, Fault};
 use xa_xid::Statement;
 
 // Proved (coordinator, endless-session): A session of an endless store keeps the promises of `Speak` over the store's
-//   one history. It never returns `Full` or `Busy`. It returns `NoMemory` only for the list of an `XA RECOVER`, for a
-//   replica that hasn't replayed all that it has seen, or after 2^59 entries. `attempt` returns it also if entries that
-//   the replica needs may be overwritten.
+//   one history, and those of its own `attempt` and `execute`. It never returns `Full` or `Busy`. It returns `NoMemory`
+//   only for the list of an `XA RECOVER`, for a replica that hasn't replayed all that it has seen, or after 2^59
+//   entries. `attempt` returns it also if entries that the replica needs may be overwritten. Neither returns it in
+//   place of a try that was lost, and neither hands out an entry of the history.
 impl Speak for EndlessSession {
-    ghost use Rattle.std.specs.Prelude.{◌<◌, IfErr};
-    ghost use Rattle.ring_log.specs.RingPass.{known_of};
-    ghost use Rattle.xa_endless.specs.Sessions.{view_of, keeps-law, MayFail, MayFailOnce};
+    ghost use Rattle.xa_endless.specs.Sessions.{view_of, keeps-law, SpeaksOnce, SpeaksOn};
 
     ghost view = { view_of };
 
-    ghost attempts = { λ old statement result new. ((known_of old.member.pass).looks < (known_of new.member.pass).looks)
-        × IfErr result (λ fault. MayFailOnce statement fault new) };
+    ghost attempts = { λ old statement result new. SpeaksOnce statement result old new };
 
-    ghost executes = { λ old statement result new. IfErr result (λ fault. MayFail statement fault new) };
+    ghost executes = { λ old statement result new. SpeaksOn statement result old new };
 
     ghost own_part = { λ session. session.member.pass.state.part };
 

@@ -1,14 +1,14 @@
 //! A store whose history has no end.
 ghost use Rattle.std.specs.Prelude.{◌≡◌, ◌<◌, length, IfSome};
 ghost use Rattle.std.specs.List.{All};
-ghost use Rattle.ring_log.specs.RingPass.{identity_of};
-ghost use Rattle.ring_log.specs.RingSpare.{spare_log_of};
+ghost use Rattle.chain_log.specs.RingPass.{identity_of};
+ghost use Rattle.chain_log.specs.RingSpare.{spare_log_of};
 
 use crate::checkpoint::Checkpoint;
 use crate::progress::Progress;
 use crate::resting::{RestingCheckpoint, RestingMember};
 use crate::slot::Slot;
-use ring_log::RingLog;
+use chain_log::RingLog;
 use std::alloc::Global;
 
 /// A store whose history has no end: the ring that its sessions share, the sessions that nobody has, and checkpoints,

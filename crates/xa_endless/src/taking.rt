@@ -1,6 +1,6 @@
 //! Taking a session of a store.
 ghost use Rattle.std.specs.Prelude.{◌≡◌, ◌<◌, ◌≤◌, length, IfOk, IfErr, IfSome};
-ghost use Rattle.ring_log.specs.RingPass.{identity_of, log_of, known_of};
+ghost use Rattle.chain_log.specs.RingPass.{identity_of, log_of, known_of};
 ghost use Rattle.xa_endless.specs.Takes.{IsRefused};
 
 use crate::{EndlessSession, EndlessStore, Member};

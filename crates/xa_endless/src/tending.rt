@@ -1,6 +1,6 @@
 //! How the sessions keep the checkpoints near the end of the history.
 ghost use Rattle.std.specs.Prelude.{◌≡◌, ◌<◌, length};
-ghost use Rattle.ring_log.specs.RingPass.{identity_of, log_of};
+ghost use Rattle.chain_log.specs.RingPass.{identity_of, log_of};
 ghost use Rattle.xa_endless.specs.Members.{Tends};
 
 use crate::upkeep::Upkeep;
@@ -24,8 +24,8 @@ impl EndlessStore {
         (self.log.rows() / 8).max(1)
     }
 
-    /// Whether a replica is copied faster than another one replays what came since. Either takes about the same time for
-    /// a row and for an entry.
+    /// Whether a replica is copied faster than another one replays what came since. Either takes about the same time
+    /// for a row and for an entry.
     pub(crate) fn copies_fast(&self, replica: &Replica) -> bool {
         replica.row_count() <= self.most_behind().max(FEW_ROWS)
     }
@@ -59,8 +59,8 @@ impl EndlessStore {
         upkeep
     }
 
-    /// Leaves a copy of the session's replica in a checkpoint: the first from `first` on, round and round, that no other
-    /// session has now. Returns whether there was one.
+    /// Leaves a copy of the session's replica in a checkpoint: the first from `first` on, round and round, that no
+    /// other session has now. Returns whether there was one.
     fn leave_copy(&self, member: &mut Member, first: usize) -> bool
         requires { log_of member.old.pass ≡ identity_of self.now.log }
         ensures belongs { log_of member.new.pass ≡ log_of member.old.pass }
@@ -134,7 +134,8 @@ impl EndlessStore {
         is_tended
     }
 
-    /// Looks after a checkpoint, if the session has replayed enough since it did so last, and some session may need one.
+    /// Looks after a checkpoint, if the session has replayed enough since it did so last, and some session may need
+    /// one.
     pub(crate) fn tend_in_time(&self, member: &mut Member)
         requires { log_of member.old.pass ≡ identity_of self.now.log }
         ensures belongs { log_of member.new.pass ≡ log_of member.old.pass }

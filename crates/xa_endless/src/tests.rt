@@ -6,7 +6,7 @@ ghost use Rattle.std.specs.Prelude.{◌≡◌, ◌∷◌, [], IfSome};
 ghost use Rattle.xa_coordinator.specs.Work.{IsRow};
 
 use crate::{EndlessFault, EndlessSession, EndlessStore, Next, Replica, TakeFault, laws};
-use ring_log::RingFault;
+use chain_log::RingFault;
 use std::alloc::Global;
 use std::sync::Arc;
 use std::thread;
@@ -388,8 +388,8 @@ fn loses_checkpoints(store: &EndlessStore, session: &mut EndlessSession) -> bool
     first.put(one).is_ok() && second.put(two).is_ok() && added
 }
 
-/// Neither checkpoint can replay what was added meanwhile. So each becomes a copy of the replica of a session that looks
-/// after it.
+/// Neither checkpoint can replay what was added meanwhile. So each becomes a copy of the replica of a session that
+/// looks after it.
 #[test]
 fn a_lost_checkpoint_becomes_a_copy_survives(rt: HostRuntime) {
     let Some((store, mut first, mut second)) = small(rt.alloc()) else {

@@ -1,7 +1,8 @@
 //! A single try by a replica and a pass.
-ghost use Rattle.std.specs.Prelude.{◌≡◌, ◌⊎◌, ◌<◌, ◌≤◌, ◌+◌, ◌^◌, true, false, length, slice_get, Some, IfOk, IfErr, OnOk, OnErr};
+ghost use Rattle.std.specs.Prelude.{◌≡◌, ◌⊎◌, ◌<◌, ◌≤◌, ◌+◌, ◌^◌, true, false, length, slice_get, Some, IfOk, IfErr};
+ghost use Rattle.std.specs.Prelude.{OnOk, OnErr};
 ghost use Rattle.decision_log.specs.Calls.{Looked, Adds};
-ghost use Rattle.ring_log.specs.RingPass.{identity_of, log_of, known_of};
+ghost use Rattle.chain_log.specs.RingPass.{identity_of, log_of, known_of};
 ghost use Rattle.xa_server.specs.Step.{enters, may_take_memory};
 ghost use Rattle.xa_session.specs.Answer.{entry_of};
 ghost use Rattle.xa_endless.specs.Answers.{Finds, TriesOnce};
@@ -9,8 +10,8 @@ ghost use Rattle.xa_endless.specs.Halts.{IsHalt};
 ghost use Rattle.xa_endless.specs.Replicas.{Stands, ReplaysOne, CatchesUp};
 
 use crate::{EndlessFault, Replica};
+use chain_log::{RingLog, RingPass};
 use decision_log::AddFault;
-use ring_log::{RingLog, RingPass};
 use xa_session::Answer;
 use xa_words::Entry;
 use xa_xid::{NoMemory, SessionNo, Statement};
@@ -117,9 +118,11 @@ impl Replica {
         ensures belongs { log_of pass.new ≡ log_of pass.old }
         ensures stands { Stands (known_of pass.new).seen self.new }
         ensures folds { self.old.replayed ≤ self.new.replayed }
-        ensures added { Adds false (identity_of log.now).capacity (entry_of session statement.now) result (known_of pass.old) (known_of pass.new) }
+        ensures added { Adds false (identity_of log.now).capacity (entry_of session statement.now) result
+            (known_of pass.old) (known_of pass.new) }
         ensures kept { OnOk result
-            ((self.new.replayed ≡ length (known_of pass.new).seen) ⊎ (may_take_memory self.old.server session statement.now ≡ true)) }
+            ((self.new.replayed ≡ length (known_of pass.new).seen)
+            ⊎ (may_take_memory self.old.server session statement.now ≡ true)) }
         ensures err { OnErr result (self.new ≡ self.old) }
     {
         let entry = Entry::entering(session, statement.copy());

@@ -3,7 +3,8 @@
 --     advance_call        a call of a session that has no other one
 --     advance_return      a return
 --     advance_closed      an event before which the list is closed
-use Rattle.std.proofs.Common.{◌≡◌, ℕ, false, Some, None, List, [], ◌∷◌, ◌++◌, length, slice_get, refl, ap, sym, ◌∙◌, subst, arith}
+use Rattle.std.proofs.Common.{◌≡◌, ℕ, false, Some, None, List, [], ◌∷◌, ◌++◌, length, slice_get, refl, ap, sym, ◌∙◌}
+use Rattle.std.proofs.Common.{subst, arith}
 use Rattle.std.proofs.lemmas.Option.{none-some}
 use Rattle.std.specs.List.{All, Contains}
 use Rattle.xa_server.specs.State.{State}
@@ -20,8 +21,10 @@ use Rattle.xa_judge.specs.declared.advance.Advance.{Advance}
 use Rattle.xa_judge.specs.declared.advance.Advance.TheVariants.{Known, Impossible, TooMany}
 use Rattle.xa_judge.specs.Explained.{Config, opening_config, effect_of, observed, LeadsThrough, IsSession}
 use Rattle.xa_judge.specs.Verdicts.{IsReachedByMoves}
-use Rattle.xa_judge.specs.Found.{config_of, Has, Reaches, Grows, KeepsReach, after_settling, has_unheard, IsAnsweredIn, IsClosedBelow}
-use Rattle.xa_judge.specs.Advances.{Continues, IsCallOf, IsReturnOf, IsNoReturn, IsSeenFrom, AreAnswers, AreAnswersTo, IsAdvance}
+use Rattle.xa_judge.specs.Found.{config_of, Has, Reaches, Grows, KeepsReach, after_settling, has_unheard, IsAnsweredIn}
+use Rattle.xa_judge.specs.Found.{IsClosedBelow}
+use Rattle.xa_judge.specs.Advances.{Continues, IsCallOf, IsReturnOf, IsNoReturn, IsSeenFrom, AreAnswers, AreAnswersTo}
+use Rattle.xa_judge.specs.Advances.{IsAdvance}
 use Rattle.xa_judge.proofs.Waits.{First, CanWait, later}
 use Rattle.xa_judge.proofs.Places.{mapped_place}
 use Rattle.xa_judge.proofs.Growth.{all_at, has_still}
@@ -29,18 +32,25 @@ use Rattle.xa_judge.proofs.Settling.{Settled, settles, answers_settle}
 
 -- from a configuration in which the event is seen, events go on in a list that has what it leads to
 goes_on : (old list : List Configuration) (one end : Config) (event : Event) (more : List Event)
-    → ((one new : Config) → Has old one → observed one event ≡ Some new → Has list new) → Has old one → First one event more end → Continues list more end
+    → ((one new : Config) → Has old one → observed one event ≡ Some new → Has list new) → Has old one
+    → First one event more end → Continues list more end
 goes_on old list one end event more leads has rest =
     record { one = rest.first; has = leads one rest.first has rest.sees; moves = rest.moves; runs = rest.runs }
 
-first_now : (old : List Configuration) (end : Config) (event : Event) (more : List Event) → ((config : Config) → Has old config → CanWait config event)
+first_now : (old : List Configuration) (end : Config) (event : Event) (more : List Event)
+    → ((config : Config) → Has old config → CanWait config event)
     → (now : Continues old (event ∷ more) end) → First now.one event more end
 first_now old end event more waits now = later now.one end event more now.moves (waits now.one now.has) now.runs
 
-pub advance_now : (old : List Configuration) (answers : List Answer) (event : Event) (limit : ℕ) (next : Advance) → ((config : Config) → Has old config → CanWait config event)
+pub advance_now : (old : List Configuration) (answers : List Answer) (event : Event) (limit : ℕ) (next : Advance)
+    → ((config : Config) → Has old config → CanWait config event)
     → AreAnswers old event answers → IsSeenFrom old answers event next → IsAdvance old event limit next
-advance_now old answers event limit (Known list) waits none seen =
-    (seen.0, (λ more end now. goes_on old list.items now.one end event more seen.1 now.has (first_now old end event more waits now)), seen.2)
+advance_now old answers event limit (Known list) waits none seen = (
+  seen.0,
+  (λ more end now. goes_on old list.items now.one end event more seen.1 now.has
+      (first_now old end event more waits now)),
+  seen.2,
+)
 advance_now old answers event limit (Impossible others) waits none seen = (
   (λ more end now. let rest = first_now old end event more waits now in seen.0 now.one rest.first now.has rest.sees),
   subst (λ l. AreAnswers old event l) (sym seen.1) none,
@@ -48,83 +58,106 @@ advance_now old answers event limit (Impossible others) waits none seen = (
 advance_now old answers event limit TooMany waits none seen = absurd seen
 
 -- where events go on behind a return, they do from a closed list, once what its session called for has taken effect
-settled_first : (old closed : List Configuration) (session : ℕ) (seen : Seen) (more : List Event) (end : Config) → Grows old closed
-    → IsClosedBelow (length closed) (Some session) closed → Continues old (Return session seen ∷ more) end → Settled closed session seen more end
+settled_first : (old closed : List Configuration) (session : ℕ) (seen : Seen) (more : List Event) (end : Config)
+    → Grows old closed
+    → IsClosedBelow (length closed) (Some session) closed → Continues old (Return session seen ∷ more) end
+    → Settled closed session seen more end
 settled_first old closed session seen more end grows is_closed now =
-    settles closed session seen more now.one end now.moves is_closed (has_still old closed now.one grows now.has) now.runs
+    settles closed session seen more now.one end now.moves is_closed
+    (has_still old closed now.one grows now.has) now.runs
 
 -- these are the answers of the session in the configurations of the list
 pub record AreAnswersIn (list : List Configuration) (session : ℕ) (answers : List Answer) : Type 0 where
   pub each : All (IsAnsweredIn list session) answers
-  pub all : (one : Config) (answer : Answer) → Has list one → slice_get one.clients session ≡ Some (Answered answer) → Contains answers answer
+  pub all : (one : Config) (answer : Answer) → Has list one → slice_get one.clients session ≡ Some (Answered answer)
+      → Contains answers answer
 
 -- what is in a list that is reached is reached
-pub reached_of : (base : State) (events : List Event) (trunk : List Move) (list : List Configuration) (one : Config) → All (Reaches base events trunk) list
+pub reached_of : (base : State) (events : List Event) (trunk : List Move) (list : List Configuration) (one : Config)
+    → All (Reaches base events trunk) list
     → Has list one → IsReachedByMoves base events one
 unfolding Reaches
 reached_of base events trunk list one all has =
     let place = mapped_place config_of list one has in
-    let reach : Reaches base events trunk place.1 = all_at (Reaches base events trunk) list place.0 place.1 all place.3 in
+    let reach : Reaches base events trunk place.1 = all_at
+    (Reaches base events trunk) list place.0 place.1 all place.3 in
     record {
       moves = trunk ++ place.1.path;
       runs = subst (λ c. LeadsThrough (opening_config base) events (trunk ++ place.1.path) c) place.4 reach;
     }
 
-answers_to : (old closed ready : List Configuration) (answers : List Answer) (session : ℕ) → Grows old closed → IsClosedBelow (length closed) (Some session) closed
-    → ((one : Config) → Has closed one → Has ready (after_settling one session)) → KeepsReach closed ready → AreAnswersIn ready session answers
+answers_to : (old closed ready : List Configuration) (answers : List Answer) (session : ℕ) → Grows old closed
+    → IsClosedBelow (length closed) (Some session) closed
+    → ((one : Config) → Has closed one → Has ready (after_settling one session)) → KeepsReach closed ready
+    → AreAnswersIn ready session answers
     → AreAnswersTo old session answers
 answers_to old closed ready answers session grows is_closed settles reach given = record {
   each = λ base events trunk all k d below.
       let is = given.each k d below in
       record {
         config = is.one;
-        reached = reached_of base events trunk ready is.one (reach base events trunk (grows.reach base events trunk all)) is.has;
+        reached = reached_of base events trunk ready is.one
+            (reach base events trunk (grows.reach base events trunk all)) is.has;
         answered = is.stands;
       };
   all = λ new answer now stands.
-      let s = answers_settle closed session answer now.one new now.moves is_closed (has_still old closed now.one grows now.has) now.runs stands in
+      let s = answers_settle closed session answer now.one new now.moves is_closed
+      (has_still old closed now.one grows now.has) now.runs stands in
       given.all (after_settling s.one session) answer (settles s.one s.has) s.stands;
 }
 
-advance_at : (old closed ready : List Configuration) (answers : List Answer) (session : ℕ) (seen : Seen) (limit : ℕ) (next : Advance) → Grows old closed
+advance_at : (old closed ready : List Configuration) (answers : List Answer) (session : ℕ) (seen : Seen) (limit : ℕ)
+    (next : Advance) → Grows old closed
     → IsClosedBelow (length closed) (Some session) closed
-    → ((one : Config) → Has closed one → Has ready (after_settling one session)) → KeepsReach closed ready → AreAnswersIn ready session answers
+    → ((one : Config) → Has closed one → Has ready (after_settling one session)) → KeepsReach closed ready
+    → AreAnswersIn ready session answers
     → IsSeenFrom ready answers (Return session seen) next
     → IsAdvance old (Return session seen) limit next
 advance_at old closed ready answers session seen limit (Known list) grows is_closed settles reach given leads = (
   leads.0,
   λ more end now.
       let s = settled_first old closed session seen more end grows is_closed now in
-      goes_on ready list.items (after_settling s.one session) end (Return session seen) more leads.1 (settles s.one s.has) s.rest,
+      goes_on ready list.items (after_settling s.one session) end (Return session seen) more leads.1
+      (settles s.one s.has) s.rest,
   λ base events trunk all. leads.2 base events trunk (reach base events trunk (grows.reach base events trunk all)),
 )
 advance_at old closed ready answers session seen limit (Impossible others) grows is_closed settles reach given leads = (
   (λ more end now.
       let s = settled_first old closed session seen more end grows is_closed now in
       leads.0 (after_settling s.one session) s.rest.first (settles s.one s.has) s.rest.sees),
-  subst (λ l. AreAnswersTo old session l) (sym leads.1) (answers_to old closed ready answers session grows is_closed settles reach given),
+  subst (λ l. AreAnswersTo old session l) (sym leads.1)
+      (answers_to old closed ready answers session grows is_closed settles reach given),
 )
 advance_at old closed ready answers session seen limit TooMany grows is_closed settles reach given leads = absurd leads
 
-pub advance_return : (old closed ready : List Configuration) (answers : List Answer) (session : ℕ) (event : Event) (limit : ℕ) (next : Advance)
+pub advance_return : (old closed ready : List Configuration) (answers : List Answer) (session : ℕ) (event : Event)
+    (limit : ℕ) (next : Advance)
     → IsReturnOf session event → Grows old closed → IsClosedBelow (length closed) (Some session) closed
-    → ((one : Config) → Has closed one → Has ready (after_settling one session)) → KeepsReach closed ready → AreAnswersIn ready session answers
+    → ((one : Config) → Has closed one → Has ready (after_settling one session)) → KeepsReach closed ready
+    → AreAnswersIn ready session answers
     → IsSeenFrom ready answers event next
     → IsAdvance old event limit next
-advance_return old closed ready answers session (Call other request) limit next is grows is_closed settles reach given leads = absurd is
-advance_return old closed ready answers session (Return other seen) limit next is grows is_closed settles reach given leads =
-    advance_at old closed ready answers other seen limit next grows (subst (λ n. IsClosedBelow (length closed) (Some n) closed) (sym is) is_closed)
+advance_return old closed ready answers session (Call other request) limit next is grows is_closed settles reach given
+    leads = absurd is
+advance_return old closed ready answers session (Return other seen) limit next is grows is_closed settles reach given
+    leads =
+    advance_at old closed ready answers other seen limit next grows
+    (subst (λ n. IsClosedBelow (length closed) (Some n) closed) (sym is) is_closed)
     (subst (λ n. (one : Config) → Has closed one → Has ready (after_settling one n)) (sym is) settles) reach
     (subst (λ n. AreAnswersIn ready n answers) (sym is) given) leads
-advance_return old closed ready answers session (Lost other) limit next is grows is_closed settles reach given leads = absurd is
-advance_return old closed ready answers session (Unknown other) limit next is grows is_closed settles reach given leads = absurd is
+advance_return old closed ready answers session (Lost other) limit next is grows is_closed settles reach given leads =
+    absurd is
+advance_return old closed ready answers session (Unknown other) limit next is grows is_closed settles reach given
+    leads = absurd is
 
 -- whatever acts lead to is in a list that is closed
-stays_in : (list : List Configuration) (old mid : Config) (session : ℕ) (act : Act) → IsClosedBelow (length list) None list → Has list old → IsSession session
+stays_in : (list : List Configuration) (old mid : Config) (session : ℕ) (act : Act)
+    → IsClosedBelow (length list) None list → Has list old → IsSession session
     → effect_of old session act ≡ Some mid → Has list mid
 stays_in list old mid session act closed has is at =
     let place = mapped_place config_of list old has in
-    closed place.0 place.1 place.2 place.3 session act mid (omega (arith, is.1)) is (λ e. none-some session e) refl (ap (λ c. effect_of c session act) place.4 ∙ at)
+    closed place.0 place.1 place.2 place.3 session act mid (omega (arith, is.1)) is (λ e. none-some session e) refl
+    (ap (λ c. effect_of c session act) place.4 ∙ at)
 
 -- the event is seen from one of the list, and then come the other moves
 record SeenFromOne (list : List Configuration) (event : Event) (more : List Event) (end : Config) : Type 0 where
@@ -133,15 +166,18 @@ record SeenFromOne (list : List Configuration) (event : Event) (more : List Even
   rest : First one event more end
 
 closed_first : (list : List Configuration) (event : Event) (more : List Event) (old end : Config) (moves : List Move)
-    → IsClosedBelow (length list) None list → Has list old → LeadsThrough old (event ∷ more) moves end → SeenFromOne list event more end
+    → IsClosedBelow (length list) None list → Has list old → LeadsThrough old (event ∷ more) moves end
+    → SeenFromOne list event more end
 closed_first list event more old end (Seeing ∷ moves) closed has runs =
     record { one = old; has = has; rest = record { first = runs.0; sees = runs.1; moves = moves; runs = runs.2 } }
 closed_first list event more old end (Effect session act ∷ moves) closed has runs =
-    closed_first list event more runs.0 end moves closed (stays_in list old runs.0 session act closed has runs.1 runs.2) runs.3
+    closed_first list event more runs.0 end moves closed (stays_in list old runs.0 session act closed has runs.1 runs.2)
+    runs.3
 closed_first list event more old end [] closed has runs = absurd runs
 
 -- before an event that isn't a return there are no answers
-no_answers : (list : List Configuration) (event : Event) (answers : List Answer) → IsNoReturn event → answers ≡ [] → AreAnswers list event answers
+no_answers : (list : List Configuration) (event : Event) (answers : List Answer) → IsNoReturn event → answers ≡ []
+    → AreAnswers list event answers
 no_answers list (Call session request) answers is none = none
 no_answers list (Return session seen) answers is none = absurd is
 no_answers list (Lost session) answers is none = none
@@ -152,7 +188,8 @@ from_closed : (old closed : List Configuration) (event : Event) (more : List Eve
 from_closed old closed event more end grows is_closed now =
     closed_first closed event more now.one end now.moves is_closed (has_still old closed now.one grows now.has) now.runs
 
-pub advance_closed : (old closed : List Configuration) (answers : List Answer) (event : Event) (limit : ℕ) (next : Advance) → IsNoReturn event
+pub advance_closed : (old closed : List Configuration) (answers : List Answer) (event : Event) (limit : ℕ)
+    (next : Advance) → IsNoReturn event
     → Grows old closed → IsClosedBelow (length closed) None closed → answers ≡ [] → IsSeenFrom closed answers event next
     → IsAdvance old event limit next
 advance_closed old closed answers event limit (Known list) is grows is_closed none seen = (
@@ -163,7 +200,8 @@ advance_closed old closed answers event limit (Known list) is grows is_closed no
   λ base events trunk all. seen.2 base events trunk (grows.reach base events trunk all),
 )
 advance_closed old closed answers event limit (Impossible others) is grows is_closed none seen = (
-  (λ more end now. let s = from_closed old closed event more end grows is_closed now in seen.0 s.one s.rest.first s.has s.rest.sees),
+  (λ more end now. let s = from_closed old closed event more end grows is_closed now in
+      seen.0 s.one s.rest.first s.has s.rest.sees),
   no_answers old event others.items is (seen.1 ∙ none),
 )
 advance_closed old closed answers event limit TooMany is grows is_closed none seen = absurd seen
@@ -173,11 +211,13 @@ abbrev pub NoneUnheard : List Configuration → ℕ → Type 0
 NoneUnheard list session = (one : Config) → Has list one → has_unheard one session ≡ false
 
 -- a call, where no open call of its session may still take effect that nobody hears
-pub advance_call : (old : List Configuration) (answers : List Answer) (calling : ℕ) (event : Event) (limit : ℕ) (next : Advance) → IsCallOf calling event
+pub advance_call : (old : List Configuration) (answers : List Answer) (calling : ℕ) (event : Event) (limit : ℕ)
+    (next : Advance) → IsCallOf calling event
     → NoneUnheard old calling → answers ≡ [] → IsSeenFrom old answers event next
     → IsAdvance old event limit next
 advance_call old answers calling (Call session request) limit next is heard none seen =
-    advance_now old answers (Call session request) limit next (λ config has. ap (has_unheard config) is ∙ heard config has) none seen
+    advance_now old answers (Call session request) limit next
+    (λ config has. ap (has_unheard config) is ∙ heard config has) none seen
 advance_call old answers calling (Return session shown) limit next is heard none seen = absurd is
 advance_call old answers calling (Lost session) limit next is heard none seen = absurd is
 advance_call old answers calling (Unknown session) limit next is heard none seen = absurd is

@@ -1,5 +1,6 @@
 -- Lists of configurations that grow.
-use Rattle.std.proofs.Common.{◌≡◌, ℕ, Some, List, [], ◌∷◌, ◌++◌, ap, sym, ◌∙◌, subst, inl, inr, append_assoc, append-nil}
+use Rattle.std.proofs.Common.{◌≡◌, ℕ, Some, List, [], ◌∷◌, ◌++◌, ap, sym, ◌∙◌, subst, inl, inr, append_assoc}
+use Rattle.std.proofs.Common.{append-nil}
 use Rattle.std.specs.Prelude.{slice_get}
 use Rattle.std.specs.List.{All, Contains}
 use Rattle.std.proofs.lemmas.Option.{slice_get_within, get_or_from_slice_get}
@@ -17,22 +18,28 @@ use Rattle.xa_judge.proofs.Waits.{runs_effect, runs_event}
 
 -- what is in the list stays
 pub has_more : (old more : List Configuration) (one : Config) → Has old one → Has (old ++ more) one
-has_more old more one has = subst (λ l. Contains l one) (sym (map_append config_of old more)) (Contains-append_left (configs old) (configs more) one has)
+has_more old more one has = subst (λ l. Contains l one) (sym (map_append config_of old more))
+    (Contains-append_left (configs old) (configs more) one has)
 
 pub has_still : (old new : List Configuration) (one : Config) → Grows old new → Has old one → Has new one
 has_still old new one grows has = subst (λ l. Has l one) (sym grows.parts) (has_more old grows.more one has)
 
-pub still_there : (old new : List Configuration) (place : ℕ) (one : Configuration) → Grows old new → slice_get old place ≡ Some one
+pub still_there : (old new : List Configuration) (place : ℕ) (one : Configuration) → Grows old new
+    → slice_get old place ≡ Some one
     → slice_get new place ≡ Some one
-still_there old new place one grows found = subst (λ l. slice_get l place ≡ Some one) (sym grows.parts) (get_front old grows.more place one found)
+still_there old new place one grows found =
+    subst (λ l. slice_get l place ≡ Some one) (sym grows.parts) (get_front old grows.more place one found)
 
-pub has_added : (old new : List Configuration) (one : Configuration) → AddsUnlessThere old one new → Has new (config_of one)
+pub has_added : (old new : List Configuration) (one : Configuration) → AddsUnlessThere old one new
+    → Has new (config_of one)
 has_added old new one (inl was) = subst (λ l. Has l (config_of one)) (sym was.1) was.0
 has_added old new one (inr is) =
     subst (λ l. Has l (config_of one)) (sym is)
-    (subst (λ l. Contains l (config_of one)) (sym (map_append config_of old (one ∷ []))) (Contains-push (configs old) (config_of one)))
+    (subst (λ l. Contains l (config_of one)) (sym (map_append config_of old (one ∷ [])))
+    (Contains-push (configs old) (config_of one)))
 
-pub has_kept : (old new : List Configuration) (one : Configuration) (other : Config) → AddsUnlessThere old one new → Has old other → Has new other
+pub has_kept : (old new : List Configuration) (one : Configuration) (other : Config) → AddsUnlessThere old one new
+    → Has old other → Has new other
 has_kept old new one other (inl was) has = subst (λ l. Has l other) (sym was.1) has
 has_kept old new one other (inr is) has = subst (λ l. Has l other) (sym is) (has_more old (one ∷ []) other has)
 
@@ -47,45 +54,57 @@ grows_more old mid new first second = record {
 }
 
 -- what an effect leads to is reached
-pub reaches_effect : (base : State) (events : List Event) (trunk : List Move) (old new : Configuration) (session : ℕ) (act : Act)
+pub reaches_effect : (base : State) (events : List Event) (trunk : List Move) (old new : Configuration) (session : ℕ)
+    (act : Act)
     → Reaches base events trunk old → IsSession session
-    → effect_of (config_of old) session act ≡ Some (config_of new) → new.path ≡ old.path ++ Effect session act ∷ [] → Reaches base events trunk new
+    → effect_of (config_of old) session act ≡ Some (config_of new) → new.path ≡ old.path ++ Effect session act ∷ []
+    → Reaches base events trunk new
 unfolding Reaches
 reaches_effect base events trunk old new session act reach is at path =
-    let more = runs_effect (opening_config base) (config_of old) (config_of new) events (trunk ++ old.path) session act reach is at in
+    let more = runs_effect (opening_config base) (config_of old) (config_of new) events
+    (trunk ++ old.path) session act reach is at in
     subst (λ l. LeadsThrough (opening_config base) events l (config_of new))
     (append_assoc trunk old.path (Effect session act ∷ []) ∙ ap (λ l. trunk ++ l) (sym path)) more
 
 -- and what an event leads to, by one event more
-pub reaches_event : (base : State) (events : List Event) (trunk : List Move) (old new : Configuration) (event : Event) → Reaches base events trunk old
-    → observed (config_of old) event ≡ Some (config_of new) → new.path ≡ old.path ++ Seeing ∷ [] → Reaches base (events ++ event ∷ []) trunk new
+pub reaches_event : (base : State) (events : List Event) (trunk : List Move) (old new : Configuration) (event : Event)
+    → Reaches base events trunk old
+    → observed (config_of old) event ≡ Some (config_of new) → new.path ≡ old.path ++ Seeing ∷ []
+    → Reaches base (events ++ event ∷ []) trunk new
 unfolding Reaches
 reaches_event base events trunk old new event reach at path =
-    let more = runs_event (opening_config base) (config_of old) (config_of new) events (trunk ++ old.path) event reach at in
+    let more = runs_event (opening_config base) (config_of old) (config_of new) events
+    (trunk ++ old.path) event reach at in
     subst (λ l. LeadsThrough (opening_config base) (events ++ event ∷ []) l (config_of new))
     (append_assoc trunk old.path (Seeing ∷ []) ∙ ap (λ l. trunk ++ l) (sym path)) more
 
-pub all_added : (P : Configuration → Type 0) (old new : List Configuration) (one : Configuration) → AddsUnlessThere old one new → All P old → P one → All P new
+pub all_added : (P : Configuration → Type 0) (old new : List Configuration) (one : Configuration)
+    → AddsUnlessThere old one new → All P old → P one → All P new
 all_added P old new one (inl was) all p = subst (λ l. All P l) (sym was.1) all
 all_added P old new one (inr is) all p = subst (λ l. All P l) (sym is) (All-push P old one all p)
 
-pub all_at : (P : Configuration → Type 0) (list : List Configuration) (place : ℕ) (one : Configuration) → All P list → slice_get list place ≡ Some one → P one
+pub all_at : (P : Configuration → Type 0) (list : List Configuration) (place : ℕ) (one : Configuration) → All P list
+    → slice_get list place ≡ Some one → P one
 all_at P list place one all found = at list place all found
   where
     at : (list : List Configuration) (place : ℕ) → All P list → slice_get list place ≡ Some one → P one
-    at list place all found = subst P (get_or_from_slice_get list place one one found) (all place one (slice_get_within list place one found))
+    at list place all found = subst P (get_or_from_slice_get list place one one found)
+        (all place one (slice_get_within list place one found))
 
 -- the list with what an effect of one of it leads to
-pub grows_added : (old new : List Configuration) (place : ℕ) (one next : Configuration) (session : ℕ) (act : Act) → slice_get old place ≡ Some one
+pub grows_added : (old new : List Configuration) (place : ℕ) (one next : Configuration) (session : ℕ) (act : Act)
+    → slice_get old place ≡ Some one
     → IsSession session
-    → effect_of (config_of one) session act ≡ Some (config_of next) → next.path ≡ one.path ++ Effect session act ∷ [] → AddsUnlessThere old next new
+    → effect_of (config_of one) session act ≡ Some (config_of next) → next.path ≡ one.path ++ Effect session act ∷ []
+    → AddsUnlessThere old next new
     → Grows old new
 grows_added old new place one next session act found is at path added = record {
   more = parts.0;
   parts = parts.1;
   reach = λ base events trunk all.
       all_added (Reaches base events trunk) old new next added all
-      (reaches_effect base events trunk one next session act (all_at (Reaches base events trunk) old place one all found) is at path);
+      (reaches_effect base events trunk one next session act
+      (all_at (Reaches base events trunk) old place one all found) is at path);
 }
   where
     by : AddsUnlessThere old next new → (more : List Configuration) × (new ≡ old ++ more)

@@ -1,9 +1,14 @@
 -- A state that events lead to, with all sessions idle: one call more, and what is refuted behind the events.
 --     leads_append                      moves through some events, and then moves through more
---     alone_leads, alone_only           a call that returns at once, where all are idle, leads to the state after it, and nowhere else
---     loaded_none, loaded_more          with no events the base is where they lead, and from a state to which events lead one such call goes on
---     refuted_behind, answers_behind    what is refuted from the state is refuted behind the events, with the same answers
-use Rattle.std.proofs.Common.{◌≡◌, ◌≢◌, ◌==◌, ℕ, ◌+◌, ◌<◌, zero, suc, true, cond, Some, None, List, [], ◌∷◌, ◌++◌, length, set, take, get_or, refl, ap, sym, ◌∙◌, subst, inl, inr, arith, append_assoc, length-append}
+--     alone_leads, alone_only           a call that returns at once, where all are idle, leads to the state after it,
+--                                       and nowhere else
+--     loaded_none, loaded_more          with no events the base is where they lead, and from a state to which events
+--                                       lead one such call goes on
+--     refuted_behind, answers_behind    what is refuted from the state is refuted behind the events, with the same
+--                                       answers
+use Rattle.std.proofs.Common.{◌≡◌, ◌≢◌, ◌==◌, ℕ, ◌+◌, ◌<◌, zero, suc, true, cond, Some, None, List, [], ◌∷◌, ◌++◌}
+use Rattle.std.proofs.Common.{length, set, take, get_or, refl, ap, sym, ◌∙◌, subst, inl, inr, arith, append_assoc}
+use Rattle.std.proofs.Common.{length-append}
 use Rattle.std.proofs.lemmas.Grind.{common_steps}
 use Rattle.std.specs.Prelude.{slice_get, replicate}
 use Rattle.std.proofs.Math.Seq.{take-append-add}
@@ -21,7 +26,8 @@ use Rattle.xa_judge.specs.declared.moves.Act.{Act}
 use Rattle.xa_judge.specs.declared.moves.Act.TheVariants.{Statement, Disconnect}
 use Rattle.xa_judge.specs.declared.moves.Move.{Move}
 use Rattle.xa_judge.specs.declared.moves.Move.TheVariants.{Event as Seeing, Effect}
-use Rattle.xa_judge.specs.Explained.{Config, opening_config, with_client, effect_of, carried_out, disconnected, observed, called, returned, shows_answer, answer_to}
+use Rattle.xa_judge.specs.Explained.{Config, opening_config, with_client, effect_of, carried_out, disconnected}
+use Rattle.xa_judge.specs.Explained.{observed, called, returned, shows_answer, answer_to}
 use Rattle.xa_judge.specs.Explained.{next_state, LeadsThrough, Explained, IsSession}
 use Rattle.xa_judge.specs.Found.{called_for}
 use Rattle.xa_judge.specs.Near.{IsLoadedTo}
@@ -31,7 +37,8 @@ use Rattle.xa_judge.proofs.Steps.{effect_leads, event_leads}
 use Rattle.xa_judge.proofs.Waits.{effect_called}
 
 -- moves through some events and moves through more are moves through all
-pub leads_append : (old mid end : Config) (events more : List Event) (moves later : List Move) → LeadsThrough old events moves mid
+pub leads_append : (old mid end : Config) (events more : List Event) (moves later : List Move)
+    → LeadsThrough old events moves mid
     → LeadsThrough mid more later end → LeadsThrough old (events ++ more) (moves ++ later) end
 leads_append old mid end events more (Effect session act ∷ moves) later runs on =
     (runs.0, runs.1, runs.2, leads_append runs.0 mid end events more moves later runs.3 on)
@@ -51,7 +58,8 @@ module _ {A : Type 0} where
   -- a place behind the first list is one of the second
   get_behind : (xs ys : List A) (i : ℕ) → slice_get (xs ++ ys) (length xs + i) ≡ slice_get ys i
   get_behind [] ys i = let e : 0 + i ≡ i = omega arith in rw e refl
-  get_behind (x ∷ xs) ys i = let e : suc (length xs) + i ≡ suc (length xs + i) = omega arith in rw e (get_behind xs ys i)
+  get_behind (x ∷ xs) ys i = let e : suc (length xs) + i ≡ suc (length xs + i) = omega arith in
+      rw e (get_behind xs ys i)
 
 -- one session is about this, and all others are idle
 record IsAlone (clients : List ClientState) (session : ℕ) (client : ClientState) : Type 0 where
@@ -61,9 +69,11 @@ record IsAlone (clients : List ClientState) (session : ℕ) (client : ClientStat
 -- before all events each session is idle
 idle_at : (n session : ℕ) → session < n → slice_get (replicate n Idle) session ≡ Some Idle
 idle_at n session within =
-    stands_at (replicate n Idle) session Idle (omega (arith, length-replicate n Idle)) (sym (get_or-replicate n session Idle Idle within))
+    stands_at (replicate n Idle) session Idle (omega (arith, length-replicate n Idle))
+    (sym (get_or-replicate n session Idle Idle within))
 
-alone_opening : (state : State) (session : ℕ) → IsSession session → IsAlone ((opening_config state).clients) session Idle
+alone_opening : (state : State) (session : ℕ) → IsSession session
+    → IsAlone ((opening_config state).clients) session Idle
 unfolding opening_config
 alone_opening state session is = record {
   here = idle_at 17 session (omega (arith, is.1));
@@ -71,36 +81,48 @@ alone_opening state session is = record {
 }
 
 -- the session is about something else now, and the others are still idle
-alone_written : (clients : List ClientState) (session : ℕ) (old new : ClientState) → IsAlone clients session old → IsAlone (set clients session new) session new
+alone_written : (clients : List ClientState) (session : ℕ) (old new : ClientState) → IsAlone clients session old
+    → IsAlone (set clients session new) session new
 alone_written clients session old new alone = record {
   here = get_written clients session old new alone.here;
-  others = λ other among apart. get_apart clients session other new (λ e. apart (sym e)) ∙ alone.others other among apart;
+  others = λ other among apart. get_apart clients session other new (λ e. apart (sym e))
+      ∙ alone.others other among apart;
 }
 
 -- an idle session has no act
-idle_rests : (config new : Config) (session : ℕ) (act : Act) → slice_get config.clients session ≡ Some Idle → effect_of config session act ≡ Some new → ⊥
-unfolding effect_of carried_out disconnected
-idle_rests config new session Statement found is = none-some new (sym (ap (λ o. carried_out o config session) found) ∙ is)
-idle_rests config new session Disconnect found is = none-some new (sym (ap (λ o. disconnected o config session) found) ∙ is)
-
--- nor has one that was answered
-answered_rests : (config new : Config) (session : ℕ) (act : Act) (answer : Answer) → slice_get config.clients session ≡ Some (Answered answer)
+idle_rests : (config new : Config) (session : ℕ) (act : Act) → slice_get config.clients session ≡ Some Idle
     → effect_of config session act ≡ Some new → ⊥
 unfolding effect_of carried_out disconnected
-answered_rests config new session Statement answer found is = none-some new (sym (ap (λ o. carried_out o config session) found) ∙ is)
-answered_rests config new session Disconnect answer found is = none-some new (sym (ap (λ o. disconnected o config session) found) ∙ is)
+idle_rests config new session Statement found is =
+    none-some new (sym (ap (λ o. carried_out o config session) found) ∙ is)
+idle_rests config new session Disconnect found is =
+    none-some new (sym (ap (λ o. disconnected o config session) found) ∙ is)
+
+-- nor has one that was answered
+answered_rests : (config new : Config) (session : ℕ) (act : Act) (answer : Answer)
+    → slice_get config.clients session ≡ Some (Answered answer)
+    → effect_of config session act ≡ Some new → ⊥
+unfolding effect_of carried_out disconnected
+answered_rests config new session Statement answer found is =
+    none-some new (sym (ap (λ o. carried_out o config session) found) ∙ is)
+answered_rests config new session Disconnect answer found is =
+    none-some new (sym (ap (λ o. disconnected o config session) found) ∙ is)
 
 -- one that has called doesn't disconnect
-called_stays : (config new : Config) (session : ℕ) (request : Request) → slice_get config.clients session ≡ Some (Called request)
+called_stays : (config new : Config) (session : ℕ) (request : Request)
+    → slice_get config.clients session ≡ Some (Called request)
     → effect_of config session Disconnect ≡ Some new → ⊥
 unfolding effect_of disconnected
-called_stays config new session request found is = none-some new (sym (ap (λ o. disconnected o config session) found) ∙ is)
+called_stays config new session request found is =
+    none-some new (sym (ap (λ o. disconnected o config session) found) ∙ is)
 
 -- nor does its call return
-called_open : (config new : Config) (session : ℕ) (request : Request) (seen : Seen) → slice_get config.clients session ≡ Some (Called request)
+called_open : (config new : Config) (session : ℕ) (request : Request) (seen : Seen)
+    → slice_get config.clients session ≡ Some (Called request)
     → observed config (Return session seen) ≡ Some new → ⊥
 unfolding observed returned
-called_open config new session request seen found is = none-some new (sym (ap (λ o. returned o config session seen) found) ∙ is)
+called_open config new session request seen found is =
+    none-some new (sym (ap (λ o. returned o config session seen) found) ∙ is)
 
 -- an idle session calls
 idle_calls : (config : Config) (session : ℕ) (request : Request) → slice_get config.clients session ≡ Some Idle
@@ -109,31 +131,41 @@ unfolding observed called
 idle_calls config session request found = ap (λ o. called o config session request) found
 
 -- the answer is returned
-answered_returns : (config : Config) (session : ℕ) (seen : Seen) (answer : Answer) → slice_get config.clients session ≡ Some (Answered answer)
+answered_returns : (config : Config) (session : ℕ) (seen : Seen) (answer : Answer)
+    → slice_get config.clients session ≡ Some (Answered answer)
     → shows_answer seen answer ≡ true → observed config (Return session seen) ≡ Some (with_client config session Idle)
 unfolding observed returned
 answered_returns config session seen answer found shows =
-    ap (λ o. returned o config session seen) found ∙ ap (λ b. cond b (Some (with_client config session Idle)) None) shows
+    ap (λ o. returned o config session seen) found ∙ ap (λ b. cond b
+    (Some (with_client config session Idle)) None) shows
 
 -- and where something is returned, the session is idle then
-returns_idle : (config new : Config) (session : ℕ) (seen : Seen) (answer : Answer) → slice_get config.clients session ≡ Some (Answered answer)
+returns_idle : (config new : Config) (session : ℕ) (seen : Seen) (answer : Answer)
+    → slice_get config.clients session ≡ Some (Answered answer)
     → observed config (Return session seen) ≡ Some new → with_client config session Idle ≡ new
 unfolding observed returned
 returns_idle config new session seen answer found is =
-    (cond_some (shows_answer seen answer) (with_client config session Idle) new (sym (ap (λ o. returned o config session seen) found) ∙ is)).1
+    (cond_some (shows_answer seen answer) (with_client config session Idle) new
+    (sym (ap (λ o. returned o config session seen) found) ∙ is)).1
 
 -- the call has taken effect
 abbrev answered_config : Config → ℕ → Request → Config
 answered_config config session request =
-    record { state = next_state config.state session request; clients = set config.clients session (Answered (answer_to config.state session request)) }
+    record {
+      state = next_state config.state session request;
+      clients = set config.clients session
+          (Answered (answer_to config.state session request));
+    }
 
 -- it takes effect
-called_acts : (config : Config) (session : ℕ) (request : Request) → slice_get config.clients session ≡ Some (Called request)
+called_acts : (config : Config) (session : ℕ) (request : Request)
+    → slice_get config.clients session ≡ Some (Called request)
     → effect_of config session Statement ≡ Some (answered_config config session request)
 called_acts config session request found = effect_called config session request (ap called_for found)
 
 -- first the call is seen
-call_first : (old end : Config) (session : ℕ) (request : Request) (rest : List Event) (all : List Move) → IsAlone old.clients session Idle
+call_first : (old end : Config) (session : ℕ) (request : Request) (rest : List Event) (all : List Move)
+    → IsAlone old.clients session Idle
     → LeadsThrough old (Call session request ∷ rest) all end
     → (later : List Move) × LeadsThrough (with_client old session (Called request)) rest later end
 call_first old end session request rest (Effect other act ∷ moves) alone runs = elim (same_number other session) [
@@ -142,59 +174,78 @@ call_first old end session request rest (Effect other act ∷ moves) alone runs 
 ]
 call_first old end session request rest (Seeing ∷ moves) alone runs = (
   moves,
-  (event_leads old (with_client old session (Called request)) (Call session request) (Call session request ∷ rest) rest moves end refl
+  (event_leads old (with_client old session (Called request)) (Call session request)
+      (Call session request ∷ rest) rest moves end refl
       (idle_calls old session request alone.here)).0 runs,
 )
 call_first old end session request rest [] alone runs = absurd runs
 
 -- then it takes effect, before it returns
-effect_then : (old end : Config) (session : ℕ) (request : Request) (seen : Seen) (rest : List Event) (all : List Move) → IsAlone old.clients session (Called request)
+effect_then : (old end : Config) (session : ℕ) (request : Request) (seen : Seen) (rest : List Event) (all : List Move)
+    → IsAlone old.clients session (Called request)
     → LeadsThrough old (Return session seen ∷ rest) all end
     → (later : List Move) × LeadsThrough (answered_config old session request) (Return session seen ∷ rest) later end
-effect_then old end session request seen rest (Effect other Statement ∷ moves) alone runs = elim (same_number other session) [
-  | inl e ↦
-      let is : IsSession session = subst IsSession e runs.1 in
-      let acts : effect_of old session Statement ≡ Some runs.0 = subst (λ n. effect_of old n Statement ≡ Some runs.0) e runs.2 in
-      let first : LeadsThrough old (Return session seen ∷ rest) (Effect session Statement ∷ moves) end = (runs.0, is, acts, runs.3) in (
-        moves,
-        (effect_leads old (answered_config old session request) session Statement (Return session seen ∷ rest) moves end is
-            (called_acts old session request alone.here)).0 first,
-      )
-  | inr apart ↦ absurd (idle_rests old runs.0 other Statement (alone.others other runs.1 apart) runs.2)
-]
-effect_then old end session request seen rest (Effect other Disconnect ∷ moves) alone runs = elim (same_number other session) [
-  | inl e ↦ absurd (called_stays old runs.0 other request (ap (slice_get old.clients) e ∙ alone.here) runs.2)
-  | inr apart ↦ absurd (idle_rests old runs.0 other Disconnect (alone.others other runs.1 apart) runs.2)
-]
-effect_then old end session request seen rest (Seeing ∷ moves) alone runs = absurd (called_open old runs.0 session request seen alone.here runs.1)
+effect_then old end session request seen rest (Effect other Statement ∷ moves) alone runs =
+    elim (same_number other session) [
+      | inl e ↦
+          let is : IsSession session = subst IsSession e runs.1 in
+          let acts : effect_of old session Statement ≡ Some runs.0 =
+          subst (λ n. effect_of old n Statement ≡ Some runs.0) e runs.2 in
+          let first : LeadsThrough old (Return session seen ∷ rest) (Effect session Statement ∷ moves) end =
+          (runs.0, is, acts, runs.3) in (
+            moves,
+            (effect_leads old (answered_config old session request) session Statement
+                (Return session seen ∷ rest) moves end is
+                (called_acts old session request alone.here)).0 first,
+          )
+      | inr apart ↦ absurd (idle_rests old runs.0 other Statement (alone.others other runs.1 apart) runs.2)
+    ]
+effect_then old end session request seen rest (Effect other Disconnect ∷ moves) alone runs =
+    elim (same_number other session) [
+      | inl e ↦ absurd (called_stays old runs.0 other request (ap (slice_get old.clients) e ∙ alone.here) runs.2)
+      | inr apart ↦ absurd (idle_rests old runs.0 other Disconnect (alone.others other runs.1 apart) runs.2)
+    ]
+effect_then old end session request seen rest (Seeing ∷ moves) alone runs =
+    absurd (called_open old runs.0 session request seen alone.here runs.1)
 effect_then old end session request seen rest [] alone runs = absurd runs
 
 -- and then it returns
-return_last : (old end : Config) (session : ℕ) (answer : Answer) (seen : Seen) (rest : List Event) (all : List Move) → IsAlone old.clients session (Answered answer)
+return_last : (old end : Config) (session : ℕ) (answer : Answer) (seen : Seen) (rest : List Event) (all : List Move)
+    → IsAlone old.clients session (Answered answer)
     → LeadsThrough old (Return session seen ∷ rest) all end
     → (later : List Move) × LeadsThrough (with_client old session Idle) rest later end
 return_last old end session answer seen rest (Effect other act ∷ moves) alone runs = elim (same_number other session) [
   | inl e ↦ absurd (answered_rests old runs.0 other act answer (ap (slice_get old.clients) e ∙ alone.here) runs.2)
   | inr apart ↦ absurd (idle_rests old runs.0 other act (alone.others other runs.1 apart) runs.2)
 ]
-return_last old end session answer seen rest (Seeing ∷ moves) alone runs =
-    (moves, subst (λ c. LeadsThrough c rest moves end) (sym (returns_idle old runs.0 session seen answer alone.here runs.1)) runs.2)
+return_last old end session answer seen rest (Seeing ∷ moves) alone runs = (
+  moves,
+  subst (λ c. LeadsThrough c rest moves end) (sym
+      (returns_idle old runs.0 session seen answer alone.here runs.1)) runs.2,
+)
 return_last old end session answer seen rest [] alone runs = absurd runs
 
 -- what the call, its effect and its return leave is idle again
 idle_again : (state next : State) (session : ℕ) (one two : ClientState) → IsSession session
-    → opening_config next ≡ record { state = next; clients = set (set (set ((opening_config state).clients) session one) session two) session Idle }
+    → opening_config next
+    ≡ record {
+      state = next;
+      clients = set (set (set ((opening_config state).clients) session one) session two) session
+          Idle;
+    }
 unfolding opening_config
 idle_again state next session one two is =
     let idle = replicate 17 Idle in
     let back : set (set (set idle session one) session two) session Idle ≡ idle =
-    set-set (set idle session one) session two Idle ∙ set-set idle session one Idle ∙ set_same idle session Idle (idle_at 17 session (omega (arith, is.1))) in
+    set-set (set idle session one) session two Idle ∙ set-set idle session one Idle
+    ∙ set_same idle session Idle (idle_at 17 session (omega (arith, is.1))) in
     ap (λ l. record { state = next; clients = l }) (sym back)
 
 -- a call that returns at once, where all are idle, leads to the state after it
 pub alone_leads : (state : State) (session : ℕ) (request : Request) (seen : Seen) → IsSession session
     → shows_answer seen (answer_to state session request) ≡ true
-    → LeadsThrough (opening_config state) (Call session request ∷ Return session seen ∷ []) (Seeing ∷ Effect session Statement ∷ Seeing ∷ [])
+    → LeadsThrough (opening_config state) (Call session request ∷ Return session seen ∷ [])
+    (Seeing ∷ Effect session Statement ∷ Seeing ∷ [])
     (opening_config (next_state state session request))
 unfolding opening_config
 alone_leads state session request seen is shows =
@@ -205,14 +256,21 @@ alone_leads state session request seen is shows =
     let answer = answer_to state session request in
     let heard = alone_written first.clients session (Called request) (Answered answer) waiting in
     let last : Config = with_client second session Idle in
-    let returns : observed second (Return session seen) ≡ Some last = answered_returns second session seen answer heard.here shows in (
+    let returns : observed second (Return session seen) ≡ Some last =
+    answered_returns second session seen answer heard.here shows in (
       first,
       idle_calls (opening_config state) session request idle.here,
-      (second, is, called_acts first session request waiting.here, (last, returns, idle_again state second.state session (Called request) (Answered answer) is)),
+      (
+        second,
+        is,
+        called_acts first session request waiting.here,
+        (last, returns, idle_again state second.state session (Called request) (Answered answer) is),
+      ),
     )
 
 -- and nowhere else
-pub alone_only : (state : State) (session : ℕ) (request : Request) (seen : Seen) (more : List Event) (all : List Move) (end : Config) → IsSession session
+pub alone_only : (state : State) (session : ℕ) (request : Request) (seen : Seen) (more : List Event) (all : List Move)
+    (end : Config) → IsSession session
     → LeadsThrough (opening_config state) (Call session request ∷ Return session seen ∷ more) all end
     → (later : List Move) × LeadsThrough (opening_config (next_state state session request)) more later end
 unfolding opening_config
@@ -225,58 +283,73 @@ alone_only state session request seen more all end is runs =
     let heard = alone_written first.clients session (Called request) (Answered answer) waiting in
     let after_call = call_first (opening_config state) end session request (Return session seen ∷ more) all idle runs in
     let after_effect = effect_then first end session request seen more after_call.0 waiting after_call.1 in
-    let after_return = return_last second end session answer seen more after_effect.0 heard after_effect.1 in
-    (after_return.0, subst (λ c. LeadsThrough c more after_return.0 end) (sym (idle_again state second.state session (Called request) (Answered answer) is)) after_return.1)
+    let after_return = return_last second end session answer seen more after_effect.0 heard after_effect.1 in (
+      after_return.0,
+      subst (λ c. LeadsThrough c more after_return.0 end)
+          (sym (idle_again state second.state session (Called request) (Answered answer) is)) after_return.1,
+    )
 
 -- where there are no events, they lead to the base itself
 pub loaded_none : (base : State) → IsLoadedTo base [] base
 loaded_none base = record { moves = []; leads = refl; only = λ more all end runs. (all, runs) }
 
 -- a state to which events lead goes on by one call that returns at once
-pub loaded_more : (base full : State) (events : List Event) (session : ℕ) (request : Request) (seen : Seen) → IsSession session → IsLoadedTo base events full
+pub loaded_more : (base full : State) (events : List Event) (session : ℕ) (request : Request) (seen : Seen)
+    → IsSession session → IsLoadedTo base events full
     → shows_answer seen (answer_to full session request) ≡ true
     → IsLoadedTo base (events ++ Call session request ∷ Return session seen ∷ []) (next_state full session request)
 loaded_more base full events session request seen is loaded shows = record {
   moves = loaded.moves ++ Seeing ∷ Effect session Statement ∷ Seeing ∷ [];
-  leads = leads_append (opening_config base) (opening_config full) (opening_config (next_state full session request)) events
-      (Call session request ∷ Return session seen ∷ []) loaded.moves (Seeing ∷ Effect session Statement ∷ Seeing ∷ []) loaded.leads
+  leads = leads_append (opening_config base) (opening_config full)
+      (opening_config (next_state full session request)) events
+      (Call session request ∷ Return session seen ∷ []) loaded.moves
+      (Seeing ∷ Effect session Statement ∷ Seeing ∷ []) loaded.leads
       (alone_leads full session request seen is shows);
   only = λ more all end runs.
-      let parts : (events ++ Call session request ∷ Return session seen ∷ []) ++ more ≡ events ++ Call session request ∷ Return session seen ∷ more =
+      let parts : (events ++ Call session request ∷ Return session seen ∷ []) ++ more ≡ events
+      ++ Call session request ∷ Return session seen ∷ more =
       append_assoc events (Call session request ∷ Return session seen ∷ []) more in
-      let rest = loaded.only (Call session request ∷ Return session seen ∷ more) all end (subst (λ l. LeadsThrough (opening_config base) l all end) parts runs) in
+      let rest = loaded.only (Call session request ∷ Return session seen ∷ more) all end
+      (subst (λ l. LeadsThrough (opening_config base) l all end) parts runs) in
       alone_only full session request seen more rest.0 end is rest.1;
 }
 
 -- what some order explains from the state to which events lead is explained behind them
-explained_behind : (base full : State) (first later : List Event) → IsLoadedTo base first full → Explained full later → Explained base (first ++ later)
+explained_behind : (base full : State) (first later : List Event) → IsLoadedTo base first full → Explained full later
+    → Explained base (first ++ later)
 explained_behind base full first later loaded explained = (
   loaded.moves ++ explained.0,
   explained.1,
-  leads_append (opening_config base) (opening_config full) explained.1 first later loaded.moves explained.0 loaded.leads explained.2,
+  leads_append (opening_config base) (opening_config full) explained.1 first later loaded.moves explained.0 loaded.leads
+      explained.2,
 )
 
 -- and the other way round
-explained_from : (base full : State) (first later : List Event) → IsLoadedTo base first full → Explained base (first ++ later) → Explained full later
+explained_from : (base full : State) (first later : List Event) → IsLoadedTo base first full
+    → Explained base (first ++ later) → Explained full later
 explained_from base full first later loaded explained =
     let rest = loaded.only later explained.0 explained.1 explained.2 in (rest.0, explained.1, rest.1)
 
 -- what is refuted from the state to which first events lead is refuted behind them
-pub refuted_behind : (base full : State) (first later : List Event) (place : ℕ) → IsLoadedTo base first full → IsRefuted full later place
+pub refuted_behind : (base full : State) (first later : List Event) (place : ℕ) → IsLoadedTo base first full
+    → IsRefuted full later place
     → IsRefuted base (first ++ later) (length first + place)
 refuted_behind base full first later place loaded refuted = record {
   within = omega (arith, refuted.within, length-append first later);
-  before = subst (Explained base) (sym (take-append-add first later place)) (explained_behind base full first (take place later) loaded refuted.before);
+  before = subst (Explained base) (sym (take-append-add first later place))
+      (explained_behind base full first (take place later) loaded refuted.before);
   refuted = λ explained.
       let e : length first + place + 1 ≡ length first + (place + 1) = omega arith in
       let parts : take (length first + place + 1) (first ++ later) ≡ first ++ take (place + 1) later =
       ap (λ n. take n (first ++ later)) e ∙ take-append-add first later (place + 1) in
-      refuted.refuted (explained_from base full first (take (place + 1) later) loaded (subst (Explained base) parts explained));
+      refuted.refuted (explained_from base full first (take (place + 1) later) loaded
+      (subst (Explained base) parts explained));
   whole = λ explained. refuted.whole (explained_from base full first later loaded explained);
 }
 
 -- with an answer that could be behind them
-could_behind : (base full : State) (first later : List Event) (place : ℕ) (answer : Answer) → IsLoadedTo base first full → CouldBe full later place answer
+could_behind : (base full : State) (first later : List Event) (place : ℕ) (answer : Answer) → IsLoadedTo base first full
+    → CouldBe full later place answer
     → CouldBe base (first ++ later) (length first + place) answer
 could_behind base full first later place answer loaded could =
     let it = could.after in record {
@@ -287,8 +360,10 @@ could_behind base full first later place answer loaded could =
         config = it.config;
         reached = record {
           moves = loaded.moves ++ it.reached.moves;
-          runs = subst (λ l. LeadsThrough (opening_config base) l (loaded.moves ++ it.reached.moves) it.config) (sym (take-append-add first later place))
-              (leads_append (opening_config base) (opening_config full) it.config first (take place later) loaded.moves it.reached.moves loaded.leads it.reached.runs);
+          runs = subst (λ l. LeadsThrough (opening_config base) l (loaded.moves ++ it.reached.moves) it.config)
+              (sym (take-append-add first later place))
+              (leads_append (opening_config base) (opening_config full) it.config first
+              (take place later) loaded.moves it.reached.moves loaded.leads it.reached.runs);
         };
         answered = it.answered;
       };
@@ -300,7 +375,8 @@ could_from : (base full : State) (first later : List Event) (place : ℕ) (answe
 could_from base full first later place answer loaded could =
     let it = could.after in
     let rest = loaded.only (take place later) it.reached.moves it.config
-    (subst (λ l. LeadsThrough (opening_config base) l it.reached.moves it.config) (take-append-add first later place) it.reached.runs) in record {
+    (subst (λ l. LeadsThrough (opening_config base) l it.reached.moves it.config)
+    (take-append-add first later place) it.reached.runs) in record {
       session = could.session;
       seen = could.seen;
       returns = sym (get_behind first later place) ∙ could.returns;
@@ -308,7 +384,8 @@ could_from base full first later place answer loaded could =
     }
 
 -- all the answers from the state are all behind them
-pub answers_behind : (base full : State) (first later : List Event) (place : ℕ) (answers : List Answer) → IsLoadedTo base first full
+pub answers_behind : (base full : State) (first later : List Event) (place : ℕ) (answers : List Answer)
+    → IsLoadedTo base first full
     → AreAllAnswers full later place answers → AreAllAnswers base (first ++ later) (length first + place) answers
 answers_behind base full first later place answers loaded are = record {
   each = λ k d below. could_behind base full first later place (get_or answers k d) loaded (are.each k d below);
@@ -318,4 +395,5 @@ answers_behind base full first later place answers loaded are = record {
 -- a list of no length has nothing
 pub none_left : (list : List Event) → (length list == 0) ≡ true → list ≡ []
 none_left [] empty = refl
-none_left (event ∷ list) empty = absurd (let none : length (event ∷ list) ≡ 0 = grind (arith, common_steps) in omega arith)
+none_left (event ∷ list) empty =
+    absurd (let none : length (event ∷ list) ≡ 0 = grind (arith, common_steps) in omega arith)

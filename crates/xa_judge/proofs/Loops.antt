@@ -1,5 +1,6 @@
 -- Loops over configurations.
-use Rattle.std.proofs.Common.{◌≡◌, ◌≢◌, ◌⊎◌, ℕ, ◌+◌, ◌<◌, Option, Some, None, List, [], ◌∷◌, ◌++◌, length, get_or, refl, ap, sym, ◌∙◌, subst, inl, inr, arith}
+use Rattle.std.proofs.Common.{◌≡◌, ◌≢◌, ◌⊎◌, ℕ, ◌+◌, ◌<◌, Option, Some, None, List, [], ◌∷◌, ◌++◌, length, get_or, refl}
+use Rattle.std.proofs.Common.{ap, sym, ◌∙◌, subst, inl, inr, arith}
 use Rattle.std.specs.Prelude.{slice_get, IfSome}
 use Rattle.std.specs.Option.{option_map}
 use Rattle.std.specs.List.{All, Contains}
@@ -17,11 +18,13 @@ use Rattle.xa_judge.specs.declared.moves.Move.{Move}
 use Rattle.xa_judge.specs.declared.moves.Move.TheVariants.{Effect}
 use Rattle.xa_judge.specs.declared.configuration.Configuration.{Configuration}
 use Rattle.xa_judge.specs.Explained.{Config, effect_of, observed, IsSession}
-use Rattle.xa_judge.specs.Found.{config_of, configs, Has, Reaches, Grows, after_settling, AddsUnlessThere, IsSettledFrom, IsSeenAdded, IsAnsweredIn}
+use Rattle.xa_judge.specs.Found.{config_of, configs, Has, Reaches, Grows, after_settling, AddsUnlessThere}
+use Rattle.xa_judge.specs.Found.{IsSettledFrom, IsSeenAdded, IsAnsweredIn}
 use Rattle.xa_judge.specs.Found.{IsAnswerAdded}
 use Rattle.xa_judge.specs.Found.{IsExpandedBelow, IsClosedBelow}
 use Rattle.xa_judge.proofs.Places.{map_append, get_within, place_mapped}
-use Rattle.xa_judge.proofs.Growth.{has_still, has_added, has_kept, still_there, all_added, reaches_effect, reaches_event, grows_added}
+use Rattle.xa_judge.proofs.Growth.{has_still, has_added, has_kept, still_there, all_added, reaches_effect}
+use Rattle.xa_judge.proofs.Growth.{reaches_event, grows_added}
 
 -- where the first list is reached, so are what is left of it and what was made of the rest
 abbrev pub KeepsReachBoth : List Configuration → List Configuration → List Configuration → Type 0
@@ -37,46 +40,59 @@ ReachesPastBoth event first rest list =
 
 -- each of the first list is still to come, or has after_settling
 abbrev pub SettlesBoth : ℕ → List Configuration → List Configuration → List Configuration → Type 0
-SettlesBoth session first rest list = (one : Config) → Has first one → Has rest one ⊎ Has list (after_settling one session)
+SettlesBoth session first rest list = (one : Config) → Has first one
+    → Has rest one ⊎ Has list (after_settling one session)
 
 -- each of the first list is still to come, or what the event leads to from it is in the list
 abbrev pub SeesBoth : Event → List Configuration → List Configuration → List Configuration → Type 0
-SeesBoth event first rest list = (one new : Config) → Has first one → observed one event ≡ Some new → Has rest one ⊎ Has list new
+SeesBoth event first rest list = (one new : Config) → Has first one → observed one event ≡ Some new
+    → Has rest one ⊎ Has list new
 
-pub has_pushed : (list new : List Configuration) (one : Configuration) → new ≡ list ++ one ∷ [] → Has new (config_of one)
+pub has_pushed : (list new : List Configuration) (one : Configuration) → new ≡ list ++ one ∷ []
+    → Has new (config_of one)
 has_pushed list new one is = has_added list new one (inr is)
 
 -- a member of a list with one more at its end
-has_last : (rest known : List Configuration) (one : Configuration) (c : Config) → known ≡ rest ++ one ∷ [] → Has known c → Has rest c ⊎ (config_of one ≡ c)
+has_last : (rest known : List Configuration) (one : Configuration) (c : Config) → known ≡ rest ++ one ∷ [] → Has known c
+    → Has rest c ⊎ (config_of one ≡ c)
 has_last rest known one c parts has =
-    Contains-push_cases (configs rest) (config_of one) c (subst (λ l. Contains l c) (ap configs parts ∙ map_append config_of rest (one ∷ [])) has)
+    Contains-push_cases (configs rest) (config_of one) c (subst (λ l. Contains l c)
+    (ap configs parts ∙ map_append config_of rest (one ∷ [])) has)
 
-pub settles_step : (session : ℕ) (first known rest list new : List Configuration) (one next : Configuration) → known ≡ rest ++ one ∷ []
+pub settles_step : (session : ℕ) (first known rest list new : List Configuration) (one next : Configuration)
+    → known ≡ rest ++ one ∷ []
     → new ≡ list ++ next ∷ [] → config_of next ≡ after_settling (config_of one) session
     → SettlesBoth session first known list → SettlesBoth session first rest new
 settles_step session first known rest list new one next parts pushed is has = λ c was. elim (has c was) [
   | inl there ↦ elim (has_last rest known one c parts there) [
     | inl still ↦ inl still
-    | inr here ↦ inr (subst (λ d. Has new d) (is ∙ ap (λ d. after_settling d session) here) (has_pushed list new next pushed))
+    | inr here ↦ inr (subst (λ d. Has new d) (is ∙ ap (λ d. after_settling d session) here)
+        (has_pushed list new next pushed))
   ]
   | inr done ↦ inr (has_kept list new next (after_settling c session) (inr pushed) done)
 ]
 
-reaches_settled : (base : State) (events : List Event) (trunk : List Move) (session : ℕ) (one next : Configuration) → IsSettledFrom session one next
+reaches_settled : (base : State) (events : List Event) (trunk : List Move) (session : ℕ) (one next : Configuration)
+    → IsSettledFrom session one next
     → Reaches base events trunk one → Reaches base events trunk next
 reaches_settled base events trunk session one next (inl same) reach = subst (Reaches base events trunk) (sym same) reach
 reaches_settled base events trunk session one next (inr effect) reach =
     reaches_effect base events trunk one next session Statement reach effect.0 effect.1 effect.2
 
-pub settles_reach : (session : ℕ) (first known rest list new : List Configuration) (one next : Configuration) → known ≡ rest ++ one ∷ []
+pub settles_reach : (session : ℕ) (first known rest list new : List Configuration) (one next : Configuration)
+    → known ≡ rest ++ one ∷ []
     → new ≡ list ++ next ∷ [] → IsSettledFrom session one next
     → KeepsReachBoth first known list → KeepsReachBoth first rest new
 settles_reach session first known rest list new one next parts pushed from reach = λ base events trunk all.
     let both = reach base events trunk all in
-    let cut = All-pop (Reaches base events trunk) known rest (Some one) parts both.0 in
-    (cut.0, all_added (Reaches base events trunk) list new next (inr pushed) both.1 (reaches_settled base events trunk session one next from cut.1))
+    let cut = All-pop (Reaches base events trunk) known rest (Some one) parts both.0 in (
+      cut.0,
+      all_added (Reaches base events trunk) list new next (inr pushed) both.1
+          (reaches_settled base events trunk session one next from cut.1),
+    )
 
-pub sees_step : (event : Event) (first known rest list new : List Configuration) (one : Configuration) → known ≡ rest ++ one ∷ []
+pub sees_step : (event : Event) (first known rest list new : List Configuration) (one : Configuration)
+    → known ≡ rest ++ one ∷ []
     → IsSeenAdded event one list new → SeesBoth event first known list → SeesBoth event first rest new
 sees_step event first known rest list new one parts (inl none) has = λ c next was at. elim (has c next was at) [
   | inl there ↦ elim (has_last rest known one c parts there) [
@@ -88,13 +104,15 @@ sees_step event first known rest list new one parts (inl none) has = λ c next w
 sees_step event first known rest list new one parts (inr some) has = λ c next was at. elim (has c next was at) [
   | inl there ↦ elim (has_last rest known one c parts there) [
     | inl still ↦ inl still
-    | inr here ↦ inr (subst (λ d. Has new d) (same_Some (config_of some.0) next (sym some.1 ∙ ap (λ d. observed d event) here ∙ at))
+    | inr here ↦ inr (subst (λ d. Has new d) (same_Some (config_of some.0) next
+        (sym some.1 ∙ ap (λ d. observed d event) here ∙ at))
         (has_added list new some.0 some.3))
   ]
   | inr done ↦ inr (has_kept list new some.0 next some.3 done)
 ]
 
-pub sees_reach : (event : Event) (first known rest list new : List Configuration) (one : Configuration) → known ≡ rest ++ one ∷ []
+pub sees_reach : (event : Event) (first known rest list new : List Configuration) (one : Configuration)
+    → known ≡ rest ++ one ∷ []
     → IsSeenAdded event one list new → ReachesPastBoth event first known list → ReachesPastBoth event first rest new
 sees_reach event first known rest list new one parts (inl none) reach = λ base events trunk all.
     let both = reach base events trunk all in
@@ -115,12 +133,14 @@ HasAnswersBefore count known session answers =
     → slice_get one.clients.items session ≡ Some (Answered answer) → Contains answers answer
 
 -- one more answer
-pub answers_step : (known : List Configuration) (place session : ℕ) (one : Configuration) (old new : List Answer) → place < length known
+pub answers_step : (known : List Configuration) (place session : ℕ) (one : Configuration) (old new : List Answer)
+    → place < length known
     → one ≡ get_or known place one → IsAnswerAdded (slice_get one.clients.items session) old new
     → All (IsAnsweredIn known session) old → All (IsAnsweredIn known session) new
 answers_step known place session one old new within at added all = by (slice_get one.clients.items session) refl added
   where
-    by : (o : Option ClientState) → slice_get one.clients.items session ≡ o → IsAnswerAdded o old new → All (IsAnsweredIn known session) new
+    by : (o : Option ClientState) → slice_get one.clients.items session ≡ o → IsAnswerAdded o old new
+        → All (IsAnsweredIn known session) new
     by None is same = subst (λ l. All (IsAnsweredIn known session) l) (sym same) all
     by (Some Idle) is same = subst (λ l. All (IsAnsweredIn known session) l) (sym same) all
     by (Some (Called request)) is same = subst (λ l. All (IsAnsweredIn known session) l) (sym same) all
@@ -136,37 +156,43 @@ answers_step known place session one old new within at added all = by (slice_get
     by (Some Left) is same = subst (λ l. All (IsAnsweredIn known session) l) (sym same) all
 
 -- the answers before a place and the one there
-pub answers_more : (known : List Configuration) (place session : ℕ) (one : Configuration) (old new : List Answer) → place < length known
+pub answers_more : (known : List Configuration) (place session : ℕ) (one : Configuration) (old new : List Answer)
+    → place < length known
     → one ≡ get_or known place one → IsAnswerAdded (slice_get one.clients.items session) old new
     → HasAnswersBefore place known session old → HasAnswersBefore (place + 1) known session new
-answers_more known place session one old new within at added before k other answer below found stands = elim (cases_lt k place) [
-  | inl less ↦ kept (slice_get one.clients.items session) added (before k other answer less found stands)
-  | inr more ↦
-      let here : slice_get known place ≡ Some one = slice_get_read known (length known) place one refl within at in
-      let same : k ≡ place = omega (arith, below, more) in
-      let is : one ≡ other = same_Some one other (sym here ∙ ap (slice_get known) (sym same) ∙ found) in
-      let there : slice_get one.clients.items session ≡ Some (Answered answer) = ap (λ (c : Configuration). slice_get c.clients.items session) is ∙ stands in
-      let pushed : new ≡ old ++ answer ∷ [] = subst (λ o. IsAnswerAdded o old new) there added in
-      subst (λ l. Contains l answer) (sym pushed) (Contains-push old answer)
-]
+answers_more known place session one old new within at added before k other answer below found stands =
+    elim (cases_lt k place) [
+      | inl less ↦ kept (slice_get one.clients.items session) added (before k other answer less found stands)
+      | inr more ↦
+          let here : slice_get known place ≡ Some one = slice_get_read known (length known) place one refl within at in
+          let same : k ≡ place = omega (arith, below, more) in
+          let is : one ≡ other = same_Some one other (sym here ∙ ap (slice_get known) (sym same) ∙ found) in
+          let there : slice_get one.clients.items session ≡ Some (Answered answer) =
+          ap (λ (c : Configuration). slice_get c.clients.items session) is ∙ stands in
+          let pushed : new ≡ old ++ answer ∷ [] = subst (λ o. IsAnswerAdded o old new) there added in
+          subst (λ l. Contains l answer) (sym pushed) (Contains-push old answer)
+    ]
   where
     kept : (o : Option ClientState) → IsAnswerAdded o old new → Contains old answer → Contains new answer
     kept None same has = subst (λ l. Contains l answer) (sym same) has
     kept (Some Idle) same has = subst (λ l. Contains l answer) (sym same) has
     kept (Some (Called request)) same has = subst (λ l. Contains l answer) (sym same) has
-    kept (Some (Answered last)) more has = subst (λ l. Contains l answer) (sym more) (Contains-append_left old (last ∷ []) answer has)
+    kept (Some (Answered last)) more has =
+        subst (λ l. Contains l answer) (sym more) (Contains-append_left old (last ∷ []) answer has)
     kept (Some (Gone request)) same has = subst (λ l. Contains l answer) (sym same) has
     kept (Some Left) same has = subst (λ l. Contains l answer) (sym same) has
 
 -- a list stays closed as it grows, and is at one place more
-pub closed_more : (place : ℕ) (returning : Option ℕ) (old new : List Configuration) → place < length old → IsClosedBelow place returning old → Grows old new
+pub closed_more : (place : ℕ) (returning : Option ℕ) (old new : List Configuration) → place < length old
+    → IsClosedBelow place returning old → Grows old new
     → ((one : Configuration) → slice_get old place ≡ Some one → IsExpandedBelow 17 one returning new)
     → IsClosedBelow (place + 1) returning new
 closed_more place returning old new within before grows here k one below found =
     let was = get_within old k (omega (arith, below, within)) in
     let same : was.0 ≡ one = same_Some was.0 one (sym (still_there old new k was.0 grows was.1) ∙ found) in
     subst (λ o. IsExpandedBelow 17 o returning new) same (elim (before_or_at k place below) [
-      | inl less ↦ λ session act c low is apart unanswered at. has_still old new c grows (before k was.0 less was.1 session act c low is apart unanswered at)
+      | inl less ↦ λ session act c low is apart unanswered at. has_still old new c grows
+          (before k was.0 less was.1 session act c low is apart unanswered at)
       | inr at ↦ here was.0 (ap (slice_get old) (sym at) ∙ was.1)
     ])
   where
@@ -174,18 +200,22 @@ closed_more place returning old new within before grows here k one below found =
     before_or_at k place below = elim (cases_lt k place) [ inl less ↦ inl less | inr more ↦ inr (omega arith) ]
 
 -- what one act leads to is added
-pub effect_added : (old new : List Configuration) (place : ℕ) (one next : Configuration) (found : Option Configuration) (session : ℕ) (act : Act)
+pub effect_added : (old new : List Configuration) (place : ℕ) (one next : Configuration) (found : Option Configuration)
+    (session : ℕ) (act : Act)
     → slice_get old place ≡ Some one → IsSession session
-    → option_map config_of found ≡ effect_of (config_of one) session act → IfSome found (λ n. n.path ≡ one.path ++ Effect session act ∷ [])
+    → option_map config_of found ≡ effect_of (config_of one) session act
+    → IfSome found (λ n. n.path ≡ one.path ++ Effect session act ∷ [])
     → found ≡ Some next → AddsUnlessThere old next new
-    → Grows old new × ((other : Configuration) (config : Config) → slice_get old place ≡ Some other → effect_of (config_of other) session act ≡ Some config
+    → Grows old new × ((other : Configuration) (config : Config) → slice_get old place ≡ Some other
+    → effect_of (config_of other) session act ≡ Some config
     → Has new config)
 effect_added old new place one next found session act at is effect path some added = (
   grows_added old new place one next session act at is led
       (subst (λ o. IfSome o (λ n. n.path ≡ one.path ++ Effect session act ∷ [])) some path) added,
   λ other config there leads.
       let same : one ≡ other = same_Some one other (sym at ∙ there) in
-      subst (λ d. Has new d) (same_Some (config_of next) config (sym led ∙ ap (λ o. effect_of (config_of o) session act) same ∙ leads))
+      subst (λ d. Has new d) (same_Some (config_of next) config
+      (sym led ∙ ap (λ o. effect_of (config_of o) session act) same ∙ leads))
       (has_added old new next added),
 )
   where
@@ -194,24 +224,33 @@ effect_added old new place one next found session act at is effect path some add
 
 -- what both acts of a session lead to is there
 pub effects_added : (old mid new : List Configuration) (place session : ℕ) → Grows old mid → Grows mid new
-    → ((one : Configuration) (config : Config) → slice_get old place ≡ Some one → effect_of (config_of one) session Statement ≡ Some config → Has mid config)
-    → ((one : Configuration) (config : Config) → slice_get mid place ≡ Some one → effect_of (config_of one) session Disconnect ≡ Some config → Has new config)
-    → (one : Configuration) (act : Act) (config : Config) → slice_get old place ≡ Some one → effect_of (config_of one) session act ≡ Some config
+    → ((one : Configuration) (config : Config) → slice_get old place ≡ Some one
+    → effect_of (config_of one) session Statement ≡ Some config → Has mid config)
+    → ((one : Configuration) (config : Config) → slice_get mid place ≡ Some one
+    → effect_of (config_of one) session Disconnect ≡ Some config → Has new config)
+    → (one : Configuration) (act : Act) (config : Config) → slice_get old place ≡ Some one
+    → effect_of (config_of one) session act ≡ Some config
     → Has new config
-effects_added old mid new place session first second has then one Statement config at leads = has_still mid new config second (has one config at leads)
-effects_added old mid new place session first second has then one Disconnect config at leads = then one config (still_there old mid place one first at) leads
+effects_added old mid new place session first second has then one Statement config at leads =
+    has_still mid new config second (has one config at leads)
+effects_added old mid new place session first second has then one Disconnect config at leads =
+    then one config (still_there old mid place one first at) leads
 
 -- what acts of the sessions up to this one lead to is there
-pub others_more : (old now new : List Configuration) (place number : ℕ) (returning : Option ℕ) (one : Configuration) → Grows old now → Grows now new
+pub others_more : (old now new : List Configuration) (place number : ℕ) (returning : Option ℕ) (one : Configuration)
+    → Grows old now → Grows now new
     → slice_get old place ≡ Some one → IsExpandedBelow number one returning now
-    → ((other : Configuration) (act : Act) (config : Config) → slice_get now place ≡ Some other → IsSession number → returning ≢ Some number
+    → ((other : Configuration) (act : Act) (config : Config) → slice_get now place ≡ Some other → IsSession number
+    → returning ≢ Some number
     → effect_of (config_of other) number act ≡ Some config → Has new config)
     → IsExpandedBelow (number + 1) one returning new
-others_more old now new place number returning one first second at before here session act config below is apart unanswered leads =
+others_more old now new place number returning one first second at before here session act config below is apart
+    unanswered leads =
     elim (cases_lt session number) [
       | inl less ↦ has_still now new config second (before session act config less is apart unanswered leads)
       | inr more ↦
           let same : session ≡ number = omega arith in
-          here one act config (still_there old now place one first at) (subst IsSession same is) (λ e. apart (e ∙ ap Some (sym same)))
+          here one act config (still_there old now place one first at) (subst IsSession same is)
+          (λ e. apart (e ∙ ap Some (sym same)))
           (ap (λ n. effect_of (config_of one) n act) (sym same) ∙ leads)
     ]

@@ -3,7 +3,8 @@
 --     AreNearConfigs              configurations whose sessions are about the same, on near states
 --     near_effect, near_event     where an effect, an event can be in one it can be in the other
 --     near_run, near_opening      so it is with all moves; and before all events
-use Rattle.std.proofs.Common.{◌≡◌, ℕ, Bool, cond, Option, Some, None, List, [], ◌∷◌, replicate, set, zero, suc, refl, ap, sym, ◌∙◌, subst, inl, inr}
+use Rattle.std.proofs.Common.{◌≡◌, ℕ, Bool, cond, Option, Some, None, List, [], ◌∷◌, replicate, set, zero, suc, refl}
+use Rattle.std.proofs.Common.{ap, sym, ◌∙◌, subst, inl, inr}
 use Rattle.std.specs.Prelude.{slice_get}
 use Rattle.std.specs.List.{All, AllByRecursion}
 use Rattle.std.proofs.lemmas.Option.{none-some, same_Some, cond_some}
@@ -21,7 +22,8 @@ use Rattle.xa_judge.specs.declared.moves.Act.{Act}
 use Rattle.xa_judge.specs.declared.moves.Act.TheVariants.{Statement, Disconnect}
 use Rattle.xa_judge.specs.declared.moves.Move.{Move}
 use Rattle.xa_judge.specs.declared.moves.Move.TheVariants.{Event as Seeing, Effect}
-use Rattle.xa_judge.specs.Explained.{Config, opening_config, with_client, effect_of, carried_out, disconnected, observed, called, returned, lost, answered_unknown}
+use Rattle.xa_judge.specs.Explained.{Config, opening_config, with_client, effect_of, carried_out, disconnected}
+use Rattle.xa_judge.specs.Explained.{observed, called, returned, lost, answered_unknown}
 use Rattle.xa_judge.specs.Explained.{shows_answer, answer_to, next_state, LeadsThrough}
 use Rattle.xa_judge.specs.Near.{AreNear, ReadsNamed, CallsNamed}
 use Rattle.xa_judge.proofs.NearStates.{near_answer, near_next, near_after}
@@ -38,26 +40,31 @@ WaitsNamed named client = Unit {0}
 pub record AreNearConfigs (named : List ℕ → Bool) (left right : Config) : Type 0 where
   pub clients : left.clients ≡ right.clients
   pub states : AreNear named left.state right.state
-  pub waits : (session : ℕ) (client : ClientState) → slice_get left.clients session ≡ Some client → WaitsNamed named client
+  pub waits : (session : ℕ) (client : ClientState) → slice_get left.clients session ≡ Some client
+      → WaitsNamed named client
 
 -- the other stands likewise where an effect can be in it
 abbrev EffectToo : (List ℕ → Bool) → Config → Config → ℕ → Act → Type 0
-EffectToo named right mid session act = (other : Config) × (effect_of right session act ≡ Some other) × AreNearConfigs named mid other
+EffectToo named right mid session act =
+    (other : Config) × (effect_of right session act ≡ Some other) × AreNearConfigs named mid other
 
 -- and where an event can be seen in it
 abbrev SeenToo : (List ℕ → Bool) → Config → Config → Event → Type 0
 SeenToo named right mid event = (other : Config) × (observed right event ≡ Some other) × AreNearConfigs named mid other
 
 -- what a session of the other is about
-same_client : (named : List ℕ → Bool) (left right : Config) (session : ℕ) (o : Option ClientState) → AreNearConfigs named left right
+same_client : (named : List ℕ → Bool) (left right : Config) (session : ℕ) (o : Option ClientState)
+    → AreNearConfigs named left right
     → slice_get left.clients session ≡ o → slice_get right.clients session ≡ o
 same_client named left right session o near found = ap (λ l. slice_get l session) (sym near.clients) ∙ found
 
 -- after a write at one place every client still waits for no request but one that reads named rows
-waits_set : (named : List ℕ → Bool) (clients : List ClientState) (session : ℕ) (before next : ClientState) → slice_get clients session ≡ Some before
+waits_set : (named : List ℕ → Bool) (clients : List ClientState) (session : ℕ) (before next : ClientState)
+    → slice_get clients session ≡ Some before
     → WaitsNamed named next
     → ((session : ℕ) (client : ClientState) → slice_get clients session ≡ Some client → WaitsNamed named client)
-    → (other : ℕ) (client : ClientState) → slice_get (set clients session next) other ≡ Some client → WaitsNamed named client
+    → (other : ℕ) (client : ClientState) → slice_get (set clients session next) other ≡ Some client
+    → WaitsNamed named client
 waits_set named clients session before next found reads waits other client at = elim (same_number session other) [
   | inl e ↦
       let written : slice_get (set clients session next) other ≡ Some next =
@@ -67,13 +74,15 @@ waits_set named clients session before next found reads waits other client at = 
 ]
 
 -- near configurations after the same change of what a session is about
-changed : (named : List ℕ → Bool) (left right : Config) (session : ℕ) (before next same : ClientState) (state beside : State)
+changed : (named : List ℕ → Bool) (left right : Config) (session : ℕ) (before next same : ClientState)
+    (state beside : State)
     → AreNearConfigs named left right
     → slice_get left.clients session ≡ Some before
     → next ≡ same
     → AreNear named state beside
     → WaitsNamed named next
-    → AreNearConfigs named (record { state = state; clients = set left.clients session next }) (record { state = beside; clients = set right.clients session same })
+    → AreNearConfigs named (record { state = state; clients = set left.clients session next })
+    (record { state = beside; clients = set right.clients session same })
 changed named left right session before next same state beside near found e states reads = record {
   clients = ap (λ l. set l session next) near.clients ∙ ap (set right.clients session) e;
   states = states;
@@ -81,7 +90,8 @@ changed named left right session before next same state beside near found e stat
 }
 
 -- what a session called for takes effect in the other too
-near_statement : (named : List ℕ → Bool) (o : Option ClientState) (left right mid : Config) (session : ℕ) → AreNearConfigs named left right
+near_statement : (named : List ℕ → Bool) (o : Option ClientState) (left right mid : Config) (session : ℕ)
+    → AreNearConfigs named left right
     → slice_get left.clients session ≡ o
     → carried_out o left session ≡ Some mid
     → EffectToo named right mid session Statement
@@ -91,28 +101,36 @@ near_statement named (Some Idle) left right mid session near found is = absurd (
 near_statement named (Some (Called request)) left right mid session near found is =
     let answer = Answered (answer_to left.state session request) in
     let same = Answered (answer_to right.state session request) in
-    let e : answer ≡ same = ap Answered (near_answer named left.state right.state session request near.states (near.waits session (Called request) found)) in
-    let next = changed named left right session (Called request) answer same (next_state left.state session request) (next_state right.state session request)
+    let e : answer ≡ same = ap Answered (near_answer named left.state right.state session request near.states
+    (near.waits session (Called request) found)) in
+    let next = changed named left right session (Called request) answer same (next_state left.state session request)
+    (next_state right.state session request)
     near found e (near_next named left.state right.state session request near.states) tt in (
       record { state = next_state right.state session request; clients = set right.clients session same },
       ap (λ o. carried_out o right session) (same_client named left right session (Some (Called request)) near found),
-      subst (λ c. AreNearConfigs named c (record { state = next_state right.state session request; clients = set right.clients session same }))
+      subst (λ c. AreNearConfigs named c
+          (record { state = next_state right.state session request; clients = set right.clients session same }))
           (same_Some _ mid is) next,
     )
 near_statement named (Some (Answered answer)) left right mid session near found is = absurd (none-some mid is)
 near_statement named (Some (Gone None)) left right mid session near found is = absurd (none-some mid is)
 near_statement named (Some (Gone (Some request))) left right mid session near found is =
-    let next = changed named left right session (Gone (Some request)) (Gone None) (Gone None) (next_state left.state session request)
-    (next_state right.state session request) near found refl (near_next named left.state right.state session request near.states) tt in (
+    let next = changed named left right session (Gone (Some request)) (Gone None) (Gone None)
+    (next_state left.state session request)
+    (next_state right.state session request) near found refl
+    (near_next named left.state right.state session request near.states) tt in (
       record { state = next_state right.state session request; clients = set right.clients session (Gone None) },
-      ap (λ o. carried_out o right session) (same_client named left right session (Some (Gone (Some request))) near found),
-      subst (λ c. AreNearConfigs named c (record { state = next_state right.state session request; clients = set right.clients session (Gone None) }))
+      ap (λ o. carried_out o right session) (same_client named left right session
+          (Some (Gone (Some request))) near found),
+      subst (λ c. AreNearConfigs named c
+          (record { state = next_state right.state session request; clients = set right.clients session (Gone None) }))
           (same_Some _ mid is) next,
     )
 near_statement named (Some Left) left right mid session near found is = absurd (none-some mid is)
 
 -- so does the DISCONNECT of a session whose client is gone
-near_disconnect : (named : List ℕ → Bool) (o : Option ClientState) (left right mid : Config) (session : ℕ) → AreNearConfigs named left right
+near_disconnect : (named : List ℕ → Bool) (o : Option ClientState) (left right mid : Config) (session : ℕ)
+    → AreNearConfigs named left right
     → slice_get left.clients session ≡ o
     → disconnected o left session ≡ Some mid
     → EffectToo named right mid session Disconnect
@@ -122,25 +140,31 @@ near_disconnect named (Some Idle) left right mid session near found is = absurd 
 near_disconnect named (Some (Called request)) left right mid session near found is = absurd (none-some mid is)
 near_disconnect named (Some (Answered answer)) left right mid session near found is = absurd (none-some mid is)
 near_disconnect named (Some (Gone request)) left right mid session near found is =
-    let next = changed named left right session (Gone request) Left Left (after left.state session DisconnectGiven) (after right.state session DisconnectGiven)
+    let next = changed named left right session (Gone request) Left Left (after left.state session DisconnectGiven)
+    (after right.state session DisconnectGiven)
     near found refl (near_after named left.state right.state session DisconnectGiven near.states) tt in (
       record { state = after right.state session DisconnectGiven; clients = set right.clients session Left },
       ap (λ o. disconnected o right session) (same_client named left right session (Some (Gone request)) near found),
-      subst (λ c. AreNearConfigs named c (record { state = after right.state session DisconnectGiven; clients = set right.clients session Left }))
+      subst (λ c. AreNearConfigs named c
+          (record { state = after right.state session DisconnectGiven; clients = set right.clients session Left }))
           (same_Some _ mid is) next,
     )
 near_disconnect named (Some Left) left right mid session near found is = absurd (none-some mid is)
 
 -- where an effect can be in one it can be in the other, and leads to near ones
-pub near_effect : (named : List ℕ → Bool) (left right mid : Config) (session : ℕ) (act : Act) → AreNearConfigs named left right
+pub near_effect : (named : List ℕ → Bool) (left right mid : Config) (session : ℕ) (act : Act)
+    → AreNearConfigs named left right
     → effect_of left session act ≡ Some mid
     → (other : Config) × (effect_of right session act ≡ Some other) × AreNearConfigs named mid other
 unfolding effect_of
-near_effect named left right mid session Statement near is = near_statement named (slice_get left.clients session) left right mid session near refl is
-near_effect named left right mid session Disconnect near is = near_disconnect named (slice_get left.clients session) left right mid session near refl is
+near_effect named left right mid session Statement near is =
+    near_statement named (slice_get left.clients session) left right mid session near refl is
+near_effect named left right mid session Disconnect near is =
+    near_disconnect named (slice_get left.clients session) left right mid session near refl is
 
 -- an event that does to its session what it does in one
-seen_too : (named : List ℕ → Bool) (left right mid : Config) (event : Event) (before next : ClientState) → AreNearConfigs named left right
+seen_too : (named : List ℕ → Bool) (left right mid : Config) (event : Event) (before next : ClientState)
+    → AreNearConfigs named left right
     → slice_get left.clients (session_in event) ≡ Some before
     → with_client left (session_in event) next ≡ mid
     → WaitsNamed named next
@@ -150,11 +174,13 @@ seen_too named left right mid event before next near found is reads at = (
   with_client right (session_in event) next,
   at,
   subst (λ c. AreNearConfigs named c (with_client right (session_in event) next)) is
-      (changed named left right (session_in event) before next next left.state right.state near found refl near.states reads),
+      (changed named left right (session_in event) before next next left.state right.state near found refl near.states
+      reads),
 )
 
 -- a call for what reads no row but one that is named
-near_call : (named : List ℕ → Bool) (o : Option ClientState) (left right mid : Config) (session : ℕ) (request : Request) → AreNearConfigs named left right
+near_call : (named : List ℕ → Bool) (o : Option ClientState) (left right mid : Config) (session : ℕ) (request : Request)
+    → AreNearConfigs named left right
     → ReadsNamed named request
     → slice_get left.clients session ≡ o
     → called o left session request ≡ Some mid
@@ -167,14 +193,17 @@ near_call named (Some Idle) left right mid session request near reads found is =
 near_call named (Some (Called other)) left right mid session request near reads found is = absurd (none-some mid is)
 near_call named (Some (Answered answer)) left right mid session request near reads found is = absurd (none-some mid is)
 near_call named (Some (Gone None)) left right mid session request near reads found is =
-    seen_too named left right mid (Call session request) (Gone None) (Gone (Some request)) near found (same_Some _ mid is) reads
+    seen_too named left right mid (Call session request) (Gone None) (Gone (Some request)) near found
+    (same_Some _ mid is) reads
     (ap (λ o. called o right session request) (same_client named left right session (Some (Gone None)) near found))
-near_call named (Some (Gone (Some other))) left right mid session request near reads found is = absurd (none-some mid is)
+near_call named (Some (Gone (Some other))) left right mid session request near reads found is =
+    absurd (none-some mid is)
 near_call named (Some Left) left right mid session request near reads found is =
     seen_too named left right mid (Call session request) Left Left near found (same_Some _ mid is) tt
     (ap (λ o. called o right session request) (same_client named left right session (Some Left) near found))
 
-near_return : (named : List ℕ → Bool) (o : Option ClientState) (left right mid : Config) (session : ℕ) (seen : Seen) → AreNearConfigs named left right
+near_return : (named : List ℕ → Bool) (o : Option ClientState) (left right mid : Config) (session : ℕ) (seen : Seen)
+    → AreNearConfigs named left right
     → slice_get left.clients session ≡ o
     → returned o left session seen ≡ Some mid
     → SeenToo named right mid (Return session seen)
@@ -191,7 +220,8 @@ near_return named (Some (Gone request)) left right mid session seen near found i
 near_return named (Some Left) left right mid session seen near found is = absurd (none-some mid is)
 
 -- the client of a session is gone; what it waited for it waits for still
-near_lost : (named : List ℕ → Bool) (o : Option ClientState) (left right mid : Config) (session : ℕ) → AreNearConfigs named left right
+near_lost : (named : List ℕ → Bool) (o : Option ClientState) (left right mid : Config) (session : ℕ)
+    → AreNearConfigs named left right
     → slice_get left.clients session ≡ o
     → lost o left session ≡ Some mid
     → SeenToo named right mid (Lost session)
@@ -211,7 +241,8 @@ near_lost named (Some (Gone request)) left right mid session near found is = abs
 near_lost named (Some Left) left right mid session near found is = absurd (none-some mid is)
 
 -- an answer that isn't known
-near_unknown : (named : List ℕ → Bool) (o : Option ClientState) (left right mid : Config) (session : ℕ) → AreNearConfigs named left right
+near_unknown : (named : List ℕ → Bool) (o : Option ClientState) (left right mid : Config) (session : ℕ)
+    → AreNearConfigs named left right
     → slice_get left.clients session ≡ o
     → answered_unknown o left session ≡ Some mid
     → SeenToo named right mid (Unknown session)
@@ -220,25 +251,32 @@ near_unknown named None left right mid session near found is = absurd (none-some
 near_unknown named (Some Idle) left right mid session near found is = absurd (none-some mid is)
 near_unknown named (Some (Called request)) left right mid session near found is =
     seen_too named left right mid (Unknown session) (Called request) Idle near found (same_Some _ mid is) tt
-    (ap (λ o. answered_unknown o right session) (same_client named left right session (Some (Called request)) near found))
+    (ap (λ o. answered_unknown o right session) (same_client named left right session
+    (Some (Called request)) near found))
 near_unknown named (Some (Answered answer)) left right mid session near found is =
     seen_too named left right mid (Unknown session) (Answered answer) Idle near found (same_Some _ mid is) tt
-    (ap (λ o. answered_unknown o right session) (same_client named left right session (Some (Answered answer)) near found))
+    (ap (λ o. answered_unknown o right session) (same_client named left right session
+    (Some (Answered answer)) near found))
 near_unknown named (Some (Gone request)) left right mid session near found is = absurd (none-some mid is)
 near_unknown named (Some Left) left right mid session near found is = absurd (none-some mid is)
 
 -- so it is with an event that calls for nothing but what reads named rows
-pub near_event : (named : List ℕ → Bool) (left right mid : Config) (event : Event) → AreNearConfigs named left right → CallsNamed named event
+pub near_event : (named : List ℕ → Bool) (left right mid : Config) (event : Event) → AreNearConfigs named left right
+    → CallsNamed named event
     → observed left event ≡ Some mid
     → (other : Config) × (observed right event ≡ Some other) × AreNearConfigs named mid other
 unfolding observed
 near_event named left right mid (Call session request) near reads is =
     near_call named (slice_get left.clients session) left right mid session request near reads refl is
-near_event named left right mid (Return session seen) near reads is = near_return named (slice_get left.clients session) left right mid session seen near refl is
-near_event named left right mid (Lost session) near reads is = near_lost named (slice_get left.clients session) left right mid session near refl is
-near_event named left right mid (Unknown session) near reads is = near_unknown named (slice_get left.clients session) left right mid session near refl is
+near_event named left right mid (Return session seen) near reads is =
+    near_return named (slice_get left.clients session) left right mid session seen near refl is
+near_event named left right mid (Lost session) near reads is =
+    near_lost named (slice_get left.clients session) left right mid session near refl is
+near_event named left right mid (Unknown session) near reads is =
+    near_unknown named (slice_get left.clients session) left right mid session near refl is
 
-run_too : (named : List ℕ → Bool) (events : List Event) (moves : List Move) (left right end : Config) → AreNearConfigs named left right
+run_too : (named : List ℕ → Bool) (events : List Event) (moves : List Move) (left right end : Config)
+    → AreNearConfigs named left right
     → AllByRecursion (CallsNamed named) events
     → LeadsThrough left events moves end
     → (other : Config) × LeadsThrough right events moves other × AreNearConfigs named end other
@@ -251,11 +289,13 @@ run_too named (event ∷ events) (Seeing ∷ moves) left right end near all runs
     let one = near_event named left right runs.0 event near all.0 runs.1 in
     let rest = run_too named events moves runs.0 one.0 end one.2 all.1 runs.2 in
     (rest.0, (one.0, one.1, rest.1), rest.2)
-run_too named [] [] left right end near all runs = (right, refl, subst (λ c. AreNearConfigs named c right) (sym runs) near)
+run_too named [] [] left right end near all runs =
+    (right, refl, subst (λ c. AreNearConfigs named c right) (sym runs) near)
 run_too named (event ∷ events) [] left right end near all runs = absurd runs
 
 -- so moves that lead on from one lead on from the other, and to near ones
-pub near_run : (named : List ℕ → Bool) (events : List Event) (moves : List Move) (left right end : Config) → AreNearConfigs named left right
+pub near_run : (named : List ℕ → Bool) (events : List Event) (moves : List Move) (left right end : Config)
+    → AreNearConfigs named left right
     → All (CallsNamed named) events
     → LeadsThrough left events moves end
     → (other : Config) × LeadsThrough right events moves other × AreNearConfigs named end other

@@ -15,7 +15,8 @@ use Rattle.xa_xid.specs.declared.xid.Xid.{Xid}
 use Rattle.xa_xid.specs.Xid.{Text, bytes_cmp, xid_cmp, same_xid}
 use Rattle.xa_xid.proofs.Orders.{bytes_total, exact_texts}
 use Rattle.xa_xid.specs.declared.statement.Statement.{Statement}
-use Rattle.xa_xid.specs.declared.statement.Statement.TheVariants.{Start, End, Prepare, Commit, Rollback, Recover, Unsupported, Get, Put, Del, Disconnect}
+use Rattle.xa_xid.specs.declared.statement.Statement.TheVariants.{Start, End, Prepare, Commit, Rollback, Recover}
+use Rattle.xa_xid.specs.declared.statement.Statement.TheVariants.{Unsupported, Get, Put, Del, Disconnect}
 use Rattle.xa_server.specs.declared.branch.Phase.TheVariants.{Idle as PhaseIdle, Prepared as PhasePrepared}
 use Rattle.xa_server.specs.declared.reply.Reply.{Reply}
 use Rattle.xa_server.specs.declared.reply.Reply.TheVariants.{Ok as Accepted, Value, Recovered, Refused}
@@ -27,7 +28,8 @@ use Rattle.xa_server.specs.declared.association.Association.TheVariants.{Free, A
 use Rattle.xa_server.specs.State.{Write, Branch, State, own_xid, association_of, write_at, prepared_xids}
 use Rattle.xa_server.specs.Locks.{is_held_against, is_locked_against}
 use Rattle.xa_server.specs.Replies.{ok_if, refused_if, table, reply_to}
-use Rattle.xa_server.specs.Step.{with_branch, with_changed, with_write, with_writes, with_lock, with_own_write, without_branch, committed, row_written}
+use Rattle.xa_server.specs.Step.{with_branch, with_changed, with_write, with_writes, with_lock, with_own_write}
+use Rattle.xa_server.specs.Step.{without_branch, committed, row_written}
 use Rattle.xa_server.specs.Step.{is_refused, unless_refused, effect, after}
 use Rattle.xa_server.proofs.Maps.{same_or_apart, get_inserted_apart, get_removed_apart}
 use Rattle.xa_server.proofs.Steps.{same_state}
@@ -58,35 +60,43 @@ Agree named left right = (key : List ℕ) → named key ≡ true → map.get lef
 write_agrees : (named : List ℕ → Bool) (key : List ℕ) (write : Write) (left right : Rows) → Agree named left right
     → Agree named (with_write key write left) (with_write key write right)
 write_agrees named key (Some value) left right agree other is =
-    get-insert bytes_total left key value other ∙ ap (cond (eq_by_cmp bytes_cmp other key) (Some value)) (agree other is)
+    get-insert bytes_total left key value other ∙ ap (cond (eq_by_cmp bytes_cmp other key) (Some value))
+    (agree other is)
     ∙ sym (get-insert bytes_total right key value other)
 write_agrees named key None left right agree other is =
-    get-remove bytes_total left key other ∙ ap (cond (eq_by_cmp bytes_cmp other key) None) (agree other is) ∙ sym (get-remove bytes_total right key other)
+    get-remove bytes_total left key other ∙ ap (cond (eq_by_cmp bytes_cmp other key) None) (agree other is)
+    ∙ sym (get-remove bytes_total right key other)
 
 -- and several
 writes_agree : (named : List ℕ → Bool) (writes : List (List ℕ × Write)) (left right : Rows) → Agree named left right
     → Agree named (with_writes writes left) (with_writes writes right)
 writes_agree named [] left right agree = agree
 writes_agree named (write ∷ writes) left right agree =
-    write_agrees named write.0 write.1 (with_writes writes left) (with_writes writes right) (writes_agree named writes left right agree)
+    write_agrees named write.0 write.1 (with_writes writes left) (with_writes writes right)
+    (writes_agree named writes left right agree)
 
 -- a write of a row that isn't named
-unnamed_agrees : (named : List ℕ → Bool) (key : List ℕ) (write : Write) (left right : Rows) → Agree named left right → named key ≡ false
+unnamed_agrees : (named : List ℕ → Bool) (key : List ℕ) (write : Write) (left right : Rows) → Agree named left right
+    → named key ≡ false
     → Agree named (with_write key write left) right
-unnamed_agrees named key (Some value) left right agree unnamed other is = elim (same_or_apart bytes_total exact_texts other key) [
-  | inl e ↦ absurd (true≢false (sym is ∙ ap named e ∙ unnamed))
-  | inr apart ↦ get_inserted_apart bytes_total exact_texts left key value other apart ∙ agree other is
-]
-unnamed_agrees named key None left right agree unnamed other is = elim (same_or_apart bytes_total exact_texts other key) [
-  | inl e ↦ absurd (true≢false (sym is ∙ ap named e ∙ unnamed))
-  | inr apart ↦ get_removed_apart bytes_total exact_texts left key other apart ∙ agree other is
-]
+unnamed_agrees named key (Some value) left right agree unnamed other is =
+    elim (same_or_apart bytes_total exact_texts other key) [
+      | inl e ↦ absurd (true≢false (sym is ∙ ap named e ∙ unnamed))
+      | inr apart ↦ get_inserted_apart bytes_total exact_texts left key value other apart ∙ agree other is
+    ]
+unnamed_agrees named key None left right agree unnamed other is =
+    elim (same_or_apart bytes_total exact_texts other key) [
+      | inl e ↦ absurd (true≢false (sym is ∙ ap named e ∙ unnamed))
+      | inr apart ↦ get_removed_apart bytes_total exact_texts left key other apart ∙ agree other is
+    ]
 
 -- ---- replies
 
 -- a statement that reads no row but one that is named is answered alike
-table_agrees : (named : List ℕ → Bool) (branches : Branches) (left right : Rows) → Agree named left right → (association : Association) (statement : Statement)
-    → ReadsNamed named (Given statement) → table (state_at branches left) association statement ≡ table (state_at branches right) association statement
+table_agrees : (named : List ℕ → Bool) (branches : Branches) (left right : Rows) → Agree named left right
+    → (association : Association) (statement : Statement)
+    → ReadsNamed named (Given statement) → table (state_at branches left) association statement
+    ≡ table (state_at branches right) association statement
 unfolding table prepared_xids is_held_against is_locked_against
 table_agrees named branches left right agree Free (Start xid) reads = refl
 table_agrees named branches left right agree (Active own) (Start xid) reads = refl
@@ -127,11 +137,14 @@ association_agrees : (branches : Branches) (left right : Rows) (session : ℕ)
 unfolding association_of own_xid
 association_agrees branches left right session = refl
 
-reply_agrees : (named : List ℕ → Bool) (branches : Branches) (left right : Rows) → Agree named left right → (session : ℕ) (statement : Statement)
-    → ReadsNamed named (Given statement) → reply_to (state_at branches left) session statement ≡ reply_to (state_at branches right) session statement
+reply_agrees : (named : List ℕ → Bool) (branches : Branches) (left right : Rows) → Agree named left right
+    → (session : ℕ) (statement : Statement)
+    → ReadsNamed named (Given statement) → reply_to (state_at branches left) session statement
+    ≡ reply_to (state_at branches right) session statement
 unfolding reply_to
 reply_agrees named branches left right agree session statement reads =
-    ap (λ association. table (state_at branches left) association statement) (association_agrees branches left right session)
+    ap (λ association. table (state_at branches left) association statement)
+    (association_agrees branches left right session)
     ∙ table_agrees named branches left right agree (association_of (state_at branches right) session) statement reads
 
 -- whether a statement is refused doesn't hang on rows
@@ -149,7 +162,8 @@ unfolding none_named
 all_agree left right key is = absurd (true≢false (sym is))
 
 refusal_agrees : (branches : Branches) (left right : Rows) (association : Association) (statement : Statement)
-    → is_refused (table (state_at branches left) association statement) ≡ is_refused (table (state_at branches right) association statement)
+    → is_refused (table (state_at branches left) association statement)
+    ≡ is_refused (table (state_at branches right) association statement)
 unfolding table is_locked_against
 refusal_agrees branches left right association (Start xid) =
     ap is_refused (table_agrees none_named branches left right (all_agree left right) association (Start xid) tt)
@@ -158,7 +172,8 @@ refusal_agrees branches left right association (End xid) =
 refusal_agrees branches left right association (Prepare xid) =
     ap is_refused (table_agrees none_named branches left right (all_agree left right) association (Prepare xid) tt)
 refusal_agrees branches left right association (Commit xid one_phase) =
-    ap is_refused (table_agrees none_named branches left right (all_agree left right) association (Commit xid one_phase) tt)
+    ap is_refused (table_agrees none_named branches left right (all_agree left right) association
+    (Commit xid one_phase) tt)
 refusal_agrees branches left right association (Rollback xid) =
     ap is_refused (table_agrees none_named branches left right (all_agree left right) association (Rollback xid) tt)
 refusal_agrees branches left right association (Recover convert) =
@@ -168,7 +183,8 @@ refusal_agrees branches left right association Unsupported =
 refusal_agrees branches left right Free (Get key) = refl
 refusal_agrees branches left right (Active own) (Get key) =
     refusal_of_get (is_locked_against (state_at branches left) (Active own) key) RowLocked
-    (unwrap_or (write_at (state_at branches left) own key) (map.get left key)) (unwrap_or (write_at (state_at branches right) own key) (map.get right key))
+    (unwrap_or (write_at (state_at branches left) own key) (map.get left key))
+    (unwrap_or (write_at (state_at branches right) own key) (map.get right key))
 refusal_agrees branches left right (Idle own) (Get key) = refl
 refusal_agrees branches left right association (Put key value) =
     ap is_refused (table_agrees none_named branches left right (all_agree left right) association (Put key value) tt)
@@ -185,62 +201,82 @@ near_at : (named : List ℕ → Bool) (branches : Branches) (left right : Rows) 
 near_at named branches left right agree = record { branches = refl; rows = agree }
 
 -- a branch is changed
-near_changed : (named : List ℕ → Bool) (branches : Branches) (left right : Rows) → Agree named left right → (xid : Xid) (change : Branch → Branch)
-    → AreNear named (with_changed (state_at branches left) xid change) (with_changed (state_at branches right) xid change)
+near_changed : (named : List ℕ → Bool) (branches : Branches) (left right : Rows) → Agree named left right
+    → (xid : Xid) (change : Branch → Branch)
+    → AreNear named (with_changed (state_at branches left) xid change)
+    (with_changed (state_at branches right) xid change)
 near_changed named branches left right agree xid change = by (map.get branches xid)
   where
     by : (found : Option Branch) → AreNear named
-        (option_map_or (λ branch. with_branch (state_at branches left) xid (change branch)) found (state_at branches left))
-        (option_map_or (λ branch. with_branch (state_at branches right) xid (change branch)) found (state_at branches right))
+        (option_map_or (λ branch. with_branch (state_at branches left) xid (change branch)) found
+        (state_at branches left))
+        (option_map_or (λ branch. with_branch (state_at branches right) xid (change branch)) found
+        (state_at branches right))
     by None = near_at named branches left right agree
     by (Some branch) = near_at named (map.insert branches xid (change branch)) left right agree
 
 -- a branch is committed
-near_committed : (named : List ℕ → Bool) (branches : Branches) (left right : Rows) → Agree named left right → (xid : Xid)
+near_committed : (named : List ℕ → Bool) (branches : Branches) (left right : Rows) → Agree named left right
+    → (xid : Xid)
     → AreNear named (committed (state_at branches left) xid) (committed (state_at branches right) xid)
 unfolding committed
 near_committed named branches left right agree xid = by (map.get branches xid)
   where
     by : (found : Option Branch) → AreNear named
-        (option_map_or (λ branch. record (without_branch (state_at branches left) xid) { rows = with_writes (map.entries branch.writes) left })
+        (option_map_or (λ branch. record (without_branch (state_at branches left) xid)
+        { rows = with_writes (map.entries branch.writes) left })
         found (state_at branches left))
-        (option_map_or (λ branch. record (without_branch (state_at branches right) xid) { rows = with_writes (map.entries branch.writes) right })
+        (option_map_or (λ branch. record (without_branch (state_at branches right) xid)
+        { rows = with_writes (map.entries branch.writes) right })
         found (state_at branches right))
     by None = near_at named branches left right agree
     by (Some branch) =
-        near_at named (map.remove branches xid) (with_writes (map.entries branch.writes) left) (with_writes (map.entries branch.writes) right)
+        near_at named (map.remove branches xid) (with_writes (map.entries branch.writes) left)
+        (with_writes (map.entries branch.writes) right)
         (writes_agree named (map.entries branch.writes) left right agree)
 
 -- a row is written
 near_written : (named : List ℕ → Bool) (branches : Branches) (left right : Rows) → Agree named left right
     → (association : Association) (key : List ℕ) (write : Write)
-    → AreNear named (row_written (state_at branches left) association key write) (row_written (state_at branches right) association key write)
+    → AreNear named (row_written (state_at branches left) association key write)
+    (row_written (state_at branches right) association key write)
 near_written named branches left right agree Free key write =
-    near_at named branches (with_write key write left) (with_write key write right) (write_agrees named key write left right agree)
-near_written named branches left right agree (Active own) key write = near_changed named branches left right agree own (with_own_write key write)
+    near_at named branches (with_write key write left) (with_write key write right)
+    (write_agrees named key write left right agree)
+near_written named branches left right agree (Active own) key write =
+    near_changed named branches left right agree own (with_own_write key write)
 near_written named branches left right agree (Idle own) key write = near_at named branches left right agree
 
 near_effect : (named : List ℕ → Bool) (branches : Branches) (left right : Rows) → Agree named left right
     → (session : ℕ) (association : Association) (statement : Statement)
-    → AreNear named (effect (state_at branches left) session association statement) (effect (state_at branches right) session association statement)
+    → AreNear named (effect (state_at branches left) session association statement)
+    (effect (state_at branches right) session association statement)
 unfolding effect
 near_effect named branches left right agree session association (Start xid) = near_at named _ left right agree
 near_effect named branches left right agree session association (End xid) =
     near_changed named branches left right agree xid (λ branch. record branch { phase = PhaseIdle })
 near_effect named branches left right agree session association (Prepare xid) =
     near_changed named branches left right agree xid (λ branch. record branch { phase = PhasePrepared; owner = None })
-near_effect named branches left right agree session association (Commit xid one_phase) = near_committed named branches left right agree xid
-near_effect named branches left right agree session association (Rollback xid) = near_at named (map.remove branches xid) left right agree
-near_effect named branches left right agree session association (Recover convert) = near_at named branches left right agree
+near_effect named branches left right agree session association (Commit xid one_phase) =
+    near_committed named branches left right agree xid
+near_effect named branches left right agree session association (Rollback xid) =
+    near_at named (map.remove branches xid) left right agree
+near_effect named branches left right agree session association (Recover convert) =
+    near_at named branches left right agree
 near_effect named branches left right agree session association Unsupported = near_at named branches left right agree
 near_effect named branches left right agree session Free (Get key) = near_at named branches left right agree
-near_effect named branches left right agree session (Active own) (Get key) = near_changed named branches left right agree own (with_lock key)
+near_effect named branches left right agree session (Active own) (Get key) =
+    near_changed named branches left right agree own (with_lock key)
 near_effect named branches left right agree session (Idle own) (Get key) = near_at named branches left right agree
-near_effect named branches left right agree session association (Put key value) = near_written named branches left right agree association key (Some value)
-near_effect named branches left right agree session association (Del key) = near_written named branches left right agree association key None
+near_effect named branches left right agree session association (Put key value) =
+    near_written named branches left right agree association key (Some value)
+near_effect named branches left right agree session association (Del key) =
+    near_written named branches left right agree association key None
 near_effect named branches left right agree session Free Disconnect = near_at named branches left right agree
-near_effect named branches left right agree session (Active own) Disconnect = near_at named (map.remove branches own) left right agree
-near_effect named branches left right agree session (Idle own) Disconnect = near_at named (map.remove branches own) left right agree
+near_effect named branches left right agree session (Active own) Disconnect =
+    near_at named (map.remove branches own) left right agree
+near_effect named branches left right agree session (Idle own) Disconnect =
+    near_at named (map.remove branches own) left right agree
 
 -- a refused statement leaves the state
 by_refusal : (reply : Reply) (old new : State) → unless_refused reply old new ≡ cond (is_refused reply) old new
@@ -250,12 +286,14 @@ by_refusal (Recovered xids) old new = refl
 by_refusal (Refused error) old new = refl
 
 -- both statements are refused, or none is
-near_either : (named : List ℕ → Bool) (refused : Bool) (old new other other_new : State) → AreNear named old other → AreNear named new other_new
+near_either : (named : List ℕ → Bool) (refused : Bool) (old new other other_new : State) → AreNear named old other
+    → AreNear named new other_new
     → AreNear named (cond refused old new) (cond refused other other_new)
 near_either named true old new other other_new before later = before
 near_either named false old new other other_new before later = later
 
-near_unless : (named : List ℕ → Bool) (reply other_reply : Reply) (old new other other_new : State) → is_refused reply ≡ is_refused other_reply
+near_unless : (named : List ℕ → Bool) (reply other_reply : Reply) (old new other other_new : State)
+    → is_refused reply ≡ is_refused other_reply
     → AreNear named old other → AreNear named new other_new
     → AreNear named (unless_refused reply old new) (unless_refused other_reply other other_new)
 near_unless named reply other_reply old new other other_new same before later =
@@ -263,23 +301,30 @@ near_unless named reply other_reply old new other other_new same before later =
     let Right : State → Type 0 = λ s. AreNear named (cond (is_refused reply) old new) s in
     let right : cond (is_refused reply) other other_new ≡ unless_refused other_reply other other_new =
     ap (λ b. cond b other other_new) same ∙ sym (by_refusal other_reply other other_new) in
-    subst Left (sym (by_refusal reply old new)) (subst Right right (near_either named (is_refused reply) old new other other_new before later))
+    subst Left (sym (by_refusal reply old new)) (subst Right right
+    (near_either named (is_refused reply) old new other other_new before later))
 
-after_at : (named : List ℕ → Bool) (branches : Branches) (left right : Rows) → Agree named left right → (session : ℕ) (statement : Statement)
-    → AreNear named (after (state_at branches left) session statement) (after (state_at branches right) session statement)
+after_at : (named : List ℕ → Bool) (branches : Branches) (left right : Rows) → Agree named left right
+    → (session : ℕ) (statement : Statement)
+    → AreNear named (after (state_at branches left) session statement)
+    (after (state_at branches right) session statement)
 unfolding after reply_to association_of own_xid
 after_at named branches left right agree session statement =
-    near_unless named _ _ _ _ _ _ (refusal_agrees branches left right (association_of (state_at branches left) session) statement)
-    (near_at named branches left right agree) (near_effect named branches left right agree session (association_of (state_at branches left) session) statement)
+    near_unless named _ _ _ _ _ _ (refusal_agrees branches left right
+    (association_of (state_at branches left) session) statement)
+    (near_at named branches left right agree) (near_effect named branches left right agree session
+    (association_of (state_at branches left) session) statement)
 
 -- ---- near states
 
 -- the left one's branches with the right one's rows are the right one
-right_is : (named : List ℕ → Bool) (left right : State) → AreNear named left right → state_at left.branches right.rows ≡ right
+right_is : (named : List ℕ → Bool) (left right : State) → AreNear named left right
+    → state_at left.branches right.rows ≡ right
 right_is named left right near = same_state (state_at left.branches right.rows) right near.branches refl
 
 -- what is read of near states is the same
-pub near_answer : (named : List ℕ → Bool) (left right : State) (session : ℕ) (request : Request) → AreNear named left right → ReadsNamed named request
+pub near_answer : (named : List ℕ → Bool) (left right : State) (session : ℕ) (request : Request)
+    → AreNear named left right → ReadsNamed named request
     → answer_to left session request ≡ answer_to right session request
 near_answer named left right session Unread near reads = refl
 near_answer named left right session (Given statement) near reads =
@@ -287,39 +332,47 @@ near_answer named left right session (Given statement) near reads =
     ∙ ap (λ s. reply_to s session statement) (right_is named left right near))
 
 -- and statements leave near states
-pub near_after : (named : List ℕ → Bool) (left right : State) (session : ℕ) (statement : Statement) → AreNear named left right
+pub near_after : (named : List ℕ → Bool) (left right : State) (session : ℕ) (statement : Statement)
+    → AreNear named left right
     → AreNear named (after left session statement) (after right session statement)
 near_after named left right session statement near =
     let P : State → Type 0 = λ s. AreNear named (after left session statement) (after s session statement) in
-    subst P (right_is named left right near) (after_at named left.branches left.rows right.rows near.rows session statement)
+    subst P (right_is named left right near)
+    (after_at named left.branches left.rows right.rows near.rows session statement)
 
 -- as requests do
-pub near_next : (named : List ℕ → Bool) (left right : State) (session : ℕ) (request : Request) → AreNear named left right
+pub near_next : (named : List ℕ → Bool) (left right : State) (session : ℕ) (request : Request)
+    → AreNear named left right
     → AreNear named (next_state left session request) (next_state right session request)
 near_next named left right session Unread near = near
 near_next named left right session (Given statement) near = near_after named left right session statement near
 
 -- the write is refused, or done
-near_refusable : (named : List ℕ → Bool) (refused : Bool) (old new other : State) → AreNear named old other → AreNear named new other
+near_refusable : (named : List ℕ → Bool) (refused : Bool) (old new other : State) → AreNear named old other
+    → AreNear named new other
     → AreNear named (unless_refused (refused_if refused RowLocked Accepted) old new) other
 near_refusable named true old new other before later = before
 near_refusable named false old new other before later = later
 
 -- the left one with a row written that isn't named
-near_unnamed : (named : List ℕ → Bool) (left right : State) (key : List ℕ) (write : Write) → AreNear named left right → named key ≡ false
+near_unnamed : (named : List ℕ → Bool) (left right : State) (key : List ℕ) (write : Write) → AreNear named left right
+    → named key ≡ false
     → AreNear named (record left { rows = with_write key write left.rows }) right
 near_unnamed named left right key write near unnamed =
     record { branches = near.branches; rows = unnamed_agrees named key write left.rows right.rows near.rows unnamed }
 
 -- a free session's write of a row that isn't named leaves near states, where it is left out on the right
-pub near_put : (named : List ℕ → Bool) (left right : State) (session : ℕ) (key : List ℕ) (value : Text) → AreNear named left right
+pub near_put : (named : List ℕ → Bool) (left right : State) (session : ℕ) (key : List ℕ) (value : Text)
+    → AreNear named left right
     → association_of left session ≡ Free → named key ≡ false → AreNear named (after left session (Put key value)) right
 unfolding after reply_to table effect
 near_put named left right session key value near free unnamed =
     let P : Association → Type 0 =
-    λ a. AreNear named (unless_refused (table left a (Put key value)) left (effect left session a (Put key value))) right in
+    λ a. AreNear named (unless_refused (table left a (Put key value)) left
+    (effect left session a (Put key value))) right in
     subst P (sym free)
-    (near_refusable named (is_held_against left Free key) left (record left { rows = with_write key (Some value) left.rows }) right near
+    (near_refusable named (is_held_against left Free key) left
+    (record left { rows = with_write key (Some value) left.rows }) right near
     (near_unnamed named left right key (Some value) near unnamed))
 
 -- and so does its deletion
@@ -327,9 +380,11 @@ pub near_del : (named : List ℕ → Bool) (left right : State) (session : ℕ) 
     → association_of left session ≡ Free → named key ≡ false → AreNear named (after left session (Del key)) right
 unfolding after reply_to table effect
 near_del named left right session key near free unnamed =
-    let P : Association → Type 0 = λ a. AreNear named (unless_refused (table left a (Del key)) left (effect left session a (Del key))) right in
+    let P : Association → Type 0 = λ a. AreNear named (unless_refused (table left a (Del key)) left
+    (effect left session a (Del key))) right in
     subst P (sym free)
-    (near_refusable named (is_held_against left Free key) left (record left { rows = with_write key None left.rows }) right near
+    (near_refusable named (is_held_against left Free key) left
+    (record left { rows = with_write key None left.rows }) right near
     (near_unnamed named left right key None near unnamed))
 
 -- a state is near itself
@@ -341,12 +396,14 @@ pub near_sym : (named : List ℕ → Bool) (left right : State) → AreNear name
 near_sym named left right near = record { branches = sym near.branches; rows = λ key is. sym (near.rows key is) }
 
 -- a session that is answered so to an XA END has nothing open
-pub free_told : (state : State) (session : ℕ) (xid : Xid) (reply : Reply) → reply ≡ reply_to state session (End xid) → reply ≡ Refused (Rmfail NonExisting)
+pub free_told : (state : State) (session : ℕ) (xid : Xid) (reply : Reply) → reply ≡ reply_to state session (End xid)
+    → reply ≡ Refused (Rmfail NonExisting)
     → association_of state session ≡ Free
 unfolding reply_to table
 free_told state session xid reply told is = by (association_of state session) (sym told ∙ is)
   where
-    by : (association : Association) → table state association (End xid) ≡ Refused (Rmfail NonExisting) → association ≡ Free
+    by : (association : Association) → table state association (End xid) ≡ Refused (Rmfail NonExisting)
+        → association ≡ Free
     by Free same = refl
     by (Active own) same = apart (same_xid xid own) same
       where

@@ -1,5 +1,6 @@
 -- Places of a list, also after a write.
-use Rattle.std.proofs.Common.{◌≡◌, ◌≢◌, ◌⊎◌, ℕ, ◌<◌, zero, suc, Some, List, [], ◌∷◌, ◌++◌, length, set, map, get_or, refl, ap, inl, inr, arith}
+use Rattle.std.proofs.Common.{◌≡◌, ◌≢◌, ◌⊎◌, ℕ, ◌<◌, zero, suc, Some, List, [], ◌∷◌, ◌++◌, length, set, map, get_or}
+use Rattle.std.proofs.Common.{refl, ap, inl, inr, arith}
 use Rattle.std.specs.Prelude.{slice_get}
 use Rattle.std.specs.List.{Contains}
 use Rattle.std.proofs.lemmas.Option.{none-some, same_Some, slice_get_read}
@@ -8,7 +9,8 @@ pub same_number : (m n : ℕ) → (m ≡ n) ⊎ (m ≢ n)
 same_number zero zero = inl refl
 same_number zero (suc n) = inr (λ e. absurd (omega arith))
 same_number (suc m) zero = inr (λ e. absurd (omega arith))
-same_number (suc m) (suc n) = elim (same_number m n) [ inl is ↦ inl (ap suc is) | inr apart ↦ inr (λ e. apart (omega arith)) ]
+same_number (suc m) (suc n) =
+    elim (same_number m n) [ inl is ↦ inl (ap suc is) | inr apart ↦ inr (λ e. apart (omega arith)) ]
 
 module _ {A : Type 0} where
   -- what is read at a place of the list stands there
@@ -60,13 +62,17 @@ pub mapped_place : {A B : Type 0} (f : A → B) (xs : List A) (y : B) → Contai
     → (i : ℕ) × (x : A) × (i < length xs) × (slice_get xs i ≡ Some x) × (f x ≡ y)
 mapped_place {A} {B} f xs y has = by xs has.0 has.1 has.2
   where
-    by : (xs : List A) (i : ℕ) → i < length (map f xs) → get_or (map f xs) i y ≡ y → (i : ℕ) × (x : A) × (i < length xs) × (slice_get xs i ≡ Some x) × (f x ≡ y)
+    by : (xs : List A) (i : ℕ) → i < length (map f xs) → get_or (map f xs) i y ≡ y
+        → (i : ℕ) × (x : A) × (i < length xs) × (slice_get xs i ≡ Some x) × (f x ≡ y)
     by [] i within at = absurd (omega arith)
     by (x ∷ xs) zero within at = (0, x, omega arith, refl, at)
-    by (x ∷ xs) (suc i) within at = let rest = by xs i (omega arith) at in (suc rest.0, rest.1, omega (arith, rest.2), rest.3, rest.4)
+    by (x ∷ xs) (suc i) within at = let rest = by xs i (omega arith) at in
+        (suc rest.0, rest.1, omega (arith, rest.2), rest.3, rest.4)
 
 -- and each place of the list gives one
-pub place_mapped : {A B : Type 0} (f : A → B) (xs : List A) (i : ℕ) (x : A) → slice_get xs i ≡ Some x → Contains (map f xs) (f x)
+pub place_mapped : {A B : Type 0} (f : A → B) (xs : List A) (i : ℕ) (x : A) → slice_get xs i ≡ Some x
+    → Contains (map f xs) (f x)
 place_mapped f [] i x found = absurd (none-some x found)
 place_mapped f (y ∷ xs) zero x found = (0, omega arith, ap f (same_Some y x found))
-place_mapped f (y ∷ xs) (suc i) x found = let rest = place_mapped f xs i x found in (suc rest.0, omega (arith, rest.1), rest.2)
+place_mapped f (y ∷ xs) (suc i) x found = let rest = place_mapped f xs i x found in
+    (suc rest.0, omega (arith, rest.1), rest.2)

@@ -1,7 +1,9 @@
 -- A return, and what comes before it.
 --     dead         a session that can't be answered never returns
---     settles      where a list is closed, a return is seen from one of it, once what its session called for has taken effect
-use Rattle.std.proofs.Common.{◌≡◌, ◌≢◌, ◌⊎◌, ℕ, Bool, true, false, Option, Some, None, List, [], ◌∷◌, length, set, refl, ap, sym, ◌∙◌, subst, inl, inr, arith}
+--     settles      where a list is closed, a return is seen from one of it, once what its session called for has taken
+--                  effect
+use Rattle.std.proofs.Common.{◌≡◌, ◌≢◌, ◌⊎◌, ℕ, Bool, true, false, Option, Some, None, List, [], ◌∷◌, length, set, refl}
+use Rattle.std.proofs.Common.{ap, sym, ◌∙◌, subst, inl, inr, arith}
 use Rattle.std.specs.Prelude.{slice_get}
 use Rattle.std.proofs.lemmas.Option.{none-some, same_Some}
 use Rattle.std.proofs.lemmas.Bool.{false≢true}
@@ -17,8 +19,10 @@ use Rattle.xa_judge.specs.declared.moves.Act.TheVariants.{Statement, Disconnect}
 use Rattle.xa_judge.specs.declared.moves.Move.{Move}
 use Rattle.xa_judge.specs.declared.moves.Move.TheVariants.{Event as Seeing, Effect}
 use Rattle.xa_judge.specs.declared.configuration.Configuration.{Configuration}
-use Rattle.xa_judge.specs.Explained.{Config, effect_of, carried_out, disconnected, answer_to, next_state, LeadsThrough, IsSession}
-use Rattle.xa_judge.specs.Found.{config_of, Has, after_settling, settled_by, called_for, call_is_answered, answered_so, IsClosedBelow}
+use Rattle.xa_judge.specs.Explained.{Config, effect_of, carried_out, disconnected, answer_to, next_state, LeadsThrough}
+use Rattle.xa_judge.specs.Explained.{IsSession}
+use Rattle.xa_judge.specs.Found.{config_of, Has, after_settling, settled_by, called_for, call_is_answered, answered_so}
+use Rattle.xa_judge.specs.Found.{IsClosedBelow}
 use Rattle.xa_judge.proofs.Places.{same_number, get_written, get_apart, mapped_place}
 use Rattle.xa_judge.proofs.Waits.{acted, may_answer, answered_apart, First, later, return_answered}
 
@@ -31,29 +35,35 @@ answered_may (Some (Gone request)) e = absurd (false≢true e)
 answered_may (Some Left) e = absurd (false≢true e)
 
 -- a session that can't be answered can't be behind an act
-dead_behind : (old mid : Config) (session other : ℕ) (act : Act) → effect_of old other act ≡ Some mid → may_answer (slice_get old.clients session) ≡ false
+dead_behind : (old mid : Config) (session other : ℕ) (act : Act) → effect_of old other act ≡ Some mid
+    → may_answer (slice_get old.clients session) ≡ false
     → may_answer (slice_get mid.clients session) ≡ false
 dead_behind old mid session other act at none =
     let a = acted old mid other act at in
     elim (same_number other session) [
       | inl e ↦
-          ap may_answer (ap (λ (c : Config). slice_get c.clients session) a.is ∙ ap (slice_get (set old.clients other a.next)) (sym e)
+          ap may_answer (ap (λ (c : Config). slice_get c.clients session) a.is
+          ∙ ap (slice_get (set old.clients other a.next)) (sym e)
           ∙ get_written old.clients other a.before a.next a.found)
           ∙ a.dead (ap may_answer (sym a.found ∙ ap (slice_get old.clients) e) ∙ none)
-      | inr apart ↦ ap may_answer (ap (λ (c : Config). slice_get c.clients session) a.is ∙ get_apart old.clients other session a.next apart) ∙ none
+      | inr apart ↦ ap may_answer (ap (λ (c : Config). slice_get c.clients session) a.is
+          ∙ get_apart old.clients other session a.next apart) ∙ none
     ]
 
 -- a session that can't be answered never returns
-pub dead : (old new : Config) (session : ℕ) (seen : Seen) (more : List Event) (moves : List Move) → may_answer (slice_get old.clients session) ≡ false
+pub dead : (old new : Config) (session : ℕ) (seen : Seen) (more : List Event) (moves : List Move)
+    → may_answer (slice_get old.clients session) ≡ false
     → LeadsThrough old (Return session seen ∷ more) moves new → ⊥
 dead old new session seen more (Seeing ∷ moves) none runs =
-    false≢true (sym none ∙ answered_may (slice_get old.clients session) (return_answered old runs.0 session seen runs.1))
+    false≢true (sym none ∙ answered_may (slice_get old.clients session)
+    (return_answered old runs.0 session seen runs.1))
 dead old new session seen more (Effect other act ∷ moves) none runs =
     dead runs.0 new session seen more moves (dead_behind old runs.0 session other act runs.2 none) runs.3
 dead old new session seen more [] none runs = runs
 
 -- a return is seen once what its session called for has taken effect
-pub record Settled (list : List Configuration) (session : ℕ) (seen : Seen) (more : List Event) (new : Config) : Type 0 where
+pub record Settled (list : List Configuration) (session : ℕ) (seen : Seen) (more : List Event)
+    (new : Config) : Type 0 where
   pub one : Config
   pub has : Has list one
   pub rest : First (after_settling one session) (Return session seen) more new
@@ -71,7 +81,8 @@ settled_answered old session answered = ap (λ r. settled_by r old session) (by 
     by (Some (Gone request)) e = absurd (false≢true e)
     by (Some Left) e = absurd (false≢true e)
 
-settles_answered : (list : List Configuration) (session : ℕ) (seen : Seen) (more : List Event) (old new : Config) (moves : List Move) → Has list old
+settles_answered : (list : List Configuration) (session : ℕ) (seen : Seen) (more : List Event) (old new : Config)
+    (moves : List Move) → Has list old
     → call_is_answered old session ≡ true → LeadsThrough old (Return session seen ∷ more) moves new
     → Settled list session seen more new
 settles_answered list session seen more old new moves has answered runs = record {
@@ -82,45 +93,56 @@ settles_answered list session seen more old new moves has answered runs = record
       (later old new (Return session seen) more moves answered runs);
 }
 
--- what a session's own act does: what it called for takes effect and is answered, or the session can't be answered any more
+-- what a session's own act does: what it called for takes effect and is answered, or the session can't be answered any
+-- more
 abbrev OwnAct : Config → ℕ → Config → Type 0
 OwnAct old session mid =
-    ((after_settling old session ≡ mid) × (call_is_answered mid session ≡ true)) ⊎ (may_answer (slice_get mid.clients session) ≡ false)
+    ((after_settling old session ≡ mid) × (call_is_answered mid session ≡ true))
+    ⊎ (may_answer (slice_get mid.clients session) ≡ false)
 
 own_act : (session : ℕ) (act : Act) (old mid : Config) → effect_of old session act ≡ Some mid → OwnAct old session mid
 unfolding effect_of carried_out disconnected after_settling
 own_act session act old mid at = by act (slice_get old.clients session) refl at
   where
-    gone : (act : Act) (request : Option Request) → slice_get old.clients session ≡ Some (Gone request) → effect_of old session act ≡ Some mid
+    gone : (act : Act) (request : Option Request) → slice_get old.clients session ≡ Some (Gone request)
+        → effect_of old session act ≡ Some mid
         → may_answer (slice_get mid.clients session) ≡ false
     gone act request found is =
         let a = acted old mid session act is in
-        ap may_answer (ap (λ (c : Config). slice_get c.clients session) a.is ∙ get_written old.clients session a.before a.next a.found)
+        ap may_answer (ap (λ (c : Config). slice_get c.clients session) a.is
+        ∙ get_written old.clients session a.before a.next a.found)
         ∙ a.dead (ap may_answer (sym a.found ∙ found))
 
-    by : (act : Act) (o : Option ClientState) → slice_get old.clients session ≡ o → effect_of old session act ≡ Some mid → OwnAct old session mid
+    by : (act : Act) (o : Option ClientState) → slice_get old.clients session ≡ o → effect_of old session act ≡ Some mid
+        → OwnAct old session mid
     by Statement None found is = absurd (none-some mid (sym (ap (λ o. carried_out o old session) found) ∙ is))
     by Statement (Some Idle) found is = absurd (none-some mid (sym (ap (λ o. carried_out o old session) found) ∙ is))
     by Statement (Some (Called request)) found is =
         let answer = Answered (answer_to old.state session request) in
-        let mid_is : record { state = next_state old.state session request; clients = set old.clients session answer } ≡ mid =
+        let mid_is : record { state = next_state old.state session request; clients = set old.clients session answer }
+        ≡ mid =
         same_Some _ mid (sym (ap (λ o. carried_out o old session) found) ∙ is) in
         let here : call_is_answered mid session ≡ true =
         ap answered_so (ap (λ (c : Config). slice_get c.clients session) (sym mid_is)
         ∙ get_written old.clients session (Called request) answer found) in
-        let same : after_settling old session ≡ mid = ap (λ r. settled_by r old session) (ap called_for found) ∙ mid_is in
+        let same : after_settling old session ≡ mid = ap (λ r. settled_by r old session) (ap called_for found)
+        ∙ mid_is in
         inl (same, here)
-    by Statement (Some (Answered answer)) found is = absurd (none-some mid (sym (ap (λ o. carried_out o old session) found) ∙ is))
+    by Statement (Some (Answered answer)) found is =
+        absurd (none-some mid (sym (ap (λ o. carried_out o old session) found) ∙ is))
     by Statement (Some (Gone request)) found is = inr (gone Statement request found is)
     by Statement (Some Left) found is = absurd (none-some mid (sym (ap (λ o. carried_out o old session) found) ∙ is))
     by Disconnect None found is = absurd (none-some mid (sym (ap (λ o. disconnected o old session) found) ∙ is))
     by Disconnect (Some Idle) found is = absurd (none-some mid (sym (ap (λ o. disconnected o old session) found) ∙ is))
-    by Disconnect (Some (Called request)) found is = absurd (none-some mid (sym (ap (λ o. disconnected o old session) found) ∙ is))
-    by Disconnect (Some (Answered answer)) found is = absurd (none-some mid (sym (ap (λ o. disconnected o old session) found) ∙ is))
+    by Disconnect (Some (Called request)) found is =
+        absurd (none-some mid (sym (ap (λ o. disconnected o old session) found) ∙ is))
+    by Disconnect (Some (Answered answer)) found is =
+        absurd (none-some mid (sym (ap (λ o. disconnected o old session) found) ∙ is))
     by Disconnect (Some (Gone request)) found is = inr (gone Disconnect request found is)
     by Disconnect (Some Left) found is = absurd (none-some mid (sym (ap (λ o. disconnected o old session) found) ∙ is))
 
-settles_own : (list : List Configuration) (session : ℕ) (act : Act) (seen : Seen) (more : List Event) (old mid new : Config) (moves : List Move) → Has list old
+settles_own : (list : List Configuration) (session : ℕ) (act : Act) (seen : Seen) (more : List Event)
+    (old mid new : Config) (moves : List Move) → Has list old
     → effect_of old session act ≡ Some mid
     → LeadsThrough mid (Return session seen ∷ more) moves new → Settled list session seen more new
 settles_own list session act seen more old mid new moves has at runs = elim (own_act session act old mid at) [
@@ -128,7 +150,8 @@ settles_own list session act seen more old mid new moves has at runs = elim (own
       record {
         one = old;
         has = has;
-        rest = subst (λ c. First c (Return session seen) more new) (sym s.0) (later mid new (Return session seen) more moves s.1 runs);
+        rest = subst (λ c. First c (Return session seen) more new) (sym s.0)
+            (later mid new (Return session seen) more moves s.1 runs);
       }
   | inr none ↦ absurd (dead mid new session seen more moves none runs)
 ]
@@ -138,40 +161,51 @@ apart_some : (m n : ℕ) → m ≢ n → Some n ≢ Some m
 apart_some m n apart e = apart (sym (same_Some n m e))
 
 -- the act of another session leads to one of a closed list
-other_act : (list : List Configuration) (returning session : ℕ) (act : Act) (old mid : Config) → IsClosedBelow (length list) (Some returning) list → Has list old
+other_act : (list : List Configuration) (returning session : ℕ) (act : Act) (old mid : Config)
+    → IsClosedBelow (length list) (Some returning) list → Has list old
     → IsSession session → session ≢ returning → call_is_answered old returning ≡ false
     → effect_of old session act ≡ Some mid → Has list mid
 other_act list returning session act old mid closed has is apart unanswered at =
     let place = mapped_place config_of list old has in
     let same : config_of place.1 ≡ old = place.4 in
-    closed place.0 place.1 place.2 place.3 session act mid (omega (arith, is.1)) is (apart_some session returning apart) (ap (λ c. call_is_answered c returning) same ∙ unanswered)
+    closed place.0 place.1 place.2 place.3 session act mid (omega (arith, is.1)) is (apart_some session returning apart)
+    (ap (λ c. call_is_answered c returning) same ∙ unanswered)
     (ap (λ c. effect_of c session act) same ∙ at)
 
 -- a run that begins with an act, where one that begins behind an act of another session settles
-settles_effect : (list : List Configuration) (session other : ℕ) (act : Act) (seen : Seen) (more : List Event) (old new : Config) (moves : List Move)
+settles_effect : (list : List Configuration) (session other : ℕ) (act : Act) (seen : Seen) (more : List Event)
+    (old new : Config) (moves : List Move)
     → IsClosedBelow (length list) (Some session) list → Has list old
-    → (runs : LeadsThrough old (Return session seen ∷ more) (Effect other act ∷ moves) new) → (Has list runs.0 → Settled list session seen more new)
+    → (runs : LeadsThrough old (Return session seen ∷ more) (Effect other act ∷ moves) new)
+    → (Has list runs.0 → Settled list session seen more new)
     → Settled list session seen more new
-settles_effect list session other act seen more old new moves closed has runs go_on = by (call_is_answered old session) refl
+settles_effect list session other act seen more old new moves closed has runs go_on =
+    by (call_is_answered old session) refl
   where
     by : (b : Bool) → call_is_answered old session ≡ b → Settled list session seen more new
     by true answered = settles_answered list session seen more old new (Effect other act ∷ moves) has answered runs
     by false unanswered = elim (same_number other session) [
-      | inl e ↦ settles_own list session act seen more old runs.0 new moves has (ap (λ n. effect_of old n act) (sym e) ∙ runs.2) runs.3
+      | inl e ↦ settles_own list session act seen more old runs.0 new moves has
+          (ap (λ n. effect_of old n act) (sym e) ∙ runs.2) runs.3
       | inr apart ↦ go_on (other_act list session other act old runs.0 closed has runs.1 apart unanswered runs.2)
     ]
 
-pub settles : (list : List Configuration) (session : ℕ) (seen : Seen) (more : List Event) (old new : Config) (moves : List Move)
-    → IsClosedBelow (length list) (Some session) list → Has list old → LeadsThrough old (Return session seen ∷ more) moves new
+pub settles : (list : List Configuration) (session : ℕ) (seen : Seen) (more : List Event) (old new : Config)
+    (moves : List Move)
+    → IsClosedBelow (length list) (Some session) list → Has list old
+    → LeadsThrough old (Return session seen ∷ more) moves new
     → Settled list session seen more new
 settles list session seen more old new (Seeing ∷ moves) closed has runs =
-    settles_answered list session seen more old new (Seeing ∷ moves) has (return_answered old runs.0 session seen runs.1) runs
+    settles_answered list session seen more old new (Seeing ∷ moves) has
+    (return_answered old runs.0 session seen runs.1) runs
 settles list session seen more old new (Effect other act ∷ moves) closed has runs =
-    settles_effect list session other act seen more old new moves closed has runs (λ there. settles list session seen more runs.0 new moves closed there runs.3)
+    settles_effect list session other act seen more old new moves closed has runs
+    (λ there. settles list session seen more runs.0 new moves closed there runs.3)
 settles list session seen more old new [] closed has runs = absurd runs
 
 -- a session that can't be answered is never answered by acts alone
-dead_end : (old new : Config) (session : ℕ) (answer : Answer) (moves : List Move) → may_answer (slice_get old.clients session) ≡ false
+dead_end : (old new : Config) (session : ℕ) (answer : Answer) (moves : List Move)
+    → may_answer (slice_get old.clients session) ≡ false
     → LeadsThrough old [] moves new → slice_get new.clients session ≡ Some (Answered answer) → ⊥
 dead_end old new session answer (Seeing ∷ moves) none runs stands = absurd runs
 dead_end old new session answer (Effect other act ∷ moves) none runs stands =
@@ -180,7 +214,8 @@ dead_end old new session answer [] none runs stands =
     false≢true (sym none ∙ ap may_answer (ap (λ (c : Config). slice_get c.clients session) (sym runs) ∙ stands))
 
 -- what a session was answered stays through acts
-stays_answered : (old new : Config) (session : ℕ) (moves : List Move) → call_is_answered old session ≡ true → LeadsThrough old [] moves new
+stays_answered : (old new : Config) (session : ℕ) (moves : List Move) → call_is_answered old session ≡ true
+    → LeadsThrough old [] moves new
     → slice_get new.clients session ≡ slice_get old.clients session
 stays_answered old new session (Seeing ∷ moves) answered runs = absurd runs
 stays_answered old new session (Effect other act ∷ moves) answered runs =
@@ -197,8 +232,10 @@ pub record AnsweredSo (list : List Configuration) (session : ℕ) (answer : Answ
   pub has : Has list one
   pub stands : slice_get (after_settling one session).clients session ≡ Some (Answered answer)
 
-answers_here : (list : List Configuration) (session : ℕ) (answer : Answer) (old new : Config) (moves : List Move) → Has list old
-    → call_is_answered old session ≡ true → LeadsThrough old [] moves new → slice_get new.clients session ≡ Some (Answered answer)
+answers_here : (list : List Configuration) (session : ℕ) (answer : Answer) (old new : Config) (moves : List Move)
+    → Has list old
+    → call_is_answered old session ≡ true → LeadsThrough old [] moves new
+    → slice_get new.clients session ≡ Some (Answered answer)
     → AnsweredSo list session answer
 answers_here list session answer old new moves has answered runs stands = record {
   one = old;
@@ -207,35 +244,44 @@ answers_here list session answer old new moves has answered runs stands = record
       ∙ sym (stays_answered old new session moves answered runs) ∙ stands;
 }
 
-answers_own : (list : List Configuration) (session : ℕ) (answer : Answer) (act : Act) (old mid new : Config) (moves : List Move) → Has list old
-    → effect_of old session act ≡ Some mid → LeadsThrough mid [] moves new → slice_get new.clients session ≡ Some (Answered answer)
+answers_own : (list : List Configuration) (session : ℕ) (answer : Answer) (act : Act) (old mid new : Config)
+    (moves : List Move) → Has list old
+    → effect_of old session act ≡ Some mid → LeadsThrough mid [] moves new
+    → slice_get new.clients session ≡ Some (Answered answer)
     → AnsweredSo list session answer
 answers_own list session answer act old mid new moves has at runs stands = elim (own_act session act old mid at) [
   | inl s ↦
       record {
         one = old;
         has = has;
-        stands = ap (λ (c : Config). slice_get c.clients session) s.0 ∙ sym (stays_answered mid new session moves s.1 runs) ∙ stands;
+        stands = ap (λ (c : Config). slice_get c.clients session) s.0
+            ∙ sym (stays_answered mid new session moves s.1 runs) ∙ stands;
       }
   | inr none ↦ absurd (dead_end mid new session answer moves none runs stands)
 ]
 
-answers_effect : (list : List Configuration) (session other : ℕ) (answer : Answer) (act : Act) (old new : Config) (moves : List Move)
+answers_effect : (list : List Configuration) (session other : ℕ) (answer : Answer) (act : Act) (old new : Config)
+    (moves : List Move)
     → IsClosedBelow (length list) (Some session) list → Has list old
-    → (runs : LeadsThrough old [] (Effect other act ∷ moves) new) → slice_get new.clients session ≡ Some (Answered answer)
+    → (runs : LeadsThrough old [] (Effect other act ∷ moves) new)
+    → slice_get new.clients session ≡ Some (Answered answer)
     → (Has list runs.0 → AnsweredSo list session answer) → AnsweredSo list session answer
-answers_effect list session other answer act old new moves closed has runs stands go_on = by (call_is_answered old session) refl
+answers_effect list session other answer act old new moves closed has runs stands go_on =
+    by (call_is_answered old session) refl
   where
     by : (b : Bool) → call_is_answered old session ≡ b → AnsweredSo list session answer
     by true answered = answers_here list session answer old new (Effect other act ∷ moves) has answered runs stands
     by false unanswered = elim (same_number other session) [
-      | inl e ↦ answers_own list session answer act old runs.0 new moves has (ap (λ n. effect_of old n act) (sym e) ∙ runs.2) runs.3 stands
+      | inl e ↦ answers_own list session answer act old runs.0 new moves has
+          (ap (λ n. effect_of old n act) (sym e) ∙ runs.2) runs.3 stands
       | inr apart ↦ go_on (other_act list session other act old runs.0 closed has runs.1 apart unanswered runs.2)
     ]
 
--- where a list is closed, whatever a session is answered by acts alone it is in one of the list, once what it called for has taken effect
+-- where a list is closed, whatever a session is answered by acts alone it is in one of the list, once what it called
+-- for has taken effect
 pub answers_settle : (list : List Configuration) (session : ℕ) (answer : Answer) (old new : Config) (moves : List Move)
-    → IsClosedBelow (length list) (Some session) list → Has list old → LeadsThrough old [] moves new → slice_get new.clients session ≡ Some (Answered answer)
+    → IsClosedBelow (length list) (Some session) list → Has list old → LeadsThrough old [] moves new
+    → slice_get new.clients session ≡ Some (Answered answer)
     → AnsweredSo list session answer
 answers_settle list session answer old new (Seeing ∷ moves) closed has runs stands = absurd runs
 answers_settle list session answer old new (Effect other act ∷ moves) closed has runs stands =

@@ -2,7 +2,8 @@
 --     Chosen           as many of a list as were counted, no two of them the same
 --     chosen_none      of none
 --     chosen_same, chosen_new      one more was looked at, whose number was there;  or wasn't
-use Rattle.std.proofs.Common.{◌≡◌, ◌≢◌, ℕ, ◌+◌, ◌<◌, Bool, true, false, not, cond, List, [], ◌∷◌, length, get_or, refl, ap, sym, ◌∙◌, subst, arith}
+use Rattle.std.proofs.Common.{◌≡◌, ◌≢◌, ℕ, ◌+◌, ◌<◌, Bool, true, false, not, cond, List, [], ◌∷◌, length, get_or, refl}
+use Rattle.std.proofs.Common.{ap, sym, ◌∙◌, subst, arith}
 use Rattle.std.specs.List.{All}
 use Rattle.std.specs.Ordering.{nat_cmp}
 use Rattle.std.specs.BTreeMap.{is_at}
@@ -36,7 +37,8 @@ chosen_none known keys marks = record {
 }
 
 -- a number that the set had is still there
-still_marked : (old new : BTreeSet ℕ) (added number : ℕ) → Updates nat_cmp old new added true → contains nat_cmp old number ≡ true
+still_marked : (old new : BTreeSet ℕ) (added number : ℕ) → Updates nat_cmp old new added true
+    → contains nat_cmp old number ≡ true
     → contains nat_cmp new number ≡ true
 still_marked old new added number updates had = updates.0 number ∙ by (is_at (nat_cmp added) number)
   where
@@ -45,7 +47,8 @@ still_marked old new added number updates had = updates.0 number ∙ by (is_at (
     by false = had
 
 -- a configuration's number was there
-pub chosen_same : (known : List Configuration) (keys : List (List ℕ)) (old new : BTreeSet ℕ) (count added : ℕ) → Updates nat_cmp old new added true
+pub chosen_same : (known : List Configuration) (keys : List (List ℕ)) (old new : BTreeSet ℕ) (count added : ℕ)
+    → Updates nat_cmp old new added true
     → Chosen known keys old count → Chosen known keys new count
 chosen_same known keys old new count added updates c = record {
   chosen = c.chosen;
@@ -56,7 +59,8 @@ chosen_same known keys old new count added updates c = record {
 }
 
 -- and here it wasn't
-chosen_more : (known : List Configuration) (keys : List (List ℕ)) (old new : BTreeSet ℕ) (count : ℕ) (one : Config) → Has known one
+chosen_more : (known : List Configuration) (keys : List (List ℕ)) (old new : BTreeSet ℕ) (count : ℕ) (one : Config)
+    → Has known one
     → Updates nat_cmp old new (mark keys one) true → contains nat_cmp old (mark keys one) ≡ false
     → Chosen known keys old count → Chosen known keys new (count + 1)
 chosen_more known keys old new count one has updates none c = record {
@@ -65,10 +69,12 @@ chosen_more known keys old new count one has updates none c = record {
   has = All-cons (Has known) one c.chosen has c.has;
   marked =
       All-cons (λ o. contains nat_cmp new (mark keys o) ≡ true) one c.chosen updates.1
-      (λ k d below. still_marked old new (mark keys one) (mark keys (get_or c.chosen k d)) updates (c.marked k d below));
+      (λ k d below. still_marked old new (mark keys one) (mark keys (get_or c.chosen k d)) updates
+      (c.marked k d below));
   differ =
       AllPairs-cons (λ o other. o ≢ other) one c.chosen
-      (λ k d below same. false≢true (sym none ∙ ap (λ o. contains nat_cmp old (mark keys o)) same ∙ c.marked k d below)) c.differ;
+      (λ k d below same. false≢true (sym none ∙ ap (λ o. contains nat_cmp old (mark keys o)) same ∙ c.marked k d below))
+      c.differ;
 }
 
 not_there : (b : Bool) → not b ≡ true → b ≡ false
@@ -76,9 +82,12 @@ not_there true e = absurd (false≢true e)
 not_there false e = refl
 
 -- the number of the configuration at a place was new
-pub chosen_new : (known : List Configuration) (keys : List (List ℕ)) (old new : BTreeSet ℕ) (count place number : ℕ) (one : Configuration) (added : Bool)
-    → place < length known → one ≡ get_or known place one → number ≡ mark keys (config_of one) → added ≡ not (contains nat_cmp old number)
-    → added ≡ true → Updates nat_cmp old new number true → Chosen known keys old count → Chosen known keys new (count + 1)
+pub chosen_new : (known : List Configuration) (keys : List (List ℕ)) (old new : BTreeSet ℕ) (count place number : ℕ)
+    (one : Configuration) (added : Bool)
+    → place < length known → one ≡ get_or known place one → number ≡ mark keys (config_of one)
+    → added ≡ not (contains nat_cmp old number)
+    → added ≡ true → Updates nat_cmp old new number true → Chosen known keys old count
+    → Chosen known keys new (count + 1)
 chosen_new known keys old new count place number one added within at is was new_one updates c =
     chosen_more known keys old new count (config_of one)
     (place_mapped config_of known place one (slice_get_read known (length known) place one refl within at))

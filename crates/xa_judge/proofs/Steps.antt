@@ -1,5 +1,6 @@
 -- One move more, on the way through events.
-use Rattle.std.proofs.Common.{◌≡◌, ℕ, ◌+◌, ◌↔◌, zero, suc, true, Option, Some, None, IfSome, List, [], ◌∷◌, drop, slice_get, refl, ap, sym, ◌∙◌, subst, add-one}
+use Rattle.std.proofs.Common.{◌≡◌, ℕ, ◌+◌, ◌↔◌, zero, suc, true, Option, Some, None, IfSome, List, [], ◌∷◌, drop}
+use Rattle.std.proofs.Common.{slice_get, refl, ap, sym, ◌∙◌, subst, add-one}
 use Rattle.std.specs.Option.{is_some}
 use Rattle.std.proofs.lemmas.Bool.{false≢true}
 use Rattle.std.proofs.lemmas.Option.{none-some, same_Some}
@@ -23,7 +24,8 @@ drop_got {A} xs i x found = subst (λ n. drop i xs ≡ x ∷ drop n xs) (sym (ad
     by (y ∷ ys) (suc i) found = by ys i found
 
 -- where an effect leads to a configuration, moves lead on from it that led on by the effect
-pub effect_leads : (old new : Config) (session : ℕ) (act : Act) (events : List Event) (later : List Move) (end : Config) → IsSession session
+pub effect_leads : (old new : Config) (session : ℕ) (act : Act) (events : List Event) (later : List Move) (end : Config)
+    → IsSession session
     → effect_of old session act ≡ Some new
     → LeadsThrough old events (Effect session act ∷ later) end ↔ LeadsThrough new events later end
 effect_leads old new session act events later end is leads = (
@@ -32,12 +34,14 @@ effect_leads old new session act events later end is leads = (
 )
 
 -- so it is with an event
-pub event_leads : (old new : Config) (event : Event) (events more : List Event) (later : List Move) (end : Config) → events ≡ event ∷ more
+pub event_leads : (old new : Config) (event : Event) (events more : List Event) (later : List Move) (end : Config)
+    → events ≡ event ∷ more
     → observed old event ≡ Some new
     → LeadsThrough old events (Seeing ∷ later) end ↔ LeadsThrough new more later end
 event_leads old new event events more later end is leads = (
   λ runs.
-      let first : LeadsThrough old (event ∷ more) (Seeing ∷ later) end = subst (λ l. LeadsThrough old l (Seeing ∷ later) end) is runs in
+      let first : LeadsThrough old (event ∷ more) (Seeing ∷ later) end =
+      subst (λ l. LeadsThrough old l (Seeing ∷ later) end) is runs in
       subst (λ c. LeadsThrough c more later end) (same_Some first.0 new (sym first.1 ∙ leads)) first.2,
   λ runs.
       let first : LeadsThrough old (event ∷ more) (Seeing ∷ later) end = (new, leads, runs) in
@@ -45,18 +49,22 @@ event_leads old new event events more later end is leads = (
 )
 
 -- with no move left, events that are left are never seen
-pub none_leads : (config : Config) (events : List Event) (seen : ℕ) (event : Event) (end : Config) → slice_get events seen ≡ Some event
+pub none_leads : (config : Config) (events : List Event) (seen : ℕ) (event : Event) (end : Config)
+    → slice_get events seen ≡ Some event
     → LeadsThrough config (drop seen events) [] end → ⊥
-none_leads config events seen event end found runs = subst (λ l. LeadsThrough config l [] end) (drop_got events seen event found) runs
+none_leads config events seen event end found runs =
+    subst (λ l. LeadsThrough config l [] end) (drop_got events seen event found) runs
 
 -- a configuration to which the moves lead is one
-pub some_leads : (base : State) (events : List Event) (moves : List Move) (found : Option Configuration) → is_some found ≡ true
+pub some_leads : (base : State) (events : List Event) (moves : List Move) (found : Option Configuration)
+    → is_some found ≡ true
     → IfSome found (λ one. LeadsThrough (opening_config base) events moves (config_of one)) → Leads base events moves
 some_leads base events moves None is leads = absurd (false≢true is)
 some_leads base events moves (Some one) is leads = (config_of one, leads)
 
 -- where the moves lead somewhere, a configuration was found
 pub leads_some : (base : State) (events : List Event) (moves : List Move) (found : Option Configuration)
-    → (found ≡ None → (end : Config) → LeadsThrough (opening_config base) events moves end → ⊥) → Leads base events moves → is_some found ≡ true
+    → (found ≡ None → (end : Config) → LeadsThrough (opening_config base) events moves end → ⊥)
+    → Leads base events moves → is_some found ≡ true
 leads_some base events moves None missing leads = absurd (missing refl leads.0 leads.1)
 leads_some base events moves (Some one) missing leads = refl

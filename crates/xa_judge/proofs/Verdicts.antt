@@ -1,5 +1,6 @@
 -- What a verdict rests on.
-use Rattle.std.proofs.Common.{◌≡◌, ℕ, ◌+◌, ◌<◌, Some, List, slice_get, [], ◌∷◌, ◌++◌, length, take, drop, get_or, ap, sym, ◌∙◌, subst, arith, append_assoc, append-nil}
+use Rattle.std.proofs.Common.{◌≡◌, ℕ, ◌+◌, ◌<◌, Some, List, slice_get, [], ◌∷◌, ◌++◌, length, take, drop, get_or, ap}
+use Rattle.std.proofs.Common.{sym, ◌∙◌, subst, arith, append_assoc, append-nil}
 use Rattle.std.specs.List.{All, Contains}
 use Rattle.std.proofs.lemmas.Option.{same_Some}
 use Rattle.std.proofs.lemmas.List.{take_more, take-append-drop, take_all}
@@ -12,7 +13,8 @@ use Rattle.xa_judge.specs.declared.event.Event.TheVariants.{Call, Return, Lost, 
 use Rattle.xa_judge.specs.declared.moves.Move.{Move}
 use Rattle.xa_judge.specs.declared.configuration.Configuration.{Configuration}
 use Rattle.xa_judge.specs.Explained.{Config, opening_config, LeadsThrough, Explained}
-use Rattle.xa_judge.specs.Found.{config_of, configs, Has, Reaches, IsSpread, KeepsReach, ReachesPast, IsShortened, IsOpening, IsPathOf}
+use Rattle.xa_judge.specs.Found.{config_of, configs, Has, Reaches, IsSpread, KeepsReach, ReachesPast, IsShortened}
+use Rattle.xa_judge.specs.Found.{IsOpening, IsPathOf}
 use Rattle.xa_judge.specs.Advances.{Continues, AreAnswers}
 use Rattle.xa_judge.specs.Verdicts.{IsRefuted, CouldBe, AreAllAnswers, IsWide}
 use Rattle.xa_judge.proofs.Places.{get_within, length_map}
@@ -22,27 +24,34 @@ use Rattle.xa_judge.proofs.Advances.{reached_of}
 -- where moves lead through those that were seen and more, some lead through these from the list, to the same end
 abbrev pub IsComplete : State → List Event → List Configuration → Type 0
 IsComplete base seen list =
-    (more : List Event) (moves : List Move) (new : Config) → LeadsThrough (opening_config base) (seen ++ more) moves new → Continues list more new
+    (more : List Event) (moves : List Move) (new : Config) → LeadsThrough (opening_config base) (seen ++ more) moves new
+    → Continues list more new
 
-pub complete_more : (base : State) (events : List Event) (place : ℕ) (event : Event) (old new : List Configuration) → place < length events
+pub complete_more : (base : State) (events : List Event) (place : ℕ) (event : Event) (old new : List Configuration)
+    → place < length events
     → event ≡ get_or events place event → IsComplete base (take place events) old
-    → ((more : List Event) (end : Config) → Continues old (event ∷ more) end → Continues new more end) → IsComplete base (take (place + 1) events) new
+    → ((more : List Event) (end : Config) → Continues old (event ∷ more) end → Continues new more end)
+    → IsComplete base (take (place + 1) events) new
 complete_more base events place event old new within at complete leads = λ more moves end runs.
     let parts : take (place + 1) events ++ more ≡ take place events ++ event ∷ more =
     ap (λ l. l ++ more) (take_more events place event within ∙ ap (λ x. take place events ++ x ∷ []) (sym at))
     ∙ append_assoc (take place events) (event ∷ []) more in
-    leads more end (complete (event ∷ more) moves end (subst (λ l. LeadsThrough (opening_config base) l moves end) parts runs))
+    leads more end (complete (event ∷ more) moves end (subst
+    (λ l. LeadsThrough (opening_config base) l moves end) parts runs))
 
-pub reach_more : (base : State) (events : List Event) (place : ℕ) (event : Event) (trunk : List Move) (old new : List Configuration) → place < length events
+pub reach_more : (base : State) (events : List Event) (place : ℕ) (event : Event) (trunk : List Move)
+    (old new : List Configuration) → place < length events
     → event ≡ get_or events place event
-    → All (Reaches base (take place events) trunk) old → ReachesPast event old new → All (Reaches base (take (place + 1) events) trunk) new
+    → All (Reaches base (take place events) trunk) old → ReachesPast event old new
+    → All (Reaches base (take (place + 1) events) trunk) new
 reach_more base events place event trunk old new within at all leads =
     let parts : take place events ++ event ∷ [] ≡ take (place + 1) events =
     sym (take_more events place event within ∙ ap (λ x. take place events ++ x ∷ []) (sym at)) in
     subst (λ l. All (Reaches base l trunk) new) parts (leads base (take place events) trunk all)
 
 -- one of the list explains what was seen
-pub explained_by : (base : State) (seen : List Event) (trunk : List Move) (list : List Configuration) → 0 < length list → All (Reaches base seen trunk) list
+pub explained_by : (base : State) (seen : List Event) (trunk : List Move) (list : List Configuration) → 0 < length list
+    → All (Reaches base seen trunk) list
     → Explained base seen
 unfolding Reaches
 explained_by base seen trunk list some all =
@@ -57,13 +66,17 @@ legal base events trunk moves list all path =
     let reach : Reaches base (take (length events) events) trunk path.0 =
     all_at (Reaches base (take (length events) events) trunk) list 0 path.0 all path.1 in (
       config_of path.0,
-      subst (λ l. LeadsThrough (opening_config base) l moves (config_of path.0)) (take_all (length events) events (omega arith))
-          (subst (λ m. LeadsThrough (opening_config base) (take (length events) events) m (config_of path.0)) (sym path.2) reach),
+      subst (λ l. LeadsThrough (opening_config base) l moves (config_of path.0))
+          (take_all (length events) events (omega arith))
+          (subst (λ m. LeadsThrough (opening_config base) (take (length events) events) m (config_of path.0))
+          (sym path.2) reach),
     )
 
-pub refuted : (base : State) (events : List Event) (place : ℕ) (event : Event) (trunk : List Move) (list : List Configuration) → place < length events
+pub refuted : (base : State) (events : List Event) (place : ℕ) (event : Event) (trunk : List Move)
+    (list : List Configuration) → place < length events
     → event ≡ get_or events place event → 0 < length list
-    → All (Reaches base (take place events) trunk) list → IsComplete base (take place events) list → ((more : List Event) (end : Config) → Continues list (event ∷ more) end → ⊥)
+    → All (Reaches base (take place events) trunk) list → IsComplete base (take place events) list
+    → ((more : List Event) (end : Config) → Continues list (event ∷ more) end → ⊥)
     → IsRefuted base events place
 refuted base events place event trunk list within at some all complete none = record {
   within = within;
@@ -71,7 +84,8 @@ refuted base events place event trunk list within at some all complete none = re
   refuted = λ explained.
       let e = subst (Explained base) upto explained in none [] e.1 (complete (event ∷ []) e.0 e.1 e.2);
   whole = λ explained.
-      let e = subst (Explained base) parts explained in none (drop (place + 1) events) e.1 (complete (event ∷ drop (place + 1) events) e.0 e.1 e.2);
+      let e = subst (Explained base) parts explained in none (drop (place + 1) events) e.1
+      (complete (event ∷ drop (place + 1) events) e.0 e.1 e.2);
 }
   where
     upto : take (place + 1) events ≡ take place events ++ event ∷ []
@@ -83,34 +97,43 @@ refuted base events place event trunk list within at some all complete none = re
         ∙ append_assoc (take place events) (event ∷ []) (drop (place + 1) events)
 
 -- the answers that the list has are all that some order gives
-pub answers_given : (base : State) (events : List Event) (place : ℕ) (event : Event) (trunk : List Move) (list : List Configuration) (answers : List Answer)
-    → slice_get events place ≡ Some event → All (Reaches base (take place events) trunk) list → IsComplete base (take place events) list
+pub answers_given : (base : State) (events : List Event) (place : ℕ) (event : Event) (trunk : List Move)
+    (list : List Configuration) (answers : List Answer)
+    → slice_get events place ≡ Some event → All (Reaches base (take place events) trunk) list
+    → IsComplete base (take place events) list
     → AreAnswers list event answers → AreAllAnswers base events place answers
 answers_given base events place (Call session request) trunk list answers at all complete none = record {
   each = subst (λ l. All (CouldBe base events place) l) (sym none) (All-nil (CouldBe base events place));
-  all = λ answer could. absurd (let other : Some (Call session request) ≡ Some (Return could.session could.seen) = sym at ∙ could.returns in cc);
+  all = λ answer could. absurd (let other : Some (Call session request)
+      ≡ Some (Return could.session could.seen) = sym at ∙ could.returns in cc);
 }
 answers_given base events place (Return session seen) trunk list answers at all complete are = record {
-  each = λ k d below. record { session = session; seen = seen; returns = at; after = are.each base (take place events) trunk all k d below };
+  each = λ k d below. record
+      { session = session; seen = seen; returns = at; after = are.each base (take place events) trunk all k d below };
   all = λ answer could.
       let it = could.after in
-      let event : Return could.session could.seen ≡ Return session seen = same_Some _ (Return session seen) (sym could.returns ∙ at) in
+      let event : Return could.session could.seen ≡ Return session seen =
+      same_Some _ (Return session seen) (sym could.returns ∙ at) in
       let same : could.session ≡ session = cc in
       let runs : LeadsThrough (opening_config base) (take place events ++ []) it.reached.moves it.config =
-      subst (λ l. LeadsThrough (opening_config base) l it.reached.moves it.config) (sym (append-nil (take place events))) it.reached.runs in
+      subst (λ l. LeadsThrough (opening_config base) l it.reached.moves it.config)
+      (sym (append-nil (take place events))) it.reached.runs in
       are.all it.config answer (complete [] it.reached.moves it.config runs)
       (subst (λ n. slice_get it.config.clients n ≡ Some (Answered answer)) same it.answered);
 }
 answers_given base events place (Lost session) trunk list answers at all complete none = record {
   each = subst (λ l. All (CouldBe base events place) l) (sym none) (All-nil (CouldBe base events place));
-  all = λ answer could. absurd (let other : Some (Lost session) ≡ Some (Return could.session could.seen) = sym at ∙ could.returns in cc);
+  all = λ answer could. absurd (let other : Some (Lost session) ≡ Some (Return could.session could.seen) = sym at
+      ∙ could.returns in cc);
 }
 answers_given base events place (Unknown session) trunk list answers at all complete none = record {
   each = subst (λ l. All (CouldBe base events place) l) (sym none) (All-nil (CouldBe base events place));
-  all = λ answer could. absurd (let other : Some (Unknown session) ≡ Some (Return could.session could.seen) = sym at ∙ could.returns in cc);
+  all = λ answer could. absurd (let other : Some (Unknown session) ≡ Some (Return could.session could.seen) = sym at
+      ∙ could.returns in cc);
 }
 
-pub wide : (base : State) (events : List Event) (limit place : ℕ) (trunk : List Move) (list many : List Configuration) → place < length events
+pub wide : (base : State) (events : List Event) (limit place : ℕ) (trunk : List Move) (list many : List Configuration)
+    → place < length events
     → All (Reaches base (take place events) trunk) list → IsSpread limit many → KeepsReach list many
     → IsWide base events limit place
 wide base events limit place trunk list many within all spread keeps = record {
@@ -119,12 +142,14 @@ wide base events limit place trunk list many within all spread keeps = record {
   over = spread.over;
   differ = spread.differ;
   reached = λ k d below.
-      reached_of base (take place events) trunk many (get_or spread.many k d) (keeps base (take place events) trunk all) (spread.has k d below);
+      reached_of base (take place events) trunk many (get_or spread.many k d) (keeps base (take place events) trunk all)
+      (spread.has k d below);
 }
 
 pub opens_reached : (base : State) (list : List Configuration) → IsOpening base list → All (Reaches base [] []) list
 unfolding Reaches
-opens_reached base list is = subst (λ l. All (Reaches base [] []) l) (sym is.1) (All-cons (Reaches base [] []) is.0 [] one (All-nil (Reaches base [] [])))
+opens_reached base list is = subst (λ l. All (Reaches base [] []) l) (sym is.1)
+    (All-cons (Reaches base [] []) is.0 [] one (All-nil (Reaches base [] [])))
   where
     one : LeadsThrough (opening_config base) [] ([] ++ is.0.path) (config_of is.0)
     one = subst (λ m. LeadsThrough (opening_config base) [] m (config_of is.0)) (sym is.3) is.2
@@ -137,16 +162,26 @@ opens_complete base list is more moves end runs = record {
   runs = runs;
 }
 
-pub continues_shortened : (trunk longer : List Move) (old new : List Configuration) (more : List Event) (end : Config) → IsShortened trunk longer old new
+pub continues_shortened : (trunk longer : List Move) (old new : List Configuration) (more : List Event) (end : Config)
+    → IsShortened trunk longer old new
     → Continues old more end → Continues new more end
 continues_shortened trunk longer old new more end is now =
-    record { one = now.one; has = subst (λ l. Contains l now.one) (sym is.same) now.has; moves = now.moves; runs = now.runs }
+    record {
+      one = now.one;
+      has = subst (λ l. Contains l now.one)
+          (sym is.same) now.has;
+      moves = now.moves;
+      runs = now.runs;
+    }
 
-pub some_shortened : (trunk longer : List Move) (old new : List Configuration) → IsShortened trunk longer old new → 0 < length old → 0 < length new
-some_shortened trunk longer old new is some = omega (arith, length_map config_of old, length_map config_of new, ap length is.same)
+pub some_shortened : (trunk longer : List Move) (old new : List Configuration) → IsShortened trunk longer old new
+    → 0 < length old → 0 < length new
+some_shortened trunk longer old new is some =
+    omega (arith, length_map config_of old, length_map config_of new, ap length is.same)
 
 -- the only configuration without its path, which is the trunk's end now
-pub shortened : (trunk longer : List Move) (old rest new : List Configuration) (only next : Configuration) → length rest ≡ 0 → old ≡ rest ++ only ∷ []
+pub shortened : (trunk longer : List Move) (old rest new : List Configuration) (only next : Configuration)
+    → length rest ≡ 0 → old ≡ rest ++ only ∷ []
     → new ≡ rest ++ next ∷ [] → config_of next ≡ config_of only → next.path ≡ []
     → longer ≡ trunk ++ only.path → IsShortened trunk longer old new
 unfolding Reaches
@@ -155,10 +190,12 @@ shortened trunk longer old [] new only next none was now same path parts = recor
   reach = λ base events all.
       let reach : LeadsThrough (opening_config base) events (trunk ++ only.path) (config_of only) =
       All-head (Reaches base events trunk) only [] (subst (λ l. All (Reaches base events trunk) l) was all) in
-      let end : trunk ++ only.path ≡ longer ++ next.path = sym parts ∙ sym (append-nil longer) ∙ ap (λ l. longer ++ l) (sym path) in
+      let end : trunk ++ only.path ≡ longer ++ next.path =
+      sym parts ∙ sym (append-nil longer) ∙ ap (λ l. longer ++ l) (sym path) in
       let moved : LeadsThrough (opening_config base) events (longer ++ next.path) (config_of next) =
       subst (λ d. LeadsThrough (opening_config base) events (longer ++ next.path) d) (sym same)
       (subst (λ m. LeadsThrough (opening_config base) events m (config_of only)) end reach) in
-      subst (λ l. All (Reaches base events longer) l) (sym now) (All-cons (Reaches base events longer) next [] moved (All-nil (Reaches base events longer)));
+      subst (λ l. All (Reaches base events longer) l) (sym now)
+      (All-cons (Reaches base events longer) next [] moved (All-nil (Reaches base events longer)));
 }
 shortened trunk longer old (x ∷ rest) new only next none was now same path parts = absurd (omega (arith, none))

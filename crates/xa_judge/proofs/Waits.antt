@@ -2,7 +2,8 @@
 --     runs_effect, runs_event     one more move at the end
 --     Acted, Saw                  what an act, an event did to what one session is about
 --     CanWait, First, later       where acts can wait, the event is seen first
-use Rattle.std.proofs.Common.{◌≡◌, ◌≢◌, ℕ, Bool, true, false, cond, Option, Some, None, List, [], ◌∷◌, ◌++◌, set, refl, ap, sym, ◌∙◌, subst, inl, inr}
+use Rattle.std.proofs.Common.{◌≡◌, ◌≢◌, ℕ, Bool, true, false, cond, Option, Some, None, List, [], ◌∷◌, ◌++◌, set, refl}
+use Rattle.std.proofs.Common.{ap, sym, ◌∙◌, subst, inl, inr}
 use Rattle.std.specs.Prelude.{slice_get}
 use Rattle.std.proofs.lemmas.Option.{none-some, same_Some, cond_some}
 use Rattle.std.proofs.lemmas.List.{set-set}
@@ -20,12 +21,14 @@ use Rattle.xa_judge.specs.declared.moves.Act.{Act}
 use Rattle.xa_judge.specs.declared.moves.Act.TheVariants.{Statement, Disconnect}
 use Rattle.xa_judge.specs.declared.moves.Move.{Move}
 use Rattle.xa_judge.specs.declared.moves.Move.TheVariants.{Event as Seeing, Effect}
-use Rattle.xa_judge.specs.Explained.{Config, with_client, effect_of, carried_out, disconnected, observed, called, returned, lost, shows_answer, answer_to}
+use Rattle.xa_judge.specs.Explained.{Config, with_client, effect_of, carried_out, disconnected, observed, called}
+use Rattle.xa_judge.specs.Explained.{returned, lost, shows_answer, answer_to}
 use Rattle.xa_judge.specs.Explained.{next_state, LeadsThrough, IsSession}
 use Rattle.xa_judge.specs.Found.{call_is_answered, answered_so, has_unheard, unheard_so, called_for}
 use Rattle.xa_judge.proofs.Places.{same_number, get_written, get_apart, set_apart}
 
-pub runs_effect : (old mid new : Config) (events : List Event) (moves : List Move) (session : ℕ) (act : Act) → LeadsThrough old events moves mid
+pub runs_effect : (old mid new : Config) (events : List Event) (moves : List Move) (session : ℕ) (act : Act)
+    → LeadsThrough old events moves mid
     → IsSession session
     → effect_of mid session act ≡ Some new
     → LeadsThrough old events (moves ++ Effect session act ∷ []) new
@@ -34,16 +37,21 @@ runs_effect old mid new events (Effect other its ∷ moves) session act runs is 
 runs_effect old mid new [] (Seeing ∷ moves) session act runs is at = absurd runs
 runs_effect old mid new (event ∷ events) (Seeing ∷ moves) session act runs is at =
     (runs.0, runs.1, runs_effect runs.0 mid new events moves session act runs.2 is at)
-runs_effect old mid new [] [] session act runs is at = let P : Config → Type 0 = λ c. effect_of c session act ≡ Some new in (new, is, subst P runs at, refl)
+runs_effect old mid new [] [] session act runs is at = let P : Config → Type 0 =
+    λ c. effect_of c session act ≡ Some new in (new, is, subst P runs at, refl)
 runs_effect old mid new (event ∷ events) [] session act runs is at = absurd runs
 
-pub runs_event : (old mid new : Config) (events : List Event) (moves : List Move) (event : Event) → LeadsThrough old events moves mid
+pub runs_event : (old mid new : Config) (events : List Event) (moves : List Move) (event : Event)
+    → LeadsThrough old events moves mid
     → observed mid event ≡ Some new
     → LeadsThrough old (events ++ event ∷ []) (moves ++ Seeing ∷ []) new
-runs_event old mid new events (Effect other its ∷ moves) event runs at = (runs.0, runs.1, runs.2, runs_event runs.0 mid new events moves event runs.3 at)
+runs_event old mid new events (Effect other its ∷ moves) event runs at =
+    (runs.0, runs.1, runs.2, runs_event runs.0 mid new events moves event runs.3 at)
 runs_event old mid new [] (Seeing ∷ moves) event runs at = absurd runs
-runs_event old mid new (first ∷ events) (Seeing ∷ moves) event runs at = (runs.0, runs.1, runs_event runs.0 mid new events moves event runs.2 at)
-runs_event old mid new [] [] event runs at = let P : Config → Type 0 = λ c. observed c event ≡ Some new in (new, subst P runs at, refl)
+runs_event old mid new (first ∷ events) (Seeing ∷ moves) event runs at =
+    (runs.0, runs.1, runs_event runs.0 mid new events moves event runs.2 at)
+runs_event old mid new [] [] event runs at = let P : Config → Type 0 = λ c. observed c event ≡ Some new in
+    (new, subst P runs at, refl)
 runs_event old mid new (first ∷ events) [] event runs at = absurd runs
 
 abbrev pub some_config : State → List ClientState → Option Config
@@ -71,7 +79,8 @@ pub record Acted (old : Config) (session : ℕ) (act : Act) (new : Config) : Typ
   pub unanswered : answered_so (Some before) ≡ false
   pub dead : may_answer (Some before) ≡ false → may_answer (Some next) ≡ false
 
-acted_statement : (o : Option ClientState) (old new : Config) (session : ℕ) → slice_get old.clients session ≡ o → carried_out o old session ≡ Some new
+acted_statement : (o : Option ClientState) (old new : Config) (session : ℕ) → slice_get old.clients session ≡ o
+    → carried_out o old session ≡ Some new
     → Acted old session Statement new
 unfolding effect_of carried_out
 acted_statement None old new session found is = absurd (none-some new is)
@@ -84,7 +93,8 @@ acted_statement (Some (Called request)) old new session found is = record {
   is = sym (same_Some _ new is);
   again = λ other at same.
       ap (λ o. carried_out o other session) at
-      ∙ ap (λ (s : State). some_config (next_state s session request) (set other.clients session (Answered (answer_to s session request)))) same;
+      ∙ ap (λ (s : State). some_config (next_state s session request)
+      (set other.clients session (Answered (answer_to s session request)))) same;
   heard = refl;
   unanswered = refl;
   dead = λ e. absurd (false≢true (sym e));
@@ -106,7 +116,8 @@ acted_statement (Some (Gone (Some request))) old new session found is = record {
 }
 acted_statement (Some Left) old new session found is = absurd (none-some new is)
 
-acted_disconnect : (o : Option ClientState) (old new : Config) (session : ℕ) → slice_get old.clients session ≡ o → disconnected o old session ≡ Some new
+acted_disconnect : (o : Option ClientState) (old new : Config) (session : ℕ) → slice_get old.clients session ≡ o
+    → disconnected o old session ≡ Some new
     → Acted old session Disconnect new
 unfolding effect_of disconnected
 acted_disconnect None old new session found is = absurd (none-some new is)
@@ -128,25 +139,30 @@ acted_disconnect (Some (Gone request)) old new session found is = record {
 }
 acted_disconnect (Some Left) old new session found is = absurd (none-some new is)
 
-pub acted : (old new : Config) (session : ℕ) (act : Act) → effect_of old session act ≡ Some new → Acted old session act new
+pub acted : (old new : Config) (session : ℕ) (act : Act) → effect_of old session act ≡ Some new
+    → Acted old session act new
 unfolding effect_of
 acted old new session Statement is = acted_statement (slice_get old.clients session) old new session refl is
 acted old new session Disconnect is = acted_disconnect (slice_get old.clients session) old new session refl is
 
 -- what a session has called for takes effect
-pub effect_called : (config : Config) (session : ℕ) (request : Request) → called_for (slice_get config.clients session) ≡ Some request
+pub effect_called : (config : Config) (session : ℕ) (request : Request)
+    → called_for (slice_get config.clients session) ≡ Some request
     → effect_of config session Statement
-    ≡ some_config (next_state config.state session request) (set config.clients session (Answered (answer_to config.state session request)))
+    ≡ some_config (next_state config.state session request)
+    (set config.clients session (Answered (answer_to config.state session request)))
 unfolding effect_of carried_out
 effect_called config session request = by (slice_get config.clients session)
   where
     by : (o : Option ClientState) → called_for o ≡ Some request
         → carried_out o config session
-        ≡ some_config (next_state config.state session request) (set config.clients session (Answered (answer_to config.state session request)))
+        ≡ some_config (next_state config.state session request)
+        (set config.clients session (Answered (answer_to config.state session request)))
     by None is = absurd (none-some request is)
     by (Some Idle) is = absurd (none-some request is)
     by (Some (Called other)) is =
-        ap (λ r. some_config (next_state config.state session r) (set config.clients session (Answered (answer_to config.state session r))))
+        ap (λ r. some_config (next_state config.state session r)
+        (set config.clients session (Answered (answer_to config.state session r))))
         (same_Some other request is)
     by (Some (Answered answer)) is = absurd (none-some request is)
     by (Some (Gone other)) is = absurd (none-some request is)
@@ -168,7 +184,8 @@ pub record Saw (old : Config) (event : Event) (new : Config) : Type 0 where
   pub again : (other : Config) → slice_get other.clients (session_in event) ≡ Some before
       → observed other event ≡ Some (with_client other (session_in event) next)
 
-saw_call : (o : Option ClientState) (old new : Config) (session : ℕ) (request : Request) → slice_get old.clients session ≡ o
+saw_call : (o : Option ClientState) (old new : Config) (session : ℕ) (request : Request)
+    → slice_get old.clients session ≡ o
     → called o old session request ≡ Some new → Saw old (Call session request) new
 unfolding observed called
 saw_call None old new session request found is = absurd (none-some new is)
@@ -200,7 +217,8 @@ saw_call (Some Left) old new session request found is =
       again = λ other at. ap (λ o. called o other session request) at;
     }
 
-saw_return : (o : Option ClientState) (old new : Config) (session : ℕ) (seen : Seen) → slice_get old.clients session ≡ o → returned o old session seen ≡ Some new
+saw_return : (o : Option ClientState) (old new : Config) (session : ℕ) (seen : Seen) → slice_get old.clients session ≡ o
+    → returned o old session seen ≡ Some new
     → Saw old (Return session seen) new × (answered_so o ≡ true)
 unfolding observed returned
 saw_return None old new session seen found is = absurd (none-some new is)
@@ -213,19 +231,28 @@ saw_return (Some (Answered answer)) old new session seen found is =
         next = Idle;
         found = found;
         is = sym agreed.1;
-        again = λ other at. ap (λ o. returned o other session seen) at ∙ ap (λ b. cond b (Some (with_client other session Idle)) None) agreed.0;
+        again = λ other at. ap (λ o. returned o other session seen) at
+            ∙ ap (λ b. cond b (Some (with_client other session Idle)) None) agreed.0;
       },
       refl,
     )
 saw_return (Some (Gone request)) old new session seen found is = absurd (none-some new is)
 saw_return (Some Left) old new session seen found is = absurd (none-some new is)
 
-saw_lost : (o : Option ClientState) (old new : Config) (session : ℕ) → slice_get old.clients session ≡ o → lost o old session ≡ Some new
+saw_lost : (o : Option ClientState) (old new : Config) (session : ℕ) → slice_get old.clients session ≡ o
+    → lost o old session ≡ Some new
     → Saw old (Lost session) new
 unfolding observed lost
 saw_lost None old new session found is = absurd (none-some new is)
 saw_lost (Some Idle) old new session found is =
-    record { before = Idle; next = Gone None; found = found; is = sym (same_Some _ new is); again = λ other at. ap (λ o. lost o other session) at }
+    record {
+      before = Idle;
+      next = Gone None;
+      found = found;
+      is = sym (same_Some _ new is);
+      again = λ other at. ap
+          (λ o. lost o other session) at;
+    }
 saw_lost (Some (Called request)) old new session found is =
     record {
       before = Called request;
@@ -235,30 +262,42 @@ saw_lost (Some (Called request)) old new session found is =
       again = λ other at. ap (λ o. lost o other session) at;
     }
 saw_lost (Some (Answered answer)) old new session found is =
-    record { before = Answered answer; next = Gone None; found = found; is = sym (same_Some _ new is); again = λ other at. ap (λ o. lost o other session) at }
+    record {
+      before = Answered answer;
+      next = Gone None;
+      found = found;
+      is = sym
+          (same_Some _ new is);
+      again = λ other at. ap (λ o. lost o other session) at;
+    }
 saw_lost (Some (Gone request)) old new session found is = absurd (none-some new is)
 saw_lost (Some Left) old new session found is = absurd (none-some new is)
 
 -- an event is seen first, and the act takes effect behind it
 abbrev Swapped : Config → Event → ℕ → Act → Config → Type 0
-Swapped old event session act new = (first : Config) × (observed old event ≡ Some first) × (effect_of first session act ≡ Some new)
+Swapped old event session act new =
+    (first : Config) × (observed old event ≡ Some first) × (effect_of first session act ≡ Some new)
 
 -- an act and an event of different sessions
-commute : (old mid new : Config) (session : ℕ) (act : Act) (event : Event) → Acted old session act mid → Saw mid event new → session ≢ session_in event
+commute : (old mid new : Config) (session : ℕ) (act : Act) (event : Event) → Acted old session act mid
+    → Saw mid event new → session ≢ session_in event
     → Swapped old event session act new
 commute old mid new session act event a s apart =
     let other = session_in event in
     let here : slice_get mid.clients other ≡ slice_get old.clients other =
     ap (λ (c : Config). slice_get c.clients other) a.is ∙ get_apart old.clients session other a.next apart in
     let first : Config = with_client old other s.next in
-    let there : slice_get first.clients session ≡ Some a.before = get_apart old.clients other session s.next (λ e. apart (sym e)) ∙ a.found in
+    let there : slice_get first.clients session ≡ Some a.before =
+    get_apart old.clients other session s.next (λ e. apart (sym e)) ∙ a.found in
     let end : record { state = a.state; clients = set first.clients session a.next } ≡ new =
-    ap (λ l. record { state = a.state; clients = l }) (set_apart old.clients other session s.next a.next (λ e. apart (sym e)))
+    ap (λ l. record { state = a.state; clients = l }) (set_apart old.clients other session s.next a.next
+    (λ e. apart (sym e)))
     ∙ sym (s.is ∙ ap (λ (c : Config). with_client c other s.next) a.is) in
     (first, s.again old (sym here ∙ s.found), a.again first there refl ∙ ap Some end)
 
 -- the act was the loss of a client's
-lost_alone : (o : Option ClientState) (old mid new : Config) (session : ℕ) → slice_get old.clients session ≡ o → carried_out o old session ≡ Some mid
+lost_alone : (o : Option ClientState) (old mid new : Config) (session : ℕ) → slice_get old.clients session ≡ o
+    → carried_out o old session ≡ Some mid
     → Saw mid (Lost session) new → lost (slice_get mid.clients session) mid session ≡ Some new
     → Swapped old (Lost session) session Statement new
 unfolding effect_of observed carried_out lost
@@ -267,16 +306,24 @@ lost_alone (Some Idle) old mid new session found is s at = absurd (none-some mid
 lost_alone (Some (Called request)) old mid new session found is s at =
     let answer = Answered (answer_to old.state session request) in
     let first : Config = with_client old session (Gone (Some request)) in
-    let mid_is : record { state = next_state old.state session request; clients = set old.clients session answer } ≡ mid = same_Some _ mid is in
+    let mid_is : record { state = next_state old.state session request; clients = set old.clients session answer }
+    ≡ mid = same_Some _ mid is in
     let here : slice_get mid.clients session ≡ Some answer =
-    ap (λ (c : Config). slice_get c.clients session) (sym mid_is) ∙ get_written old.clients session (Called request) answer found in
-    let gone : with_client mid session (Gone None) ≡ new = same_Some _ new (sym (ap (λ o. lost o mid session) here) ∙ at) in
+    ap (λ (c : Config). slice_get c.clients session) (sym mid_is)
+    ∙ get_written old.clients session (Called request) answer found in
+    let gone : with_client mid session (Gone None) ≡ new =
+    same_Some _ new (sym (ap (λ o. lost o mid session) here) ∙ at) in
     let there : slice_get first.clients session ≡ Some (Gone (Some request)) =
     get_written old.clients session (Called request) (Gone (Some request)) found in
-    let end : record { state = next_state old.state session request; clients = set (set old.clients session (Gone (Some request))) session (Gone None) }
+    let end : record {
+      state = next_state old.state session request;
+      clients = set
+          (set old.clients session (Gone (Some request))) session (Gone None);
+    }
     ≡ new =
     ap (λ l. record { state = next_state old.state session request; clients = l })
-    (set-set old.clients session (Gone (Some request)) (Gone None) ∙ sym (set-set old.clients session answer (Gone None)))
+    (set-set old.clients session (Gone (Some request)) (Gone None)
+    ∙ sym (set-set old.clients session answer (Gone None)))
     ∙ ap (λ (c : Config). with_client c session (Gone None)) mid_is ∙ gone in
     (first, ap (λ o. lost o old session) found, ap (λ o. carried_out o first session) there ∙ ap Some end)
 lost_alone (Some (Answered answer)) old mid new session found is s at = absurd (none-some mid is)
@@ -288,7 +335,8 @@ lost_alone (Some (Gone (Some request))) old mid new session found is s at =
     absurd (none-some new (sym (ap (λ o. lost o mid session) here) ∙ at))
 lost_alone (Some Left) old mid new session found is s at = absurd (none-some mid is)
 
-left_alone : (o : Option ClientState) (old mid new : Config) (session : ℕ) → slice_get old.clients session ≡ o → disconnected o old session ≡ Some mid
+left_alone : (o : Option ClientState) (old mid new : Config) (session : ℕ) → slice_get old.clients session ≡ o
+    → disconnected o old session ≡ Some mid
     → lost (slice_get mid.clients session) mid session ≡ Some new → ⊥
 unfolding disconnected lost
 left_alone None old mid new session found is at = none-some mid is
@@ -297,12 +345,14 @@ left_alone (Some (Called request)) old mid new session found is at = none-some m
 left_alone (Some (Answered answer)) old mid new session found is at = none-some mid is
 left_alone (Some (Gone request)) old mid new session found is at =
     let here : slice_get mid.clients session ≡ Some Left =
-    ap (λ (c : Config). slice_get c.clients session) (sym (same_Some _ mid is)) ∙ get_written old.clients session (Gone request) Left found in
+    ap (λ (c : Config). slice_get c.clients session) (sym (same_Some _ mid is))
+    ∙ get_written old.clients session (Gone request) Left found in
     none-some new (sym (ap (λ o. lost o mid session) here) ∙ at)
 left_alone (Some Left) old mid new session found is at = none-some mid is
 
 -- what a session called for takes effect before it calls again: none does, but with an open call that nobody hears
-called_alone : (o : Option ClientState) (old mid new : Config) (session : ℕ) (request : Request) → slice_get old.clients session ≡ o → unheard_so o ≡ false
+called_alone : (o : Option ClientState) (old mid new : Config) (session : ℕ) (request : Request)
+    → slice_get old.clients session ≡ o → unheard_so o ≡ false
     → carried_out o old session ≡ Some mid → called (slice_get mid.clients session) mid session request ≡ Some new → ⊥
 unfolding carried_out called
 called_alone None old mid new session request found heard is at = none-some mid is
@@ -310,7 +360,8 @@ called_alone (Some Idle) old mid new session request found heard is at = none-so
 called_alone (Some (Called other)) old mid new session request found heard is at =
     let answer = Answered (answer_to old.state session other) in
     let here : slice_get mid.clients session ≡ Some answer =
-    ap (λ (c : Config). slice_get c.clients session) (sym (same_Some _ mid is)) ∙ get_written old.clients session (Called other) answer found in
+    ap (λ (c : Config). slice_get c.clients session) (sym (same_Some _ mid is))
+    ∙ get_written old.clients session (Called other) answer found in
     none-some new (sym (ap (λ o. called o mid session request) here) ∙ at)
 called_alone (Some (Answered answer)) old mid new session request found heard is at = none-some mid is
 called_alone (Some (Gone None)) old mid new session request found heard is at = none-some mid is
@@ -318,7 +369,8 @@ called_alone (Some (Gone (Some other))) old mid new session request found heard 
 called_alone (Some Left) old mid new session request found heard is at = none-some mid is
 
 -- the DISCONNECT of a session whose client is gone can wait until the session has called
-gone_alone : (o : Option ClientState) (old mid new : Config) (session : ℕ) (request : Request) → slice_get old.clients session ≡ o → unheard_so o ≡ false
+gone_alone : (o : Option ClientState) (old mid new : Config) (session : ℕ) (request : Request)
+    → slice_get old.clients session ≡ o → unheard_so o ≡ false
     → disconnected o old session ≡ Some mid → called (slice_get mid.clients session) mid session request ≡ Some new
     → Swapped old (Call session request) session Disconnect new
 unfolding effect_of observed disconnected called
@@ -331,11 +383,14 @@ gone_alone (Some (Gone None)) old mid new session request found heard is at =
     let first : Config = with_client old session (Gone (Some request)) in
     let mid_is : record { state = state; clients = set old.clients session Left } ≡ mid = same_Some _ mid is in
     let here : slice_get mid.clients session ≡ Some Left =
-    ap (λ (c : Config). slice_get c.clients session) (sym mid_is) ∙ get_written old.clients session (Gone None) Left found in
-    let left : with_client mid session Left ≡ new = same_Some _ new (sym (ap (λ o. called o mid session request) here) ∙ at) in
+    ap (λ (c : Config). slice_get c.clients session) (sym mid_is)
+    ∙ get_written old.clients session (Gone None) Left found in
+    let left : with_client mid session Left ≡ new = same_Some _ new
+    (sym (ap (λ o. called o mid session request) here) ∙ at) in
     let there : slice_get first.clients session ≡ Some (Gone (Some request)) =
     get_written old.clients session (Gone None) (Gone (Some request)) found in
-    let end : record { state = state; clients = set (set old.clients session (Gone (Some request))) session Left } ≡ new =
+    let end : record { state = state; clients = set (set old.clients session (Gone (Some request))) session Left }
+    ≡ new =
     ap (λ l. record { state = state; clients = l })
     (set-set old.clients session (Gone (Some request)) Left ∙ sym (set-set old.clients session Left Left))
     ∙ ap (λ (c : Config). with_client c session Left) mid_is ∙ left in
@@ -343,16 +398,19 @@ gone_alone (Some (Gone None)) old mid new session request found heard is at =
 gone_alone (Some (Gone (Some other))) old mid new session request found heard is at = absurd (false≢true (sym heard))
 gone_alone (Some Left) old mid new session request found heard is at = absurd (none-some mid is)
 
-call_alone : (old mid new : Config) (session : ℕ) (act : Act) (request : Request) → has_unheard old session ≡ false → effect_of old session act ≡ Some mid
-    → called (slice_get mid.clients session) mid session request ≡ Some new → Swapped old (Call session request) session act new
+call_alone : (old mid new : Config) (session : ℕ) (act : Act) (request : Request) → has_unheard old session ≡ false
+    → effect_of old session act ≡ Some mid
+    → called (slice_get mid.clients session) mid session request ≡ Some new
+    → Swapped old (Call session request) session act new
 unfolding effect_of
 call_alone old mid new session Statement request heard is at =
     absurd (called_alone (slice_get old.clients session) old mid new session request refl heard is at)
 call_alone old mid new session Disconnect request heard is at =
     gone_alone (slice_get old.clients session) old mid new session request refl heard is at
 
--- acts that come before the event can wait until it is seen: before a call, unless its session's client is gone with a call that may still take effect;
--- before a return, once its session was answered; before an answer that isn't known, never
+-- acts that come before the event can wait until it is seen: before a call, unless its session's client is gone with a
+-- call that may still take effect; before a return, once its session was answered; before an answer that isn't known,
+-- never
 abbrev pub CanWait : Config → Event → Type 0
 CanWait config (Call session request) = has_unheard config session ≡ false
 CanWait config (Return session seen) = call_is_answered config session ≡ true
@@ -360,16 +418,19 @@ CanWait config (Lost session) = Unit {0}
 CanWait config (Unknown session) = ⊥
 
 -- a session that was answered acts no more
-pub answered_apart : (old mid : Config) (session other : ℕ) (act : Act) → Acted old session act mid → call_is_answered old other ≡ true → session ≢ other
+pub answered_apart : (old mid : Config) (session other : ℕ) (act : Act) → Acted old session act mid
+    → call_is_answered old other ≡ true → session ≢ other
 answered_apart old mid session other act a answered = λ e.
     false≢true (sym a.unanswered ∙ ap answered_so (sym a.found ∙ ap (slice_get old.clients) e) ∙ answered)
 
-swap : (old mid new : Config) (session : ℕ) (act : Act) (event : Event) → effect_of old session act ≡ Some mid → observed mid event ≡ Some new
+swap : (old mid new : Config) (session : ℕ) (act : Act) (event : Event) → effect_of old session act ≡ Some mid
+    → observed mid event ≡ Some new
     → CanWait old event → Swapped old event session act new
 unfolding effect_of observed
 swap old mid new session act (Call other request) is at waits = elim (same_number session other) [
   | inl e ↦
-      let at' : called (slice_get mid.clients session) mid session request ≡ Some new = ap (λ n. called (slice_get mid.clients n) mid n request) e ∙ at in
+      let at' : called (slice_get mid.clients session) mid session request ≡ Some new =
+      ap (λ n. called (slice_get mid.clients n) mid n request) e ∙ at in
       let alone : Swapped old (Call session request) session act new =
       call_alone old mid new session act request (ap (has_unheard old) e ∙ waits) is at' in
       subst (λ n. Swapped old (Call n request) session act new) e alone
@@ -378,35 +439,42 @@ swap old mid new session act (Call other request) is at waits = elim (same_numbe
 ]
 swap old mid new session act (Return other seen) is at waits =
     let a = acted old mid session act is in
-    commute old mid new session act (Return other seen) a (saw_return (slice_get mid.clients other) mid new other seen refl at).0
+    commute old mid new session act (Return other seen) a
+    (saw_return (slice_get mid.clients other) mid new other seen refl at).0
     (answered_apart old mid session other act a waits)
 swap old mid new session Statement (Lost other) is at waits = elim (same_number session other) [
   | inl e ↦
-      let at' : lost (slice_get mid.clients session) mid session ≡ Some new = ap (λ n. lost (slice_get mid.clients n) mid n) e ∙ at in
+      let at' : lost (slice_get mid.clients session) mid session ≡ Some new =
+      ap (λ n. lost (slice_get mid.clients n) mid n) e ∙ at in
       let alone : Swapped old (Lost session) session Statement new =
-      lost_alone (slice_get old.clients session) old mid new session refl is (saw_lost (slice_get mid.clients session) mid new session refl at') at' in
+      lost_alone (slice_get old.clients session) old mid new session refl is
+      (saw_lost (slice_get mid.clients session) mid new session refl at') at' in
       subst (λ n. Swapped old (Lost n) session Statement new) e alone
   | inr apart ↦ commute old mid new session Statement (Lost other) (acted old mid session Statement is)
       (saw_lost (slice_get mid.clients other) mid new other refl at) apart
 ]
 swap old mid new session Disconnect (Lost other) is at waits = elim (same_number session other) [
   | inl e ↦
-      let at' : lost (slice_get mid.clients session) mid session ≡ Some new = ap (λ n. lost (slice_get mid.clients n) mid n) e ∙ at in
+      let at' : lost (slice_get mid.clients session) mid session ≡ Some new =
+      ap (λ n. lost (slice_get mid.clients n) mid n) e ∙ at in
       absurd (left_alone (slice_get old.clients session) old mid new session refl is at')
   | inr apart ↦ commute old mid new session Disconnect (Lost other) (acted old mid session Disconnect is)
       (saw_lost (slice_get mid.clients other) mid new other refl at) apart
 ]
 swap old mid new session act (Unknown other) is at waits = absurd waits
 
-still_waits : (old mid : Config) (session : ℕ) (act : Act) (event : Event) → effect_of old session act ≡ Some mid → CanWait old event → CanWait mid event
+still_waits : (old mid : Config) (session : ℕ) (act : Act) (event : Event) → effect_of old session act ≡ Some mid
+    → CanWait old event → CanWait mid event
 still_waits old mid session act (Call other request) is waits =
     let a = acted old mid session act is in
     elim (same_number session other) [
       | inl e ↦
-          ap unheard_so (ap (λ (c : Config). slice_get c.clients other) a.is ∙ ap (slice_get (set old.clients session a.next)) (sym e)
+          ap unheard_so (ap (λ (c : Config). slice_get c.clients other) a.is
+          ∙ ap (slice_get (set old.clients session a.next)) (sym e)
           ∙ get_written old.clients session a.before a.next a.found)
           ∙ a.heard
-      | inr apart ↦ ap unheard_so (ap (λ (c : Config). slice_get c.clients other) a.is ∙ get_apart old.clients session other a.next apart) ∙ waits
+      | inr apart ↦ ap unheard_so (ap (λ (c : Config). slice_get c.clients other) a.is
+          ∙ get_apart old.clients session other a.next apart) ∙ waits
     ]
 still_waits old mid session act (Return other seen) is waits =
     let a = acted old mid session act is in
@@ -422,16 +490,25 @@ pub record First (old : Config) (event : Event) (more : List Event) (new : Confi
   pub moves : List Move
   pub runs : LeadsThrough first more moves new
 
-pub later : (old new : Config) (event : Event) (more : List Event) (moves : List Move) → CanWait old event → LeadsThrough old (event ∷ more) moves new
+pub later : (old new : Config) (event : Event) (more : List Event) (moves : List Move) → CanWait old event
+    → LeadsThrough old (event ∷ more) moves new
     → First old event more new
-later old new event more (Seeing ∷ moves) waits runs = record { first = runs.0; sees = runs.1; moves = moves; runs = runs.2 }
+later old new event more (Seeing ∷ moves) waits runs =
+    record { first = runs.0; sees = runs.1; moves = moves; runs = runs.2 }
 later old new event more (Effect session act ∷ moves) waits runs =
     let rest = later runs.0 new event more moves (still_waits old runs.0 session act event runs.2 waits) runs.3 in
     let s = swap old runs.0 rest.first session act event runs.2 rest.sees waits in
-    record { first = s.0; sees = s.1; moves = Effect session act ∷ rest.moves; runs = (rest.first, runs.1, s.2, rest.runs) }
+    record {
+      first = s.0;
+      sees = s.1;
+      moves = Effect session act
+          ∷ rest.moves;
+      runs = (rest.first, runs.1, s.2, rest.runs);
+    }
 later old new event more [] waits runs = absurd runs
 
 -- where a return was seen, its session was answered
-pub return_answered : (old new : Config) (session : ℕ) (seen : Seen) → observed old (Return session seen) ≡ Some new → call_is_answered old session ≡ true
+pub return_answered : (old new : Config) (session : ℕ) (seen : Seen) → observed old (Return session seen) ≡ Some new
+    → call_is_answered old session ≡ true
 unfolding observed
 return_answered old new session seen at = (saw_return (slice_get old.clients session) old new session seen refl at).1

@@ -50,15 +50,18 @@ IsNoReturn (Unknown session) = Unit {0}
 -- answers
 abbrev pub IsSeenFrom : List Configuration → List Answer → Event → Advance → Type 0
 IsSeenFrom old answers event (Known list) =
-    (0 < vec_len list) × ((one new : Config) → Has old one → observed one event ≡ Some new → Has list.items new) × ReachesPast event old list.items
+    (0 < vec_len list) × ((one new : Config) → Has old one → observed one event ≡ Some new → Has list.items new)
+    × ReachesPast event old list.items
 IsSeenFrom old answers event (Impossible others) =
     ((one new : Config) → Has old one → observed one event ≡ Some new → ⊥) × (others.items ≡ answers)
 IsSeenFrom old answers event TooMany = ⊥
 
 -- these are the answers that the session gets from the list by acts only, whenever the list is reached
 pub record AreAnswersTo (list : List Configuration) (session : ℕ) (answers : List Answer) : Type 0 where
-  pub each : (base : State) (events : List Event) (trunk : List Move) → All (Reaches base events trunk) list → All (IsAnswerAfter base events session) answers
-  pub all : (new : Config) (answer : Answer) → Continues list [] new → slice_get new.clients session ≡ Some (Answered answer) → Contains answers answer
+  pub each : (base : State) (events : List Event) (trunk : List Move) → All (Reaches base events trunk) list
+      → All (IsAnswerAfter base events session) answers
+  pub all : (new : Config) (answer : Answer) → Continues list [] new
+      → slice_get new.clients session ≡ Some (Answered answer) → Contains answers answer
 
 -- before a return these are the answers that its session can have; before another event there is none
 abbrev pub AreAnswers : List Configuration → Event → List Answer → Type 0
@@ -69,7 +72,8 @@ AreAnswers list event answers = answers ≡ []
 -- on; or too many different configurations are reached
 abbrev pub IsAdvance : List Configuration → Event → ℕ → Advance → Type 0
 IsAdvance old event limit (Known list) =
-    (0 < vec_len list) × ((more : List Event) (new : Config) → Continues old (event ∷ more) new → Continues list.items more new) × ReachesPast event old list.items
+    (0 < vec_len list) × ((more : List Event) (new : Config) → Continues old (event ∷ more) new
+    → Continues list.items more new) × ReachesPast event old list.items
 IsAdvance old event limit (Impossible answers) =
     ((more : List Event) (new : Config) → Continues old (event ∷ more) new → ⊥) × AreAnswers old event answers.items
 IsAdvance old event limit TooMany = (many : List Configuration) × IsSpread limit many × KeepsReach old many

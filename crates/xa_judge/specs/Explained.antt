@@ -8,7 +8,8 @@
 --     observed                   an event is seen
 --     LeadsThrough               moves lead through all of the events
 --     Explained                  some moves do, from opening_config on
-use Rattle.std.specs.Prelude.{◌≡◌, ℕ, ◌≤◌, Bool, true, false, cond, ◌&&◌, ◌||◌, ◌==◌, Option, Some, None, List, [], ◌∷◌, slice_get, slice_set}
+use Rattle.std.specs.Prelude.{◌≡◌, ℕ, ◌≤◌, Bool, true, false, cond, ◌&&◌, ◌||◌, ◌==◌, Option, Some, None, List, [], ◌∷◌}
+use Rattle.std.specs.Prelude.{slice_get, slice_set}
 use Rattle.std.specs.Prelude.{replicate}
 use Rattle.std.specs.List.{list_any}
 use Rattle.std.specs.Cmp.Lexicographic.{pointwise}
@@ -27,7 +28,8 @@ use Rattle.xa_judge.specs.declared.answer.Answer.{Answer}
 use Rattle.xa_judge.specs.declared.answer.Answer.TheVariants.{Reply as Replied, Unread as NotRead}
 use Rattle.xa_judge.specs.declared.error_numbers.ErrorNumbers.{ErrorNumbers}
 use Rattle.xa_judge.specs.declared.event.Seen.{Seen}
-use Rattle.xa_judge.specs.declared.event.Seen.TheVariants.{Ok as SeenOk, Value as SeenValue, Rows as SeenRows, Error as SeenError}
+use Rattle.xa_judge.specs.declared.event.Seen.TheVariants.{Ok as SeenOk, Value as SeenValue, Rows as SeenRows}
+use Rattle.xa_judge.specs.declared.event.Seen.TheVariants.{Error as SeenError}
 use Rattle.xa_judge.specs.declared.event.Event.{Event}
 use Rattle.xa_judge.specs.declared.event.Event.TheVariants.{Call, Return, Lost, Unknown}
 use Rattle.xa_judge.specs.declared.client_state.ClientState.{ClientState}
@@ -63,14 +65,16 @@ with_client config session client = record { state = config.state; clients = sli
 -- what a session called for takes effect: it is answered, or nobody hears the answer
 unfoldable pub carried_out : Option ClientState → Config → ℕ → Option Config
 carried_out (Some (Called request)) config session =
-    Some (with_client (record config { state = next_state config.state session request }) session (Answered (answer_to config.state session request)))
+    Some (with_client (record config { state = next_state config.state session request }) session
+    (Answered (answer_to config.state session request)))
 carried_out (Some (Gone (Some request))) config session =
     Some (with_client (record config { state = next_state config.state session request }) session (Gone None))
 carried_out other config session = None
 
 -- the DISCONNECT of a session whose client is gone takes effect; what it had called for never does after that
 unfoldable pub disconnected : Option ClientState → Config → ℕ → Option Config
-disconnected (Some (Gone request)) config session = Some (with_client (record config { state = after config.state session Disconnect }) session Left)
+disconnected (Some (Gone request)) config session =
+    Some (with_client (record config { state = after config.state session Disconnect }) session Left)
 disconnected other config session = None
 
 -- an act of a session takes effect
@@ -115,7 +119,8 @@ called other config session request = None
 
 -- the call of an answered session returns this
 unfoldable pub returned : Option ClientState → Config → ℕ → Seen → Option Config
-returned (Some (Answered answer)) config session seen = cond (shows_answer seen answer) (Some (with_client config session Idle)) None
+returned (Some (Answered answer)) config session seen =
+    cond (shows_answer seen answer) (Some (with_client config session Idle)) None
 returned other config session seen = None
 
 -- the client of a session is gone; an open call may still take effect, and nobody hears its answer
@@ -146,7 +151,8 @@ IsSession session = (1 ≤ session) × (session ≤ 16)
 abbrev pub LeadsThrough : Config → List Event → List Move → Config → Type 0
 LeadsThrough old events (Effect session act ∷ moves) new =
     (mid : Config) × IsSession session × (effect_of old session act ≡ Some mid) × LeadsThrough mid events moves new
-LeadsThrough old (event ∷ events) (Seeing ∷ moves) new = (mid : Config) × (observed old event ≡ Some mid) × LeadsThrough mid events moves new
+LeadsThrough old (event ∷ events) (Seeing ∷ moves) new =
+    (mid : Config) × (observed old event ≡ Some mid) × LeadsThrough mid events moves new
 LeadsThrough old [] [] new = new ≡ old
 LeadsThrough old events moves new = ⊥
 

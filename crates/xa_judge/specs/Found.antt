@@ -12,7 +12,8 @@
 --     IsSpread         a list has more different configurations than a limit
 --     Grows            a list has more at its end, which is reached if the list is
 --     IsExpandedBelow, IsClosedBelow      the list has what acts that count lead to
-use Rattle.std.specs.Prelude.{◌≡◌, ◌≢◌, ◌⊎◌, ℕ, ◌<◌, Bool, true, false, Option, Some, None, List, [], ◌∷◌, ◌++◌, length, map, slice_get, slice_set}
+use Rattle.std.specs.Prelude.{◌≡◌, ◌≢◌, ◌⊎◌, ℕ, ◌<◌, Bool, true, false, Option, Some, None, List, [], ◌∷◌, ◌++◌, length}
+use Rattle.std.specs.Prelude.{map, slice_get, slice_set}
 use Rattle.std.specs.List.{All, Contains}
 use Rattle.xa_server.specs.State.{State}
 use Rattle.xa_judge.specs.declared.request.Request.{Request}
@@ -25,7 +26,8 @@ use Rattle.xa_judge.specs.declared.moves.Act.TheVariants.{Statement}
 use Rattle.xa_judge.specs.declared.moves.Move.TheVariants.{Event as Seeing, Effect}
 use Rattle.xa_judge.specs.declared.moves.Move.{Move}
 use Rattle.xa_judge.specs.declared.configuration.Configuration.{Configuration}
-use Rattle.xa_judge.specs.Explained.{Config, opening_config, effect_of, observed, LeadsThrough, IsSession, answer_to, next_state}
+use Rattle.xa_judge.specs.Explained.{Config, opening_config, effect_of, observed, LeadsThrough, IsSession, answer_to}
+use Rattle.xa_judge.specs.Explained.{next_state}
 use Rattle.xa_judge.specs.Verdicts.{AreDifferent}
 
 -- a configuration as the definitions see it
@@ -94,12 +96,14 @@ pub record IsSpread (limit : ℕ) (list : List Configuration) : Type 0 where
 
 -- if each of the old list is reached, so is each of the new one
 abbrev pub KeepsReach : List Configuration → List Configuration → Type 0
-KeepsReach old new = (base : State) (events : List Event) (trunk : List Move) → All (Reaches base events trunk) old → All (Reaches base events trunk) new
+KeepsReach old new = (base : State) (events : List Event) (trunk : List Move) → All (Reaches base events trunk) old
+    → All (Reaches base events trunk) new
 
 -- if each of the old list is reached, each of the new one is reached with this event in addition
 abbrev pub ReachesPast : Event → List Configuration → List Configuration → Type 0
 ReachesPast event old new =
-    (base : State) (events : List Event) (trunk : List Move) → All (Reaches base events trunk) old → All (Reaches base (events ++ event ∷ []) trunk) new
+    (base : State) (events : List Event) (trunk : List Move) → All (Reaches base events trunk) old
+    → All (Reaches base (events ++ event ∷ []) trunk) new
 
 -- the configuration is as it was, or its path has one effect more
 abbrev pub IsSettledFrom : ℕ → Configuration → Configuration → Type 0
@@ -121,7 +125,8 @@ pub record IsEffectAt (list : List Configuration) (place session : ℕ) (act : A
 abbrev pub IsSeenAdded : Event → Configuration → List Configuration → List Configuration → Type 0
 IsSeenAdded event one old new =
     ((observed (config_of one) event ≡ None) × (new ≡ old))
-    ⊎ ((next : Configuration) × (observed (config_of one) event ≡ Some (config_of next)) × (next.path ≡ one.path ++ Seeing ∷ [])
+    ⊎ ((next : Configuration) × (observed (config_of one) event ≡ Some (config_of next))
+    × (next.path ≡ one.path ++ Seeing ∷ [])
     × AddsUnlessThere old next new)
 
 -- the list has the client's answer in addition, or is as it was if the client has none
@@ -137,7 +142,8 @@ pub record IsAnsweredIn (list : List Configuration) (session : ℕ) (answer : An
 
 -- the only configuration before all events
 abbrev pub IsOpening : State → List Configuration → Type 0
-IsOpening base list = (one : Configuration) × (list ≡ one ∷ []) × (config_of one ≡ opening_config base) × (one.path ≡ [])
+IsOpening base list =
+    (one : Configuration) × (list ≡ one ∷ []) × (config_of one ≡ opening_config base) × (one.path ≡ [])
 
 -- the moves are the trunk and the path of the first configuration
 abbrev pub IsPathOf : List Move → List Configuration → List Move → Type 0
@@ -146,7 +152,8 @@ IsPathOf trunk list moves = (one : Configuration) × (slice_get list 0 ≡ Some 
 -- the same configurations are reached, with another trunk
 pub record IsShortened (trunk longer : List Move) (old new : List Configuration) : Type 0 where
   pub same : configs new ≡ configs old
-  pub reach : (base : State) (events : List Event) → All (Reaches base events trunk) old → All (Reaches base events longer) new
+  pub reach : (base : State) (events : List Event) → All (Reaches base events trunk) old
+      → All (Reaches base events longer) new
 
 -- the list has more at its end, which is reached if the list is
 pub record Grows (old new : List Configuration) : Type 0 where
@@ -158,9 +165,11 @@ pub record Grows (old new : List Configuration) : Type 0 where
 -- is to return don't count, nor any acts after it was answered
 abbrev pub IsExpandedBelow : ℕ → Configuration → Option ℕ → List Configuration → Type 0
 IsExpandedBelow count one returning list =
-    (session : ℕ) (act : Act) (new : Config) → session < count → IsSession session → returning ≢ Some session → is_over returning (config_of one) ≡ false
+    (session : ℕ) (act : Act) (new : Config) → session < count → IsSession session → returning ≢ Some session
+    → is_over returning (config_of one) ≡ false
     → effect_of (config_of one) session act ≡ Some new → Has list new
 
 -- that is so of each configuration before this place
 abbrev pub IsClosedBelow : ℕ → Option ℕ → List Configuration → Type 0
-IsClosedBelow count returning list = (place : ℕ) (one : Configuration) → place < count → slice_get list place ≡ Some one → IsExpandedBelow 17 one returning list
+IsClosedBelow count returning list = (place : ℕ) (one : Configuration) → place < count → slice_get list place ≡ Some one
+    → IsExpandedBelow 17 one returning list

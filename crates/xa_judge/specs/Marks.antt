@@ -11,7 +11,8 @@ use Rattle.xa_server.specs.declared.reply.Reply.TheVariants.{Ok as Accepted, Val
 use Rattle.xa_server.specs.declared.xa_error.XaError.{XaError}
 use Rattle.xa_server.specs.declared.xa_error.XaError.TheVariants.{Rmfail}
 use Rattle.xa_server.specs.declared.xa_error.BranchState.{BranchState}
-use Rattle.xa_server.specs.declared.xa_error.BranchState.TheVariants.{NonExisting, Active as StateActive, Idle as StateIdle, Prepared as StatePrepared}
+use Rattle.xa_server.specs.declared.xa_error.BranchState.TheVariants.{NonExisting, Active as StateActive}
+use Rattle.xa_server.specs.declared.xa_error.BranchState.TheVariants.{Idle as StateIdle, Prepared as StatePrepared}
 use Rattle.xa_server.specs.declared.branch.Phase.{Phase}
 use Rattle.xa_server.specs.declared.branch.Phase.TheVariants.{Active, Idle as PhaseIdle, Prepared}
 use Rattle.xa_server.specs.declared.hold.Hold.{Hold}
@@ -30,7 +31,8 @@ use Rattle.xa_judge.specs.Explained.{Config}
 -- a number after one more word; 11400714819323198485 is odd, and is 2^64 divided by the golden ratio
 unfoldable pub with_word : ℕ → ℕ → ℕ
 with_word number word =
-    let product = ((bit_xor number word + 1) % 2 ^ 64 * 11400714819323198485) % 2 ^ 64 in bit_xor product (product / 2 ^ 29)
+    let product = ((bit_xor number word + 1) % 2 ^ 64 * 11400714819323198485) % 2 ^ 64 in
+    bit_xor product (product / 2 ^ 29)
 
 -- after the bytes of a text
 abbrev pub with_text : ℕ → List ℕ → ℕ
@@ -100,7 +102,8 @@ with_rows number rows = fold with_row (with_word number (length rows)) rows
 
 -- after a branch of the server
 abbrev pub with_branch : State → ℕ → BranchEntry → ℕ
-with_branch state number branch = with_rows (with_owner (with_phase (with_xid number branch.xid) branch.phase) branch.owner) (rows_of state branch.xid)
+with_branch state number branch = with_rows (with_owner
+    (with_phase (with_xid number branch.xid) branch.phase) branch.owner) (rows_of state branch.xid)
 
 -- after the committed value of a row
 abbrev pub with_key : State → ℕ → List ℕ → ℕ

@@ -44,5 +44,6 @@ CallsNamed named event = Unit {0}
 pub record IsLoadedTo (base : State) (events : List Event) (full : State) : Type 0 where
   pub moves : List Move
   pub leads : LeadsThrough (opening_config base) events moves (opening_config full)
-  pub only : (more : List Event) (all : List Move) (end : Config) → LeadsThrough (opening_config base) (events ++ more) all end
+  pub only : (more : List Event) (all : List Move) (end : Config)
+      → LeadsThrough (opening_config base) (events ++ more) all end
       → (later : List Move) × LeadsThrough (opening_config full) more later end

@@ -63,5 +63,6 @@ pub record IsWide (base : State) (events : List Event) (limit place : ℕ) : Typ
 -- the verdict is right
 abbrev pub IsVerdict : State → List Event → ℕ → Verdict → Type 0
 IsVerdict base events limit (Legal moves) = (new : Config) × LeadsThrough (opening_config base) events moves.items new
-IsVerdict base events limit (Illegal place answers) = IsRefuted base events place × AreAllAnswers base events place answers.items
+IsVerdict base events limit (Illegal place answers) =
+    IsRefuted base events place × AreAllAnswers base events place answers.items
 IsVerdict base events limit (Undecided place) = IsWide base events limit place

@@ -103,7 +103,8 @@ impl Configuration {
     fn unheard(self, session: SessionNo, request: &SharedRequest) -> Result<Configuration, NoMemory>
         requires { session < vec_len self.clients }
         ensures config { IfOk result
-            (λ new. config_of new ≡ moved_to (next_state self.server session request.now) self.clients.items session (ClientState.Gone None)) }
+            (λ new. config_of new ≡ moved_to (next_state self.server session request.now) self.clients.items session
+            (ClientState.Gone None)) }
         ensures path { IfOk result (λ new. new.path ≡ self.path ++ Move.Effect session Act.Statement ∷ []) }
     {
         let Configuration {
@@ -127,7 +128,8 @@ impl Configuration {
     /// The configuration after the session's `DISCONNECT` takes effect.
     fn left(self, session: SessionNo) -> Result<Configuration, NoMemory>
         requires { session < vec_len self.clients }
-        ensures config { IfOk result (λ new. config_of new ≡ moved_to (after self.server session Disconnect) self.clients.items session ClientState.Left) }
+        ensures config { IfOk result (λ new. config_of new ≡ moved_to
+            (after self.server session Disconnect) self.clients.items session ClientState.Left) }
         ensures path { IfOk result (λ new. new.path ≡ self.path ++ Move.Effect session Act.Disconnect ∷ []) }
     {
         let Configuration {
@@ -178,8 +180,10 @@ impl Configuration {
         session: SessionNo,
         lists: &mut SharedLists,
     ) -> Result<Option<Configuration>, NoMemory>
-        ensures config { IfOk result (λ found. option_map config_of found ≡ effect_of (config_of self) session Act.Statement) }
-        ensures path { IfOk result (λ found. IfSome found (λ new. new.path ≡ self.path ++ Move.Effect session Act.Statement ∷ [])) }
+        ensures config { IfOk result (λ found. option_map config_of found
+            ≡ effect_of (config_of self) session Act.Statement) }
+        ensures path { IfOk result (λ found. IfSome found (λ new. new.path ≡ self.path
+            ++ Move.Effect session Act.Statement ∷ [])) }
         ensures session { IsSession session }
     {
         match self.client(session) {
@@ -202,8 +206,10 @@ impl Configuration {
     /// The configuration after the session's `DISCONNECT` takes effect, if it can.
     #[tactic(auto, unfolding(crate::specs::Explained::effect_of, crate::specs::Explained::disconnected))]
     fn disconnected(self, session: SessionNo) -> Result<Option<Configuration>, NoMemory>
-        ensures config { IfOk result (λ found. option_map config_of found ≡ effect_of (config_of self) session Act.Disconnect) }
-        ensures path { IfOk result (λ found. IfSome found (λ new. new.path ≡ self.path ++ Move.Effect session Act.Disconnect ∷ [])) }
+        ensures config { IfOk result (λ found. option_map config_of found
+            ≡ effect_of (config_of self) session Act.Disconnect) }
+        ensures path { IfOk result (λ found. IfSome found (λ new. new.path ≡ self.path
+            ++ Move.Effect session Act.Disconnect ∷ [])) }
         ensures session { IsSession session }
     {
         match self.client(session) {
@@ -278,8 +284,10 @@ impl Configuration {
         act: Act,
         lists: &mut SharedLists,
     ) -> Result<Option<Configuration>, NoMemory>
-        ensures config { IfOk result (λ found. option_map config_of found ≡ effect_of (config_of self.now) session act) }
-        ensures path { IfOk result (λ found. IfSome found (λ new. new.path ≡ self.now.path ++ Move.Effect session act ∷ [])) }
+        ensures config { IfOk result (λ found. option_map config_of found
+            ≡ effect_of (config_of self.now) session act) }
+        ensures path { IfOk result (λ found. IfSome found (λ new. new.path ≡ self.now.path
+            ++ Move.Effect session act ∷ [])) }
         ensures session { IsSession session }
     {
         if !self.can_take_effect(session, act) {
@@ -291,7 +299,8 @@ impl Configuration {
     /// The server after the session's act, kept over the same one, if the act can take effect.
     #[tactic(auto, unfolding(crate::specs::Explained::effect_of, crate::specs::Explained::carried_out, crate::specs::Explained::disconnected))]
     fn server_after(&self, session: SessionNo, act: Act) -> Result<Option<KeptServer>, NoMemory>
-        ensures { IfOk result (λ found. found ≡ option_map (λ config. config.state) (effect_of (config_of self.now) session act)) }
+        ensures { IfOk result (λ found. found ≡ option_map (λ config. config.state)
+            (effect_of (config_of self.now) session act)) }
     {
         match act {
             Act::Statement => match self.client(session) {

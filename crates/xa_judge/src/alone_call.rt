@@ -20,7 +20,9 @@ pub struct AloneCall<'a> {
 
 /// Returns the call with which the events begin, if it returns before anything else happens.
 pub fn alone(events: &[Event]) -> Option<AloneCall<'_>>
-    ensures { IfSome result (λ call. events.now ≡ Event.Call call.session call.request.now ∷ Event.Return call.session call.seen.now ∷ call.later.now) }
+    ensures { IfSome result
+        (λ call. events.now ≡ Event.Call call.session call.request.now ∷ Event.Return call.session call.seen.now
+        ∷ call.later.now) }
 {
     match events {
         [Event::Call(session, request), rest @ ..] => match rest {

@@ -3,7 +3,8 @@ ghost use Rattle.std.specs.Prelude.{◌≡◌, ◌<◌, ℕ, List, Some, true, f
 ghost use Rattle.std.specs.List.{All, Contains};
 ghost use Rattle.xa_judge.specs.Explained.{Config, observed};
 ghost use Rattle.xa_judge.specs.declared.answer.Answer.{Answer};
-ghost use Rattle.xa_judge.specs.Found.{Has, IsSpread, Grows, KeepsReach, ReachesPast, after_settling, IsClosedBelow, IsAnsweredIn, IsAnswerAdded, IsSeenAdded};
+ghost use Rattle.xa_judge.specs.Found.{Has, IsSpread, Grows, KeepsReach, ReachesPast, after_settling, IsClosedBelow};
+ghost use Rattle.xa_judge.specs.Found.{IsAnsweredIn, IsAnswerAdded, IsSeenAdded};
 
 use crate::client_state::ClientState;
 use crate::configuration::Configuration;
@@ -44,7 +45,8 @@ pub fn close(
     limit: usize,
 ) -> Result<bool, NoMemory>
     ensures grows { OnOk result (Grows known.old.items known.new.items) }
-    ensures closed { IfOk result (λ done. done ≡ true → IsClosedBelow (length known.new.items) returning.now known.new.items) }
+    ensures closed { IfOk result (λ done. done ≡ true → IsClosedBelow
+        (length known.new.items) returning.now known.new.items) }
     ensures wide { IfOk result (λ done. done ≡ false → IsSpread limit known.new.items) }
 {
     index.clear();
@@ -69,7 +71,8 @@ pub fn settle_all(
     session: SessionNo,
     lists: &mut SharedLists,
 ) -> Result<Vec<Configuration>, NoMemory>
-    ensures has { IfOk result (λ list. (one : Config) → Has known.items one → Has list.items (after_settling one session)) }
+    ensures has { IfOk result (λ list. (one : Config) → Has known.items one
+        → Has list.items (after_settling one session)) }
     ensures reach { IfOk result (λ list. KeepsReach known.items list.items) }
 {
     let mut list = Vec::new(alloc);
@@ -106,7 +109,8 @@ pub fn observe_all(
     index: &mut FingerprintIndex,
     event: &Event,
 ) -> Result<Vec<Configuration>, NoMemory>
-    ensures has { IfOk result (λ list. (one new : Config) → Has known.items one → observed one event.now ≡ Some new → Has list.items new) }
+    ensures has { IfOk result (λ list. (one new : Config) → Has known.items one → observed one event.now ≡ Some new
+        → Has list.items new) }
     ensures reach { IfOk result (λ list. ReachesPast event.now known.items list.items) }
 {
     index.go_on(event)?;

@@ -74,7 +74,8 @@ impl Following {
     /// What follows after a move, if it can come about.
     fn after(self, events: &[Event], by: Move) -> Result<Option<Following>, NoMemory>
         ensures { IfOk result
-            (λ found. (later : List Move) (end : Config) → LeadsOn events.now (Some self) (by ∷ later) end ↔ LeadsOn events.now found later end) }
+            (λ found. (later : List Move) (end : Config) → LeadsOn events.now (Some self) (by ∷ later) end
+            ↔ LeadsOn events.now found later end) }
     {
         match by {
             Move::Event => self.after_event(events),
@@ -92,7 +93,8 @@ fn followed(
 ) -> Result<Option<Configuration>, NoMemory>
     ensures found { IfOk result
         (λ found. IfSome found (λ one. LeadsThrough (opening_config base.now) events.now moves.now (config_of one))) }
-    ensures missing { IfOk result (λ found. found ≡ None → (end : Config) → LeadsThrough (opening_config base.now) events.now moves.now end → ⊥) }
+    ensures missing { IfOk result (λ found. found ≡ None → (end : Config)
+        → LeadsThrough (opening_config base.now) events.now moves.now end → ⊥) }
 {
     let mut here = Following::opening(alloc, base)?;
     for by in moves {
@@ -140,9 +142,11 @@ pub fn server_after(
     //   through all that was seen; None is returned only if they don't lead through it.
     ensures found { IfOk result
         (λ found. IfSome found
-        (λ server. (end : Config) × LeadsThrough (opening_config base.now) events.now moves.now end × (end.state ≡ server))) }
+        (λ server. (end : Config) × LeadsThrough (opening_config base.now) events.now moves.now end
+        × (end.state ≡ server))) }
     // Proved (records, server-after)
-    ensures missing { IfOk result (λ found. found ≡ None → (end : Config) → LeadsThrough (opening_config base.now) events.now moves.now end → ⊥) }
+    ensures missing { IfOk result (λ found. found ≡ None → (end : Config)
+        → LeadsThrough (opening_config base.now) events.now moves.now end → ⊥) }
 {
     match followed(alloc, base, events, moves)? {
         None => Ok(None),

@@ -2,7 +2,8 @@
 ghost use Rattle.std.specs.Prelude.{◌≡◌, ◌∷◌, ◌++◌, ◌≢◌, ◌<◌, ℕ, true, Some, slice_get, length, vec_len, IfOk, OnOk};
 ghost use Rattle.xa_judge.specs.declared.configuration.Configuration.{Configuration as Found};
 ghost use Rattle.xa_judge.specs.Explained.{Config, IsSession, effect_of};
-ghost use Rattle.xa_judge.specs.Found.{config_of, call_is_answered, IsOpening, Has, Grows, AddsUnlessThere, IsEffectAt, IsExpandedBelow};
+ghost use Rattle.xa_judge.specs.Found.{config_of, call_is_answered, IsOpening, Has, Grows, AddsUnlessThere, IsEffectAt};
+ghost use Rattle.xa_judge.specs.Found.{IsExpandedBelow};
 
 use crate::configuration::Configuration;
 use crate::fingerprint_index::FingerprintIndex;
@@ -261,7 +262,8 @@ fn add_all(
 ) -> Result<(), NoMemory>
     requires { place < vec_len known.old }
     ensures grows { OnOk result (Grows known.old.items known.new.items) }
-    ensures all { OnOk result ((one : Found) → slice_get known.old.items place ≡ Some one → IsExpandedBelow 17 one returning.now known.new.items) }
+    ensures all { OnOk result ((one : Found) → slice_get known.old.items place ≡ Some one
+        → IsExpandedBelow 17 one returning.now known.new.items) }
 {
     for number in 1..17 {
         add_others(known, index, place, number, returning)?;
@@ -281,7 +283,8 @@ pub fn expand(
 ) -> Result<(), NoMemory>
     requires { place < vec_len known.old }
     ensures grows { OnOk result (Grows known.old.items known.new.items) }
-    ensures all { OnOk result ((one : Found) → slice_get known.old.items place ≡ Some one → IsExpandedBelow 17 one returning.now known.new.items) }
+    ensures all { OnOk result ((one : Found) → slice_get known.old.items place ≡ Some one
+        → IsExpandedBelow 17 one returning.now known.new.items) }
 {
     if known[place].is_over(returning) {
         return Ok(());

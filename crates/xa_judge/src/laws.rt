@@ -10,5 +10,6 @@ ghost use Rattle.xa_judge.specs.Explained.{Explained};
 pub fn what_comes_before_is_explained()
     // Proved (records, before-is-explained): If an order explains what was seen, an order explains what was
     //   seen before any place of it.
-    ensures { (base : State) (events : List Event) (count : ℕ) → Explained base events → Explained base (take count events) }
+    ensures { (base : State) (events : List Event) (count : ℕ) → Explained base events
+        → Explained base (take count events) }
 {}

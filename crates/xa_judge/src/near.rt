@@ -145,7 +145,8 @@ fn carry_out_near(
     session: SessionNo,
     statement: &Statement,
 ) -> Result<(), NoMemory>
-    ensures { OnOk result (AreNear (named_in keys.now) full.now near.old → AreNear (named_in keys.now) (after full.now session statement.now) near.new) }
+    ensures { OnOk result (AreNear (named_in keys.now) full.now near.old
+        → AreNear (named_in keys.now) (after full.now session statement.now) near.new) }
 {
     if is_left_out(full, keys, session, statement)? {
         return Ok(());
@@ -162,7 +163,8 @@ fn follow(
     session: SessionNo,
     request: &Request,
 ) -> Result<(), NoMemory>
-    ensures { OnOk result (AreNear (named_in keys.now) full.now near.old → AreNear (named_in keys.now) (next_state full.now session request.now) near.new) }
+    ensures { OnOk result (AreNear (named_in keys.now) full.now near.old
+        → AreNear (named_in keys.now) (next_state full.now session request.now) near.new) }
 {
     match request {
         Request::Statement(statement) => carry_out_near(full, near, keys, session, statement),
@@ -179,9 +181,11 @@ fn shows_alone(
     call: &AloneCall,
 ) -> Result<bool, NoMemory>
     ensures session { IsSession call.now.session }
-    ensures shows { IfOk result (λ shows. shows ≡ shows_answer call.now.seen.now (answer_to full.old call.now.session call.now.request.now)) }
+    ensures shows { IfOk result (λ shows. shows ≡ shows_answer call.now.seen.now
+        (answer_to full.old call.now.session call.now.request.now)) }
     ensures state { OnOk result (full.new ≡ next_state full.old call.now.session call.now.request.now) }
-    ensures near { OnOk result (AreNear (named_in keys.now) full.old near.old → AreNear (named_in keys.now) full.new near.new) }
+    ensures near { OnOk result (AreNear (named_in keys.now) full.old near.old
+        → AreNear (named_in keys.now) full.new near.new) }
 {
     let _number = call.session.get();
     follow(full, near, keys, call.session, call.request)?;
@@ -247,7 +251,8 @@ fn judge_later<P: Progress>(
 ) -> Result<Option<Verdict>, NoMemory>
     requires parts { events.now ≡ first.now ++ later.now }
     requires within { length first.now + length later.now < 2 ^ 63 }
-    requires near { (keys : Keys) × (full : State) × IsLoadedTo base.now first.now full × AreNear (named_in keys) full near.now
+    requires near { (keys : Keys) × (full : State) × IsLoadedTo base.now first.now full
+        × AreNear (named_in keys) full near.now
         × All (CallsNamed (named_in keys)) later.now }
     ensures { IfOk result (λ found. IfSome found (IsVerdict base.now events.now limit)) }
 {

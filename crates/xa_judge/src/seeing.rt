@@ -19,7 +19,8 @@ impl Configuration {
         session: SessionNo,
         request: &SharedRequest,
     ) -> Result<Option<Configuration>, NoMemory>
-        ensures config { IfOk result (λ found. option_map config_of found ≡ observed (config_of self) (Event.Call session request.now)) }
+        ensures config { IfOk result (λ found. option_map config_of found
+            ≡ observed (config_of self) (Event.Call session request.now)) }
         ensures path { IfOk result (λ found. IfSome found (λ new. new.path ≡ self.path ++ Move.Event ∷ [])) }
     {
         match self.client(session) {
@@ -44,7 +45,8 @@ impl Configuration {
     /// The configuration after the session's call returns this, if it can.
     #[tactic(auto, unfolding(crate::specs::Explained::observed, crate::specs::Explained::returned))]
     fn returned(self, session: SessionNo, seen: &Seen) -> Result<Option<Configuration>, NoMemory>
-        ensures config { IfOk result (λ found. option_map config_of found ≡ observed (config_of self) (Event.Return session seen.now)) }
+        ensures config { IfOk result (λ found. option_map config_of found
+            ≡ observed (config_of self) (Event.Return session seen.now)) }
         ensures path { IfOk result (λ found. IfSome found (λ new. new.path ≡ self.path ++ Move.Event ∷ [])) }
     {
         match self.client(session) {
@@ -66,7 +68,8 @@ impl Configuration {
     /// The configuration after the session's client is gone, if that can be.
     #[tactic(auto, unfolding(crate::specs::Explained::observed, crate::specs::Explained::lost))]
     fn lost(self, session: SessionNo) -> Result<Option<Configuration>, NoMemory>
-        ensures config { IfOk result (λ found. option_map config_of found ≡ observed (config_of self) (Event.Lost session)) }
+        ensures config { IfOk result (λ found. option_map config_of found
+            ≡ observed (config_of self) (Event.Lost session)) }
         ensures path { IfOk result (λ found. IfSome found (λ new. new.path ≡ self.path ++ Move.Event ∷ [])) }
     {
         let client = match self.client(session) {
@@ -83,7 +86,8 @@ impl Configuration {
     /// The configuration after the session's call is over with an answer that isn't known, if that can be.
     #[tactic(auto, unfolding(crate::specs::Explained::observed, crate::specs::Explained::answered_unknown))]
     fn answered_unknown(self, session: SessionNo) -> Result<Option<Configuration>, NoMemory>
-        ensures config { IfOk result (λ found. option_map config_of found ≡ observed (config_of self) (Event.Unknown session)) }
+        ensures config { IfOk result (λ found. option_map config_of found
+            ≡ observed (config_of self) (Event.Unknown session)) }
         ensures path { IfOk result (λ found. IfSome found (λ new. new.path ≡ self.path ++ Move.Event ∷ [])) }
     {
         match self.client(session) {

@@ -1,8 +1,10 @@
 -- What stands behind an answer is what is to stand there.
-use Rattle.std.proofs.Common.{◌≡◌, ◌⊎◌, ◌++◌, ◌∙◌, ℕ, Bool, ◌||◌, ◌&&◌, List, [], true, false, not, subst, Result, Ok, Err, refl, ap, sym, append-nil, inl, inr, codes, decimal}
+use Rattle.std.proofs.Common.{◌≡◌, ◌⊎◌, ◌++◌, ◌∙◌, ℕ, Bool, ◌||◌, ◌&&◌, List, [], true, false, not, subst, Result, Ok}
+use Rattle.std.proofs.Common.{Err, refl, ap, sym, append-nil, inl, inr, codes, decimal}
 use Rattle.std.specs.Prelude.{IfOk, OnOk, OnErr, MatchResult}
 use Rattle.xa_xid.specs.declared.statement.Statement.{Statement}
-use Rattle.xa_xid.specs.declared.statement.Statement.TheVariants.{Start, End, Prepare, Commit, Rollback, Recover, Unsupported, Get, Put, Del, Disconnect}
+use Rattle.xa_xid.specs.declared.statement.Statement.TheVariants.{Start, End, Prepare, Commit, Rollback, Recover}
+use Rattle.xa_xid.specs.declared.statement.Statement.TheVariants.{Unsupported, Get, Put, Del, Disconnect}
 use Rattle.xa_statement.specs.Reading.{read_of}
 use Rattle.xa_server.specs.State.{State, association_of, is_known, is_prepared, value_within}
 use Rattle.xa_lines.specs.Printed.{answer_text, converts, reply_text, syntax_text}
@@ -21,32 +23,41 @@ use Rattle.xa_server.specs.declared.xa_error.XaError.TheVariants.{Nota, Rmfail, 
 use Rattle.xa_server.specs.declared.xa_error.BranchState.TheVariants.{Prepared}
 use Rattle.xa_lines.specs.Statements.{IsAnswerTo, IsStatementAnswer, MayBeRefused, refused_text}
 use Rattle.xa_lines.specs.Listing.{listing}
-use Rattle.xa_lines.specs.Shown.{keys_asked, keys_of_read, listing_after, IsUnshown, IsAnswerShown, IsShown, comment_text, unshown_text}
+use Rattle.xa_lines.specs.Shown.{keys_asked, keys_of_read, listing_after, IsUnshown, IsAnswerShown, IsShown}
+use Rattle.xa_lines.specs.Shown.{comment_text, unshown_text}
 
 -- a session's statement, read or not, is answered, or memory is refused for it
-pub given_answer : (old new : State) (session : ℕ) (statement : List ℕ) (read : Result Statement ℕ) (text : List ℕ) → read_of statement ≡ read
+pub given_answer : (old new : State) (session : ℕ) (statement : List ℕ) (read : Result Statement ℕ) (text : List ℕ)
+    → read_of statement ≡ read
     → IsStatementAnswer old session read text new → IsAnswerTo old (Given session statement) text new
 unfolding answer_of state_after_line
-given_answer old new session statement read text is (inl told) = inl (told.0 ∙ ap (answer_to old session) (sym is), told.1 ∙ ap (state_then old session) (sym is))
+given_answer old new session statement read text is (inl told) =
+    inl (told.0 ∙ ap (answer_to old session) (sym is), told.1 ∙ ap (state_then old session) (sym is))
 given_answer old new session statement read text is (inr refused) =
-    let P : Result Statement ℕ → Type 0 = λ r. MayBeRefused old session r in inr ((refused.0, subst P (sym is) refused.2), refused.1)
+    let P : Result Statement ℕ → Type 0 = λ r. MayBeRefused old session r in
+    inr ((refused.0, subst P (sym is) refused.2), refused.1)
 
 -- a reply that is told is the answer
-pub reply_answers : (state : State) (session : ℕ) (statement : Statement) (reply : Reply) (told : List ℕ) → reply ≡ reply_to state session statement
-    → ((convert : Bool) → told ≡ answer_text (decimal session) (reply_text convert reply)) → told ≡ answer_to state session (Ok statement)
+pub reply_answers : (state : State) (session : ℕ) (statement : Statement) (reply : Reply) (told : List ℕ)
+    → reply ≡ reply_to state session statement
+    → ((convert : Bool) → told ≡ answer_text (decimal session) (reply_text convert reply))
+    → told ≡ answer_to state session (Ok statement)
 reply_answers state session statement reply told is words =
     words (converts statement) ∙ ap (λ r. answer_text (decimal session) (reply_text (converts statement) r)) is
 
 -- an answer that takes memory
-pub text_answered : {A E : Type 0} (items : A → List ℕ) (result : Result A E) (old new : State) (session : ℕ) (read : Result Statement ℕ) (text : List ℕ)
+pub text_answered : {A E : Type 0} (items : A → List ℕ) (result : Result A E) (old new : State) (session : ℕ)
+    (read : Result Statement ℕ) (text : List ℕ)
     → MayBeRefused old session read → IfOk result (λ answer. items answer ≡ answer_to old session read)
     → OnOk result (new ≡ state_then old session read) → OnErr result (new ≡ old)
-    → MatchResult result (λ answer. text ≡ items answer) (λ _. text ≡ refused_text session) → IsStatementAnswer old session read text new
+    → MatchResult result (λ answer. text ≡ items answer) (λ _. text ≡ refused_text session)
+    → IsStatementAnswer old session read text new
 text_answered items (Ok answer) old new session read text may told then same given = inl (given ∙ told, then)
 text_answered items (Err fault) old new session read text may told then same given = inr (given, same, may)
 
 -- memory may be refused for a list
-pub list_refused : (state : State) (session : ℕ) (statement : Statement) → is_recover statement ≡ true → MayBeRefused state session (Ok statement)
+pub list_refused : (state : State) (session : ℕ) (statement : Statement) → is_recover statement ≡ true
+    → MayBeRefused state session (Ok statement)
 list_refused state session statement is = ap (λ b. b || (enters state session statement && makes_record statement)) is
 
 -- no test leads to a list
@@ -54,12 +65,14 @@ ok_if-list : (b : Bool) (error : XaError) → is_list (ok_if b error) ≡ false
 ok_if-list true error = refl
 ok_if-list false error = refl
 
-refused_if-list : (b : Bool) (error : XaError) (reply : Reply) → is_list reply ≡ false → is_list (refused_if b error reply) ≡ false
+refused_if-list : (b : Bool) (error : XaError) (reply : Reply) → is_list reply ≡ false
+    → is_list (refused_if b error reply) ≡ false
 refused_if-list true error reply none = refl
 refused_if-list false error reply none = none
 
 -- a list answers XA RECOVER alone
-table-list : (state : State) (association : Association) (statement : Statement) → is_list (table state association statement) ≡ is_recover statement
+table-list : (state : State) (association : Association) (statement : Statement)
+    → is_list (table state association statement) ≡ is_recover statement
 unfolding table
 table-list state Free (Start xid) = refused_if-list (is_known state xid) Dupid Accepted refl
 table-list state (Active own) (Start xid) = refl
@@ -73,7 +86,8 @@ table-list state (Idle own) (Prepare xid) = ok_if-list _ _
 table-list state Free (Commit xid false) = ok_if-list _ _
 table-list state (Active own) (Commit xid false) = refl
 table-list state (Idle own) (Commit xid false) = refl
-table-list state Free (Commit xid true) = refused_if-list (not (is_prepared state xid)) Nota (Refused (Rmfail Prepared)) refl
+table-list state Free (Commit xid true) =
+    refused_if-list (not (is_prepared state xid)) Nota (Refused (Rmfail Prepared)) refl
 table-list state (Active own) (Commit xid true) = refl
 table-list state (Idle own) (Commit xid true) = ok_if-list _ _
 table-list state Free (Rollback xid) = ok_if-list _ _
@@ -86,66 +100,85 @@ table-list state Free Unsupported = refl
 table-list state (Active own) Unsupported = refl
 table-list state (Idle own) Unsupported = refl
 table-list state Free (Get key) = refl
-table-list state (Active own) (Get key) = refused_if-list (is_locked_against state (Active own) key) RowLocked (Value (value_within state own key)) refl
+table-list state (Active own) (Get key) =
+    refused_if-list (is_locked_against state (Active own) key) RowLocked (Value (value_within state own key)) refl
 table-list state (Idle own) (Get key) = refl
 table-list state Free (Put key value) = refused_if-list (is_held_against state Free key) RowLocked Accepted refl
-table-list state (Active own) (Put key value) = refused_if-list (is_held_against state (Active own) key) RowLocked Accepted refl
+table-list state (Active own) (Put key value) =
+    refused_if-list (is_held_against state (Active own) key) RowLocked Accepted refl
 table-list state (Idle own) (Put key value) = refl
 table-list state Free (Del key) = refused_if-list (is_held_against state Free key) RowLocked Accepted refl
-table-list state (Active own) (Del key) = refused_if-list (is_held_against state (Active own) key) RowLocked Accepted refl
+table-list state (Active own) (Del key) =
+    refused_if-list (is_held_against state (Active own) key) RowLocked Accepted refl
 table-list state (Idle own) (Del key) = refl
 table-list state Free Disconnect = refl
 table-list state (Active own) Disconnect = refl
 table-list state (Idle own) Disconnect = refl
 
 -- memory may be refused for a reply that is a list
-pub reply_answered : (state : State) (session : ℕ) (statement : Statement) (reply : Reply) → reply ≡ reply_to state session statement → is_list reply ≡ true
+pub reply_answered : (state : State) (session : ℕ) (statement : Statement) (reply : Reply)
+    → reply ≡ reply_to state session statement → is_list reply ≡ true
     → MayBeRefused state session (Ok statement)
 unfolding reply_to
 reply_answered state session statement reply is list =
-    list_refused state session statement (sym (table-list state (association_of state session) statement) ∙ sym (ap is_list is) ∙ list)
+    list_refused state session statement (sym (table-list state (association_of state session) statement)
+    ∙ sym (ap is_list is) ∙ list)
 
-behind : (old : State) (line : Line) (answer text rest : List ℕ) (new : State) → (text ≡ answer ++ unshown_text → IsUnshown line answer text)
-    → IsAnswerTo old line answer new → rest ≡ listing_after old line new → (text ≡ answer ++ rest) ⊎ (text ≡ answer ++ unshown_text)
+behind : (old : State) (line : Line) (answer text rest : List ℕ) (new : State)
+    → (text ≡ answer ++ unshown_text → IsUnshown line answer text)
+    → IsAnswerTo old line answer new → rest ≡ listing_after old line new
+    → (text ≡ answer ++ rest) ⊎ (text ≡ answer ++ unshown_text)
     → IsAnswerShown old line text new
-behind old line answer text rest new unshown is same (inl shown) = record { answer = answer; is = is; shown = inl (shown ∙ ap (λ more. answer ++ more) same) }
-behind old line answer text rest new unshown is same (inr refused) = record { answer = answer; is = is; shown = inr (unshown refused) }
+behind old line answer text rest new unshown is same (inl shown) =
+    record { answer = answer; is = is; shown = inl (shown ∙ ap (λ more. answer ++ more) same) }
+behind old line answer text rest new unshown is same (inr refused) =
+    record { answer = answer; is = is; shown = inr (unshown refused) }
 
 -- the listing stands behind the answer, or that memory was refused for it
-pub given_shown : (old new : State) (session : ℕ) (statement : List ℕ) (read : Result Statement ℕ) (answer text : List ℕ) (keys : List (List ℕ))
-    → read_of statement ≡ read → keys ≡ keys_of_read old session read → IsAnswerTo old (Given session statement) answer new
-    → (text ≡ answer ++ listing new keys) ⊎ (text ≡ answer ++ unshown_text) → IsAnswerShown old (Given session statement) text new
+pub given_shown : (old new : State) (session : ℕ) (statement : List ℕ) (read : Result Statement ℕ)
+    (answer text : List ℕ) (keys : List (List ℕ))
+    → read_of statement ≡ read → keys ≡ keys_of_read old session read
+    → IsAnswerTo old (Given session statement) answer new
+    → (text ≡ answer ++ listing new keys) ⊎ (text ≡ answer ++ unshown_text)
+    → IsAnswerShown old (Given session statement) text new
 unfolding keys_asked listing_after
 given_shown old new session statement read answer text keys is keys_are answered shown =
     behind old (Given session statement) answer text (listing new keys) new (λ e. e) answered
     (ap (listing new) (keys_are ∙ ap (keys_of_read old session) (sym is))) shown
 
 -- no listing stands behind the answer, but that memory was refused for it
-pub given_unshown : (old new : State) (session : ℕ) (statement answer text : List ℕ) → IsAnswerTo old (Given session statement) answer new
+pub given_unshown : (old new : State) (session : ℕ) (statement answer text : List ℕ)
+    → IsAnswerTo old (Given session statement) answer new
     → text ≡ answer ++ unshown_text
     → IsAnswerShown old (Given session statement) text new
-given_unshown old new session statement answer text is refused = record { answer = answer; is = is; shown = inr refused }
+given_unshown old new session statement answer text is refused =
+    record { answer = answer; is = is; shown = inr refused }
 
 pub blank_shown : (state : State) (text : List ℕ) → text ≡ [] → IsAnswerShown state Blank text state
 unfolding answer_of state_after_line listing_after
 blank_shown state text none = record { answer = text; is = inl (none, refl); shown = inl (sym (append-nil text)) }
 
 -- behind the answer to a bad line stands the listing of no rows
-pub bad_shown : (state : State) (answer text : List ℕ) (keys : List (List ℕ)) → keys ≡ [] → answer ≡ answer_text (codes "-") (syntax_text 0)
+pub bad_shown : (state : State) (answer text : List ℕ) (keys : List (List ℕ)) → keys ≡ []
+    → answer ≡ answer_text (codes "-") (syntax_text 0)
     → (text ≡ answer ++ listing state keys) ⊎ (text ≡ answer ++ unshown_text) → IsAnswerShown state Bad text state
 unfolding answer_of state_after_line listing_after
-bad_shown state answer text keys none is shown = behind state Bad answer text (listing state keys) state (λ e. e) (inl (is, refl)) (ap (listing state) none) shown
+bad_shown state answer text keys none is shown =
+    behind state Bad answer text (listing state keys) state (λ e. e) (inl (is, refl)) (ap (listing state) none) shown
 
-pub comment_shown : (old : State) (line text : List ℕ) (new : State) → true ≡ is_comment_line line → (text ≡ comment_text line) ⊎ (text ≡ unshown_text) → new ≡ old
+pub comment_shown : (old : State) (line text : List ℕ) (new : State) → true ≡ is_comment_line line
+    → (text ≡ comment_text line) ⊎ (text ≡ unshown_text) → new ≡ old
     → IsShown old (Whole line) text new
 unfolding IsShown
 comment_shown old line text new is shown same = rw (sym is) (shown, same)
 
-pub line_shown : (old : State) (line text : List ℕ) (new : State) → false ≡ is_comment_line line → IsAnswerShown old (line_of line) text new
+pub line_shown : (old : State) (line text : List ℕ) (new : State) → false ≡ is_comment_line line
+    → IsAnswerShown old (line_of line) text new
     → IsShown old (Whole line) text new
 unfolding IsShown
 line_shown old line text new is shown = rw (sym is) shown
 
-pub long_shown : (old : State) (text : List ℕ) (new : State) → IsAnswerShown old Bad text new → IsShown old TooLong text new
+pub long_shown : (old : State) (text : List ℕ) (new : State) → IsAnswerShown old Bad text new
+    → IsShown old TooLong text new
 unfolding IsShown
 long_shown old text new shown = shown

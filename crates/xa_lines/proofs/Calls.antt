@@ -1,9 +1,11 @@
 -- Calls on a reader or a writer, one after another.
-use Rattle.std.proofs.Common.{◌≡◌, ℕ, zero, suc, ◌+◌, ◌-◌, ◌<◌, ◌≤◌, List, [], ◌++◌, length, take, drop, refl, sym, ap, ◌∙◌, subst, append_assoc, append-nil, inl, inr, arith}
+use Rattle.std.proofs.Common.{◌≡◌, ℕ, zero, suc, ◌+◌, ◌-◌, ◌<◌, ◌≤◌, List, [], ◌++◌, length, take, drop, refl, sym, ap}
+use Rattle.std.proofs.Common.{◌∙◌, subst, append_assoc, append-nil, inl, inr, arith}
 use Rattle.std.proofs.lemmas.List.{length-take, take_rest, take-append-drop}
 use Rattle.std.proofs.Math.Seq.{take-add}
 use Rattle.std.specs.Prelude.{Result, Ok, Err, IfErr, OnOk, MatchResult}
-use Rattle.xa_lines.specs.Calls.{Carries, HasRead, HasReadAll, FailsReading, StopsReading, HasWritten, IsWrittenBut, StopsWriting, Completes, Stops}
+use Rattle.xa_lines.specs.Calls.{Carries, HasRead, HasReadAll, FailsReading, StopsReading, HasWritten, IsWrittenBut}
+use Rattle.xa_lines.specs.Calls.{StopsWriting, Completes, Stops}
 use Rattle.xa_lines.specs.Limits.{script_reads}
 use Rattle.xa_lines.specs.Transcript.{transcript, StopsAnswering, StopsRun}
 use Rattle.xa_lines.specs.declared.script_fault.ScriptFault.{ScriptFault}
@@ -19,7 +21,8 @@ module _ {S : Type 0} (passes : S → List ℕ → S → Type 0) where
   carries_empty stream bytes none = (refl, none)
 
   -- one call more
-  pub carries_more : (count : ℕ) (old mid new : S) (before piece bytes : List ℕ) → Carries passes count old before mid → passes mid piece new
+  pub carries_more : (count : ℕ) (old mid new : S) (before piece bytes : List ℕ) → Carries passes count old before mid
+      → passes mid piece new
       → 0 < length piece → bytes ≡ before ++ piece → Carries passes (count + 1) old bytes new
   unfolding Carries
   carries_more count old mid new before piece bytes done now some is =
@@ -28,7 +31,8 @@ module _ {S : Type 0} (passes : S → List ℕ → S → Type 0) where
       subst P next (mid, before, piece, done, now, some, is)
 
   -- calls after others
-  pub carries_joined : (first second : ℕ) (old mid new : S) (before after : List ℕ) → Carries passes first old before mid → Carries passes second mid after new
+  pub carries_joined : (first second : ℕ) (old mid new : S) (before after : List ℕ)
+      → Carries passes first old before mid → Carries passes second mid after new
       → Carries passes (first + second) old (before ++ after) new
   unfolding Carries
   carries_joined first zero old mid new before after done now =
@@ -41,17 +45,28 @@ module _ {S : Type 0} (passes : S → List ℕ → S → Type 0) where
       let rest = carries_joined first second old mid now.0 before now.1 done now.3 in
       let next : suc (first + second) ≡ first + suc second = omega arith in
       let P : ℕ → Type 0 = λ n. Carries passes n old (before ++ after) new in
-      subst P next (now.0, before ++ now.1, now.2, rest, now.4, now.5, ap (λ xs. before ++ xs) now.6 ∙ sym (append_assoc before now.1 now.2))
+      subst P next (
+        now.0,
+        before ++ now.1,
+        now.2,
+        rest,
+        now.4,
+        now.5,
+        ap (λ xs. before ++ xs) now.6
+            ∙ sym (append_assoc before now.1 now.2),
+      )
 
   -- a read that gives nothing, after others
-  pub read_to_end : (reads count n : ℕ) (old last new : S) (text piece : List ℕ) → n ≡ 0 → count < reads → Carries passes count old text last
+  pub read_to_end : (reads count n : ℕ) (old last new : S) (text piece : List ℕ) → n ≡ 0 → count < reads
+      → Carries passes count old text last
       → passes last (take n piece) new → HasReadAll passes reads old text new
   read_to_end reads count n old last new text piece none within calls now =
       let P : ℕ → Type 0 = λ k. passes last (take k piece) new in
       record { count = count; last = last; within = within; calls = calls; end = subst P none now }
 
   -- a read that gives something, after others
-  pub read_more : (count n : ℕ) (old mid new : S) (text piece : List ℕ) → 0 < n → n ≤ length piece → Carries passes count old text mid
+  pub read_more : (count n : ℕ) (old mid new : S) (text piece : List ℕ) → 0 < n → n ≤ length piece
+      → Carries passes count old text mid
       → passes mid (take n piece) new → Carries passes (count + 1) old (text ++ take n piece) new
   read_more count n old mid new text piece some within calls now =
       let longer : 0 < length (take n piece) = omega (arith, length-take n piece) in
@@ -59,15 +74,19 @@ module _ {S : Type 0} (passes : S → List ℕ → S → Type 0) where
 
   -- a write that takes something, after others
   pub written_next : (old mid new : S) (bytes : List ℕ) (written n : ℕ) → HasWritten passes old (take written bytes) mid
-      → passes mid (take n (take (length bytes - written) (drop written bytes))) new → 0 < n → n ≤ length (take (length bytes - written) (drop written bytes))
+      → passes mid (take n (take (length bytes - written) (drop written bytes))) new → 0 < n
+      → n ≤ length (take (length bytes - written) (drop written bytes))
       → HasWritten passes old (take (written + n) bytes) new
   written_next old mid new bytes written n before now some within =
       let piece = take n (take (length bytes - written) (drop written bytes)) in
       let longer : 0 < length (take n (take (length bytes - written) (drop written bytes))) =
       omega (arith, length-take n (take (length bytes - written) (drop written bytes))) in
       let is : take (written + n) bytes ≡ take written bytes ++ piece =
-      take-add written n bytes ∙ ap (λ xs. take written bytes ++ take n xs) (sym (take_rest bytes written)) in
-      (before.0 + 1, carries_more before.0 old mid new (take written bytes) piece (take (written + n) bytes) before.1 now longer is)
+      take-add written n bytes ∙ ap (λ xs. take written bytes ++ take n xs) (sym (take_rest bytes written)) in (
+        before.0 + 1,
+        carries_more before.0 old mid new (take written bytes) piece
+            (take (written + n) bytes) before.1 now longer is,
+      )
 
   pub written_none : (stream : S) (whole : List ℕ) → IsWrittenBut passes stream whole whole stream
   written_none stream whole = record { written = []; calls = (0, carries_none stream); parts = refl }
@@ -75,14 +94,18 @@ module _ {S : Type 0} (passes : S → List ℕ → S → Type 0) where
   -- a part of the bytes
   pub written_front : (old new : S) (bytes : List ℕ) (written : ℕ) → HasWritten passes old (take written bytes) new
       → IsWrittenBut passes old bytes (drop written bytes) new
-  written_front old new bytes written calls = record { written = take written bytes; calls = calls; parts = sym (take-append-drop written bytes) }
+  written_front old new bytes written calls =
+      record { written = take written bytes; calls = calls; parts = sym (take-append-drop written bytes) }
 
   -- what is still to be written is known in another form
-  pub written_so : (old new : S) (whole left same : List ℕ) → left ≡ same → IsWrittenBut passes old whole left new → IsWrittenBut passes old whole same new
-  written_so old new whole left same e w = let P : List ℕ → Type 0 = λ xs. IsWrittenBut passes old whole xs new in subst P e w
+  pub written_so : (old new : S) (whole left same : List ℕ) → left ≡ same → IsWrittenBut passes old whole left new
+      → IsWrittenBut passes old whole same new
+  written_so old new whole left same e w = let P : List ℕ → Type 0 = λ xs. IsWrittenBut passes old whole xs new in
+      subst P e w
 
   -- the whole of the next answer
-  pub written_then : (old mid new : S) (whole answer more : List ℕ) → IsWrittenBut passes old whole (answer ++ more) mid → HasWritten passes mid answer new
+  pub written_then : (old mid new : S) (whole answer more : List ℕ) → IsWrittenBut passes old whole (answer ++ more) mid
+      → HasWritten passes mid answer new
       → IsWrittenBut passes old whole more new
   written_then old mid new whole answer more w now = record {
     written = w.written ++ answer;
@@ -91,7 +114,8 @@ module _ {S : Type 0} (passes : S → List ℕ → S → Type 0) where
   }
 
   -- a part of the next answer, and then a fault
-  pub stopped_then : (refuses : S → S → Type 0) (old mid new : S) (whole answer more : List ℕ) → IsWrittenBut passes old whole (answer ++ more) mid
+  pub stopped_then : (refuses : S → S → Type 0) (old mid new : S) (whole answer more : List ℕ)
+      → IsWrittenBut passes old whole (answer ++ more) mid
       → StopsWriting passes refuses mid answer new → StopsWriting passes refuses old whole new
   stopped_then refuses old mid new whole answer more w stops =
       let same : answer ++ more ≡ stops.calls.written ++ (stops.left ++ more) =
@@ -104,14 +128,17 @@ module _ {S : Type 0} (passes : S → List ℕ → S → Type 0) where
         refused = stops.refused;
       }
 
-  pub written_all : (old new : S) (whole left : List ℕ) → IsWrittenBut passes old whole left new → left ≡ [] → HasWritten passes old whole new
+  pub written_all : (old new : S) (whole left : List ℕ) → IsWrittenBut passes old whole left new → left ≡ []
+      → HasWritten passes old whole new
   written_all old new whole left w none =
       let e : w.written ≡ whole = sym (w.parts ∙ ap (λ xs. w.written ++ xs) none ∙ append-nil w.written) in
       let P : List ℕ → Type 0 = λ xs. HasWritten passes old xs new in subst P e w.calls
 
 -- reading stops where memory was refused
-pub stops_for_memory : {A S : Type 0} (gives : S → List ℕ → S → Type 0) (fails : S → S → Type 0) (reads most : ℕ) (old new : S) (result : Result A ScriptFault)
-    (fault : ScriptFault) (text : List ℕ) → result ≡ Err fault → fault ≡ NoMemory → length text ≤ most → HasRead gives reads old text new
+pub stops_for_memory : {A S : Type 0} (gives : S → List ℕ → S → Type 0) (fails : S → S → Type 0) (reads most : ℕ)
+    (old new : S) (result : Result A ScriptFault)
+    (fault : ScriptFault) (text : List ℕ) → result ≡ Err fault → fault ≡ NoMemory → length text ≤ most
+    → HasRead gives reads old text new
     → IfErr result (λ told. StopsReading gives fails reads most told old new)
 stops_for_memory {A} gives fails reads most old new result fault text is memory short read =
     let P : Result A ScriptFault → Type 0 = λ r. IfErr r (λ told. StopsReading gives fails reads most told old new) in
@@ -119,8 +146,10 @@ stops_for_memory {A} gives fails reads most old new result fault text is memory 
     subst P (sym is) (subst Q (sym memory) (text, short, read))
 
 -- reading stops at a read that failed
-pub stops_for_fault : {A S : Type 0} (gives : S → List ℕ → S → Type 0) (fails : S → S → Type 0) (reads most : ℕ) (old new : S) (result : Result A ScriptFault)
-    (passed fault : ScriptFault) → result ≡ Err passed → passed ≡ fault → fault ≡ Read → FailsReading gives fails reads most old new
+pub stops_for_fault : {A S : Type 0} (gives : S → List ℕ → S → Type 0) (fails : S → S → Type 0) (reads most : ℕ)
+    (old new : S) (result : Result A ScriptFault)
+    (passed fault : ScriptFault) → result ≡ Err passed → passed ≡ fault → fault ≡ Read
+    → FailsReading gives fails reads most old new
     → IfErr result (λ told. StopsReading gives fails reads most told old new)
 stops_for_fault {A} gives fails reads most old new result passed fault is same of_read failed =
     let P : Result A ScriptFault → Type 0 = λ r. IfErr r (λ told. StopsReading gives fails reads most told old new) in
@@ -128,12 +157,14 @@ stops_for_fault {A} gives fails reads most old new result passed fault is same o
     subst P (sym is) (subst Q (sym (same ∙ of_read)) (inl failed))
 
 -- writing stops at a write that failed
-pub writing_stopped : {A E : Type 0} (P : A → Type 0) (Q : Type 0) (result : Result A E) (fault : E) → result ≡ Err fault → Q → MatchResult result P (λ _. Q)
+pub writing_stopped : {A E : Type 0} (P : A → Type 0) (Q : Type 0) (result : Result A E) (fault : E)
+    → result ≡ Err fault → Q → MatchResult result P (λ _. Q)
 writing_stopped {A} {E} P Q result fault is stops =
     let S : Result A E → Type 0 = λ r. MatchResult r P (λ _. Q) in subst S (sym is) stops
 
 -- what holds of a fault holds of it where it is passed on
-pub passed_fault : {A : Type 0} (P : ScriptFault → Type 0) (result : Result A ScriptFault) (passed fault : ScriptFault) → result ≡ Err passed → passed ≡ fault
+pub passed_fault : {A : Type 0} (P : ScriptFault → Type 0) (result : Result A ScriptFault) (passed fault : ScriptFault)
+    → result ≡ Err passed → passed ≡ fault
     → P fault → IfErr result P
 passed_fault {A} P result passed fault is same holds =
     let Q : Result A ScriptFault → Type 0 = λ r. IfErr r P in subst Q (sym is) (subst P (sym same) holds)
@@ -144,8 +175,10 @@ write_is P fault is holds = subst P (sym is) holds
 
 module _ {W : Type 0} (takes : W → List ℕ → W → Type 0) (refuses : W → W → Type 0) where
   -- answering stops at a write that failed
-  pub answers_stopped : {A : Type 0} (result : Result A ScriptFault) (passed fault : ScriptFault) (old new : W) (whole : List ℕ) → result ≡ Err passed
-      → passed ≡ fault → fault ≡ Write → StopsWriting takes refuses old whole new → IfErr result (λ told. StopsAnswering takes refuses told old whole new)
+  pub answers_stopped : {A : Type 0} (result : Result A ScriptFault) (passed fault : ScriptFault) (old new : W)
+      (whole : List ℕ) → result ≡ Err passed
+      → passed ≡ fault → fault ≡ Write → StopsWriting takes refuses old whole new
+      → IfErr result (λ told. StopsAnswering takes refuses told old whole new)
   answers_stopped result passed fault old new whole is same of_write stops =
       passed_fault (λ told. StopsAnswering takes refuses told old whole new) result passed fault is same
       (write_is (λ told. StopsAnswering takes refuses told old whole new) fault of_write stops)
@@ -153,36 +186,46 @@ module _ {W : Type 0} (takes : W → List ℕ → W → Type 0) (refuses : W →
   module _ {R : Type 0} (gives : R → List ℕ → R → Type 0) (fails : R → R → Type 0) where
     -- a run of a script that was read stops as the writing of its answers does
     pub run_stopped : {A : Type 0} (result : Result A ScriptFault) (script : List ℕ) (old new : R) (before after : W)
-        → HasReadAll gives script_reads old script new → IfErr result (λ told. StopsAnswering takes refuses told before (transcript script) after)
+        → HasReadAll gives script_reads old script new → IfErr result
+        (λ told. StopsAnswering takes refuses told before (transcript script) after)
         → IfErr result (λ told. StopsRun gives fails takes refuses told old new before after)
     run_stopped (Ok x) script old new before after read stops = tt
     run_stopped (Err fault) script old new before after read stops = inr (script, read, stops)
 
     module _ (reads most : ℕ) (IsText : List ℕ → List ℕ → Type 0) (IsOfText : List ℕ → ScriptFault → Type 0) where
-      pub completed : {A : Type 0} (result : Result A ScriptFault) (script text : List ℕ) (old new : R) (before after : W) → HasReadAll gives reads old script new
-          → IsText script text → MatchResult result (λ _. HasWritten takes before text after) (λ _. StopsWriting takes refuses before text after)
+      pub completed : {A : Type 0} (result : Result A ScriptFault) (script text : List ℕ) (old new : R)
+          (before after : W) → HasReadAll gives reads old script new
+          → IsText script text → MatchResult result (λ _. HasWritten takes before text after)
+          (λ _. StopsWriting takes refuses before text after)
           → OnOk result (Completes gives takes reads IsText old new before after)
       completed (Ok x) script text old new before after read is written =
           record { script = script; text = text; read = read; is_text = is; written = written }
       completed (Err fault) script text old new before after read is stops = tt
 
-      pub stopped_writing : {A : Type 0} (result : Result A ScriptFault) (script text : List ℕ) (old new : R) (before after : W)
+      pub stopped_writing : {A : Type 0} (result : Result A ScriptFault) (script text : List ℕ) (old new : R)
+          (before after : W)
           → HasReadAll gives reads old script new → IsText script text → IfErr result (λ fault. fault ≡ Write)
-          → MatchResult result (λ _. HasWritten takes before text after) (λ _. StopsWriting takes refuses before text after)
-          → IfErr result (λ fault. Stops gives fails takes refuses reads most IsText IsOfText fault old new before after)
+          → MatchResult result (λ _. HasWritten takes before text after)
+          (λ _. StopsWriting takes refuses before text after)
+          → IfErr result
+          (λ fault. Stops gives fails takes refuses reads most IsText IsOfText fault old new before after)
       stopped_writing (Ok x) script text old new before after read is of_write written = tt
       stopped_writing (Err fault) script text old new before after read is of_write stops =
           inr (inr (of_write, record { script = script; text = text; read = read; is_text = is; stops = stops }))
 
-      pub stopped_reading : {A : Type 0} (result : Result A ScriptFault) (passed fault : ScriptFault) (old new : R) (before : W) → result ≡ Err passed
+      pub stopped_reading : {A : Type 0} (result : Result A ScriptFault) (passed fault : ScriptFault) (old new : R)
+          (before : W) → result ≡ Err passed
           → passed ≡ fault → StopsReading gives fails reads most fault old new
           → IfErr result (λ told. Stops gives fails takes refuses reads most IsText IsOfText told old new before before)
       stopped_reading result passed fault old new before is same stops =
-          passed_fault (λ told. Stops gives fails takes refuses reads most IsText IsOfText told old new before before) result passed fault is same (inl (stops, refl))
+          passed_fault (λ told. Stops gives fails takes refuses reads most IsText IsOfText told old new before before)
+          result passed fault is same (inl (stops, refl))
 
-      pub stopped_making : {A : Type 0} (result : Result A ScriptFault) (passed fault : ScriptFault) (script : List ℕ) (old new : R) (before : W)
+      pub stopped_making : {A : Type 0} (result : Result A ScriptFault) (passed fault : ScriptFault) (script : List ℕ)
+          (old new : R) (before : W)
           → result ≡ Err passed → passed ≡ fault → HasReadAll gives reads old script new → IsOfText script fault
           → IfErr result (λ told. Stops gives fails takes refuses reads most IsText IsOfText told old new before before)
       stopped_making result passed fault script old new before is same read of_text =
-          passed_fault (λ told. Stops gives fails takes refuses reads most IsText IsOfText told old new before before) result passed fault is same
+          passed_fault (λ told. Stops gives fails takes refuses reads most IsText IsOfText told old new before before)
+          result passed fault is same
           (inr (inl (script, read, of_text, refl)))

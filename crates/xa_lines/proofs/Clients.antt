@@ -1,5 +1,6 @@
 -- The same of a client that says what has passed, or doesn't.
-use Rattle.std.proofs.Common.{◌≡◌, ℕ, ◌==◌, ◌≤◌, ◌+◌, ◌-◌, ◌^◌, true, false, Option, Some, None, Result, Ok, Err, List, [], ◌∷◌, length, take}
+use Rattle.std.proofs.Common.{◌≡◌, ℕ, ◌==◌, ◌≤◌, ◌+◌, ◌-◌, ◌^◌, true, false, Option, Some, None, Result, Ok, Err, List}
+use Rattle.std.proofs.Common.{[], ◌∷◌, length, take}
 use Rattle.std.proofs.Common.{sym, subst, ◌∙◌, inl, inr, arith}
 use Rattle.std.specs.Prelude.{OnOk, OnErr, IfErr, IfSome}
 use Rattle.xa_lines.specs.Received.{Received, Whole, longer, is_nothing}
@@ -12,25 +13,30 @@ use Rattle.xa_lines.specs.declared.script_fault.ScriptFault.TheVariants.{Read, W
 use Rattle.xa_lines.proofs.Under as under
 
 -- a text that was given leaves a client that more may be said to
-pub told_on : {A : Type 0} (E : Type 0) (x : A) (old new : Option Exchange) (text : List ℕ) → WritesText {E = E} old new (Ok x) text → IfSome old CanBeTold
+pub told_on : {A : Type 0} (E : Type 0) (x : A) (old new : Option Exchange) (text : List ℕ)
+    → WritesText {E = E} old new (Ok x) text → IfSome old CanBeTold
     → IfSome new CanBeTold
 told_on E x None None text written can = tt
 told_on E x (Some old) None text written can = tt
 told_on E x None (Some new) text written can = absurd written
-told_on E x (Some old) (Some new) text written can = let P : Exchange → Type 0 = λ e. CanBeTold e in subst P (sym written) can
+told_on E x (Some old) (Some new) text written can = let P : Exchange → Type 0 = λ e. CanBeTold e in
+    subst P (sym written) can
 
 module _ {S : Type 0} (Begins : S → Type 0) (Answers : S → Received → List ℕ → S → Type 0) where
   -- a line is answered, with what became of telling so
   abbrev pub Answered : {A E : Type 0} → Option Exchange → Option Exchange → Result A E → Received → S → S → Type 0
-  Answered old new result line server after = (answer : List ℕ) × Answers server line answer after × WritesText old new result answer
+  Answered old new result line server after =
+      (answer : List ℕ) × Answers server line answer after × WritesText old new result answer
 
   -- what was given begins the answers, and saying it failed
   abbrev pub IsBegunAt : Option Exchange → Type 0
   IsBegunAt o = IfSome o (IsCutOff Begins Answers)
 
-  pub feed_ok : {A E : Type 0} (old new : Option Exchange) (result : Result A E) (byte : ℕ) (line next : Received) (server after : S) → byte ≡ 10 → next ≡ Whole []
+  pub feed_ok : {A E : Type 0} (old new : Option Exchange) (result : Result A E) (byte : ℕ) (line next : Received)
+      (server after : S) → byte ≡ 10 → next ≡ Whole []
       → Answered old new result line server after
-      → OnOk result ((reads : ℕ) (waiting : List ℕ) → UnderWay Begins Answers Open reads old (byte ∷ waiting) line server
+      → OnOk result ((reads : ℕ) (waiting : List ℕ) → UnderWay Begins Answers Open reads old
+      (byte ∷ waiting) line server
       → UnderWay Begins Answers Open reads new waiting next after)
   feed_ok None None (Ok x) byte line next server after feed cleared t = λ reads waiting u. tt
   feed_ok None (Some new) (Ok x) byte line next server after feed cleared t = absurd t.2
@@ -38,29 +44,38 @@ module _ {S : Type 0} (Begins : S → Type 0) (Answers : S → Received → List
   feed_ok (Some old) (Some new) (Ok x) byte line next server after feed cleared t = λ reads waiting u.
       (let P : ℕ → Type 0 = λ b. IsUnderWay Begins Answers Open reads old (b ∷ waiting) line server in
       let Q : Received → Type 0 = λ l. IsUnderWay Begins Answers Open reads new waiting l after in
-      subst Q (sym cleared) (under.answered Begins Answers Open reads old new waiting t.0 line server after t.2 t.1 (subst P feed u)))
+      subst Q (sym cleared) (under.answered Begins Answers Open reads old new waiting t.0 line server after t.2 t.1
+      (subst P feed u)))
   feed_ok old new (Err e) byte line next server after feed cleared t = tt
 
-  pub feed_err : {A E : Type 0} (old new : Option Exchange) (result : Result A E) (byte : ℕ) (line : Received) (server after : S) → byte ≡ 10
+  pub feed_err : {A E : Type 0} (old new : Option Exchange) (result : Result A E) (byte : ℕ) (line : Received)
+      (server after : S) → byte ≡ 10
       → Answered old new result line server after
-      → OnErr result ((reads : ℕ) (waiting : List ℕ) → UnderWay Begins Answers Open reads old (byte ∷ waiting) line server → IsBegunAt new)
+      → OnErr result ((reads : ℕ) (waiting : List ℕ) → UnderWay Begins Answers Open reads old
+      (byte ∷ waiting) line server → IsBegunAt new)
   feed_err None None (Err e) byte line server after feed t = λ reads waiting u. tt
   feed_err None (Some new) (Err e) byte line server after feed t = absurd t.2
   feed_err (Some old) None (Err e) byte line server after feed t = absurd t.2
   feed_err (Some old) (Some new) (Err e) byte line server after feed t = λ reads waiting u.
       (let P : ℕ → Type 0 = λ b. IsUnderWay Begins Answers Open reads old (b ∷ waiting) line server in
-      under.begun_answer Begins Answers Open reads old new waiting t.0 t.2.0 line server after t.2.1 t.1 (subst P feed u))
+      under.begun_answer Begins Answers Open reads old new waiting t.0 t.2.0 line server after t.2.1 t.1
+      (subst P feed u))
   feed_err old new (Ok x) byte line server after feed t = tt
 
-  pub put_ok : (o : Option Exchange) (byte : ℕ) (line next : Received) (server : S) → (byte == 10) ≡ false → next ≡ longer line byte
+  pub put_ok : (o : Option Exchange) (byte : ℕ) (line next : Received) (server : S) → (byte == 10) ≡ false
+      → next ≡ longer line byte
       → (reads : ℕ) (waiting : List ℕ)
-      → UnderWay Begins Answers Open reads o (byte ∷ waiting) line server → UnderWay Begins Answers Open reads o waiting next server
+      → UnderWay Begins Answers Open reads o (byte ∷ waiting) line server
+      → UnderWay Begins Answers Open reads o waiting next server
   put_ok None byte line next server other is reads waiting u = tt
-  put_ok (Some e) byte line next server other is reads waiting u = under.put Begins Answers Open reads e byte waiting line next server other is u
+  put_ok (Some e) byte line next server other is reads waiting u =
+      under.put Begins Answers Open reads e byte waiting line next server other is u
 
-  pub last_ok : {A E : Type 0} (old new : Option Exchange) (result : Result A E) (line : Received) (server after : S) → is_nothing line ≡ false
+  pub last_ok : {A E : Type 0} (old new : Option Exchange) (result : Result A E) (line : Received) (server after : S)
+      → is_nothing line ≡ false
       → Answered old new result line server after
-      → OnOk result ((reads : ℕ) → UnderWay Begins Answers Ended reads old [] line server → IfSome new (IsAllAnswered Begins Answers))
+      → OnOk result ((reads : ℕ) → UnderWay Begins Answers Ended reads old [] line server
+      → IfSome new (IsAllAnswered Begins Answers))
   last_ok None None (Ok x) line server after some t = λ reads u. tt
   last_ok None (Some new) (Ok x) line server after some t = absurd t.2
   last_ok (Some old) None (Ok x) line server after some t = absurd t.2
@@ -68,7 +83,8 @@ module _ {S : Type 0} (Begins : S → Type 0) (Answers : S → Received → List
       λ reads u. under.end_answered Begins Answers reads old new t.0 line server after some t.2 t.1 u
   last_ok old new (Err e) line server after some t = tt
 
-  pub last_err : {A E : Type 0} (old new : Option Exchange) (result : Result A E) (line : Received) (server after : S) → is_nothing line ≡ false
+  pub last_err : {A E : Type 0} (old new : Option Exchange) (result : Result A E) (line : Received) (server after : S)
+      → is_nothing line ≡ false
       → Answered old new result line server after
       → OnErr result ((reads : ℕ) → UnderWay Begins Answers Ended reads old [] line server → IsBegunAt new)
   last_err None None (Err e) line server after some t = λ reads u. tt
@@ -84,12 +100,14 @@ module _ {S : Type 0} (Begins : S → Type 0) (Answers : S → Received → List
   last_nothing (Some e) line server none reads u = under.end_nothing Begins Answers reads e line server none u
 
   -- more may be said in a conversation that is under way
-  pub open_told : (reads : ℕ) (o : Option Exchange) (waiting : List ℕ) (line : Received) (server : S) → UnderWay Begins Answers Open reads o waiting line server
+  pub open_told : (reads : ℕ) (o : Option Exchange) (waiting : List ℕ) (line : Received) (server : S)
+      → UnderWay Begins Answers Open reads o waiting line server
       → IfSome o CanBeTold
   open_told reads None waiting line server u = tt
   open_told reads (Some e) waiting line server u = inl u.stage_is
 
-  pub ended_told : (reads : ℕ) (o : Option Exchange) (waiting : List ℕ) (line : Received) (server : S) → UnderWay Begins Answers Ended reads o waiting line server
+  pub ended_told : (reads : ℕ) (o : Option Exchange) (waiting : List ℕ) (line : Received) (server : S)
+      → UnderWay Begins Answers Ended reads o waiting line server
       → IfSome o CanBeTold
   ended_told reads None waiting line server u = tt
   ended_told reads (Some e) waiting line server u = inr u.stage_is
@@ -98,51 +116,65 @@ module _ {S : Type 0} (Begins : S → Type 0) (Answers : S → Received → List
   abbrev pub Ready : ℕ → Option Exchange → Received → S → Type 0
   Ready reads o line server = IfSome o (λ exchange. IsReady Begins Answers Open reads exchange line server)
 
-  pub ready_fresh : (o : Option Exchange) (line : Received) (server : S) → IfSome o IsFresh → line ≡ Whole [] → Begins server → Ready 0 o line server
+  pub ready_fresh : (o : Option Exchange) (line : Received) (server : S) → IfSome o IsFresh → line ≡ Whole []
+      → Begins server → Ready 0 o line server
   ready_fresh None line server fresh nothing begins = tt
   ready_fresh (Some e) line server fresh nothing begins = under.fresh Begins Answers e line server fresh nothing begins
 
-  pub ready_ok : (reads : ℕ) (o : Option Exchange) (line : Received) (server : S) → Ready reads o line server → IfSome o (AwaitsMore Begins Answers)
+  pub ready_ok : (reads : ℕ) (o : Option Exchange) (line : Received) (server : S) → Ready reads o line server
+      → IfSome o (AwaitsMore Begins Answers)
   ready_ok reads None line server r = tt
   ready_ok reads (Some e) line server r = under.ready_answered Begins Answers reads e line server r
 
-  pub receive_err : {E : Type 0} (reads : ℕ) (old new : Option Exchange) (e : E) (piece : List ℕ) (line : Received) (server : S) → Receives old new (Err e) piece
+  pub receive_err : {E : Type 0} (reads : ℕ) (old new : Option Exchange) (e : E) (piece : List ℕ) (line : Received)
+      (server : S) → Receives old new (Err e) piece
       → Ready reads old line server → IfSome new (AfterServing Begins Answers Read)
   receive_err reads None None e piece line server h r = tt
   receive_err reads None (Some new) e piece line server h r = absurd h
   receive_err reads (Some old) None e piece line server h r = absurd h
-  receive_err reads (Some old) (Some new) e piece line server h r = let d = under.deaf Begins Answers reads old new line server h r in (d.0, inl d.1)
+  receive_err reads (Some old) (Some new) e piece line server h r = let d =
+      under.deaf Begins Answers reads old new line server h r in (d.0, inl d.1)
 
-  pub receive_end : (E : Type 0) (reads : ℕ) (old new : Option Exchange) (n : ℕ) (piece : List ℕ) (line : Received) (server : S) → (n == 0) ≡ true
-      → Receives {E = E} old new (Ok n) piece → Ready reads old line server → UnderWay Begins Answers Ended reads new [] line server
+  pub receive_end : (E : Type 0) (reads : ℕ) (old new : Option Exchange) (n : ℕ) (piece : List ℕ) (line : Received)
+      (server : S) → (n == 0) ≡ true
+      → Receives {E = E} old new (Ok n) piece → Ready reads old line server
+      → UnderWay Begins Answers Ended reads new [] line server
   receive_end E reads None None n piece line server none h r = tt
   receive_end E reads None (Some new) n piece line server none h r = absurd h
   receive_end E reads (Some old) None n piece line server none h r = absurd h
-  receive_end E reads (Some old) (Some new) n piece line server none h r = under.received_end Begins Answers reads old new n piece line server none h r.1
+  receive_end E reads (Some old) (Some new) n piece line server none h r =
+      under.received_end Begins Answers reads old new n piece line server none h r.1
 
-  pub receive_some : (E : Type 0) (reads : ℕ) (old new : Option Exchange) (n : ℕ) (piece : List ℕ) (line : Received) (server : S) → (n == 0) ≡ false
+  pub receive_some : (E : Type 0) (reads : ℕ) (old new : Option Exchange) (n : ℕ) (piece : List ℕ) (line : Received)
+      (server : S) → (n == 0) ≡ false
       → n ≤ length piece → Receives {E = E} old new (Ok n) piece → Ready reads old line server
       → UnderWay Begins Answers Open (reads + 1) new (take n piece) line server
   receive_some E reads None None n piece line server some within h r = tt
   receive_some E reads None (Some new) n piece line server some within h r = absurd h
   receive_some E reads (Some old) None n piece line server some within h r = absurd h
-  receive_some E reads (Some old) (Some new) n piece line server some within h r = under.received Begins Answers reads old new n piece line server some within h r.1
+  receive_some E reads (Some old) (Some new) n piece line server some within h r =
+      under.received Begins Answers reads old new n piece line server some within h r.1
 
-  pub flush_ok : {A : Type 0} (E : Type 0) (reads : ℕ) (old new : Option Exchange) (x : A) (line : Received) (server : S) → Flushes {E = E} old new (Ok x)
+  pub flush_ok : {A : Type 0} (E : Type 0) (reads : ℕ) (old new : Option Exchange) (x : A) (line : Received)
+      (server : S) → Flushes {E = E} old new (Ok x)
       → UnderWay Begins Answers Open reads old [] line server → Ready reads new line server
   flush_ok E reads None None x line server f u = tt
   flush_ok E reads None (Some new) x line server f u = absurd f
   flush_ok E reads (Some old) None x line server f u = absurd f
-  flush_ok E reads (Some old) (Some new) x line server f u = under.flushed Begins Answers Open reads old new line server f u
+  flush_ok E reads (Some old) (Some new) x line server f u =
+      under.flushed Begins Answers Open reads old new line server f u
 
-  pub flush_err : (A : Type 0) {E : Type 0} (reads : ℕ) (old new : Option Exchange) (e : E) (line : Received) (server : S) → Flushes {A = A} old new (Err e)
+  pub flush_err : (A : Type 0) {E : Type 0} (reads : ℕ) (old new : Option Exchange) (e : E) (line : Received)
+      (server : S) → Flushes {A = A} old new (Err e)
       → UnderWay Begins Answers Open reads old [] line server → IsBegunAt new
   flush_err A reads None None e line server f u = tt
   flush_err A reads None (Some new) e line server f u = absurd f
   flush_err A reads (Some old) None e line server f u = absurd f
-  flush_err A reads (Some old) (Some new) e line server f u = under.unflushed Begins Answers Open reads old new f.0 line server f.1 u
+  flush_err A reads (Some old) (Some new) e line server f u =
+      under.unflushed Begins Answers Open reads old new f.0 line server f.1 u
 
-  pub served_ok : {A E : Type 0} (old new : Option Exchange) (result : Result A E) → Flushes old new result → IfSome old (IsAllAnswered Begins Answers)
+  pub served_ok : {A E : Type 0} (old new : Option Exchange) (result : Result A E) → Flushes old new result
+      → IfSome old (IsAllAnswered Begins Answers)
       → OnOk result (IfSome new (IsServed Begins Answers))
   served_ok None None (Ok x) f all = tt
   served_ok None (Some new) (Ok x) f all = absurd f
@@ -150,7 +182,8 @@ module _ {S : Type 0} (Begins : S → Type 0) (Answers : S → Received → List
   served_ok (Some old) (Some new) (Ok x) f all = under.served Begins Answers old new f all
   served_ok old new (Err e) f all = tt
 
-  pub served_err : {A : Type 0} (old new : Option Exchange) (result : Result A ScriptFault) → IfErr result (λ fault. fault ≡ Write) → Flushes old new result
+  pub served_err : {A : Type 0} (old new : Option Exchange) (result : Result A ScriptFault)
+      → IfErr result (λ fault. fault ≡ Write) → Flushes old new result
       → IfSome old (IsAllAnswered Begins Answers)
       → IfErr result (λ fault. IfSome new (AfterServing Begins Answers fault))
   served_err old new (Ok x) of_write f all = tt
@@ -161,17 +194,22 @@ module _ {S : Type 0} (Begins : S → Type 0) (Answers : S → Received → List
       let P : ScriptFault → Type 0 = λ fault. AfterServing Begins Answers fault new in
       subst P (sym of_write) (under.unserved Begins Answers old new f.0 f.1 all)
 
-  pub write_fault : (o : Option Exchange) (fault : ScriptFault) → fault ≡ Write → IsBegunAt o → IfSome o (AfterServing Begins Answers fault)
-  write_fault o fault is begun = let P : ScriptFault → Type 0 = λ f. IfSome o (AfterServing Begins Answers f) in subst P (sym is) begun
+  pub write_fault : (o : Option Exchange) (fault : ScriptFault) → fault ≡ Write → IsBegunAt o
+      → IfSome o (AfterServing Begins Answers fault)
+  write_fault o fault is begun = let P : ScriptFault → Type 0 = λ f. IfSome o (AfterServing Begins Answers f) in
+      subst P (sym is) begun
 
-  pub spent : (reads : ℕ) (o : Option Exchange) (line : Received) (server : S) → 2 ^ 64 - 1 ≤ reads → Ready reads o line server
+  pub spent : (reads : ℕ) (o : Option Exchange) (line : Received) (server : S) → 2 ^ 64 - 1 ≤ reads
+      → Ready reads o line server
       → IfSome o (AfterServing Begins Answers Read)
   spent reads None line server all r = tt
   spent reads (Some e) line server all r =
-      let a = under.ready_answered Begins Answers reads e line server r in let counted = r.1.counted in (a.1, inr (omega arith))
+      let a = under.ready_answered Begins Answers reads e line server r in let counted = r.1.counted in
+      (a.1, inr (omega arith))
 
   -- a write fault that is passed on
-  pub passed_on : {A : Type 0} (o : Option Exchange) (answer : Result A ScriptFault) (passed fault : ScriptFault) → answer ≡ Err passed → passed ≡ fault
+  pub passed_on : {A : Type 0} (o : Option Exchange) (answer : Result A ScriptFault) (passed fault : ScriptFault)
+      → answer ≡ Err passed → passed ≡ fault
       → fault ≡ Write → IsBegunAt o → IfErr answer (λ f. IfSome o (AfterServing Begins Answers f))
   passed_on {A} o answer passed fault is same of_write begun =
       let P : Result A ScriptFault → Type 0 = λ r. IfErr r (λ f. IfSome o (AfterServing Begins Answers f)) in

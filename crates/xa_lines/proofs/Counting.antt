@@ -6,6 +6,8 @@ use Rattle.std.proofs.lemmas.Grind.{common_steps}
 use Rattle.std.proofs.lemmas.List.Sums.{prefix_len-le-length}
 
 -- what `position` gives, or else the length
-pub from_position : (test : ℕ → Bool) (xs : List ℕ) (r : Option ℕ) → r ≡ cond (ltb (position_or_len test xs) (length xs)) (Some (position_or_len test xs)) None
+pub from_position : (test : ℕ → Bool) (xs : List ℕ) (r : Option ℕ)
+    → r ≡ cond (ltb (position_or_len test xs) (length xs)) (Some (position_or_len test xs)) None
     → unwrap_or r (length xs) ≡ position_or_len test xs
-from_position test xs r e = let le : position_or_len test xs ≤ length xs = prefix_len-le-length (λ x. not (test x)) xs in grind (arith, common_steps)
+from_position test xs r e = let le : position_or_len test xs ≤ length xs =
+    prefix_len-le-length (λ x. not (test x)) xs in grind (arith, common_steps)

@@ -1,5 +1,6 @@
 -- Cutting what is received into lines.
-use Rattle.std.proofs.Common.{◌≡◌, ◌≤◌, ◌<◌, ℕ, ◌==◌, Bool, true, false, cond, List, [], ◌∷◌, ◌++◌, length, refl, sym, ap, ◌∙◌, append_assoc, append-nil}
+use Rattle.std.proofs.Common.{◌≡◌, ◌≤◌, ◌<◌, ℕ, ◌==◌, Bool, true, false, cond, List, [], ◌∷◌, ◌++◌, length, refl, sym}
+use Rattle.std.proofs.Common.{ap, ◌∙◌, append_assoc, append-nil}
 use Rattle.std.proofs.Common.{nat_le, arith, length-append}
 use Rattle.std.proofs.lemmas.Bool.Decides.{nat_tests}
 use Rattle.std.specs.Prelude.{All}
@@ -7,7 +8,8 @@ use Rattle.std.specs.List.{flat_map}
 use Rattle.std.proofs.lemmas.List.Elements.{All-nil, All-head, All-tail, All-push}
 use Rattle.std.proofs.lemmas.Grind.{flat_map-append}
 use Rattle.xa_lines.specs.Script.{lines_of}
-use Rattle.xa_lines.specs.Received.{Whole, TooLong, received_line, longer, is_nothing, HasNoFeed, with_feed, IsCutIntoLines}
+use Rattle.xa_lines.specs.Received.{Whole, TooLong, received_line, longer, is_nothing, HasNoFeed, with_feed}
+use Rattle.xa_lines.specs.Received.{IsCutIntoLines}
 
 -- the first line, where a line feed ends it
 lines_of-feed : (line rest : List ℕ) → HasNoFeed line → lines_of (line ++ 10 ∷ rest) ≡ line ∷ lines_of rest
@@ -19,10 +21,12 @@ lines_of-feed (byte ∷ line) rest none =
     rw (here, more) refl
 
 -- lines that line feeds end, and then others
-pub lines_of-feeds : (lines : List (List ℕ)) (rest : List ℕ) → All HasNoFeed lines → lines_of (flat_map with_feed lines ++ rest) ≡ lines ++ lines_of rest
+pub lines_of-feeds : (lines : List (List ℕ)) (rest : List ℕ) → All HasNoFeed lines
+    → lines_of (flat_map with_feed lines ++ rest) ≡ lines ++ lines_of rest
 lines_of-feeds [] rest none = refl
 lines_of-feeds (line ∷ lines) rest none =
-    let parts : flat_map with_feed (line ∷ lines) ++ rest ≡ line ++ 10 ∷ (flat_map with_feed lines ++ rest) = simp append_assoc in
+    let parts : flat_map with_feed (line ∷ lines) ++ rest ≡ line ++ 10 ∷ (flat_map with_feed lines ++ rest) =
+    simp append_assoc in
     ap lines_of parts ∙ lines_of-feed line (flat_map with_feed lines ++ rest) (All-head HasNoFeed line lines none)
     ∙ ap (λ more. line ∷ more) (lines_of-feeds lines rest (All-tail HasNoFeed line lines none))
 
@@ -45,7 +49,8 @@ pub cut_none : IsCutIntoLines [] [] []
 cut_none = record { whole = refl; each = All-nil HasNoFeed; last = All-nil (λ b. (b == 10) ≡ false) }
 
 -- one byte more of a line
-pub cut_more : (bytes : List ℕ) (lines : List (List ℕ)) (begun : List ℕ) (byte : ℕ) → (byte == 10) ≡ false → IsCutIntoLines bytes lines begun
+pub cut_more : (bytes : List ℕ) (lines : List (List ℕ)) (begun : List ℕ) (byte : ℕ) → (byte == 10) ≡ false
+    → IsCutIntoLines bytes lines begun
     → IsCutIntoLines (bytes ++ byte ∷ []) lines (begun ++ byte ∷ [])
 cut_more bytes lines begun byte other cut = record {
   whole = ap (λ xs. xs ++ byte ∷ []) cut.whole ∙ append_assoc (flat_map with_feed lines) begun (byte ∷ []);
@@ -59,8 +64,10 @@ pub cut_feed : (bytes : List ℕ) (lines : List (List ℕ)) (begun : List ℕ) �
 cut_feed bytes lines begun cut =
     let one : flat_map with_feed (begun ∷ []) ≡ begun ++ 10 ∷ [] = append-nil (with_feed begun) in
     record {
-      whole = ap (λ xs. xs ++ 10 ∷ []) cut.whole ∙ append_assoc (flat_map with_feed lines) begun (10 ∷ []) ∙ ap (λ xs. flat_map with_feed lines ++ xs) (sym one)
-          ∙ sym (flat_map-append with_feed lines (begun ∷ [])) ∙ sym (append-nil (flat_map with_feed (lines ++ begun ∷ [])));
+      whole = ap (λ xs. xs ++ 10 ∷ []) cut.whole ∙ append_assoc (flat_map with_feed lines) begun (10 ∷ [])
+          ∙ ap (λ xs. flat_map with_feed lines ++ xs) (sym one)
+          ∙ sym (flat_map-append with_feed lines (begun ∷ []))
+          ∙ sym (append-nil (flat_map with_feed (lines ++ begun ∷ [])));
       each = All-push HasNoFeed lines begun cut.each cut.last;
       last = All-nil (λ b. (b == 10) ≡ false);
     }
@@ -72,7 +79,8 @@ lines_of-cut bytes lines begun rest cut =
     ap (λ xs. lines_of (xs ++ rest)) cut.whole ∙ ap lines_of (append_assoc (flat_map with_feed lines) begun rest)
     ∙ lines_of-feeds lines (begun ++ rest) cut.each
 
-pub lines_of-cut_feed : (bytes : List ℕ) (lines : List (List ℕ)) (begun rest : List ℕ) → IsCutIntoLines bytes lines begun
+pub lines_of-cut_feed : (bytes : List ℕ) (lines : List (List ℕ)) (begun rest : List ℕ)
+    → IsCutIntoLines bytes lines begun
     → lines_of (bytes ++ 10 ∷ rest) ≡ (lines ++ begun ∷ []) ++ lines_of rest
 lines_of-cut_feed bytes lines begun rest cut =
     lines_of-cut bytes lines begun (10 ∷ rest) cut ∙ ap (λ xs. lines ++ xs) (lines_of-feed begun rest cut.last)
@@ -83,14 +91,16 @@ unfolding received_line
 received_line-nothing = refl
 
 -- one byte more of a line, of which all was kept, or not
-longer_by : (b : Bool) (line : List ℕ) (byte : ℕ) → nat_le (length line) 65536 ≡ b → longer (cond b (Whole line) TooLong) byte ≡ received_line (line ++ byte ∷ [])
+longer_by : (b : Bool) (line : List ℕ) (byte : ℕ) → nat_le (length line) 65536 ≡ b
+    → longer (cond b (Whole line) TooLong) byte ≡ received_line (line ++ byte ∷ [])
 unfolding received_line
 longer_by true line byte short = refl
 longer_by false line byte long =
     let more : nat_le (length (line ++ byte ∷ [])) 65536 ≡ false = grind (arith, nat_tests, length-append) in
     rw more refl
 
-pub received_line-longer : (line : List ℕ) (byte : ℕ) → longer (received_line line) byte ≡ received_line (line ++ byte ∷ [])
+pub received_line-longer : (line : List ℕ) (byte : ℕ) → longer (received_line line) byte
+    ≡ received_line (line ++ byte ∷ [])
 unfolding received_line
 received_line-longer line byte = longer_by (nat_le (length line) 65536) line byte refl
 
@@ -106,13 +116,15 @@ pub nothing_begun : (line : List ℕ) → is_nothing (received_line line) ≡ tr
 nothing_begun [] none = refl
 nothing_begun (byte ∷ line) none = let some = received_line-some byte line in cc
 
-pub lines_of-some : (line : List ℕ) → HasNoFeed line → is_nothing (received_line line) ≡ false → lines_of line ≡ line ∷ []
+pub lines_of-some : (line : List ℕ) → HasNoFeed line → is_nothing (received_line line) ≡ false
+    → lines_of line ≡ line ∷ []
 unfolding received_line
 lines_of-some [] none some = cc
 lines_of-some (byte ∷ line) none some = lines_of-last byte line none
 
 -- one byte more of a line that is kept
-pub put_short : (long : Bool) (line next : List ℕ) (byte : ℕ) → long ≡ false → length line < 65536 → next ≡ line ++ byte ∷ []
+pub put_short : (long : Bool) (line next : List ℕ) (byte : ℕ) → long ≡ false → length line < 65536
+    → next ≡ line ++ byte ∷ []
     → cond long TooLong (Whole next) ≡ longer (cond long TooLong (Whole line)) byte
 unfolding received_line
 put_short true line next byte short room is = cc
@@ -120,7 +132,8 @@ put_short false line next byte short room is =
     let kept : nat_le (length (line ++ byte ∷ [])) 65536 ≡ true = grind (arith, nat_tests, length-append) in
     rw (is, kept) refl
 
-pub put_long : (long : Bool) (line : List ℕ) (byte : ℕ) → long ≡ false → 65536 ≤ length line → TooLong ≡ longer (cond long TooLong (Whole line)) byte
+pub put_long : (long : Bool) (line : List ℕ) (byte : ℕ) → long ≡ false → 65536 ≤ length line
+    → TooLong ≡ longer (cond long TooLong (Whole line)) byte
 unfolding received_line
 put_long true line byte short full = cc
 put_long false line byte short full =

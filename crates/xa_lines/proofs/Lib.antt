@@ -9,3 +9,5 @@ pub mod Under
 pub mod Clients
 pub mod Told
 pub mod Behind
+pub mod JsonWritten
+pub mod Bare

@@ -1,11 +1,13 @@
 -- Cutting a script into lines, and reading a line.
-use Rattle.std.proofs.Common.{◌≡◌, ℕ, ◌+◌, ◌<◌, ◌==◌, Bool, true, false, not, cond, Some, None, List, [], ◌∷◌, length, take, drop, refl, ap, sym, ◌∙◌, arith}
+use Rattle.std.proofs.Common.{◌≡◌, ℕ, ◌+◌, ◌<◌, ◌==◌, Bool, true, false, not, cond, Some, None, List, [], ◌∷◌, length}
+use Rattle.std.proofs.Common.{take, drop, refl, ap, sym, ◌∙◌, arith}
 use Rattle.std.proofs.Common.{suc}
 use Rattle.std.specs.List.{prefix_len}
 use Rattle.std.proofs.lemmas.List.{drop-drop}
 use Rattle.std.proofs.lemmas.Grind.{common_steps}
 use Rattle.xa_xid.specs.Bytes.{unblank}
-use Rattle.xa_lines.specs.Script.{Blank, Bad, Given, lines_of, with_first, line_of, line_given, filled_line, first_word, after_word}
+use Rattle.xa_lines.specs.Script.{Blank, Bad, Given, lines_of, with_first, line_of, line_given, filled_line, first_word}
+use Rattle.xa_lines.specs.Script.{after_word}
 use Rattle.xa_lines.specs.Script.{session_named, is_empty_line}
 
 -- how many bytes stand before the first line feed
@@ -13,7 +15,8 @@ abbrev pub first_length : List ℕ → ℕ
 first_length text = prefix_len (λ byte. not (byte == 10)) text
 
 longer : (byte n : ℕ) (text : List ℕ)
-    → (byte ∷ take n text) ∷ lines_of (drop (n + 1) text) ≡ take (1 + n) (byte ∷ text) ∷ lines_of (drop (1 + n + 1) (byte ∷ text))
+    → (byte ∷ take n text) ∷ lines_of (drop (n + 1) text)
+    ≡ take (1 + n) (byte ∷ text) ∷ lines_of (drop (1 + n + 1) (byte ∷ text))
 longer byte n text =
     let one : 1 + n ≡ suc n = omega arith in
     let two : 1 + n + 1 ≡ suc (n + 1) = omega arith in
@@ -26,17 +29,20 @@ cut_at true byte n text short = refl
 cut_at false byte n text short = rw short (longer byte n text)
 
 last_cut : (b : Bool) (byte : ℕ)
-    → cond b ([] ∷ []) ((byte ∷ []) ∷ []) ≡ take (cond (not b) 1 0) (byte ∷ []) ∷ lines_of (drop (cond (not b) 1 0 + 1) (byte ∷ []))
+    → cond b ([] ∷ []) ((byte ∷ []) ∷ []) ≡ take (cond (not b) 1 0) (byte ∷ []) ∷ lines_of
+    (drop (cond (not b) 1 0 + 1) (byte ∷ []))
 unfolding lines_of
 last_cut true byte = refl
 last_cut false byte = refl
 
 -- the first line, and the lines of what stands after its line feed
-pub lines_of-cut : (text : List ℕ) → 0 < length text → lines_of text ≡ take (first_length text) text ∷ lines_of (drop (first_length text + 1) text)
+pub lines_of-cut : (text : List ℕ) → 0 < length text → lines_of text
+    ≡ take (first_length text) text ∷ lines_of (drop (first_length text + 1) text)
 unfolding lines_of
 lines_of-cut [] h = absurd (omega arith)
 lines_of-cut (byte ∷ []) h = last_cut (byte == 10) byte
-lines_of-cut (byte ∷ next ∷ rest) h = cut_at (byte == 10) byte (first_length (next ∷ rest)) (next ∷ rest) (lines_of-cut (next ∷ rest) (omega arith))
+lines_of-cut (byte ∷ next ∷ rest) h =
+    cut_at (byte == 10) byte (first_length (next ∷ rest)) (next ∷ rest) (lines_of-cut (next ∷ rest) (omega arith))
 
 empty_is : (text : List ℕ) → (length text == 0) ≡ is_empty_line text
 empty_is [] = refl
@@ -44,28 +50,36 @@ empty_is (x ∷ xs) = grind (arith, common_steps)
 
 pub line_of-blank : (line text : List ℕ) → text ≡ unblank line → (length text == 0) ≡ true → Blank ≡ line_of line
 unfolding line_of
-line_of-blank line text is empty = let e : is_empty_line (unblank line) ≡ true = ap is_empty_line (sym is) ∙ sym (empty_is text) ∙ empty in rw e refl
+line_of-blank line text is empty = let e : is_empty_line (unblank line) ≡ true =
+    ap is_empty_line (sym is) ∙ sym (empty_is text) ∙ empty in rw e refl
 
-pub line_of-filled : (line text : List ℕ) → text ≡ unblank line → (length text == 0) ≡ false → line_of line ≡ filled_line text
+pub line_of-filled : (line text : List ℕ) → text ≡ unblank line → (length text == 0) ≡ false
+    → line_of line ≡ filled_line text
 unfolding line_of
 line_of-filled line text is filled =
-    let e : is_empty_line (unblank line) ≡ false = ap is_empty_line (sym is) ∙ sym (empty_is text) ∙ filled in rw (e, is) refl
+    let e : is_empty_line (unblank line) ≡ false = ap is_empty_line (sym is) ∙ sym (empty_is text) ∙ filled in
+    rw (e, is) refl
 
-pub filled-bad : (line text word : List ℕ) → line_of line ≡ filled_line text → word ≡ first_word text → session_named word ≡ None → Bad ≡ line_of line
-filled-bad line text word is at none = sym (is ∙ ap (λ s. line_given s (unblank (after_word text))) (ap session_named (sym at) ∙ none))
+pub filled-bad : (line text word : List ℕ) → line_of line ≡ filled_line text → word ≡ first_word text
+    → session_named word ≡ None → Bad ≡ line_of line
+filled-bad line text word is at none =
+    sym (is ∙ ap (λ s. line_given s (unblank (after_word text))) (ap session_named (sym at) ∙ none))
 
-pub filled-given : (line text word rest : List ℕ) (session : ℕ) → line_of line ≡ filled_line text → word ≡ first_word text → rest ≡ after_word text
+pub filled-given : (line text word rest : List ℕ) (session : ℕ) → line_of line ≡ filled_line text
+    → word ≡ first_word text → rest ≡ after_word text
     → session_named word ≡ Some session
     → Given session (unblank rest) ≡ line_of line
 filled-given line text word rest session is at after some =
     rw after (sym (is ∙ ap (λ s. line_given s (unblank (after_word text))) (ap session_named (sym at) ∙ some)))
 
 -- the first line of a text that is split after it
-pub lines_of-split : (text line rest lines : List ℕ) → 0 < length text → line ≡ take (first_length text) text → rest ≡ drop (first_length text) text
+pub lines_of-split : (text line rest lines : List ℕ) → 0 < length text → line ≡ take (first_length text) text
+    → rest ≡ drop (first_length text) text
     → lines ≡ drop 1 rest
     → lines_of text ≡ line ∷ lines_of lines
 lines_of-split text line rest lines some is after next =
-    let e : drop (first_length text + 1) text ≡ lines = sym (drop-drop 1 (first_length text) text) ∙ ap (drop 1) (sym after) ∙ sym next in
+    let e : drop (first_length text + 1) text ≡ lines = sym (drop-drop 1 (first_length text) text)
+    ∙ ap (drop 1) (sym after) ∙ sym next in
     rw is (lines_of-cut text some ∙ ap (λ l. take (first_length text) text ∷ lines_of l) e)
 
 pub none_left : (text : List ℕ) → length text < 1 → text ≡ drop 1 text

@@ -1,5 +1,6 @@
 -- What the sequential server told.
-use Rattle.std.proofs.Common.{◌≡◌, ℕ, Bool, true, false, cond, nat_le, Option, Some, None, Result, Ok, Err, List, [], ◌∷◌, ◌++◌, length, refl, sym, ap, ◌∙◌}
+use Rattle.std.proofs.Common.{◌≡◌, ℕ, Bool, true, false, cond, nat_le, Option, Some, None, Result, Ok, Err, List, []}
+use Rattle.std.proofs.Common.{◌∷◌, ◌++◌, length, refl, sym, ap, ◌∙◌}
 use Rattle.std.proofs.Common.{inl, inr, append_assoc, append-nil, arith, codes, decimal, lit<}
 use Rattle.std.proofs.lemmas.Fmt.{decimal_digit}
 use Rattle.std.specs.Prelude.{All, OnOk, IfErr, IfSome}
@@ -10,11 +11,13 @@ use Rattle.xa_lines.specs.Script.{Line, Blank, Bad, Given, line_of, lines_of}
 use Rattle.xa_lines.specs.Transcript.{answer_of, state_after_line, run_text}
 use Rattle.xa_lines.specs.Printed.{answer_text, syntax_text}
 use Rattle.xa_lines.specs.declared.script_fault.ScriptFault.{ScriptFault}
-use Rattle.xa_lines.specs.declared.script_fault.ScriptFault.TheVariants.{Read, TooLong as ScriptTooLong, Write, NoMemory, Full, GateShut, ThreadRefused}
+use Rattle.xa_lines.specs.declared.script_fault.ScriptFault.TheVariants.{Read, TooLong as ScriptTooLong, Write}
+use Rattle.xa_lines.specs.declared.script_fault.ScriptFault.TheVariants.{NoMemory, Full, GateShut, ThreadRefused}
 use Rattle.xa_lines.specs.Received.{Received, Whole, TooLong, received_line}
 use Rattle.xa_lines.specs.Exchange.{Exchange}
 use Rattle.xa_lines.specs.Served.{AnswersAll, AreAnswers, IsServed, AfterServing}
-use Rattle.xa_lines.specs.Statements.{said, refused_text, HoldsNothing, IsRefusal, IsLineAnswer, text_of, state_of, served_text, IsToldAll}
+use Rattle.xa_lines.specs.Statements.{said, refused_text, HoldsNothing, IsRefusal, IsLineAnswer, text_of, state_of}
+use Rattle.xa_lines.specs.Statements.{served_text, IsToldAll}
 use Rattle.xa_lines.specs.Statements.{AfterFaultOfStatements, IsShort}
 
 -- a line for whose statement memory is refused or isn't
@@ -22,26 +25,32 @@ record IsMarked (mark : Bool) (old : State) (line : Line) (text : List ℕ) (new
   text_is : text ≡ text_of mark old line
   state_is : new ≡ state_of mark old line
 
-refusal_marked : (line : Line) (old new : State) (text : List ℕ) → IsRefusal old line text → new ≡ old → IsMarked true old line text new
+refusal_marked : (line : Line) (old new : State) (text : List ℕ) → IsRefusal old line text → new ≡ old
+    → IsMarked true old line text new
 refusal_marked Blank old new text r same = absurd r
 refusal_marked Bad old new text r same = absurd r
 refusal_marked (Given session statement) old new text r same = record { text_is = r.0; state_is = same }
 
-mark_of : (old new : State) (line : Received) (text : List ℕ) → IsLineAnswer old line text new → (mark : Bool) × IsMarked mark old (said line) text new
+mark_of : (old new : State) (line : Received) (text : List ℕ) → IsLineAnswer old line text new
+    → (mark : Bool) × IsMarked mark old (said line) text new
 mark_of old new line text (inl a) = (false, record { text_is = a.0; state_is = a.1 })
 mark_of old new line text (inr r) = (true, refusal_marked (said line) old new text r.0 r.1)
 
-marks_of : (lines later : List (List ℕ)) (first last : State) (text : List ℕ) → AnswersAll IsLineAnswer first lines text last
+marks_of : (lines later : List (List ℕ)) (first last : State) (text : List ℕ)
+    → AnswersAll IsLineAnswer first lines text last
     → (marks : List Bool) × (served_text marks first (lines ++ later) ≡ text ++ served_text [] last later)
 unfolding AnswersAll served_text
-marks_of [] later first last text a = ([], ap (λ s. served_text [] s later) (sym a.1) ∙ ap (λ t. t ++ served_text [] last later) (sym a.0))
+marks_of [] later first last text a =
+    ([], ap (λ s. served_text [] s later) (sym a.1) ∙ ap (λ t. t ++ served_text [] last later) (sym a.0))
 marks_of (line ∷ lines) later first last text a =
     let m = mark_of first a.0 (received_line line) a.1 a.3 in
     let more = marks_of lines later a.0 last a.2 a.4 in
-    let next : served_text more.0 (state_of m.0 first (said (received_line line))) (lines ++ later) ≡ a.2 ++ served_text [] last later =
+    let next : served_text more.0 (state_of m.0 first (said (received_line line))) (lines ++ later) ≡ a.2
+    ++ served_text [] last later =
     ap (λ s. served_text more.0 s (lines ++ later)) (sym m.1.state_is) ∙ more.1 in (
       m.0 ∷ more.0,
-      ap (λ t. t ++ served_text more.0 (state_of m.0 first (said (received_line line))) (lines ++ later)) (sym m.1.text_is) ∙ ap (λ t. a.1 ++ t) next
+      ap (λ t. t ++ served_text more.0 (state_of m.0 first (said (received_line line))) (lines ++ later))
+          (sym m.1.text_is) ∙ ap (λ t. a.1 ++ t) next
           ∙ sym (append_assoc a.1 a.2 (served_text [] last later)) ∙ ap (λ t. t ++ served_text [] last later) (sym a.5),
     )
 
@@ -62,7 +71,8 @@ all_told : (lines : List (List ℕ)) (text : List ℕ) → AreAnswers HoldsNothi
 all_told lines text a =
     let m = marks_of lines [] a.first a.last text a.answers in
     let whole : served_text m.0 no_state lines ≡ text =
-    ap (served_text m.0 no_state) (sym (append-nil lines)) ∙ ap (λ s. served_text m.0 s (lines ++ [])) (sym a.begins) ∙ m.1
+    ap (served_text m.0 no_state) (sym (append-nil lines)) ∙ ap (λ s. served_text m.0 s (lines ++ [])) (sym a.begins)
+    ∙ m.1
     ∙ ap (λ t. text ++ t) (nothing_later a.last) ∙ append-nil text in
     (m.0, sym whole)
 
@@ -70,19 +80,26 @@ pub served_told : (o : Option Exchange) → IfSome o (IsServed HoldsNothing IsLi
 served_told None s = tt
 served_told (Some exchange) s = (s.0, all_told (lines_of exchange.received) exchange.told s.2)
 
-pub served_ok : {A E : Type 0} (result : Result A E) (o : Option Exchange) → OnOk result (IfSome o (IsServed HoldsNothing IsLineAnswer))
+pub served_ok : {A E : Type 0} (result : Result A E) (o : Option Exchange)
+    → OnOk result (IfSome o (IsServed HoldsNothing IsLineAnswer))
     → OnOk result (IfSome o IsToldAll)
 served_ok (Ok x) o s = served_told o s
 served_ok (Err e) o s = tt
 
-after_fault : (fault : ScriptFault) (exchange : Exchange) → AfterServing HoldsNothing IsLineAnswer fault exchange → AfterFaultOfStatements fault exchange
+after_fault : (fault : ScriptFault) (exchange : Exchange) → AfterServing HoldsNothing IsLineAnswer fault exchange
+    → AfterFaultOfStatements fault exchange
 after_fault Read exchange a =
     let t = all_told a.0.lines exchange.told a.0.answers in
     (record { lines = a.0.lines; begun = a.0.begun; marks = t.0; cut = a.0.cut; told = t.1 }, a.1)
 after_fault ScriptTooLong exchange a = a
 after_fault Write exchange a =
     let t = part_told a.0.lines a.0.later (exchange.given ++ a.0.unsaid) a.0.answers in (
-      record { marks = t.0; unsaid = a.0.unsaid ++ t.1; whole = ap (served_text t.0 no_state) a.0.parts ∙ t.2 ∙ append_assoc exchange.given a.0.unsaid t.1 },
+      record {
+        marks = t.0;
+        unsaid = a.0.unsaid ++ t.1;
+        whole = ap (served_text t.0 no_state) a.0.parts ∙ t.2
+            ∙ append_assoc exchange.given a.0.unsaid t.1;
+      },
       a.1,
     )
 after_fault NoMemory exchange a = a
@@ -104,9 +121,11 @@ said_by false line short = cc
 
 said_short : (line : List ℕ) → IsShort line → said (received_line line) ≡ line_of line
 unfolding received_line
-said_short line short = let b : nat_le (length line) 65536 ≡ true = grind (arith, nat_tests) in said_by (nat_le (length line) 65536) line b
+said_short line short = let b : nat_le (length line) 65536 ≡ true = grind (arith, nat_tests) in
+    said_by (nat_le (length line) 65536) line b
 
-pub served_text-short : (state : State) (lines : List (List ℕ)) → All IsShort lines → served_text [] state lines ≡ run_text state lines
+pub served_text-short : (state : State) (lines : List (List ℕ)) → All IsShort lines
+    → served_text [] state lines ≡ run_text state lines
 unfolding served_text run_text
 served_text-short state [] short = refl
 served_text-short state (line ∷ lines) short =
@@ -120,17 +139,21 @@ pub blank_answered : (state : State) (line : Line) (text : List ℕ) → Blank �
 unfolding answer_of state_after_line
 blank_answered state line text is none = (rw (← is) none, rw (← is) refl)
 
-pub bad_answered : (state : State) (line : Line) (text : List ℕ) → Bad ≡ line → text ≡ answer_text (codes "-") (syntax_text 0)
+pub bad_answered : (state : State) (line : Line) (text : List ℕ) → Bad ≡ line
+    → text ≡ answer_text (codes "-") (syntax_text 0)
     → (text ≡ answer_of state line) × (state ≡ state_after_line state line)
 unfolding answer_of state_after_line
 bad_answered state line text is told = (rw (← is) told, rw (← is) refl)
 
 -- the text of the answer to a bad line
-pub bad_text : codes "-" ++ codes " ERROR 1064 (42000): syntax fault at byte 0\n" ≡ answer_text (codes "-") (syntax_text 0)
+pub bad_text : codes "-" ++ codes " ERROR 1064 (42000): syntax fault at byte 0\n"
+    ≡ answer_text (codes "-") (syntax_text 0)
 bad_text =
     let e : decimal 0 ≡ 48 ∷ [] =
-    decimal_digit 0 (lit< tt) in ap (λ d. answer_text (codes "-") (codes "ERROR 1064 (42000): syntax fault at byte " ++ d)) (sym e)
+    decimal_digit 0 (lit< tt) in ap (λ d. answer_text (codes "-")
+    (codes "ERROR 1064 (42000): syntax fault at byte " ++ d)) (sym e)
 
 -- that of the answer to a statement for which memory was refused
-pub refused_text-parts : (who : List ℕ) (session : ℕ) → who ≡ decimal session → who ++ codes " ERROR 1037 (HY001): out of memory\n" ≡ refused_text session
+pub refused_text-parts : (who : List ℕ) (session : ℕ) → who ≡ decimal session
+    → who ++ codes " ERROR 1037 (HY001): out of memory\n" ≡ refused_text session
 refused_text-parts who session is = rw is (simp append_assoc)

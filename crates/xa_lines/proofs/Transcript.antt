@@ -1,6 +1,7 @@
 -- Writing a transcript answer by answer.
 use Rattle.std.specs.Result.{OnErr}
-use Rattle.std.proofs.Common.{Result, Ok, Err, ◌≡◌, ℕ, ◌==◌, true, Option, List, [], ◌∷◌, ◌++◌, length, take, drop, refl, sym, ap, ◌∙◌, subst, append_assoc}
+use Rattle.std.proofs.Common.{Result, Ok, Err, ◌≡◌, ℕ, ◌==◌, true, Option, List, [], ◌∷◌, ◌++◌, length, take, drop}
+use Rattle.std.proofs.Common.{refl, sym, ap, ◌∙◌, subst, append_assoc}
 use Rattle.std.proofs.Common.{append-nil, arith}
 use Rattle.std.proofs.lemmas.List.{take_at, take-append-drop}
 use Rattle.std.proofs.lemmas.Grind.{common_steps}
@@ -11,27 +12,33 @@ use Rattle.xa_lines.specs.Script.{lines_of, line_of}
 use Rattle.xa_lines.specs.Transcript.{AppendsPrefix, IsWrittenUpTo, answer_of, state_after_line, run_text}
 
 -- bytes that the whole begins with
-prefix_from : (old new : Option (List ℕ)) (whole bytes rest : List ℕ) → Appends old new bytes → whole ≡ bytes ++ rest → AppendsPrefix old new whole
+prefix_from : (old new : Option (List ℕ)) (whole bytes rest : List ℕ) → Appends old new bytes → whole ≡ bytes ++ rest
+    → AppendsPrefix old new whole
 prefix_from old new whole bytes rest appended parts =
-    let e : bytes ≡ take (length bytes) whole = sym (ap (take (length bytes)) parts ∙ take_at bytes rest (length bytes) refl) in
+    let e : bytes ≡ take (length bytes) whole = sym (ap (take (length bytes)) parts
+    ∙ take_at bytes rest (length bytes) refl) in
     let P : List ℕ → Type 0 = λ piece. Appends old new piece in
     (length bytes, subst P e appended)
 
-pub prefix_written : (old new : Option (List ℕ)) (whole left : List ℕ) → IsWrittenUpTo old new whole left → AppendsPrefix old new whole
+pub prefix_written : (old new : Option (List ℕ)) (whole left : List ℕ) → IsWrittenUpTo old new whole left
+    → AppendsPrefix old new whole
 prefix_written old new whole left w = prefix_from old new whole w.written left w.appended w.parts
 
 -- a part of the next answer
-pub prefix_more : (old now new : Option (List ℕ)) (whole answer more : List ℕ) → IsWrittenUpTo old now whole (answer ++ more) → AppendsPrefix now new answer
+pub prefix_more : (old now new : Option (List ℕ)) (whole answer more : List ℕ)
+    → IsWrittenUpTo old now whole (answer ++ more) → AppendsPrefix now new answer
     → AppendsPrefix old new whole
 prefix_more old now new whole answer more w p =
     let n = p.0 in
     let split : answer ++ more ≡ take n answer ++ (drop n answer ++ more) =
     ap (λ xs. xs ++ more) (sym (take-append-drop n answer)) ∙ append_assoc (take n answer) (drop n answer) more in
-    prefix_from old new whole (w.written ++ take n answer) (drop n answer ++ more) (Appends-trans old now new w.written (take n answer) w.appended p.1)
+    prefix_from old new whole (w.written ++ take n answer) (drop n answer ++ more)
+    (Appends-trans old now new w.written (take n answer) w.appended p.1)
     (w.parts ∙ ap (λ xs. w.written ++ xs) split ∙ sym (append_assoc w.written (take n answer) (drop n answer ++ more)))
 
 -- the whole of the next answer
-pub written_more : (old now new : Option (List ℕ)) (whole answer more : List ℕ) → IsWrittenUpTo old now whole (answer ++ more) → Appends now new answer
+pub written_more : (old now new : Option (List ℕ)) (whole answer more : List ℕ)
+    → IsWrittenUpTo old now whole (answer ++ more) → Appends now new answer
     → IsWrittenUpTo old new whole more
 written_more old now new whole answer more w appended = record {
   written = w.written ++ answer;
@@ -43,7 +50,8 @@ pub written_none : (old : Option (List ℕ)) (whole : List ℕ) → IsWrittenUpT
 written_none old whole = record { written = []; appended = Appends-nil old; parts = refl }
 
 -- what is left of the transcript, when one more line was cut off, and answered
-pub run_text-line : (state next : State) (text line rest answer : List ℕ) → lines_of text ≡ line ∷ lines_of rest → answer ≡ answer_of state (line_of line)
+pub run_text-line : (state next : State) (text line rest answer : List ℕ) → lines_of text ≡ line ∷ lines_of rest
+    → answer ≡ answer_of state (line_of line)
     → next ≡ state_after_line state (line_of line)
     → run_text state (lines_of text) ≡ answer ++ run_text next (lines_of rest)
 unfolding run_text
@@ -55,13 +63,15 @@ unfolding run_text lines_of
 run_text-end state [] empty = refl
 run_text-end state (x ∷ xs) empty = absurd (let none : length (x ∷ xs) ≡ 0 = grind (arith, common_steps) in omega arith)
 
-pub written_whole : (old new : Option (List ℕ)) (whole left : List ℕ) → IsWrittenUpTo old new whole left → left ≡ [] → Appends old new whole
+pub written_whole : (old new : Option (List ℕ)) (whole left : List ℕ) → IsWrittenUpTo old new whole left → left ≡ []
+    → Appends old new whole
 written_whole old new whole left w none =
     let e : w.written ≡ whole = sym (w.parts ∙ ap (λ xs. w.written ++ xs) none ∙ append-nil w.written) in
     let P : List ℕ → Type 0 = λ piece. Appends old new piece in subst P e w.appended
 
 -- what is still to be written is known in another form
-pub written_as : (old new : Option (List ℕ)) (whole left same : List ℕ) → left ≡ same → IsWrittenUpTo old new whole left → IsWrittenUpTo old new whole same
+pub written_as : (old new : Option (List ℕ)) (whole left same : List ℕ) → left ≡ same → IsWrittenUpTo old new whole left
+    → IsWrittenUpTo old new whole same
 written_as old new whole left same e w = let P : List ℕ → Type 0 = λ xs. IsWrittenUpTo old new whole xs in subst P e w
 
 pub on_err : {T E : Type 0} {P : Type 0} (r : Result T E) → P → OnErr r P

@@ -1,5 +1,6 @@
 -- A conversation, byte by byte and answer by answer.
-use Rattle.std.proofs.Common.{◌≡◌, ℕ, ◌==◌, true, false, List, [], ◌∷◌, ◌++◌, length, take, drop, refl, sym, ap, subst, ◌∙◌, append_assoc, append-nil, ◌≤◌, ◌+◌}
+use Rattle.std.proofs.Common.{◌≡◌, ℕ, ◌==◌, true, false, List, [], ◌∷◌, ◌++◌, length, take, drop, refl, sym, ap, subst}
+use Rattle.std.proofs.Common.{◌∙◌, append_assoc, append-nil, ◌≤◌, ◌+◌}
 use Rattle.std.proofs.Common.{arith, length-append}
 use Rattle.std.proofs.lemmas.List.{length-take}
 use Rattle.std.proofs.lemmas.Bool.Decides.{nat_tests}
@@ -11,11 +12,13 @@ use Rattle.xa_lines.specs.Served.{AnswersAll, AreAnswers, IsAnswerSoFar, AwaitsM
 use Rattle.xa_lines.specs.UnderWay.{IsUnderWay, IsReady, IsAllAnswered}
 use Rattle.xa_lines.specs.declared.stage.Stage.{Stage}
 use Rattle.xa_lines.specs.declared.stage.Stage.TheVariants.{Open, Ended, Deaf, Mute}
-use Rattle.xa_lines.proofs.Cut.{cut_none, cut_more, cut_feed, lines_of-cut, lines_of-cut_feed, lines_of-some, lines_of-nothing, nothing_begun}
+use Rattle.xa_lines.proofs.Cut.{cut_none, cut_more, cut_feed, lines_of-cut, lines_of-cut_feed, lines_of-some}
+use Rattle.xa_lines.proofs.Cut.{lines_of-nothing, nothing_begun}
 use Rattle.xa_lines.proofs.Cut.{received_line-nothing, received_line-longer}
 
 -- a read that gives something
-longer_received : (reads n : ℕ) (received piece : List ℕ) → (n == 0) ≡ false → n ≤ length piece → reads ≤ length received → reads + 1 ≤ length (received ++ take n piece)
+longer_received : (reads n : ℕ) (received piece : List ℕ) → (n == 0) ≡ false → n ≤ length piece
+    → reads ≤ length received → reads + 1 ≤ length (received ++ take n piece)
 longer_received reads n received piece some within before = grind (arith, nat_tests, length-append, length-take)
 
 module _ {S : Type 0} (Begins : S → Type 0) (Answers : S → Received → List ℕ → S → Type 0) where
@@ -24,7 +27,8 @@ module _ {S : Type 0} (Begins : S → Type 0) (Answers : S → Received → List
   answers_none state = (refl, refl)
 
   -- one line more is answered
-  answers_more : (lines : List (List ℕ)) (first mid last : S) (text : List ℕ) (line answer : List ℕ) → AnswersAll Answers first lines text mid
+  answers_more : (lines : List (List ℕ)) (first mid last : S) (text : List ℕ) (line answer : List ℕ)
+      → AnswersAll Answers first lines text mid
       → Answers mid (received_line line) answer last
       → AnswersAll Answers first (lines ++ line ∷ []) (text ++ answer) last
   unfolding AnswersAll
@@ -32,8 +36,15 @@ module _ {S : Type 0} (Begins : S → Type 0) (Answers : S → Received → List
       let P : S → Type 0 = λ s. Answers s (received_line line) answer last in
       (last, answer, [], subst P before.1 now, (refl, refl), ap (λ xs. xs ++ answer) before.0 ∙ sym (append-nil answer))
   answers_more (x ∷ lines) first mid last text line answer before now =
-      let more = answers_more lines before.0 mid last before.2 line answer before.4 now in
-      (before.0, before.1, before.2 ++ answer, before.3, more, ap (λ xs. xs ++ answer) before.5 ∙ append_assoc before.1 before.2 answer)
+      let more = answers_more lines before.0 mid last before.2 line answer before.4 now in (
+        before.0,
+        before.1,
+        before.2 ++ answer,
+        before.3,
+        more,
+        ap (λ xs. xs ++ answer) before.5
+            ∙ append_assoc before.1 before.2 answer,
+      )
 
   -- nothing has passed yet
   pub fresh : (exchange : Exchange) (line : Received) (server : S) → IsFresh exchange → line ≡ Whole [] → Begins server
@@ -57,9 +68,11 @@ module _ {S : Type 0} (Begins : S → Type 0) (Answers : S → Received → List
       )
 
   -- one byte more of a line
-  pub put : (stage : Stage) (reads : ℕ) (exchange : Exchange) (byte : ℕ) (waiting : List ℕ) (line next : Received) (server : S) → (byte == 10) ≡ false
+  pub put : (stage : Stage) (reads : ℕ) (exchange : Exchange) (byte : ℕ) (waiting : List ℕ) (line next : Received)
+      (server : S) → (byte == 10) ≡ false
       → next ≡ longer line byte
-      → IsUnderWay Begins Answers stage reads exchange (byte ∷ waiting) line server → IsUnderWay Begins Answers stage reads exchange waiting next server
+      → IsUnderWay Begins Answers stage reads exchange (byte ∷ waiting) line server
+      → IsUnderWay Begins Answers stage reads exchange waiting next server
   put stage reads exchange byte waiting line next server other is u = record {
     done = u.done ++ byte ∷ [];
     lines = u.lines;
@@ -75,9 +88,11 @@ module _ {S : Type 0} (Begins : S → Type 0) (Answers : S → Received → List
   }
 
   -- a line feed, and the answer to the line that it ends
-  pub answered : (stage : Stage) (reads : ℕ) (exchange new : Exchange) (waiting answer : List ℕ) (line : Received) (server after : S)
+  pub answered : (stage : Stage) (reads : ℕ) (exchange new : Exchange) (waiting answer : List ℕ) (line : Received)
+      (server after : S)
       → new ≡ record exchange { given = exchange.given ++ answer } → Answers server line answer after
-      → IsUnderWay Begins Answers stage reads exchange (10 ∷ waiting) line server → IsUnderWay Begins Answers stage reads new waiting (Whole []) after
+      → IsUnderWay Begins Answers stage reads exchange (10 ∷ waiting) line server
+      → IsUnderWay Begins Answers stage reads new waiting (Whole []) after
   answered stage reads exchange new waiting answer line server after is now u =
       let P : Exchange → Type 0 = λ e. IsUnderWay Begins Answers stage reads e waiting (Whole []) after in
       let Q : Received → Type 0 = λ l. Answers server l answer after in
@@ -90,21 +105,25 @@ module _ {S : Type 0} (Begins : S → Type 0) (Answers : S → Received → List
         cut = cut_feed u.done u.lines u.begun u.cut;
         held = received_line-nothing;
         begins = u.begins;
-        answers = answers_more u.lines u.first server after exchange.given u.begun answer u.answers (subst Q u.held now);
+        answers = answers_more u.lines u.first server after exchange.given u.begun answer u.answers
+            (subst Q u.held now);
         stage_is = u.stage_is;
         counted = u.counted;
       })
 
   -- the answer to the line is given in part
-  pub begun_answer : (stage : Stage) (reads : ℕ) (exchange new : Exchange) (waiting answer : List ℕ) (n : ℕ) (line : Received) (server after : S)
-      → new ≡ record exchange { given = exchange.given ++ take n answer; stage = Mute } → Answers server line answer after
+  pub begun_answer : (stage : Stage) (reads : ℕ) (exchange new : Exchange) (waiting answer : List ℕ) (n : ℕ)
+      (line : Received) (server after : S)
+      → new ≡ record exchange { given = exchange.given ++ take n answer; stage = Mute }
+      → Answers server line answer after
       → IsUnderWay Begins Answers stage reads exchange (10 ∷ waiting) line server → IsCutOff Begins Answers new
   begun_answer stage reads exchange new waiting answer n line server after is now u =
       let P : Exchange → Type 0 = λ e. IsCutOff Begins Answers e in
       let Q : Received → Type 0 = λ l. Answers server l answer after in
       let R : List ℕ → Type 0 = λ text. AreAnswers Begins Answers (u.lines ++ u.begun ∷ []) text in
       let whole : exchange.given ++ answer ≡ (exchange.given ++ take n answer) ++ drop n answer =
-      ap (λ xs. exchange.given ++ xs) (sym (take-append-drop n answer)) ∙ sym (append_assoc exchange.given (take n answer) (drop n answer)) in
+      ap (λ xs. exchange.given ++ xs) (sym (take-append-drop n answer))
+      ∙ sym (append_assoc exchange.given (take n answer) (drop n answer)) in
       subst P (sym is) (
         record {
           lines = u.lines ++ u.begun ∷ [];
@@ -116,16 +135,19 @@ module _ {S : Type 0} (Begins : S → Type 0) (Answers : S → Received → List
                 first = u.first;
                 last = after;
                 begins = u.begins;
-                answers = answers_more u.lines u.first server after exchange.given u.begun answer u.answers (subst Q u.held now);
+                answers = answers_more u.lines u.first server after exchange.given u.begun answer u.answers
+                    (subst Q u.held now);
               });
         },
         refl,
       )
 
   -- what was received waits
-  pub received : (reads : ℕ) (exchange new : Exchange) (n : ℕ) (piece : List ℕ) (line : Received) (server : S) → (n == 0) ≡ false → n ≤ length piece
+  pub received : (reads : ℕ) (exchange new : Exchange) (n : ℕ) (piece : List ℕ) (line : Received) (server : S)
+      → (n == 0) ≡ false → n ≤ length piece
       → new ≡ with_received exchange n piece
-      → IsUnderWay Begins Answers Open reads exchange [] line server → IsUnderWay Begins Answers Open (reads + 1) new (take n piece) line server
+      → IsUnderWay Begins Answers Open reads exchange [] line server
+      → IsUnderWay Begins Answers Open (reads + 1) new (take n piece) line server
   received reads exchange new n piece line server some within is u =
       let P : Exchange → Type 0 = λ e. IsUnderWay Begins Answers Open (reads + 1) e (take n piece) line server in
       subst P (sym is) (record {
@@ -143,13 +165,16 @@ module _ {S : Type 0} (Begins : S → Type 0) (Answers : S → Received → List
       })
 
   -- nothing more is to be received
-  pub received_end : (reads : ℕ) (exchange new : Exchange) (n : ℕ) (piece : List ℕ) (line : Received) (server : S) → (n == 0) ≡ true
+  pub received_end : (reads : ℕ) (exchange new : Exchange) (n : ℕ) (piece : List ℕ) (line : Received) (server : S)
+      → (n == 0) ≡ true
       → new ≡ with_received exchange n piece
-      → IsUnderWay Begins Answers Open reads exchange [] line server → IsUnderWay Begins Answers Ended reads new [] line server
+      → IsUnderWay Begins Answers Open reads exchange [] line server
+      → IsUnderWay Begins Answers Ended reads new [] line server
   received_end reads exchange new n piece line server none is u =
       let P : Exchange → Type 0 = λ e. IsUnderWay Begins Answers Ended reads e [] line server in
       let zero_is : n ≡ 0 = grind (arith, nat_tests) in
-      let same : exchange.received ++ take n piece ≡ exchange.received = ap (λ k. exchange.received ++ take k piece) zero_is ∙ append-nil exchange.received in
+      let same : exchange.received ++ take n piece ≡ exchange.received =
+      ap (λ k. exchange.received ++ take k piece) zero_is ∙ append-nil exchange.received in
       let Q : List ℕ → Type 0 = λ xs. reads ≤ length xs in
       subst P (sym is) (record {
         done = u.done;
@@ -166,8 +191,10 @@ module _ {S : Type 0} (Begins : S → Type 0) (Answers : S → Received → List
       })
 
   -- all whole lines are answered
-  so_far : (stage : Stage) (reads : ℕ) (exchange : Exchange) (text : List ℕ) (line : Received) (server : S) → text ≡ exchange.given
-      → IsUnderWay Begins Answers stage reads exchange [] line server → IsAnswerSoFar Begins Answers exchange.received text
+  so_far : (stage : Stage) (reads : ℕ) (exchange : Exchange) (text : List ℕ) (line : Received) (server : S)
+      → text ≡ exchange.given
+      → IsUnderWay Begins Answers stage reads exchange [] line server
+      → IsAnswerSoFar Begins Answers exchange.received text
   so_far stage reads exchange text line server is u =
       let P : List ℕ → Type 0 = λ xs. IsCutIntoLines xs u.lines u.begun in
       let Q : List ℕ → Type 0 = λ xs. AreAnswers Begins Answers u.lines xs in
@@ -178,20 +205,26 @@ module _ {S : Type 0} (Begins : S → Type 0) (Answers : S → Received → List
         answers = subst Q (sym is) (record { first = u.first; last = server; begins = u.begins; answers = u.answers });
       }
 
-  pub ready_answered : (reads : ℕ) (exchange : Exchange) (line : Received) (server : S) → IsReady Begins Answers Open reads exchange line server
+  pub ready_answered : (reads : ℕ) (exchange : Exchange) (line : Received) (server : S)
+      → IsReady Begins Answers Open reads exchange line server
       → AwaitsMore Begins Answers exchange
-  ready_answered reads exchange line server r = (r.1.stage_is, so_far Open reads exchange exchange.told line server r.0 r.1)
+  ready_answered reads exchange line server r =
+      (r.1.stage_is, so_far Open reads exchange exchange.told line server r.0 r.1)
 
   -- the client is deaf from now on
-  pub deaf : (reads : ℕ) (exchange new : Exchange) (line : Received) (server : S) → new ≡ record exchange { stage = Deaf }
-      → IsReady Begins Answers Open reads exchange line server → IsAnswerSoFar Begins Answers new.received new.told × (new.stage ≡ Deaf)
+  pub deaf : (reads : ℕ) (exchange new : Exchange) (line : Received) (server : S)
+      → new ≡ record exchange { stage = Deaf }
+      → IsReady Begins Answers Open reads exchange line server
+      → IsAnswerSoFar Begins Answers new.received new.told × (new.stage ≡ Deaf)
   deaf reads exchange new line server is r =
       let P : Exchange → Type 0 = λ e. IsAnswerSoFar Begins Answers e.received e.told × (e.stage ≡ Deaf) in
       subst P (sym is) (so_far Open reads exchange exchange.told line server r.0 r.1, refl)
 
   -- all that was given was said
-  pub flushed : (stage : Stage) (reads : ℕ) (exchange new : Exchange) (line : Received) (server : S) → new ≡ record exchange { told = exchange.given }
-      → IsUnderWay Begins Answers stage reads exchange [] line server → IsReady Begins Answers stage reads new line server
+  pub flushed : (stage : Stage) (reads : ℕ) (exchange new : Exchange) (line : Received) (server : S)
+      → new ≡ record exchange { told = exchange.given }
+      → IsUnderWay Begins Answers stage reads exchange [] line server
+      → IsReady Begins Answers stage reads new line server
   flushed stage reads exchange new line server is u =
       let P : Exchange → Type 0 = λ e. IsReady Begins Answers stage reads e line server in
       subst P (sym is) (
@@ -212,7 +245,8 @@ module _ {S : Type 0} (Begins : S → Type 0) (Answers : S → Received → List
       )
 
   -- the whole lines are answered, and the line that has begun may be unanswered
-  pub unflushed : (stage : Stage) (reads : ℕ) (exchange new : Exchange) (told : List ℕ) (line : Received) (server : S) → new ≡ record exchange { told = told; stage = Mute }
+  pub unflushed : (stage : Stage) (reads : ℕ) (exchange new : Exchange) (told : List ℕ) (line : Received) (server : S)
+      → new ≡ record exchange { told = told; stage = Mute }
       → IsUnderWay Begins Answers stage reads exchange [] line server → IsCutOff Begins Answers new
   unflushed stage reads exchange new told line server is u =
       let P : Exchange → Type 0 = λ e. IsCutOff Begins Answers e in
@@ -223,7 +257,8 @@ module _ {S : Type 0} (Begins : S → Type 0) (Answers : S → Received → List
           later = lines_of (u.begun ++ []);
           unsaid = [];
           parts = ap lines_of u.parts ∙ lines_of-cut u.done u.lines u.begun [] u.cut;
-          answers = subst Q (sym (append-nil exchange.given)) (record { first = u.first; last = server; begins = u.begins; answers = u.answers });
+          answers = subst Q (sym (append-nil exchange.given))
+              (record { first = u.first; last = server; begins = u.begins; answers = u.answers });
         },
         refl,
       )
@@ -234,42 +269,54 @@ module _ {S : Type 0} (Begins : S → Type 0) (Answers : S → Received → List
   end_nothing reads exchange line server none u =
       let none_begun : u.begun ≡ [] = nothing_begun u.begun (ap is_nothing (sym u.held) ∙ none) in
       let all : lines_of exchange.received ≡ u.lines =
-      ap lines_of u.parts ∙ lines_of-cut u.done u.lines u.begun [] u.cut ∙ ap (λ xs. u.lines ++ lines_of (xs ++ [])) none_begun
+      ap lines_of u.parts ∙ lines_of-cut u.done u.lines u.begun [] u.cut
+      ∙ ap (λ xs. u.lines ++ lines_of (xs ++ [])) none_begun
       ∙ ap (λ xs. u.lines ++ xs) lines_of-nothing ∙ append-nil u.lines in
-      let P : List (List ℕ) → Type 0 = λ lines. AreAnswers Begins Answers lines exchange.given in
-      (u.stage_is, subst P (sym all) (record { first = u.first; last = server; begins = u.begins; answers = u.answers }))
+      let P : List (List ℕ) → Type 0 = λ lines. AreAnswers Begins Answers lines exchange.given in (
+        u.stage_is,
+        subst P (sym all)
+            (record { first = u.first; last = server; begins = u.begins; answers = u.answers }),
+      )
 
   -- the lines, where the last of them has no line feed
   all_lines : (reads : ℕ) (exchange : Exchange) (line : Received) (server : S) → is_nothing line ≡ false
-      → (u : IsUnderWay Begins Answers Ended reads exchange [] line server) → lines_of exchange.received ≡ u.lines ++ u.begun ∷ []
+      → (u : IsUnderWay Begins Answers Ended reads exchange [] line server)
+      → lines_of exchange.received ≡ u.lines ++ u.begun ∷ []
   all_lines reads exchange line server some u =
-      ap lines_of u.parts ∙ lines_of-cut u.done u.lines u.begun [] u.cut ∙ ap (λ xs. u.lines ++ lines_of xs) (append-nil u.begun)
+      ap lines_of u.parts ∙ lines_of-cut u.done u.lines u.begun [] u.cut
+      ∙ ap (λ xs. u.lines ++ lines_of xs) (append-nil u.begun)
       ∙ ap (λ xs. u.lines ++ xs) (lines_of-some u.begun u.cut.last (ap is_nothing (sym u.held) ∙ some))
 
   -- the last line is answered
-  pub end_answered : (reads : ℕ) (exchange new : Exchange) (answer : List ℕ) (line : Received) (server after : S) → is_nothing line ≡ false
+  pub end_answered : (reads : ℕ) (exchange new : Exchange) (answer : List ℕ) (line : Received) (server after : S)
+      → is_nothing line ≡ false
       → new ≡ record exchange { given = exchange.given ++ answer } → Answers server line answer after
       → IsUnderWay Begins Answers Ended reads exchange [] line server → IsAllAnswered Begins Answers new
   end_answered reads exchange new answer line server after some is now u =
       let P : Exchange → Type 0 = λ e. IsAllAnswered Begins Answers e in
       let Q : Received → Type 0 = λ l. Answers server l answer after in
       let R : List (List ℕ) → Type 0 = λ lines. AreAnswers Begins Answers lines (exchange.given ++ answer) in
-      let answers = answers_more u.lines u.first server after exchange.given u.begun answer u.answers (subst Q u.held now) in
+      let answers = answers_more u.lines u.first server after exchange.given u.begun answer u.answers
+      (subst Q u.held now) in
       subst P (sym is) (
         u.stage_is,
-        subst R (sym (all_lines reads exchange line server some u)) (record { first = u.first; last = after; begins = u.begins; answers = answers }),
+        subst R (sym (all_lines reads exchange line server some u))
+            (record { first = u.first; last = after; begins = u.begins; answers = answers }),
       )
 
   -- or in part
-  pub end_begun : (reads : ℕ) (exchange new : Exchange) (answer : List ℕ) (n : ℕ) (line : Received) (server after : S) → is_nothing line ≡ false
+  pub end_begun : (reads : ℕ) (exchange new : Exchange) (answer : List ℕ) (n : ℕ) (line : Received) (server after : S)
+      → is_nothing line ≡ false
       → new ≡ record exchange { given = exchange.given ++ take n answer; stage = Mute }
-      → Answers server line answer after → IsUnderWay Begins Answers Ended reads exchange [] line server → IsCutOff Begins Answers new
+      → Answers server line answer after → IsUnderWay Begins Answers Ended reads exchange [] line server
+      → IsCutOff Begins Answers new
   end_begun reads exchange new answer n line server after some is now u =
       let P : Exchange → Type 0 = λ e. IsCutOff Begins Answers e in
       let Q : Received → Type 0 = λ l. Answers server l answer after in
       let R : List ℕ → Type 0 = λ text. AreAnswers Begins Answers (u.lines ++ u.begun ∷ []) text in
       let whole : exchange.given ++ answer ≡ (exchange.given ++ take n answer) ++ drop n answer =
-      ap (λ xs. exchange.given ++ xs) (sym (take-append-drop n answer)) ∙ sym (append_assoc exchange.given (take n answer) (drop n answer)) in
+      ap (λ xs. exchange.given ++ xs) (sym (take-append-drop n answer))
+      ∙ sym (append_assoc exchange.given (take n answer) (drop n answer)) in
       subst P (sym is) (
         record {
           lines = u.lines ++ u.begun ∷ [];
@@ -281,19 +328,22 @@ module _ {S : Type 0} (Begins : S → Type 0) (Answers : S → Received → List
                 first = u.first;
                 last = after;
                 begins = u.begins;
-                answers = answers_more u.lines u.first server after exchange.given u.begun answer u.answers (subst Q u.held now);
+                answers = answers_more u.lines u.first server after exchange.given u.begun answer u.answers
+                    (subst Q u.held now);
               });
         },
         refl,
       )
 
   -- all that was given was said
-  pub served : (exchange new : Exchange) → new ≡ record exchange { told = exchange.given } → IsAllAnswered Begins Answers exchange → IsServed Begins Answers new
+  pub served : (exchange new : Exchange) → new ≡ record exchange { told = exchange.given }
+      → IsAllAnswered Begins Answers exchange → IsServed Begins Answers new
   served exchange new is all =
       let P : Exchange → Type 0 = λ e. IsServed Begins Answers e in
       subst P (sym is) (all.0, refl, all.1)
 
-  pub unserved : (exchange new : Exchange) (told : List ℕ) → new ≡ record exchange { told = told; stage = Mute } → IsAllAnswered Begins Answers exchange
+  pub unserved : (exchange new : Exchange) (told : List ℕ) → new ≡ record exchange { told = told; stage = Mute }
+      → IsAllAnswered Begins Answers exchange
       → IsCutOff Begins Answers new
   unserved exchange new told is all =
       let P : Exchange → Type 0 = λ e. IsCutOff Begins Answers e in

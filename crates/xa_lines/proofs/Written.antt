@@ -1,5 +1,6 @@
 -- What was read, and what was written.
-use Rattle.std.proofs.Common.{◌≡◌, ℕ, ◌+◌, ◌-◌, ◌<◌, ◌≤◌, ◌∙◌, Option, Some, None, List, [], ◌++◌, append-nil, length, take, drop, arith, length-append, sym, subst}
+use Rattle.std.proofs.Common.{◌≡◌, ℕ, ◌+◌, ◌-◌, ◌<◌, ◌≤◌, ◌∙◌, Option, Some, None, List, [], ◌++◌, append-nil, length}
+use Rattle.std.proofs.Common.{take, drop, arith, length-append, sym, subst}
 use Rattle.std.proofs.lemmas.List.{length-take, take_rest}
 use Rattle.std.proofs.Math.Seq.{take-add}
 use Rattle.std.specs.Io.KnownBytes.{Appends, Keeps}
@@ -8,16 +9,20 @@ use Rattle.std.proofs.KnownBytes.{Appends-trans}
 -- one piece more is too much
 pub length-piece : (most : ℕ) (script piece : List ℕ) (count : ℕ) → most < length script + count → count ≤ length piece
     → most < length (script ++ take count piece)
-length-piece most script piece count long within = omega (arith, length-append script (take count piece), length-take count piece)
+length-piece most script piece count long within =
+    omega (arith, length-append script (take count piece), length-take count piece)
 
 -- more of the same bytes
-pub Appends-more : (first second third : Option (List ℕ)) (bytes : List ℕ) (written count : ℕ) → Appends first second (take written bytes)
-    → Appends second third (take count (take (length bytes - written) (drop written bytes))) → Appends first third (take (written + count) bytes)
+pub Appends-more : (first second third : Option (List ℕ)) (bytes : List ℕ) (written count : ℕ)
+    → Appends first second (take written bytes)
+    → Appends second third (take count (take (length bytes - written) (drop written bytes)))
+    → Appends first third (take (written + count) bytes)
 Appends-more first second third bytes written count before now =
     let P : List ℕ → Type 0 = λ piece. Appends second third (take count piece) in
     let rest = subst P (take_rest bytes written) now in
     let Q : List ℕ → Type 0 = λ piece. Appends first third piece in
-    subst Q (sym (take-add written count bytes)) (Appends-trans first second third (take written bytes) (take count (drop written bytes)) before rest)
+    subst Q (sym (take-add written count bytes)) (Appends-trans first second third (take written bytes)
+    (take count (drop written bytes)) before rest)
 
 kept_by_nothing : (old new : Option (List ℕ)) → Appends old new [] → Keeps old new
 kept_by_nothing None new taken = tt
@@ -25,7 +30,8 @@ kept_by_nothing (Some old) None taken = absurd taken
 kept_by_nothing (Some old) (Some new) taken = taken ∙ append-nil old
 
 -- what takes nothing leaves the bytes as they are
-pub Keeps-nothing : (old new : Option (List ℕ)) (count : ℕ) (bytes : List ℕ) → count ≡ 0 → Appends old new (take count bytes) → Keeps old new
+pub Keeps-nothing : (old new : Option (List ℕ)) (count : ℕ) (bytes : List ℕ) → count ≡ 0
+    → Appends old new (take count bytes) → Keeps old new
 Keeps-nothing old new count bytes none taken =
     let P : ℕ → Type 0 = λ n. Appends old new (take n bytes) in kept_by_nothing old new (subst P none taken)
 

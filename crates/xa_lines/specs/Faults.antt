@@ -2,7 +2,8 @@
 --     number_of_script_fault     why it ended early
 use Rattle.std.specs.Prelude.{ℕ}
 use Rattle.xa_lines.specs.declared.script_fault.ScriptFault.{ScriptFault}
-use Rattle.xa_lines.specs.declared.script_fault.ScriptFault.TheVariants.{Read, TooLong, Write, NoMemory, Full, GateShut, ThreadRefused}
+use Rattle.xa_lines.specs.declared.script_fault.ScriptFault.TheVariants.{Read, TooLong, Write, NoMemory, Full, GateShut}
+use Rattle.xa_lines.specs.declared.script_fault.ScriptFault.TheVariants.{ThreadRefused}
 
 -- those of the streams first, then those of a race (own rule)
 abbrev pub number_of_script_fault : ScriptFault → ℕ

@@ -14,3 +14,6 @@ pub mod Statements
 pub mod Recorded
 pub mod Listing
 pub mod Shown
+pub mod Objects
+pub mod Writing
+pub mod Uncommented

@@ -30,7 +30,8 @@ owner_text (Some session) = codes " SESSION " ++ decimal session
 
 -- a branch, with its phase and its owner
 abbrev pub branch_line : BranchEntry → List ℕ
-branch_line branch = codes "  BRANCH " ++ xid_text branch.xid ++ phase_text branch.phase ++ owner_text branch.owner ++ codes "\n"
+branch_line branch =
+    codes "  BRANCH " ++ xid_text branch.xid ++ phase_text branch.phase ++ owner_text branch.owner ++ codes "\n"
 
 -- how a branch holds a row
 abbrev pub hold_text : List ℕ → Hold → List ℕ

@@ -9,7 +9,8 @@ use Rattle.hex.specs.Hex.{encode_lower}
 use Rattle.xa_xid.specs.XidText.{part_text}
 use Rattle.xa_xid.specs.declared.xid.Xid.{Xid}
 use Rattle.xa_xid.specs.declared.statement.Statement.{Statement}
-use Rattle.xa_xid.specs.declared.statement.Statement.TheVariants.{Start, End, Prepare, Commit, Rollback, Recover, Unsupported, Get, Put, Del, Disconnect}
+use Rattle.xa_xid.specs.declared.statement.Statement.TheVariants.{Start, End, Prepare, Commit, Rollback, Recover}
+use Rattle.xa_xid.specs.declared.statement.Statement.TheVariants.{Unsupported, Get, Put, Del, Disconnect}
 use Rattle.xa_server.specs.declared.reply.Reply.{Reply}
 use Rattle.xa_server.specs.declared.reply.Reply.TheVariants.{Ok as Accepted, Value, Recovered, Refused}
 use Rattle.xa_server.specs.declared.xa_error.XaError.{XaError}
@@ -24,7 +25,8 @@ row_data true bytes = codes "0x" ++ encode_lower bytes
 -- formatID, the lengths of gtrid and bqual, and both as one (manual, XA RECOVER)
 abbrev pub row_text : Bool → Xid → List ℕ
 row_text convert xid =
-    decimal xid.format_id ++ codes " " ++ decimal (length xid.gtrid.items) ++ codes " " ++ decimal (length xid.bqual.items) ++ codes " "
+    decimal xid.format_id ++ codes " " ++ decimal (length xid.gtrid.items) ++ codes " "
+    ++ decimal (length xid.bqual.items) ++ codes " "
     ++ row_data convert (xid.gtrid.items ++ xid.bqual.items)
 
 -- each row on a line of its own, after what stands before it
@@ -34,7 +36,8 @@ rows_text convert (xid ∷ xids) = codes "\n" ++ row_text convert xid ++ rows_te
 
 -- its number, its SQLSTATE and its text (the form is the manual's)
 abbrev pub error_text : XaError → List ℕ
-error_text error = codes "ERROR " ++ decimal (number_of error) ++ codes " (" ++ sqlstate_of error ++ codes "): " ++ message_of error
+error_text error =
+    codes "ERROR " ++ decimal (number_of error) ++ codes " (" ++ sqlstate_of error ++ codes "): " ++ message_of error
 
 -- one line a reply (own rule)
 abbrev pub reply_text : Bool → Reply → List ℕ

@@ -1,11 +1,13 @@
 -- What a script is made of.
 --     lines_of        the lines of a script
 --     Line, line_of   what a line says;  what this line says
---     first_word, after_word, behind_word     a text up to its first blank;  from there on;  and from the first byte after that which isn't a blank
+--     first_word, after_word, behind_word     a text up to its first blank;  from there on;  and from the first byte
+--                                             after that which isn't a blank
 --     session_named   the session that a word names
 --     number_of_word  the number that a word is
 --     is_comment_line a line is a comment
-use Rattle.std.specs.Prelude.{ℕ, ◌+◌, ◌-◌, nat_le, ◌==◌, Bool, true, false, not, ◌&&◌, cond, if◌then◌else◌, Option, Some, None, Ok, Err, List, [], ◌∷◌, take, drop}
+use Rattle.std.specs.Prelude.{ℕ, ◌+◌, ◌-◌, nat_le, ◌==◌, Bool, true, false, not, ◌&&◌, cond, if◌then◌else◌, Option}
+use Rattle.std.specs.Prelude.{Some, None, Ok, Err, List, [], ◌∷◌, take, drop}
 use Rattle.std.specs.List.{prefix_len}
 use Rattle.xa_xid.specs.Bytes.{belongs, unblank}
 use Rattle.xa_xid.specs.Literal.{Reading}
@@ -57,7 +59,8 @@ whole_number (Ok (number, byte ∷ rest)) = None
 unfoldable pub number_of_word : List ℕ → Option ℕ
 number_of_word [] = None
 number_of_word (first ∷ []) = whole_number (number_ahead (first ∷ []))
-number_of_word (first ∷ second ∷ rest) = if first == 48 then None else whole_number (number_ahead (first ∷ second ∷ rest))
+number_of_word (first ∷ second ∷ rest) =
+    if first == 48 then None else whole_number (number_ahead (first ∷ second ∷ rest))
 
 abbrev pub begins_comment : List ℕ → Bool
 begins_comment [] = false

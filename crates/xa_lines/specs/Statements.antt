@@ -6,7 +6,8 @@
 --     IsAnswerTo, IsLineAnswer    how it may answer what is said, and a line
 --     IsToldAll, AfterFaultOfStatements   what is told to a client that ends, and what a fault leaves
 --     served_text     the answers to lines, where it is known for which memory was refused
-use Rattle.std.specs.Prelude.{◌≡◌, ◌⊎◌, ◌≤◌, ℕ, ◌-◌, ◌^◌, Bool, true, false, Result, Ok, Err, List, [], ◌∷◌, ◌++◌, length, codes, decimal}
+use Rattle.std.specs.Prelude.{◌≡◌, ◌⊎◌, ◌≤◌, ℕ, ◌-◌, ◌^◌, Bool, true, false, Result, Ok, Err, List, [], ◌∷◌, ◌++◌}
+use Rattle.std.specs.Prelude.{length, codes, decimal}
 use Rattle.xa_xid.specs.declared.statement.Statement.{Statement}
 use Rattle.xa_statement.specs.Reading.{read_of}
 use Rattle.xa_server.specs.State.{State, no_state}
@@ -15,7 +16,8 @@ use Rattle.xa_lines.specs.Script.{Line, Blank, Bad, Given, line_of, lines_of}
 use Rattle.xa_lines.specs.Printed.{answer_text}
 use Rattle.xa_lines.specs.Transcript.{answer_of, answer_to, state_after_line, state_then}
 use Rattle.xa_lines.specs.declared.script_fault.ScriptFault.{ScriptFault}
-use Rattle.xa_lines.specs.declared.script_fault.ScriptFault.TheVariants.{Read, TooLong as ScriptTooLong, Write, NoMemory, Full, GateShut, ThreadRefused}
+use Rattle.xa_lines.specs.declared.script_fault.ScriptFault.TheVariants.{Read, TooLong as ScriptTooLong, Write}
+use Rattle.xa_lines.specs.declared.script_fault.ScriptFault.TheVariants.{NoMemory, Full, GateShut, ThreadRefused}
 use Rattle.xa_lines.specs.Received.{Received, Whole, TooLong, received_line, IsCutIntoLines}
 use Rattle.xa_lines.specs.Exchange.{Exchange, IsFresh}
 use Rattle.xa_lines.specs.declared.stage.Stage.TheVariants.{Ended, Deaf, Mute}
@@ -26,7 +28,8 @@ abbrev pub said : Received → Line
 said (Whole line) = line_of line
 said TooLong = Bad
 
--- the answer where memory is refused for a session's statement (number and SQLSTATE are the manual's, ER_OUTOFMEMORY; that it is answered so is our own)
+-- the answer where memory is refused for a session's statement (number and SQLSTATE are the manual's, ER_OUTOFMEMORY;
+-- that it is answered so is our own)
 abbrev pub refused_text : ℕ → List ℕ
 refused_text session = answer_text (decimal session) (codes "ERROR 1037 (HY001): out of memory")
 
@@ -34,7 +37,8 @@ refused_text session = answer_text (decimal session) (codes "ERROR 1037 (HY001):
 abbrev pub HoldsNothing : State → Type 0
 HoldsNothing state = state ≡ no_state
 
--- memory may be refused for a statement that makes a record or a list, and for no text that isn't a statement (own rule)
+-- memory may be refused for a statement that makes a record or a list, and for no text that isn't a statement (own
+-- rule)
 abbrev pub MayBeRefused : State → ℕ → Result Statement ℕ → Type 0
 MayBeRefused state session (Ok statement) = may_take_memory state session statement ≡ true
 MayBeRefused state session (Err place) = ⊥
@@ -43,7 +47,8 @@ MayBeRefused state session (Err place) = ⊥
 abbrev pub IsRefusal : State → Line → List ℕ → Type 0
 IsRefusal state Blank text = ⊥
 IsRefusal state Bad text = ⊥
-IsRefusal state (Given session statement) text = (text ≡ refused_text session) × MayBeRefused state session (read_of statement)
+IsRefusal state (Given session statement) text =
+    (text ≡ refused_text session) × MayBeRefused state session (read_of statement)
 
 -- a session's statement, read or not, is answered as in a script; or memory is refused for it, and nothing changes
 abbrev pub IsStatementAnswer : State → ℕ → Result Statement ℕ → List ℕ → State → Type 0
@@ -53,7 +58,8 @@ IsStatementAnswer old session read text new =
 
 -- what is said is answered as a script's line is; or memory is refused for its statement, and nothing changes
 abbrev pub IsAnswerTo : State → Line → List ℕ → State → Type 0
-IsAnswerTo old line text new = ((text ≡ answer_of old line) × (new ≡ state_after_line old line)) ⊎ (IsRefusal old line text × (new ≡ old))
+IsAnswerTo old line text new =
+    ((text ≡ answer_of old line) × (new ≡ state_after_line old line)) ⊎ (IsRefusal old line text × (new ≡ old))
 
 -- so is a line
 abbrev pub IsLineAnswer : State → Received → List ℕ → State → Type 0
@@ -89,9 +95,11 @@ served_text marks state (line ∷ lines) =
     text_of (next_mark marks) state (said (received_line line))
     ++ served_text (later_marks marks) (state_of (next_mark marks) state (said (received_line line))) lines
 
--- nothing more is to be received; what was told are the answers to all lines, for some of whose statements memory was refused
+-- nothing more is to be received; what was told are the answers to all lines, for some of whose statements memory was
+-- refused
 abbrev pub IsToldAll : Exchange → Type 0
-IsToldAll exchange = (exchange.stage ≡ Ended) × ((marks : List Bool) × (exchange.told ≡ served_text marks no_state (lines_of exchange.received)))
+IsToldAll exchange = (exchange.stage ≡ Ended) × ((marks : List Bool)
+    × (exchange.told ≡ served_text marks no_state (lines_of exchange.received)))
 
 -- the text answers the whole lines of what was received
 pub record IsToldSoFar (received text : List ℕ) : Type 0 where
@@ -107,10 +115,12 @@ pub record IsToldInPart (received text : List ℕ) : Type 0 where
   pub unsaid : List ℕ
   pub whole : served_text marks no_state (lines_of received) ≡ text ++ unsaid
 
--- what a fault leaves: after a read fault all whole lines are answered, and the client is deaf, or gave more reads than are
--- counted; a write fault comes only where a write or a flush failed, and the answers are begun; without memory nothing has passed
+-- what a fault leaves: after a read fault all whole lines are answered, and the client is deaf, or gave more reads than
+-- are counted; a write fault comes only where a write or a flush failed, and the answers are begun; without memory
+-- nothing has passed
 abbrev pub AfterFaultOfStatements : ScriptFault → Exchange → Type 0
-AfterFaultOfStatements Read exchange = IsToldSoFar exchange.received exchange.told × ((exchange.stage ≡ Deaf) ⊎ (2 ^ 64 - 1 ≤ length exchange.received))
+AfterFaultOfStatements Read exchange =
+    IsToldSoFar exchange.received exchange.told × ((exchange.stage ≡ Deaf) ⊎ (2 ^ 64 - 1 ≤ length exchange.received))
 AfterFaultOfStatements Write exchange = IsToldInPart exchange.received exchange.given × (exchange.stage ≡ Mute)
 AfterFaultOfStatements NoMemory exchange = IsFresh exchange
 AfterFaultOfStatements ScriptTooLong exchange = ⊥

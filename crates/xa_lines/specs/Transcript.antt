@@ -6,23 +6,27 @@
 --     AppendsPrefix, AfterFault      what a fault leaves in the writer
 --     ConsumesMoreThan               how long a script is too long
 --     StopsAnswering, StopsRun       why the writing of answers, and a run, ended early
-use Rattle.std.specs.Prelude.{◌≡◌, ◌⊎◌, ℕ, ◌<◌, Option, List, [], ◌∷◌, ◌++◌, length, take, codes, decimal, IfSome, Result, Ok, Err}
+use Rattle.std.specs.Prelude.{◌≡◌, ◌⊎◌, ℕ, ◌<◌, Option, List, [], ◌∷◌, ◌++◌, length, take, codes, decimal, IfSome}
+use Rattle.std.specs.Prelude.{Result, Ok, Err}
 use Rattle.std.specs.Io.KnownBytes.{Keeps, Appends, Consumes}
 use Rattle.xa_xid.specs.declared.statement.Statement.{Statement}
 use Rattle.xa_server.specs.State.{State, no_state}
 use Rattle.xa_server.specs.Replies.{reply_to}
 use Rattle.xa_server.specs.Step.{after}
 use Rattle.xa_lines.specs.declared.script_fault.ScriptFault.{ScriptFault}
-use Rattle.xa_lines.specs.declared.script_fault.ScriptFault.TheVariants.{Read, TooLong, Write, NoMemory, Full, GateShut, ThreadRefused}
+use Rattle.xa_lines.specs.declared.script_fault.ScriptFault.TheVariants.{Read, TooLong, Write, NoMemory, Full, GateShut}
+use Rattle.xa_lines.specs.declared.script_fault.ScriptFault.TheVariants.{ThreadRefused}
 use Rattle.xa_lines.specs.Calls.{HasReadAll, StopsReading, IsWrittenBut, StopsWriting}
 use Rattle.xa_lines.specs.Limits.{script_bytes, script_reads}
 use Rattle.xa_lines.specs.Script.{Line, Blank, Bad, Given, line_of, lines_of}
 use Rattle.xa_lines.specs.Printed.{reply_text, syntax_text, converts, answer_text}
 use Rattle.xa_statement.specs.Reading.{read_of}
 
--- what is written for a session's statement, read or not; that `read_of` reads by the grammar is `xa_statement::laws::reading_is_the_grammar`
+-- what is written for a session's statement, read or not; that `read_of` reads by the grammar is
+-- `xa_statement::laws::reading_is_the_grammar`
 abbrev pub answer_to : State → ℕ → Result Statement ℕ → List ℕ
-answer_to state session (Ok statement) = answer_text (decimal session) (reply_text (converts statement) (reply_to state session statement))
+answer_to state session (Ok statement) =
+    answer_text (decimal session) (reply_text (converts statement) (reply_to state session statement))
 answer_to state session (Err place) = answer_text (decimal session) (syntax_text place)
 
 -- a statement that isn't read changes nothing
@@ -67,8 +71,8 @@ IsOfReading fault = (fault ≡ Read) ⊎ (fault ≡ TooLong) ⊎ (fault ≡ NoMe
 abbrev pub IsOfRun : ScriptFault → Type 0
 IsOfRun fault = (fault ≡ Write) ⊎ (fault ≡ NoMemory)
 
--- what a fault leaves in the writer, by the fault: nothing where the script wasn't read, else a prefix of its transcript; a run
--- has no fault of a race
+-- what a fault leaves in the writer, by the fault: nothing where the script wasn't read, else a prefix of its
+-- transcript; a run has no fault of a race
 abbrev pub AfterFault : ScriptFault → Option (List ℕ) → Option (List ℕ) → Option (List ℕ) → Type 0
 AfterFault Read input old new = Keeps old new
 AfterFault TooLong input old new = Keeps old new
@@ -79,7 +83,8 @@ AfterFault GateShut input old new = ⊥
 AfterFault ThreadRefused input old new = ⊥
 
 -- why not all answers were written: a write failed; or memory was refused, and none had
-abbrev pub StopsAnswering : {W : Type 0} → (W → List ℕ → W → Type 0) → (W → W → Type 0) → ScriptFault → W → List ℕ → W → Type 0
+abbrev pub StopsAnswering : {W : Type 0} → (W → List ℕ → W → Type 0) → (W → W → Type 0) → ScriptFault → W → List ℕ → W
+    → Type 0
 StopsAnswering takes refuses Read old whole new = ⊥
 StopsAnswering takes refuses TooLong old whole new = ⊥
 StopsAnswering takes refuses Write old whole new = StopsWriting takes refuses old whole new
@@ -89,11 +94,13 @@ StopsAnswering takes refuses GateShut old whole new = ⊥
 StopsAnswering takes refuses ThreadRefused old whole new = ⊥
 
 -- why a run ended early: the script wasn't read, and the writer not called; or it was, and not all answers were written
-abbrev pub StopsRun : {R W : Type 0} → (R → List ℕ → R → Type 0) → (R → R → Type 0) → (W → List ℕ → W → Type 0) → (W → W → Type 0) → ScriptFault → (old new : R)
+abbrev pub StopsRun : {R W : Type 0} → (R → List ℕ → R → Type 0) → (R → R → Type 0) → (W → List ℕ → W → Type 0)
+    → (W → W → Type 0) → ScriptFault → (old new : R)
     → (before after : W) → Type 0
 StopsRun gives fails takes refuses fault old new before after =
     (StopsReading gives fails script_reads script_bytes fault old new × (after ≡ before))
-    ⊎ ((script : List ℕ) × HasReadAll gives script_reads old script new × StopsAnswering takes refuses fault before (transcript script) after)
+    ⊎ ((script : List ℕ) × HasReadAll gives script_reads old script new
+    × StopsAnswering takes refuses fault before (transcript script) after)
 
 -- the writer got the whole but for what is left of it
 pub record IsWrittenUpTo (old new : Option (List ℕ)) (whole left : List ℕ) : Type 0 where

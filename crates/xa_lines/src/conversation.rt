@@ -61,11 +61,13 @@ fn take_byte<S: LineServer, P: Client<S>>(
     ensures more { OnOk result (IfSome (P.exchange client.new) CanBeTold) }
     ensures ok { OnOk result
         ((reads : ℕ) (waiting : List ℕ)
-        → UnderWay S.begins S.answers Stage.Open reads (P.exchange client.old) (byte ∷ waiting) (held_by line.old) server.old
+        → UnderWay S.begins S.answers Stage.Open reads (P.exchange client.old) (byte ∷ waiting)
+        (held_by line.old) server.old
         → UnderWay S.begins S.answers Stage.Open reads (P.exchange client.new) waiting (held_by line.new) server.new) }
     ensures err { OnErr result
         ((reads : ℕ) (waiting : List ℕ)
-        → UnderWay S.begins S.answers Stage.Open reads (P.exchange client.old) (byte ∷ waiting) (held_by line.old) server.old
+        → UnderWay S.begins S.answers Stage.Open reads (P.exchange client.old) (byte ∷ waiting)
+        (held_by line.old) server.old
         → IfSome (P.exchange client.new) (IsCutOff S.begins S.answers)) }
     ensures fault { IfErr result (λ fault. fault ≡ ScriptFault.Write) }
 {

@@ -1,5 +1,6 @@
 //! A reader for tests.
-ghost use Rattle.std.specs.Prelude.{◌≡◌, ◌||◌, ◌<◌, ◌≤◌, ◌-◌, ◌+◌, ◌^◌, min, ◌↔◌, false, true, length, Some, IsTrue, IsErr, IfOk, OnErr, OnOk};
+ghost use Rattle.std.specs.Prelude.{◌≡◌, ◌||◌, ◌<◌, ◌≤◌, ◌-◌, ◌+◌, ◌^◌, min, ◌↔◌, false, true, length, Some, IsTrue};
+ghost use Rattle.std.specs.Prelude.{IsErr, IfOk, OnErr, OnOk};
 ghost use Rattle.std.specs.Io.{ReadsAtMost};
 ghost use Rattle.std.specs.Io.KnownBytes.{ReadConsumes};
 
@@ -92,20 +93,23 @@ impl<'a> CutReader<'a> {
 }
 
 impl<'a> Read for CutReader<'a> {
-    ghost use Rattle.xa_lines.specs.Cut.{left_in, piece_of, reads_left_in, goes_on_behind, has_faulted, reads_after, faults_next};
+    ghost use Rattle.xa_lines.specs.Cut.{left_in, piece_of, reads_left_in, goes_on_behind, has_faulted, reads_after};
+    ghost use Rattle.xa_lines.specs.Cut.{faults_next};
 
     ghost remaining = { λ reader. Some (left_in reader) };
 
     fn read(&mut self, buf: &mut [u8]) -> io::Result<usize>
         ensures bound { ReadsAtMost result buf.new }
         ensures bytes { ReadConsumes (Some (left_in self.old)) (Some (left_in self.new)) result buf.new }
-        ensures piece { IfOk result (λ count. count ≡ min (min (length (left_in self.old)) (length buf.new)) (piece_of self.old)) }
+        ensures piece { IfOk result (λ count. count ≡ min (min (length (left_in self.old)) (length buf.new))
+            (piece_of self.old)) }
         ensures fault { IsErr result ↔ IsTrue (faults_next self.old) }
         ensures reads { reads_left_in self.new ≡ reads_left_in self.old - 1 }
         ensures kept { (piece_of self.new ≡ piece_of self.old) × (goes_on_behind self.new ≡ goes_on_behind self.old) }
         ensures faulted { has_faulted self.new ≡ (has_faulted self.old || faults_next self.old) }
         ensures after { has_faulted self.old ≡ false → reads_after self.new ≡ reads_after self.old }
-        ensures more { IsTrue (has_faulted self.old) → reads_after self.new ≡ min (reads_after self.old + 1) (2 ^ 64 - 1) }
+        ensures more { IsTrue (has_faulted self.old) → reads_after self.new
+            ≡ min (reads_after self.old + 1) (2 ^ 64 - 1) }
     {
         if self.faulted {
             self.after = self.after.saturating_add(1);

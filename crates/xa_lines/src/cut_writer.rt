@@ -1,5 +1,6 @@
 //! A writer for tests.
-ghost use Rattle.std.specs.Prelude.{◌≡◌, ◌||◌, ◌<◌, ◌≤◌, ◌-◌, ◌+◌, ◌^◌, min, false, true, [], length, Some, Ok, IsTrue, IfOk, IsErr, OnErr, OnOk};
+ghost use Rattle.std.specs.Prelude.{◌≡◌, ◌||◌, ◌<◌, ◌≤◌, ◌-◌, ◌+◌, ◌^◌, min, false, true, [], length, Some, Ok, IsTrue};
+ghost use Rattle.std.specs.Prelude.{IfOk, IsErr, OnErr, OnOk};
 ghost use Rattle.std.specs.Io.{WritesAtMost};
 ghost use Rattle.std.specs.Io.KnownBytes.{WriteAppends};
 
@@ -93,20 +94,24 @@ impl CutWriter {
 }
 
 impl Write for CutWriter {
-    ghost use Rattle.xa_lines.specs.Cut.{taken_by, piece_into, room_in, goes_on_writing, has_refused, writes_after, refuses_next, takes_next};
+    ghost use Rattle.xa_lines.specs.Cut.{taken_by, piece_into, room_in, goes_on_writing, has_refused, writes_after};
+    ghost use Rattle.xa_lines.specs.Cut.{refuses_next, takes_next};
 
     ghost contents = { λ writer. Some (taken_by writer) };
 
     fn write(&mut self, buf: &[u8]) -> io::Result<usize>
         ensures bound { WritesAtMost result buf.now }
         ensures bytes { WriteAppends (Some (taken_by self.old)) (Some (taken_by self.new)) result buf.now }
-        ensures piece { IfOk result (λ count. count ≡ min (min (length buf.now) (piece_into self.old)) (takes_next self.old (length buf.now))) }
+        ensures piece { IfOk result (λ count. count ≡ min (min (length buf.now) (piece_into self.old))
+            (takes_next self.old (length buf.now))) }
         ensures room { IfOk result (λ count. room_in self.new ≡ room_in self.old - count) }
         ensures refused { IsTrue (refuses_next self.old) → IsErr result }
-        ensures kept { (piece_into self.new ≡ piece_into self.old) × (goes_on_writing self.new ≡ goes_on_writing self.old) }
+        ensures kept { (piece_into self.new ≡ piece_into self.old)
+            × (goes_on_writing self.new ≡ goes_on_writing self.old) }
         ensures faulted { has_refused self.new ≡ (has_refused self.old || refuses_next self.old) }
         ensures after { has_refused self.old ≡ false → writes_after self.new ≡ writes_after self.old }
-        ensures more { IsTrue (has_refused self.old) → writes_after self.new ≡ min (writes_after self.old + 1) (2 ^ 64 - 1) }
+        ensures more { IsTrue (has_refused self.old) → writes_after self.new
+            ≡ min (writes_after self.old + 1) (2 ^ 64 - 1) }
     {
         if self.faulted {
             self.after = self.after.saturating_add(1);

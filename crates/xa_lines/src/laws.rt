@@ -12,5 +12,6 @@ ghost use Rattle.xa_lines.specs.Statements.{IsShort, served_text};
 pub fn what_is_served_is_the_transcript()
     // Proved (scripts, served-is-the-transcript): If no statement is answered out of memory, and no line is
     //   too long, what is served is the transcript of a run, byte by byte.
-    ensures { (received : List ℕ) → All IsShort (lines_of received) → served_text [] no_state (lines_of received) ≡ transcript received }
+    ensures { (received : List ℕ) → All IsShort (lines_of received)
+        → served_text [] no_state (lines_of received) ≡ transcript received }
 {}

@@ -3,7 +3,8 @@ ghost use Rattle.std.specs.Prelude.{◌≡◌, ◌++◌, IfOk, codes};
 ghost use Rattle.std.specs.List.{flat_map};
 ghost use Rattle.xa_xid.specs.XidText.{part_text};
 ghost use Rattle.xa_server.specs.Overview.{branches_of};
-ghost use Rattle.xa_lines.specs.Listing.{phase_text, owner_text, branch_line, hold_text, hold_line, branch_lines, value_text, row_line, listing};
+ghost use Rattle.xa_lines.specs.Listing.{phase_text, owner_text, branch_line, hold_text, hold_line, branch_lines};
+ghost use Rattle.xa_lines.specs.Listing.{value_text, row_line, listing};
 
 use crate::push_number;
 use std::alloc::Global;

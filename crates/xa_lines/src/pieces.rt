@@ -22,7 +22,8 @@ pub trait PieceReader: Read {
     fn read_piece(&mut self, piece: &mut [u8]) -> io::Result<usize>
         ensures bound { ReadsAtMost result piece.new }
         ensures bytes { ReadConsumes (Self.remaining self.old) (Self.remaining self.new) result piece.new }
-        ensures told { MatchResult result (λ count. gives self.old (take count piece.new) self.new) (λ _. fails self.old self.new) };
+        ensures told { MatchResult result (λ count. gives self.old (take count piece.new) self.new)
+            (λ _. fails self.old self.new) };
 }
 
 impl<R: Read> PieceReader for R {
@@ -51,7 +52,8 @@ pub trait PieceWriter: Write {
     fn write_piece(&mut self, bytes: &[u8]) -> io::Result<usize>
         ensures bound { WritesAtMost result bytes.now }
         ensures bytes { WriteAppends (Self.contents self.old) (Self.contents self.new) result bytes.now }
-        ensures told { MatchResult result (λ count. takes self.old (take count bytes.now) self.new) (λ _. refuses self.old self.new) };
+        ensures told { MatchResult result (λ count. takes self.old (take count bytes.now) self.new)
+            (λ _. refuses self.old self.new) };
 }
 
 impl<W: Write> PieceWriter for W {

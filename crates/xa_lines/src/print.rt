@@ -49,7 +49,8 @@ fn push_row_data(
     convert: bool,
     xid: &Xid,
 ) -> Result<(), NoMemory>
-    ensures { OnOk result (text.new.items ≡ text.old.items ++ row_data convert (xid.now.gtrid.items ++ xid.now.bqual.items)) }
+    ensures { OnOk result (text.new.items ≡ text.old.items
+        ++ row_data convert (xid.now.gtrid.items ++ xid.now.bqual.items)) }
 {
     let mut bytes = Vec::from_slice(alloc, xid.gtrid.as_slice())?;
     bytes.extend_from_slice(xid.bqual.as_slice())?;

@@ -2,7 +2,8 @@
 ghost use Rattle.std.specs.Prelude.{◌≡◌, ◌+◌, ◌<◌, ◌≤◌, false, length, Some, IfOk, IsErr, OnOk};
 ghost use Rattle.std.specs.Io.{ReadsAtMost};
 ghost use Rattle.std.specs.Io.KnownBytes.{ReadConsumes};
-ghost use Rattle.xa_lines.specs.Cut.{left_in, piece_of, reads_left_in, goes_on_behind, taken_by, room_in, goes_on_writing};
+ghost use Rattle.xa_lines.specs.Cut.{left_in, piece_of, reads_left_in, goes_on_behind, taken_by, room_in};
+ghost use Rattle.xa_lines.specs.Cut.{goes_on_writing};
 
 use crate::{Client, CutReader, CutWriter, LineServer, Stage};
 use std::alloc::Global;
@@ -89,7 +90,8 @@ impl<'a, S: LineServer> Client<S> for Recorded<'a> {
         requires open { self.old.stage ≡ Stage.Open }
         ensures bound { ReadsAtMost result piece.new }
         ensures received { Receives (Some (exchange_of self.old)) (Some (exchange_of self.new)) result piece.new }
-        ensures bytes { ReadConsumes (Some (left_in self.old.reader)) (Some (left_in self.new.reader)) result piece.new }
+        ensures bytes { ReadConsumes (Some (left_in self.old.reader))
+            (Some (left_in self.new.reader)) result piece.new }
         ensures piece { IfOk result (λ count. count ≤ piece_of self.old.reader) }
         ensures reads { OnOk result (reads_left_in self.old.reader ≡ reads_left_in self.new.reader + 1) }
         ensures deaf { reads_left_in self.old.reader ≡ 0 → IsErr result }

@@ -1,9 +1,11 @@
 //! Runs a script.
-ghost use Rattle.std.specs.Prelude.{◌≡◌, ◌≤◌, ◌<◌, ◌++◌, ℕ, List, length, take, vec_len, IfOk, IfErr, OnOk, OnErr, IfSome, ◌≢◌, Err};
+ghost use Rattle.std.specs.Prelude.{◌≡◌, ◌≤◌, ◌<◌, ◌++◌, ℕ, List, length, take, vec_len, IfOk, IfErr, OnOk, OnErr};
+ghost use Rattle.std.specs.Prelude.{IfSome, ◌≢◌, Err};
 ghost use Rattle.std.specs.Io.KnownBytes.{Appends, Consumes, IsAtEnd, Keeps};
 ghost use Rattle.xa_lines.specs.Calls.{HasReadAll, StopsReading, HasWritten};
 ghost use Rattle.xa_lines.specs.Limits.{script_bytes, script_reads};
-ghost use Rattle.xa_lines.specs.Transcript.{AppendsPrefix, ConsumesMoreThan, AfterFault, IsOfRun, IsOfReading, StopsAnswering, StopsRun, transcript};
+ghost use Rattle.xa_lines.specs.Transcript.{AppendsPrefix, ConsumesMoreThan, AfterFault, IsOfRun, IsOfReading};
+ghost use Rattle.xa_lines.specs.Transcript.{StopsAnswering, StopsRun, transcript};
 
 use crate::line_answer::put_line;
 use crate::lines::split_line;
@@ -21,9 +23,11 @@ fn run_lines<W: PieceWriter>(
 ) -> Result<(), ScriptFault>
     ensures all { OnOk result (Appends (W.contents writer.old) (W.contents writer.new) (transcript script.now)) }
     ensures fault { IfErr result IsOfRun }
-    ensures prefix { OnErr result (AppendsPrefix (W.contents writer.old) (W.contents writer.new) (transcript script.now)) }
+    ensures prefix { OnErr result (AppendsPrefix (W.contents writer.old) (W.contents writer.new)
+        (transcript script.now)) }
     ensures calls { OnOk result (HasWritten W.takes writer.old (transcript script.now) writer.new) }
-    ensures cause { IfErr result (λ fault. StopsAnswering W.takes W.refuses fault writer.old (transcript script.now) writer.new) }
+    ensures cause { IfErr result (λ fault. StopsAnswering W.takes W.refuses fault writer.old
+        (transcript script.now) writer.new) }
 {
     let mut server = Server::new(alloc);
     let mut answer = Vec::new(alloc);
@@ -57,16 +61,19 @@ pub fn run_script<R: PieceReader, W: PieceWriter>(
     //   was written: the answers, line by line, of a server that was empty at first.
     ensures read { OnOk result (IsAtEnd (R.remaining reader.new)) }
     // Proved (scripts, run-writes-the-transcript)
-    ensures written { OnOk result (IfSome (R.remaining reader.old) (λ script. Appends (W.contents writer.old) (W.contents writer.new) (transcript script))) }
+    ensures written { OnOk result (IfSome (R.remaining reader.old)
+        (λ script. Appends (W.contents writer.old) (W.contents writer.new) (transcript script))) }
     // Proved (scripts, run-length): `TooLong` is returned only if more than 1,048,576 bytes were read, and a
     //   script that was run has no more.
     ensures short { OnOk result (IfSome (R.remaining reader.old) (λ script. length script ≤ script_bytes)) }
 
     // Proved (scripts, run-after-faults): After `Write` and `NoMemory` a prefix of the transcript was
     //   written, after `Read` and `TooLong` nothing.
-    ensures fault { IfErr result (λ fault. AfterFault fault (R.remaining reader.old) (W.contents writer.old) (W.contents writer.new)) }
+    ensures fault { IfErr result (λ fault. AfterFault fault (R.remaining reader.old) (W.contents writer.old)
+        (W.contents writer.new)) }
     // Proved (scripts, run-length)
-    ensures too_long { result ≡ Err ScriptFault.TooLong → ConsumesMoreThan script_bytes (R.remaining reader.old) (R.remaining reader.new) }
+    ensures too_long { result ≡ Err ScriptFault.TooLong → ConsumesMoreThan script_bytes (R.remaining reader.old)
+        (R.remaining reader.new) }
 
     // For any reader and writer, whether their bytes are known or not.
     // Proved (scripts, run-fault-causes): A run that returns `Ok` made only calls that succeeded. `Read` is

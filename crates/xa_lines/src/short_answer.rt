@@ -42,7 +42,8 @@ pub(crate) fn refusal(session: SessionNo) -> Answer
 
 /// Returns the answer to a session's statement, or the one that says that memory was refused for it.
 pub(crate) fn answer_or_refusal(session: SessionNo, answer: Result<Vec<u8>, NoMemory>) -> Answer
-    ensures bytes { MatchResult answer (λ text. bytes_of result ≡ text.items) (λ _. bytes_of result ≡ refused_text session) }
+    ensures bytes { MatchResult answer (λ text. bytes_of result ≡ text.items)
+        (λ _. bytes_of result ≡ refused_text session) }
     ensures room { IfOk answer (λ text. vec_len text + 16 ≤ vec_capacity text) → HasRoom 16 result }
 {
     match answer {

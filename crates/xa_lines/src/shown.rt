@@ -66,7 +66,8 @@ fn listed(
 /// refused for it.
 fn with_shown(alloc: Global, answer: Answer, server: &Server, keys: &[Key]) -> Answer
     requires { HasRoom 16 answer }
-    ensures { (bytes_of result ≡ bytes_of answer ++ listing server.now keys.now) ⊎ (bytes_of result ≡ bytes_of answer ++ unshown_text) }
+    ensures { (bytes_of result ≡ bytes_of answer ++ listing server.now keys.now)
+        ⊎ (bytes_of result ≡ bytes_of answer ++ unshown_text) }
 {
     match listed(alloc, &answer, server, keys) {
         Ok(text) => Answer::Text(text),

@@ -78,7 +78,8 @@ pub fn read_within<R: PieceReader>(
     ensures end { OnOk result (IsAtEnd (R.remaining reader.new)) }
     ensures short { IfOk result (λ text. vec_len text ≤ most) }
     ensures fault { IfErr result IsOfReading }
-    ensures too_long { result ≡ Err ScriptFault.TooLong → ConsumesMoreThan most (R.remaining reader.old) (R.remaining reader.new) }
+    ensures too_long { result ≡ Err ScriptFault.TooLong → ConsumesMoreThan most (R.remaining reader.old)
+        (R.remaining reader.new) }
     // Proved (scripts, run-fault-causes)
     ensures calls { IfOk result (λ text. HasReadAll R.gives reads reader.old text.items reader.new) }
     // Proved (scripts, run-fault-causes)
@@ -110,7 +111,8 @@ pub fn read_all<R: PieceReader>(alloc: Global, reader: &mut R) -> Result<Vec<u8>
     ensures end { OnOk result (IsAtEnd (R.remaining reader.new)) }
     ensures short { IfOk result (λ script. vec_len script ≤ script_bytes) }
     ensures fault { IfErr result IsOfReading }
-    ensures too_long { result ≡ Err ScriptFault.TooLong → ConsumesMoreThan script_bytes (R.remaining reader.old) (R.remaining reader.new) }
+    ensures too_long { result ≡ Err ScriptFault.TooLong → ConsumesMoreThan script_bytes (R.remaining reader.old)
+        (R.remaining reader.new) }
     ensures calls { IfOk result (λ script. HasReadAll R.gives script_reads reader.old script.items reader.new) }
     ensures cause { IfErr result (λ fault. StopsReading R.gives R.fails script_reads script_bytes fault reader.old reader.new) }
 {

@@ -85,16 +85,19 @@ impl<S: LineServer, R: PieceReader + Drop, W: Write + Drop> Client<S> for Transp
     }
 
     fn tell(&mut self, text: &[u8]) -> io::Result<()>
-        ensures bytes { OnOk result (Appends (writer_contents W.contents self.old.writer) (writer_contents W.contents self.new.writer) text.now) }
+        ensures bytes { OnOk result (Appends (writer_contents W.contents self.old.writer)
+            (writer_contents W.contents self.new.writer) text.now) }
         ensures prefix { OnErr result
-            (AppendsPrefix (writer_contents W.contents self.old.writer) (writer_contents W.contents self.new.writer) text.now) }
+            (AppendsPrefix (writer_contents W.contents self.old.writer)
+            (writer_contents W.contents self.new.writer) text.now) }
         ensures reader { self.new.reader ≡ self.old.reader }
     {
         give(&mut self.writer, text)
     }
 
     fn flush(&mut self) -> io::Result<()>
-        ensures bytes { Keeps (writer_contents W.contents self.old.writer) (writer_contents W.contents self.new.writer) }
+        ensures bytes { Keeps (writer_contents W.contents self.old.writer)
+            (writer_contents W.contents self.new.writer) }
         ensures flushed { OnOk result (writer_buffer self.new.writer ≡ []) }
         ensures reader { self.new.reader ≡ self.old.reader }
     {

@@ -1,5 +1,6 @@
 -- A manager whose sessions hold the other clients' beside them: its calls leave those alone, but for AT and SHOW.
-use Rattle.std.proofs.Common.{◌≡◌, ◌∙◌, ◌+◌, ℕ, zero, suc, List, [], ◌∷◌, ◌++◌, length, map, get_or, refl, ap, sym, subst, Result, Ok, Err, Some, inl, inr, ⊎_elim, arith}
+use Rattle.std.proofs.Common.{◌≡◌, ◌∙◌, ◌+◌, ℕ, zero, suc, List, [], ◌∷◌, ◌++◌, length, map, get_or, refl, ap, sym}
+use Rattle.std.proofs.Common.{subst, Result, Ok, Err, Some, inl, inr, ⊎_elim, arith}
 use Rattle.std.specs.Prelude.{◌⊎◌, true, slice_get, IfOk}
 use Rattle.xa_xid.specs.declared.statement.Statement.{Statement}
 use Rattle.xa_xid.specs.declared.statement.Statement.TheVariants.{Recover as RecoverStatement}
@@ -13,7 +14,8 @@ use Rattle.xa_coordinator.specs.declared.decisions.Decision.{Decision}
 use Rattle.xa_coordinator.specs.declared.fused.Fused.{Fused}
 use Rattle.xa_coordinator.proofs.Walk.{Reached, reached_next, reached_weaker, at_then, at_same, only_at}
 use Rattle.xa_manager.specs.declared.call.Call.{Call}
-use Rattle.xa_manager.specs.declared.call.Call.TheVariants.{Silent, Unread, Begin, Work, Prepare, Decide, Finish, Abandon, Fail, Stop, Recover, At, Show}
+use Rattle.xa_manager.specs.declared.call.Call.TheVariants.{Silent, Unread, Begin, Work, Prepare, Decide, Finish}
+use Rattle.xa_manager.specs.declared.call.Call.TheVariants.{Abandon, Fail, Stop, Recover, At, Show}
 use Rattle.xa_manager.specs.declared.response.Response.{Response}
 use Rattle.xa_manager.specs.declared.stage.Stage.{Stage}
 use Rattle.xa_manager.specs.Beside.{within, others_of, LeavesAlone, CarriesBeside, PerformsBeside}
@@ -23,8 +25,10 @@ use Rattle.xa_manager.specs.Whole.{Performs}
 use Rattle.xa_manager.proofs.Passes.{map_within}
 use Rattle.xa_manager.proofs.Said.{get_before, get_last}
 
-module _ {S : Type 0} (view other : S → SessionView) (steady : (old new : S) → StaysOfLog (view old) (view new) → other new ≡ other old) where
-  others_steady : (old new : List (Fused S)) → length new ≡ length old → EachStore (within view) (λ store. StaysOfLog) old new
+module _ {S : Type 0} (view other : S → SessionView) (steady : (old new : S) → StaysOfLog (view old) (view new)
+    → other new ≡ other old) where
+  others_steady : (old new : List (Fused S)) → length new ≡ length old
+      → EachStore (within view) (λ store. StaysOfLog) old new
       → others_of other new ≡ others_of other old
   others_steady [] [] count each = refl
   others_steady [] (n ∷ ns) count each = absurd (omega (arith, count))
@@ -32,27 +36,33 @@ module _ {S : Type 0} (view other : S → SessionView) (steady : (old new : S) �
   others_steady (o ∷ os) (n ∷ ns) count each =
       ap (λ first. first ∷ others_of other ns) (steady o.inner n.inner (each 0 o n refl refl))
       ∙ ap (λ rest. other o.inner ∷ rest)
-      (others_steady os ns (omega (arith, count)) (λ store before after is_before is_after. each (suc store) before after is_before is_after))
+      (others_steady os ns (omega (arith, count)) (λ store before after is_before is_after. each
+      (suc store) before after is_before is_after))
 
   others_within : (old new : List (Fused S)) → map (λ (s : Fused S). s.inner) new ≡ map (λ (s : Fused S). s.inner) old
       → others_of other new ≡ others_of other old
   others_within old new same =
-      map_within (λ (s : Fused S). s.inner) other new ∙ ap (map other) same ∙ sym (map_within (λ (s : Fused S). s.inner) other old)
+      map_within (λ (s : Fused S). s.inner) other new ∙ ap (map other) same
+      ∙ sym (map_within (λ (s : Fused S). s.inner) other old)
 
-  module _ {T : Type 0} (nobody : T → SessionView) (old new : WholeManager (Fused S) T) (was : length old.sessions ≡ old.stores)
+  module _ {T : Type 0} (nobody : T → SessionView) (old new : WholeManager (Fused S) T)
+      (was : length old.sessions ≡ old.stores)
       (now : length new.sessions ≡ new.stores) where
     abbrev Same : Type 0
     Same = others_of other new.sessions ≡ others_of other old.sessions
 
-    unchanged_others : (whole : WholeManager (Fused S) T) → new ≡ whole → others_of other whole.sessions ≡ others_of other old.sessions → Same
+    unchanged_others : (whole : WholeManager (Fused S) T) → new ≡ whole
+        → others_of other whole.sessions ≡ others_of other old.sessions → Same
     unchanged_others whole is same = ap (λ (w : WholeManager (Fused S) T). others_of other w.sessions) is ∙ same
 
-    spoken : (decisions : List Decision) (stages : List Stage) → SpeaksAlone (within view) decisions stages old new → Same
+    spoken : (decisions : List Decision) (stages : List Stage) → SpeaksAlone (within view) decisions stages old new
+        → Same
     spoken decisions stages alone =
         let stores : new.stores ≡ old.stores = ap (λ (w : WholeManager (Fused S) T). w.stores) alone.stands in
         others_steady old.sessions new.sessions (now ∙ stores ∙ sym was) alone.logs
 
-    carried_beside : (call : Call) (response : Response) → ((store : ℕ) (statement : Statement) → call ≡ At store statement → ⊥) → (call ≡ Show → ⊥)
+    carried_beside : (call : Call) (response : Response) → ((store : ℕ) (statement : Statement)
+        → call ≡ At store statement → ⊥) → (call ≡ Show → ⊥)
         → Carries (within view) nobody old call response new → CarriesBeside view other nobody old call response new
     carried_beside Silent response not_at not_show is = (is, unchanged_others old is.1 refl)
     carried_beside (Unread place) response not_at not_show is = absurd is
@@ -64,19 +74,22 @@ module _ {S : Type 0} (view other : S → SessionView) (steady : (old new : S) �
         (is, ⊎_elim (λ done. unchanged_others _ done.2 refl) (λ closed. unchanged_others _ closed.2 refl) is.outcome)
     carried_beside (Finish number) response not_at not_show is = (is, spoken _ _ is.ends.alone)
     carried_beside (Abandon number) response not_at not_show is = (is, spoken _ _ is.ends.alone)
-    carried_beside (Fail store calls) response not_at not_show is = (is, others_within old.sessions new.sessions is.limited.within)
+    carried_beside (Fail store calls) response not_at not_show is =
+        (is, others_within old.sessions new.sessions is.limited.within)
     carried_beside Stop response not_at not_show is = (is, others_within old.sessions new.sessions is.within)
     carried_beside Recover response not_at not_show is = (is, spoken _ _ is.alone)
     carried_beside (At store statement) response not_at not_show is = absurd (not_at store statement refl)
     carried_beside Show response not_at not_show is = absurd (not_show refl)
 
-    pub performed_beside : (call : Call) (response : Response) → ((store : ℕ) (statement : Statement) → call ≡ At store statement → ⊥) → (call ≡ Show → ⊥)
+    pub performed_beside : (call : Call) (response : Response)
+        → ((store : ℕ) (statement : Statement) → call ≡ At store statement → ⊥) → (call ≡ Show → ⊥)
         → Performs view nobody old call response new → PerformsBeside view other nobody old call response new
     performed_beside call response not_at not_show performs =
         ⊎_elim (λ refused. inl refused) (λ carries. inr (carried_beside call response not_at not_show carries)) performs
 
 -- what a session answered, without its place
-pub given_so : (statement : Statement) (answered : Result Answer Fault) (old new : SessionView) → IsAnsweredSo statement answered old new
+pub given_so : (statement : Statement) (answered : Result Answer Fault) (old new : SessionView)
+    → IsAnsweredSo statement answered old new
     → IsGiven statement (reply_of answered) old new
 given_so statement (Ok answer) old new is = record { log = is.log; replies = (answer.place, is.answers) }
 given_so statement (Err fault) old new is = record { log = is.log; replies = is.answers }
@@ -93,46 +106,60 @@ alone_then a b c first second = record {
 }
 
 -- a call that was read from a line is what the line says
-pub performed_said : {S T : Type 0} (view other : S → SessionView) (nobody : T → SessionView) (old new : WholeManager (Fused S) T) (call said : Call)
+pub performed_said : {S T : Type 0} (view other : S → SessionView) (nobody : T → SessionView)
+    (old new : WholeManager (Fused S) T) (call said : Call)
     (response : Response)
-    → call ≡ said → PerformsBeside view other nobody old call response new → PerformsBeside view other nobody old said response new
+    → call ≡ said → PerformsBeside view other nobody old call response new
+    → PerformsBeside view other nobody old said response new
 performed_said {S} {T} view other nobody old new call said response same performs =
     let P : Call → Type 0 = λ c. PerformsBeside view other nobody old c response new in
     subst P same performs
 
 -- one store's other client more has listed what is prepared there
-pub listed_beside : {S : Type 0} (view : S → SessionView) (answers : List (Result Reply Fault)) (answered : Result Answer Fault) (answer : Result Reply Fault)
+pub listed_beside : {S : Type 0} (view : S → SessionView) (answers : List (Result Reply Fault))
+    (answered : Result Answer Fault) (answer : Result Reply Fault)
     (place : ℕ) (old now next : List S)
-    → length answers ≡ place → answer ≡ reply_of answered → Reached view (IsListed answers) place old now → ChangesAt place now next
+    → length answers ≡ place → answer ≡ reply_of answered → Reached view (IsListed answers) place old now
+    → ChangesAt place now next
     → AtStore view place (IsAnsweredSo (RecoverStatement true) answered) now next
     → Reached view (IsListed (answers ++ answer ∷ [])) (place + 1) old next
 listed_beside view answers answered answer place old now next count reply so_far changes given =
     let more = answers ++ answer ∷ [] in
     reached_next view (IsListed more) place old now next
     (reached_weaker view (IsListed answers) (IsListed more) place old now
-    (λ store less a b is. record { answer = is.answer; there = get_before answers answer store is.answer is.there; given = is.given }) so_far)
+    (λ store less a b is. record
+    { answer = is.answer; there = get_before answers answer store is.answer is.there; given = is.given }) so_far)
     changes
     (λ before after is_before is_after. record {
       answer = answer;
       there = get_last answers answer place count;
       given = subst (λ r. IsGiven (RecoverStatement true) r (view before) (view after)) (sym reply)
-          (given_so (RecoverStatement true) answered (view before) (view after) (given before after is_before is_after));
+          (given_so (RecoverStatement true) answered (view before) (view after)
+          (given before after is_before is_after));
     })
 
 module _ {S : Type 0} (view : S → SessionView) where
   pub leaves_none : (sessions : List (Fused S)) → LeavesAlone view sessions sessions
-  leaves_none sessions = record { alone = λ store. at_same (within view) store IsLeftAlone alone_itself sessions sessions refl; left = refl }
+  leaves_none sessions =
+      record {
+        alone = λ store. at_same (within view) store IsLeftAlone alone_itself sessions sessions refl;
+        left = refl;
+      }
 
   -- another client's session of one store was spoken to
-  pub leaves_next : (place : ℕ) (old now next : List (Fused S)) → length now ≡ length old → LeavesAlone view old now → ChangesAt place now next
+  pub leaves_next : (place : ℕ) (old now next : List (Fused S)) → length now ≡ length old → LeavesAlone view old now
+      → ChangesAt place now next
       → AtStore (within view) place IsLeftAlone now next
       → map (λ (s : Fused S). s.left) next ≡ map (λ (s : Fused S). s.left) now → LeavesAlone view old next
   leaves_next place old now next count so_far changes alone left = record {
-    alone = λ store. at_then (within view) store IsLeftAlone IsLeftAlone IsLeftAlone alone_then old now next count (so_far.alone store)
-        (only_at (within view) (λ other. IsLeftAlone) place now next changes alone (λ other apart a. alone_itself a) store);
+    alone = λ store. at_then (within view) store IsLeftAlone IsLeftAlone IsLeftAlone alone_then old now next count
+        (so_far.alone store)
+        (only_at (within view) (λ other. IsLeftAlone) place now next changes alone
+        (λ other apart a. alone_itself a) store);
     left = left ∙ so_far.left;
   }
 
-pub if_ok_map : {A E : Type 0} (P Q : A → Type 0) (result : Result A E) → ((a : A) → P a → Q a) → IfOk result P → IfOk result Q
+pub if_ok_map : {A E : Type 0} (P Q : A → Type 0) (result : Result A E) → ((a : A) → P a → Q a) → IfOk result P
+    → IfOk result Q
 if_ok_map P Q (Ok a) more is = more a is
 if_ok_map P Q (Err e) more is = is

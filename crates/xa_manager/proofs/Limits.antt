@@ -1,5 +1,6 @@
 -- How many calls the sessions have left, once each of the first was limited, and once each was made.
-use Rattle.std.proofs.Common.{◌≡◌, ◌<◌, ◌+◌, ℕ, zero, suc, List, [], ◌∷◌, ◌++◌, length, Some, sym, ◌∙◌, ap, subst, inl, inr, arith}
+use Rattle.std.proofs.Common.{◌≡◌, ◌<◌, ◌+◌, ℕ, zero, suc, List, [], ◌∷◌, ◌++◌, length, Some, sym, ◌∙◌, ap, subst, inl}
+use Rattle.std.proofs.Common.{inr, arith}
 use Rattle.std.specs.Prelude.{slice_get}
 use Rattle.std.specs.Option.{option_map}
 use Rattle.std.proofs.lemmas.Bool.{cases_lt}
@@ -8,7 +9,8 @@ use Rattle.xa_coordinator.specs.declared.fused.Fused.{Fused}
 use Rattle.xa_coordinator.specs.Stores.{ChangesAt}
 use Rattle.xa_manager.specs.Limits.{Passes}
 
-pub passes_grown : {S : Type 0} (store calls : ℕ) (old new : List (Fused S)) → ((other : ℕ) → other < store → Passes other calls old) → Passes store calls new
+pub passes_grown : {S : Type 0} (store calls : ℕ) (old new : List (Fused S))
+    → ((other : ℕ) → other < store → Passes other calls old) → Passes store calls new
     → ChangesAt store old new →
     (other : ℕ) → other < store + 1 → Passes other calls new
 passes_grown {S} store calls old new so_far there changes = λ other below.

@@ -1,5 +1,6 @@
 -- Passes of stores, one of each, at their places, and sessions of them.
-use Rattle.std.proofs.Common.{◌≡◌, ◌∙◌, ℕ, ◌<◌, ◌+◌, Bool, List, [], ◌∷◌, ◌++◌, take, zero, suc, length, get_or, map, subst, sym, ap, refl, arith}
+use Rattle.std.proofs.Common.{◌≡◌, ◌∙◌, ℕ, ◌<◌, ◌+◌, Bool, List, [], ◌∷◌, ◌++◌, take, zero, suc, length, get_or, map}
+use Rattle.std.proofs.Common.{subst, sym, ap, refl, arith}
 use Rattle.std.proofs.lemmas.List.{take_more, take_all}
 use Rattle.std.proofs.lemmas.Slice.Zip.{all_zipped_more}
 use Rattle.std.specs.List.{AllZip, AllByRecursion}
@@ -15,7 +16,8 @@ use Rattle.xa_manager.specs.Whole.{IsPair}
 abbrev pub IsOwn : Store → Pass → Type 0
 IsOwn store pass = log_of pass ≡ identity_of store.log
 
-at_place : (stores : List Store) (passes : List Pass) (place : ℕ) (store : Store) (pass : Pass) → AllZip IsOwn stores passes → place < length passes
+at_place : (stores : List Store) (passes : List Pass) (place : ℕ) (store : Store) (pass : Pass)
+    → AllZip IsOwn stores passes → place < length passes
     → store ≡ get_or stores place store → pass ≡ get_or passes place pass → IsOwn store pass
 at_place [] [] place store pass all below is is' = absurd (omega arith)
 at_place [] (p ∷ ps) place store pass all below is is' = absurd all
@@ -24,9 +26,11 @@ at_place (s ∷ ss) (p ∷ ps) zero store pass all below is is' =
     let P : Pass → Type 0 = λ q. IsOwn s q in
     let Q : Store → Type 0 = λ t. IsOwn t pass in
     subst Q (sym is) (subst P (sym is') all.0)
-at_place (s ∷ ss) (p ∷ ps) (suc place) store pass all below is is' = at_place ss ps place store pass all.1 (omega arith) is is'
+at_place (s ∷ ss) (p ∷ ps) (suc place) store pass all below is is' =
+    at_place ss ps place store pass all.1 (omega arith) is is'
 
-pub own_at : (stores : List Store) (passes : List Pass) (place other : ℕ) (store : Store) (pass : Pass) → place ≡ other → AllZip IsOwn stores passes
+pub own_at : (stores : List Store) (passes : List Pass) (place other : ℕ) (store : Store) (pass : Pass) → place ≡ other
+    → AllZip IsOwn stores passes
     → place < length passes
     → store ≡ get_or stores other store → pass ≡ get_or passes place pass → IsOwn store pass
 own_at stores passes place other store pass same all below is is' =
@@ -35,16 +39,21 @@ own_at stores passes place other store pass same all below is is' =
 
 -- a session of a pass, whose history begins in this state
 abbrev pub seen_as : Bool → Pass → State → SessionView
-seen_as turns pass base = record { identity = log_of pass; turns = turns; base = base; known = known_of pass; beside = [] }
+seen_as turns pass base =
+    record { identity = log_of pass; turns = turns; base = base; known = known_of pass; beside = [] }
 
 -- sessions of the passes of new stores are pairs
-pub pairs_of : {S T : Type 0} (turns : Bool) (stores : List Store) (sessions : List S) (others : List T) (pass : S → Pass) (base : S → State)
+pub pairs_of : {S T : Type 0} (turns : Bool) (stores : List Store) (sessions : List S) (others : List T)
+    (pass : S → Pass) (base : S → State)
     (pass' : T → Pass) (base' : T → State)
     → AllZip IsOwn stores (map pass sessions) → AllZip IsOwn stores (map pass' others)
-    → AllZip (λ store session. base session ≡ store.base) stores sessions → AllZip (λ store other. base' other ≡ store.base) stores others
+    → AllZip (λ store session. base session ≡ store.base) stores sessions
+    → AllZip (λ store other. base' other ≡ store.base) stores others
     → AllByRecursion (λ store. store.base ≡ no_state) stores
-    → AllByRecursion (λ p. known_of p ≡ newcomer 1) (map pass sessions) → AllByRecursion (λ p. known_of p ≡ newcomer 2) (map pass' others)
-    → AllZip (λ session other. IsPair (seen_as turns (pass session) (base session)) (seen_as turns (pass' other) (base' other))) sessions others
+    → AllByRecursion (λ p. known_of p ≡ newcomer 1) (map pass sessions)
+    → AllByRecursion (λ p. known_of p ≡ newcomer 2) (map pass' others)
+    → AllZip (λ session other. IsPair (seen_as turns (pass session) (base session))
+    (seen_as turns (pass' other) (base' other))) sessions others
 pairs_of turns [] [] [] pass base pass' base' own own' bases bases' empty first second = tt
 pairs_of turns [] [] (t ∷ ts) pass base pass' base' own own' bases bases' empty first second = absurd bases'
 pairs_of turns [] (s ∷ ss) others pass base pass' base' own own' bases bases' empty first second = absurd bases
@@ -62,42 +71,54 @@ pairs_of turns (x ∷ xs) (s ∷ ss) (t ∷ ts) pass base pass' base' own own' b
 )
 
 -- what is within each is in the list of what is within
-pub zip_within : {A B C : Type 0} (within : A → B) (R : B → C → Type 0) (xs : List A) (ys : List C) → AllZip R (map within xs) ys
+pub zip_within : {A B C : Type 0} (within : A → B) (R : B → C → Type 0) (xs : List A) (ys : List C)
+    → AllZip R (map within xs) ys
     → AllZip (λ x y. R (within x) y) xs ys
 zip_within within R [] [] all = tt
 zip_within within R [] (y ∷ ys) all = absurd all
 zip_within within R (x ∷ xs) [] all = absurd all
 zip_within within R (x ∷ xs) (y ∷ ys) all = (all.0, zip_within within R xs ys all.1)
 
-pub map_within : {A B C : Type 0} (within : A → B) (f : B → C) (xs : List A) → map (λ x. f (within x)) xs ≡ map f (map within xs)
+pub map_within : {A B C : Type 0} (within : A → B) (f : B → C) (xs : List A)
+    → map (λ x. f (within x)) xs ≡ map f (map within xs)
 map_within within f [] = refl
 map_within within f (x ∷ xs) = ap (λ rest. f (within x) ∷ rest) (map_within within f xs)
 
 -- pairs of sessions are pairs where the first can be made to fail
-pub fused_pairs : {S T : Type 0} (sessions : List S) (others others' : List T) (fused fused' : List (Fused S)) (R : S → T → Type 0)
-    → map (λ (session : Fused S). session.inner) fused ≡ sessions → fused' ≡ fused → others' ≡ others → AllZip R sessions others
+pub fused_pairs : {S T : Type 0} (sessions : List S) (others others' : List T) (fused fused' : List (Fused S))
+    (R : S → T → Type 0)
+    → map (λ (session : Fused S). session.inner) fused ≡ sessions → fused' ≡ fused → others' ≡ others
+    → AllZip R sessions others
     → AllZip (λ session other. R session.inner other) fused' others'
 fused_pairs {S} {T} sessions others others' fused fused' R within same same' all =
     let P : List (Fused S) → Type 0 = λ list. AllZip (λ session other. R session.inner other) list others' in
     let Q : List T → Type 0 = λ list. AllZip (λ session other. R session.inner other) fused list in
     let O : List S → Type 0 = λ list. AllZip R list others in
-    subst P (sym same) (subst Q (sym same') (zip_within (λ (session : Fused S). session.inner) R fused others (subst O (sym within) all)))
+    subst P (sym same) (subst Q (sym same') (zip_within (λ (session : Fused S). session.inner) R fused others
+    (subst O (sym within) all)))
 
 -- one session more, over the store in its place
-pub bases_more : {S : Type 0} (base : S → State) (stores : List Store) (sessions now : List S) (session : S) (count place : ℕ) (store : Store)
-    → count ≡ place → place < length stores → now ≡ sessions ++ session ∷ [] → base session ≡ (get_or stores place store).base
-    → AllZip (λ x s. base s ≡ x.base) (take count stores) sessions → AllZip (λ x s. base s ≡ x.base) (take (count + 1) stores) now
+pub bases_more : {S : Type 0} (base : S → State) (stores : List Store) (sessions now : List S) (session : S)
+    (count place : ℕ) (store : Store)
+    → count ≡ place → place < length stores → now ≡ sessions ++ session ∷ []
+    → base session ≡ (get_or stores place store).base
+    → AllZip (λ x s. base s ≡ x.base) (take count stores) sessions
+    → AllZip (λ x s. base s ≡ x.base) (take (count + 1) stores) now
 bases_more {S} base stores sessions now session count place store same below items is all =
     let R : Store → S → Type 0 = λ x s. base s ≡ x.base in
     let within : count < length stores = omega (arith, same, below) in
-    let cut : take (count + 1) stores ≡ take count stores ++ get_or stores count store ∷ [] = take_more stores count store within in
-    let here : base session ≡ (get_or stores count store).base = is ∙ ap (λ k. (get_or stores k store).base) (sym same) in
+    let cut : take (count + 1) stores ≡ take count stores ++ get_or stores count store ∷ [] =
+    take_more stores count store within in
+    let here : base session ≡ (get_or stores count store).base =
+    is ∙ ap (λ k. (get_or stores k store).base) (sym same) in
     let P : List Store → Type 0 = λ list. AllZip R list now in
     let Q : List S → Type 0 = λ list. AllZip R (take count stores ++ get_or stores count store ∷ []) list in
-    subst P (sym cut) (subst Q (sym items) (all_zipped_more R (take count stores) sessions (get_or stores count store) session all here))
+    subst P (sym cut) (subst Q (sym items) (all_zipped_more R (take count stores) sessions
+    (get_or stores count store) session all here))
 
 -- all stores have a session
-pub bases_all : {S : Type 0} (base : S → State) (stores : List Store) (sessions : List S) (count : ℕ) → count ≡ length stores
+pub bases_all : {S : Type 0} (base : S → State) (stores : List Store) (sessions : List S) (count : ℕ)
+    → count ≡ length stores
     → AllZip (λ x s. base s ≡ x.base) (take count stores) sessions → AllZip (λ x s. base s ≡ x.base) stores sessions
 bases_all {S} base stores sessions count whole all =
     let P : List Store → Type 0 = λ list. AllZip (λ x s. base s ≡ x.base) list sessions in

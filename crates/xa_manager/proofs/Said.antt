@@ -1,5 +1,6 @@
 -- What was said to sessions: nothing, another client's answer, and what each other client answered.
-use Rattle.std.proofs.Common.{◌≡◌, ◌∙◌, ◌+◌, ℕ, zero, suc, true, List, [], ◌∷◌, ◌++◌, length, take, get_or, map, ap, refl, sym, subst, Result, Ok, Err, Some, arith}
+use Rattle.std.proofs.Common.{◌≡◌, ◌∙◌, ◌+◌, ℕ, zero, suc, true, List, [], ◌∷◌, ◌++◌, length, take, get_or, map, ap}
+use Rattle.std.proofs.Common.{refl, sym, subst, Result, Ok, Err, Some, arith}
 use Rattle.std.proofs.lemmas.List.{length-map}
 use Rattle.std.proofs.Math.Seq.{take-append_seam}
 use Rattle.std.specs.Prelude.{IfOk, IfErr, slice_get, slice_set}
@@ -23,9 +24,11 @@ use Rattle.xa_manager.specs.Whole.{Performs}
 use Rattle.xa_manager.specs.Carried.{WholeManager}
 use Rattle.xa_manager.specs.Said.{RepliesAs, IsGiven, IsListed, reply_of}
 
-pub as_many : {S : Type 0} (old new : List (Fused S)) → map (λ (session : Fused S). session.inner) new ≡ map (λ (session : Fused S). session.inner) old
+pub as_many : {S : Type 0} (old new : List (Fused S)) → map (λ (session : Fused S). session.inner) new
+    ≡ map (λ (session : Fused S). session.inner) old
     → length new ≡ length old
-as_many {S} old new same = sym (length-map new (λ (session : Fused S). session.inner)) ∙ ap length same ∙ length-map old (λ (session : Fused S). session.inner)
+as_many {S} old new same = sym (length-map new (λ (session : Fused S). session.inner)) ∙ ap length same
+    ∙ length-map old (λ (session : Fused S). session.inner)
 
 -- what a session answered, without its place
 pub replied_as : (statement : Statement) (answered : Result Answer Fault) (old new : SessionView)
@@ -38,37 +41,46 @@ replied_as statement (Err fault) old new answers fails = fails
 -- where a call added only what agrees with decisions, each session is of the log that it was of
 pub agreed_logs : {S : Type 0} (view : S → SessionView) (decisions : List Decision) (name : List ℕ) (old new : List S)
     → EachStore view (Agrees decisions name) old new → EachStore view (λ store. StaysOfLog) old new
-agreed_logs view decisions name old new agrees = λ store before after is_before is_after. (agrees store before after is_before is_after).adds.log
+agreed_logs view decisions name old new agrees =
+    λ store before after is_before is_after. (agrees store before after is_before is_after).adds.log
 
-pub get_before : {A : Type 0} (xs : List A) (y : A) (place : ℕ) (x : A) → slice_get xs place ≡ Some x → slice_get (xs ++ y ∷ []) place ≡ Some x
+pub get_before : {A : Type 0} (xs : List A) (y : A) (place : ℕ) (x : A) → slice_get xs place ≡ Some x
+    → slice_get (xs ++ y ∷ []) place ≡ Some x
 get_before [] y place x is = absurd (cc)
 get_before (z ∷ zs) y zero x is = is
 get_before (z ∷ zs) y (suc place) x is = get_before zs y place x is
 
-pub get_last : {A : Type 0} (xs : List A) (y : A) (place : ℕ) → length xs ≡ place → slice_get (xs ++ y ∷ []) place ≡ Some y
+pub get_last : {A : Type 0} (xs : List A) (y : A) (place : ℕ) → length xs ≡ place
+    → slice_get (xs ++ y ∷ []) place ≡ Some y
 get_last [] y zero is = refl
 get_last [] y (suc place) is = absurd (cc)
 get_last (z ∷ zs) y zero is = absurd (omega arith)
 get_last (z ∷ zs) y (suc place) is = get_last zs y place (omega arith)
 
 -- one store's client more has listed what is prepared there
-pub listed_more : {T : Type 0} (view : T → SessionView) (answers : List (Result Reply Fault)) (answer : Result Reply Fault) (place : ℕ) (old now : List T)
+pub listed_more : {T : Type 0} (view : T → SessionView) (answers : List (Result Reply Fault))
+    (answer : Result Reply Fault) (place : ℕ) (old now : List T)
     (before after : T)
     → length answers ≡ place → Reached view (IsListed answers) place old now → before ≡ get_or now place before
     → IsGiven (Recover true) answer (view (get_or now place before)) (view after)
     → Reached view (IsListed (answers ++ answer ∷ [])) (place + 1) old (slice_set now place after)
 listed_more {T} view answers answer place old now before after count so_far was given =
     let more = answers ++ answer ∷ [] in
-    let here : IsGiven (Recover true) answer (view before) (view after) = subst (λ (t : T). IsGiven (Recover true) answer (view t) (view after)) (sym was) given in
+    let here : IsGiven (Recover true) answer (view before) (view after) =
+    subst (λ (t : T). IsGiven (Recover true) answer (view t) (view after)) (sym was) given in
     reached_next view (IsListed more) place old now (slice_set now place after)
     (reached_weaker view (IsListed answers) (IsListed more) place old now
-    (λ store less a b is. record { answer = is.answer; there = get_before answers answer store is.answer is.there; given = is.given }) so_far)
+    (λ store less a b is. record
+    { answer = is.answer; there = get_before answers answer store is.answer is.there; given = is.given }) so_far)
     (changes_at now place after)
-    (at_place view [] (IsListed more place) now place before after was (record { answer = answer; there = get_last answers answer place count; given = here }))
+    (at_place view [] (IsListed more place) now place before after was
+    (record { answer = answer; there = get_last answers answer place count; given = here }))
 
 -- a fact of each session of a list, of which a part was lent that was all of it
-pub each_lent : {T : Type 0} (view : T → SessionView) (fact : ℕ → SessionView → SessionView → Type 0) (items was now rest : List T) (count : ℕ)
-    → was ≡ items → count ≡ length items → length now ≡ length was → EachStore view fact was now → EachStore view fact items (take count (now ++ rest))
+pub each_lent : {T : Type 0} (view : T → SessionView) (fact : ℕ → SessionView → SessionView → Type 0)
+    (items was now rest : List T) (count : ℕ)
+    → was ≡ items → count ≡ length items → length now ≡ length was → EachStore view fact was now
+    → EachStore view fact items (take count (now ++ rest))
 each_lent {T} view fact items was now rest count all whole same each =
     let as_long : count ≡ length now = whole ∙ sym (ap length all) ∙ sym same in
     let back : take count (now ++ rest) ≡ now = ap (λ n. take n (now ++ rest)) as_long ∙ take-append_seam now rest in
@@ -77,7 +89,8 @@ each_lent {T} view fact items was now rest count all whole same each =
     subst P (sym back) (subst Q all each)
 
 -- a call that was read from a line is what the line says
-pub performed : {S T : Type 0} (view : S → SessionView) (view' : T → SessionView) (old new : WholeManager (Fused S) T) (call said : Call) (response : Response)
+pub performed : {S T : Type 0} (view : S → SessionView) (view' : T → SessionView) (old new : WholeManager (Fused S) T)
+    (call said : Call) (response : Response)
     → call ≡ said → Performs view view' old call response new → Performs view view' old said response new
 performed view view' old new call said response same performs =
     let P : Call → Type 0 = λ c. Performs view view' old c response new in

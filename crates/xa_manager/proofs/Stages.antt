@@ -1,5 +1,6 @@
 -- How far transactions have come, in a list.
-use Rattle.std.proofs.Common.{◌≡◌, ◌≢◌, ◌≤◌, ℕ, ◌<◌, ◌+◌, ◌-◌, ◌⊎◌, List, [], ◌∷◌, ◌++◌, zero, suc, length, take, length-append, arith, sym, refl, ap, subst}
+use Rattle.std.proofs.Common.{◌≡◌, ◌≢◌, ◌≤◌, ℕ, ◌<◌, ◌+◌, ◌-◌, ◌⊎◌, List, [], ◌∷◌, ◌++◌, zero, suc, length, take}
+use Rattle.std.proofs.Common.{length-append, arith, sym, refl, ap, subst}
 use Rattle.std.proofs.Common.{◌∙◌, inl, inr, Some, None, Bool, true, false, cond}
 use Rattle.std.proofs.lemmas.Bool.{eqb-false, eqb-true}
 use Rattle.std.proofs.Math.Seq.{set-append_seam, take-append_seam}
@@ -7,7 +8,8 @@ use Rattle.std.specs.Prelude.{◌==◌, slice_get, slice_set}
 use Rattle.std.proofs.lemmas.List.{set_past, length-set}
 use Rattle.std.proofs.lemmas.Bool.Decides.{eqb_tells}
 use Rattle.xa_xid.specs.declared.statement.Statement.{Statement}
-use Rattle.xa_xid.specs.declared.statement.Statement.TheVariants.{Start, End, Prepare, Commit, Rollback, Recover, Unsupported, Get, Put, Del, Disconnect}
+use Rattle.xa_xid.specs.declared.statement.Statement.TheVariants.{Start, End, Prepare, Commit, Rollback, Recover}
+use Rattle.xa_xid.specs.declared.statement.Statement.TheVariants.{Unsupported, Get, Put, Del, Disconnect}
 use Rattle.xa_coordinator.specs.Work.{IsRow}
 use Rattle.xa_coordinator.specs.declared.transaction.Transaction.{Transaction}
 use Rattle.xa_coordinator.specs.declared.transaction.Prepared.{Prepared}
@@ -23,15 +25,18 @@ absent_past : (count number : ℕ) → (number ≡ 0) ⊎ (count < number) → n
 absent_past count number (inl none) apart = absurd (apart none)
 absent_past count number (inr past) apart = omega arith
 
-pub with_stage-absent : (stages : List Stage) (number : ℕ) (stage : Stage) → (number ≡ 0) ⊎ (length stages < number) → stages ≡ with_stage stages number stage
+pub with_stage-absent : (stages : List Stage) (number : ℕ) (stage : Stage) → (number ≡ 0) ⊎ (length stages < number)
+    → stages ≡ with_stage stages number stage
 unfolding with_stage
 with_stage-absent stages number stage absent = by (number == 0) refl
   where
     by : (b : Bool) → (number == 0) ≡ b → stages ≡ cond b stages (slice_set stages (number - 1) stage)
     by true none = refl
-    by false some = sym (set_past stages (number - 1) stage (absent_past (length stages) number absent (eqb-false number 0 some)))
+    by false some =
+        sym (set_past stages (number - 1) stage (absent_past (length stages) number absent (eqb-false number 0 some)))
 
-pub with_stage-length : (stages : List Stage) (number : ℕ) (stage : Stage) → length (with_stage stages number stage) ≡ length stages
+pub with_stage-length : (stages : List Stage) (number : ℕ) (stage : Stage)
+    → length (with_stage stages number stage) ≡ length stages
 unfolding with_stage
 with_stage-length stages number stage = by (number == 0)
   where
@@ -40,7 +45,8 @@ with_stage-length stages number stage = by (number == 0)
     by false = length-set stages (number - 1) stage
 
 -- what is written last stands
-set-twice : {A : Type 0} (xs : List A) (place : ℕ) (x y : A) → slice_set (slice_set xs place x) place y ≡ slice_set xs place y
+set-twice : {A : Type 0} (xs : List A) (place : ℕ) (x y : A)
+    → slice_set (slice_set xs place x) place y ≡ slice_set xs place y
 set-twice [] place x y = refl
 set-twice (z ∷ zs) zero x y = refl
 set-twice (z ∷ zs) (suc n) x y = ap (λ rest. z ∷ rest) (set-twice zs n x y)
@@ -51,7 +57,8 @@ unfolding with_stage
 with_stage-twice stages number before after = by (number == 0)
   where
     by : (b : Bool) →
-        cond b (cond b stages (slice_set stages (number - 1) before)) (slice_set (cond b stages (slice_set stages (number - 1) before)) (number - 1) after)
+        cond b (cond b stages (slice_set stages (number - 1) before))
+        (slice_set (cond b stages (slice_set stages (number - 1) before)) (number - 1) after)
         ≡ cond b stages (slice_set stages (number - 1) after)
     by true = refl
     by false = set-twice stages (number - 1) before after
@@ -62,28 +69,35 @@ set-same [] place x is = refl
 set-same (y ∷ ys) zero x is = let e : y ≡ x = cc in ap (λ first. first ∷ ys) (sym e)
 set-same (y ∷ ys) (suc n) x is = ap (λ rest. y ∷ rest) (set-same ys n x is)
 
-pub with_stage-same : (stages : List Stage) (number : ℕ) (stage : Stage) → stage_of stages number ≡ Some stage → with_stage stages number stage ≡ stages
+pub with_stage-same : (stages : List Stage) (number : ℕ) (stage : Stage) → stage_of stages number ≡ Some stage
+    → with_stage stages number stage ≡ stages
 unfolding stage_of with_stage
 with_stage-same stages number stage is = by (number == 0) is
   where
-    by : (b : Bool) → cond b None (slice_get stages (number - 1)) ≡ Some stage → cond b stages (slice_set stages (number - 1) stage) ≡ stages
+    by : (b : Bool) → cond b None (slice_get stages (number - 1)) ≡ Some stage
+        → cond b stages (slice_set stages (number - 1) stage) ≡ stages
     by true none = refl
     by false there = set-same stages (number - 1) stage there
 
 -- one that was taken out is put back
-pub put_back : (stages : List Stage) (number : ℕ) (between stage : Stage) (taken now : List Stage) → stage_of stages number ≡ Some stage
+pub put_back : (stages : List Stage) (number : ℕ) (between stage : Stage) (taken now : List Stage)
+    → stage_of stages number ≡ Some stage
     → taken ≡ with_stage stages number between → now ≡ with_stage taken number stage
     → now ≡ stages
 put_back stages number between stage taken now is out back =
-    back ∙ ap (λ list. with_stage list number stage) out ∙ with_stage-twice stages number between stage ∙ with_stage-same stages number stage is
+    back ∙ ap (λ list. with_stage list number stage) out ∙ with_stage-twice stages number between stage
+    ∙ with_stage-same stages number stage is
 
 -- another stage is put in its place
-pub put_on : (stages : List Stage) (number : ℕ) (between stage : Stage) (taken now : List Stage) → taken ≡ with_stage stages number between
+pub put_on : (stages : List Stage) (number : ℕ) (between stage : Stage) (taken now : List Stage)
+    → taken ≡ with_stage stages number between
     → now ≡ with_stage taken number stage → now ≡ with_stage stages number stage
-put_on stages number between stage taken now out back = back ∙ ap (λ list. with_stage list number stage) out ∙ with_stage-twice stages number between stage
+put_on stages number between stage taken now out back =
+    back ∙ ap (λ list. with_stage list number stage) out ∙ with_stage-twice stages number between stage
 
 -- a transaction that was put back with another stage, or another one
-pub stage_of-with : (stages : List Stage) (number other : ℕ) (stage found : Stage) → stage_of (with_stage stages number stage) other ≡ Some found
+pub stage_of-with : (stages : List Stage) (number other : ℕ) (stage found : Stage)
+    → stage_of (with_stage stages number stage) other ≡ Some found
     → ((other ≡ number) × (stage ≡ found)) ⊎ (stage_of stages other ≡ Some found)
 unfolding stage_of with_stage
 stage_of-with stages number other stage found is = by (number == 0) (other == 0) refl refl is
@@ -114,7 +128,8 @@ get-append (y ∷ ys) last found (suc n) is = elim (get-append ys last found n i
   | inr there ↦ inr there
 ]
 
-pub stage_of-append : (stages : List Stage) (last found : Stage) (other : ℕ) → stage_of (stages ++ last ∷ []) other ≡ Some found
+pub stage_of-append : (stages : List Stage) (last found : Stage) (other : ℕ)
+    → stage_of (stages ++ last ∷ []) other ≡ Some found
     → ((other ≡ length stages + 1) × (last ≡ found)) ⊎ (stage_of stages other ≡ Some found)
 unfolding stage_of
 stage_of-append stages last found other is = by (other == 0) refl is
@@ -136,55 +151,64 @@ pub with_stage-last : (stages : List Stage) (before after : Stage) (number : ℕ
 unfolding with_stage
 with_stage-last stages before after number is = by (number == 0) refl
   where
-    by : (b : Bool) → (number == 0) ≡ b → cond b (stages ++ before ∷ []) (slice_set (stages ++ before ∷ []) (number - 1) after) ≡ stages ++ after ∷ []
+    by : (b : Bool) → (number == 0) ≡ b → cond b (stages ++ before ∷ [])
+        (slice_set (stages ++ before ∷ []) (number - 1) after) ≡ stages ++ after ∷ []
     by true none = let zeroth : number ≡ 0 = eqb-true number 0 none in absurd (omega arith)
     by false some =
         let place : number - 1 ≡ length stages = omega arith in
         ap (λ at. slice_set (stages ++ before ∷ []) at after) place ∙ set-append_seam stages before [] after
 
-pub take-last : (stages : List Stage) (last : Stage) → take (length (stages ++ last ∷ []) - 1) (stages ++ last ∷ []) ≡ stages
+pub take-last : (stages : List Stage) (last : Stage) → take (length (stages ++ last ∷ []) - 1) (stages ++ last ∷ [])
+    ≡ stages
 take-last stages last =
     let count : length (stages ++ last ∷ []) - 1 ≡ length stages = omega (arith, length-append stages (last ∷ [])) in
     ap (λ n. take n (stages ++ last ∷ [])) count ∙ take-append_seam stages (last ∷ [])
 
 abbrev pub Kept : ℕ → List Stage → Type 0
 Kept count stages =
-    (number : ℕ) (stage : Stage) (transaction : Transaction) → stage_of stages number ≡ Some stage → transaction_in stage ≡ Some transaction
+    (number : ℕ) (stage : Stage) (transaction : Transaction) → stage_of stages number ≡ Some stage
+    → transaction_in stage ≡ Some transaction
     → IsTransactionOf count number transaction
 
 abbrev pub AllReady : List Stage → Type 0
-AllReady stages = (number : ℕ) (prepared : Prepared) → stage_of stages number ≡ Some (Ready prepared) → prepared.vote_kind ≡ VoteKindReady
+AllReady stages = (number : ℕ) (prepared : Prepared) → stage_of stages number ≡ Some (Ready prepared)
+    → prepared.vote_kind ≡ VoteKindReady
 
 pub kept_with : (count : ℕ) (stages : List Stage) (number : ℕ) (stage : Stage) → Kept count stages
     → ((transaction : Transaction) → transaction_in stage ≡ Some transaction → IsTransactionOf count number transaction)
     → Kept count (with_stage stages number stage)
-kept_with count stages number stage kept is other found transaction there keeps = elim (stage_of-with stages number other stage found there) [
-  | inl same ↦
-      let P : ℕ → Type 0 = λ n. IsTransactionOf count n transaction in
-      subst P (sym same.0) (is transaction (ap transaction_in same.1 ∙ keeps))
-  | inr before ↦ kept other found transaction before keeps
-]
+kept_with count stages number stage kept is other found transaction there keeps =
+    elim (stage_of-with stages number other stage found there) [
+      | inl same ↦
+          let P : ℕ → Type 0 = λ n. IsTransactionOf count n transaction in
+          subst P (sym same.0) (is transaction (ap transaction_in same.1 ∙ keeps))
+      | inr before ↦ kept other found transaction before keeps
+    ]
 
 pub ready_with : (stages : List Stage) (number : ℕ) (stage : Stage) → AllReady stages
     → ((prepared : Prepared) → stage ≡ Ready prepared → prepared.vote_kind ≡ VoteKindReady)
     → AllReady (with_stage stages number stage)
-ready_with stages number stage ready is other prepared there = elim (stage_of-with stages number other stage (Ready prepared) there) [
-  | inl same ↦ is prepared same.1
-  | inr before ↦ ready other prepared before
-]
+ready_with stages number stage ready is other prepared there =
+    elim (stage_of-with stages number other stage (Ready prepared) there) [
+      | inl same ↦ is prepared same.1
+      | inr before ↦ ready other prepared before
+    ]
 
 -- one transaction more is kept, where it is that of the next number
 pub kept_more : (count : ℕ) (stages : List Stage) (last : Stage) → Kept count stages
-    → ((transaction : Transaction) → transaction_in last ≡ Some transaction → IsTransactionOf count (length stages + 1) transaction)
+    → ((transaction : Transaction) → transaction_in last ≡ Some transaction
+    → IsTransactionOf count (length stages + 1) transaction)
     → Kept count (stages ++ last ∷ [])
-kept_more count stages last kept is other found transaction there keeps = elim (stage_of-append stages last found other there) [
-  | inl same ↦
-      let P : ℕ → Type 0 = λ n. IsTransactionOf count n transaction in
-      subst P (sym same.0) (is transaction (ap transaction_in same.1 ∙ keeps))
-  | inr before ↦ kept other found transaction before keeps
-]
+kept_more count stages last kept is other found transaction there keeps =
+    elim (stage_of-append stages last found other there) [
+      | inl same ↦
+          let P : ℕ → Type 0 = λ n. IsTransactionOf count n transaction in
+          subst P (sym same.0) (is transaction (ap transaction_in same.1 ∙ keeps))
+      | inr before ↦ kept other found transaction before keeps
+    ]
 
-pub ready_more : (stages : List Stage) (last : Stage) → AllReady stages → ((prepared : Prepared) → last ≡ Ready prepared → prepared.vote_kind ≡ VoteKindReady)
+pub ready_more : (stages : List Stage) (last : Stage) → AllReady stages
+    → ((prepared : Prepared) → last ≡ Ready prepared → prepared.vote_kind ≡ VoteKindReady)
     → AllReady (stages ++ last ∷ [])
 ready_more stages last ready is other prepared there = elim (stage_of-append stages last (Ready prepared) other there) [
   | inl same ↦ is prepared same.1
@@ -192,7 +216,8 @@ ready_more stages last ready is other prepared there = elim (stage_of-append sta
 ]
 
 -- one that is over keeps nothing
-pub kept_over : (count : ℕ) (stages : List Stage) (number : ℕ) → Kept count stages → Kept count (with_stage stages number Over)
+pub kept_over : (count : ℕ) (stages : List Stage) (number : ℕ) → Kept count stages
+    → Kept count (with_stage stages number Over)
 kept_over count stages number kept = kept_with count stages number Over kept (λ transaction is. absurd (cc))
 
 pub ready_over : (stages : List Stage) (number : ℕ) → AllReady stages → AllReady (with_stage stages number Over)

@@ -1,5 +1,6 @@
 -- A transaction manager, as contracts see it, in its parts.
-use Rattle.std.proofs.Common.{◌≡◌, ℕ, ◌∙◌, ◌+◌, ◌-◌, ◌++◌, ◌∷◌, [], List, length, ap, sym, subst, Result, Ok, Err, Option, Some}
+use Rattle.std.proofs.Common.{◌≡◌, ℕ, ◌∙◌, ◌+◌, ◌-◌, ◌++◌, ◌∷◌, [], List, length, ap, sym, subst, Result, Ok, Err}
+use Rattle.std.proofs.Common.{Option, Some}
 use Rattle.std.specs.Prelude.{OnOk, OnErr}
 use Rattle.std.proofs.lemmas.List.{length-set}
 use Rattle.xa_session.specs.View.{SessionView}
@@ -13,14 +14,16 @@ use Rattle.xa_coordinator.specs.declared.transaction.Transaction.{Transaction}
 use Rattle.xa_coordinator.specs.declared.transaction.Prepared.{Prepared}
 use Rattle.xa_coordinator.specs.declared.transaction.VoteKind.TheVariants.{Ready as VoteKindReady}
 use Rattle.xa_coordinator.specs.declared.vote.Vote.{Vote}
-use Rattle.xa_coordinator.specs.declared.vote.Vote.TheVariants.{Ready as VoteReady, OnePhase as VoteOnePhase, No as VoteNo, Nothing as VoteNothing}
+use Rattle.xa_coordinator.specs.declared.vote.Vote.TheVariants.{Ready as VoteReady, OnePhase as VoteOnePhase}
+use Rattle.xa_coordinator.specs.declared.vote.Vote.TheVariants.{No as VoteNo, Nothing as VoteNothing}
 use Rattle.xa_manager.specs.declared.stage.Stage.{Stage}
 use Rattle.xa_manager.specs.declared.stage.Stage.TheVariants.{Working, Ready, Over}
 use Rattle.xa_manager.specs.Ledger.{IsTransactionOf, transaction_in, with_stage}
 use Rattle.xa_manager.specs.Carried.{WholeManager, stage_after}
 use Rattle.xa_manager.proofs.Stages.{Kept, AllReady, with_stage-last}
 
-abbrev pub whole : {C T : Type 0} → ℕ → List Decision → List Stage → List (Option OpenBranch) → List C → List T → WholeManager C T
+abbrev pub whole : {C T : Type 0} → ℕ → List Decision → List Stage → List (Option OpenBranch) → List C → List T
+    → WholeManager C T
 whole stores decisions stages branches sessions other_clients = record {
   stores = stores;
   decisions = decisions;
@@ -31,15 +34,19 @@ whole stores decisions stages branches sessions other_clients = record {
 }
 
 -- the same stores, numbers and transactions, in the same sessions
-pub same_whole : {C T : Type 0} (n m : ℕ) (d e : List Decision) (s t : List Stage) (b : List (Option OpenBranch)) (xs : List C) (os : List T)
+pub same_whole : {C T : Type 0} (n m : ℕ) (d e : List Decision) (s t : List Stage) (b : List (Option OpenBranch))
+    (xs : List C) (os : List T)
     → n ≡ m → d ≡ e → s ≡ t → whole n d s b xs os ≡ whole m e t b xs os
 same_whole n m d e s t b xs os stores decisions stages =
-    ap (λ k. whole k d s b xs os) stores ∙ ap (λ list. whole m list s b xs os) decisions ∙ ap (λ list. whole m e list b xs os) stages
+    ap (λ k. whole k d s b xs os) stores ∙ ap (λ list. whole m list s b xs os) decisions
+    ∙ ap (λ list. whole m e list b xs os) stages
 
 -- as many stores, in which the same is open
-pub same_open : {C T : Type 0} (n m : ℕ) (d : List Decision) (s : List Stage) (b c : List (Option OpenBranch)) (xs : List C) (os : List T)
+pub same_open : {C T : Type 0} (n m : ℕ) (d : List Decision) (s : List Stage) (b c : List (Option OpenBranch))
+    (xs : List C) (os : List T)
     → n ≡ m → b ≡ c → whole n d s b xs os ≡ whole m d s c xs os
-same_open n m d s b c xs os stores branches = ap (λ k. whole k d s b xs os) stores ∙ ap (λ list. whole m d s list xs os) branches
+same_open n m d s b c xs os stores branches =
+    ap (λ k. whole k d s b xs os) stores ∙ ap (λ list. whole m d s list xs os) branches
 
 -- the same facts of the same stores and stages
 pub kept_as : (n m : ℕ) (s t : List Stage) → m ≡ n → t ≡ s → Kept n s → Kept m t
@@ -56,13 +63,15 @@ decided-length : (decisions : List Decision) (number : ℕ) → length (with_dec
 unfolding with_decided
 decided-length decisions number = length-set decisions (number - 1) Decided
 
-pub after_decision : {A B : Type 0} (result : Result A B) (old new : List Decision) (number : ℕ) → OnOk result (new ≡ with_decided old number)
+pub after_decision : {A B : Type 0} (result : Result A B) (old new : List Decision) (number : ℕ)
+    → OnOk result (new ≡ with_decided old number)
     → OnErr result (new ≡ old) → length new ≡ length old
 after_decision (Ok a) old new number decided kept = ap length decided ∙ decided-length old number
 after_decision (Err b) old new number decided kept = ap length kept
 
 -- a vote keeps its transaction
-pub voted_kept : {S : Type 0} (view : S → SessionView) (transaction : Transaction) (vote : Vote) (old new : List S) (count number : ℕ)
+pub voted_kept : {S : Type 0} (view : S → SessionView) (transaction : Transaction) (vote : Vote) (old new : List S)
+    (count number : ℕ)
     → VotesAs view transaction vote old new → IsTransactionOf count number transaction
     → (kept : Transaction) → transaction_in (stage_after vote) ≡ Some kept → IsTransactionOf count number kept
 voted_kept view transaction (VoteReady prepared) old new count number votes is kept keeps =
@@ -77,30 +86,41 @@ voted_kept view transaction (VoteNo prepared store cause) old new count number v
 voted_kept view transaction VoteNothing old new count number votes is kept keeps = absurd (cc)
 
 -- a vote that is kept as Ready is of Ready
-pub voted_ready : {S : Type 0} (view : S → SessionView) (transaction : Transaction) (vote : Vote) (old new : List S) → VotesAs view transaction vote old new
+pub voted_ready : {S : Type 0} (view : S → SessionView) (transaction : Transaction) (vote : Vote) (old new : List S)
+    → VotesAs view transaction vote old new
     → (kept : Prepared) → stage_after vote ≡ Ready kept → kept.vote_kind ≡ VoteKindReady
 voted_ready view transaction (VoteReady prepared) old new votes kept keeps =
-    let same : prepared ≡ kept = cc in ap (λ (p : Prepared). p.vote_kind) (sym same) ∙ ap (λ (p : Prepared). p.vote_kind) votes.0
+    let same : prepared ≡ kept = cc in ap (λ (p : Prepared). p.vote_kind) (sym same)
+    ∙ ap (λ (p : Prepared). p.vote_kind) votes.0
 voted_ready view transaction (VoteOnePhase prepared) old new votes kept keeps = absurd (cc)
 voted_ready view transaction (VoteNo prepared store cause) old new votes kept keeps = absurd (cc)
 voted_ready view transaction VoteNothing old new votes kept keeps = absurd (cc)
 
 -- work keeps the transaction's number, name and count of stores
-pub worked_kept : (store count number : ℕ) (old new : Transaction) → KeepsOthers store old new → IsTransactionOf count number old → (kept : Transaction)
+pub worked_kept : (store count number : ℕ) (old new : Transaction) → KeepsOthers store old new
+    → IsTransactionOf count number old → (kept : Transaction)
     → transaction_in (Working new) ≡ Some kept → IsTransactionOf count number kept
 worked_kept store count number old new keeps is kept same =
     let e : new ≡ kept = cc in
     let P : Transaction → Type 0 = λ t. IsTransactionOf count number t in
-    subst P e (record { number = keeps.number ∙ is.number; name = (let e = keeps.name in let f = is.name in cc); stores = keeps.stores ∙ is.stores })
+    subst P e (record {
+      number = keeps.number ∙ is.number;
+      name = (let e = keeps.name in let f = is.name in cc);
+      stores = keeps.stores
+          ∙ is.stores;
+    })
 
 -- the transaction that has begun
-pub working_kept : (count number : ℕ) (transaction : Transaction) → IsTransactionOf count number transaction → (kept : Transaction)
+pub working_kept : (count number : ℕ) (transaction : Transaction) → IsTransactionOf count number transaction
+    → (kept : Transaction)
     → transaction_in (Working transaction) ≡ Some kept → IsTransactionOf count number kept
 working_kept count number transaction is kept same =
     let e : transaction ≡ kept = cc in
     let P : Transaction → Type 0 = λ t. IsTransactionOf count number t in
     subst P e is
 
-pub begun_on : (stages : List Stage) (number : ℕ) (begun : Stage) (added now : List Stage) → number ≡ length stages + 1 → added ≡ stages ++ Over ∷ []
+pub begun_on : (stages : List Stage) (number : ℕ) (begun : Stage) (added now : List Stage) → number ≡ length stages + 1
+    → added ≡ stages ++ Over ∷ []
     → now ≡ with_stage added number begun → now ≡ stages ++ begun ∷ []
-begun_on stages number begun added now is one put = put ∙ ap (λ list. with_stage list number begun) one ∙ with_stage-last stages Over begun number is
+begun_on stages number begun added now is one put =
+    put ∙ ap (λ list. with_stage list number begun) one ∙ with_stage-last stages Over begun number is

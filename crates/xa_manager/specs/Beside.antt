@@ -45,7 +45,8 @@ pub record LeavesAlone {S : Type 0} (view : S → SessionView) (old new : List (
 
 -- the other client's session in a store was given a statement, and this is its answer; no other session got a
 -- statement
-pub record HasRepliedBeside {S T : Type 0} (view other : S → SessionView) (store : ℕ) (statement : Statement) (old : WholeManager (Fused S) T)
+pub record HasRepliedBeside {S T : Type 0} (view other : S → SessionView) (store : ℕ) (statement : Statement)
+    (old : WholeManager (Fused S) T)
     (response : Response) (new : WholeManager (Fused S) T) : Type 0 where
   pub answer : Result Reply Fault
   pub known : store < old.stores
@@ -56,7 +57,8 @@ pub record HasRepliedBeside {S T : Type 0} (view other : S → SessionView) (sto
   pub stands : new ≡ record old { sessions = new.sessions }
 
 -- the other client's session in each store was given XA RECOVER CONVERT XID, and this is what each answered
-pub record IsShownBeside {S T : Type 0} (view other : S → SessionView) (old : WholeManager (Fused S) T) (response : Response) (new : WholeManager (Fused S) T)
+pub record IsShownBeside {S T : Type 0} (view other : S → SessionView) (old : WholeManager (Fused S) T)
+    (response : Response) (new : WholeManager (Fused S) T)
     : Type 0 where
   pub listing : Listing
   pub count : length listing.answers.items ≡ old.stores
@@ -66,20 +68,25 @@ pub record IsShownBeside {S T : Type 0} (view other : S → SessionView) (old : 
   pub stands : new ≡ record old { sessions = new.sessions }
 
 -- a call was carried out, by the call; only AT and SHOW give a statement to another client's session
-abbrev pub CarriesBeside : {S T : Type 0} → (S → SessionView) → (S → SessionView) → (T → SessionView) → WholeManager (Fused S) T → Call → Response
+abbrev pub CarriesBeside : {S T : Type 0} → (S → SessionView) → (S → SessionView) → (T → SessionView)
+    → WholeManager (Fused S) T → Call → Response
     → WholeManager (Fused S) T → Type 0
-CarriesBeside view other nobody old (At store statement) response new = HasRepliedBeside view other store statement old response new
+CarriesBeside view other nobody old (At store statement) response new =
+    HasRepliedBeside view other store statement old response new
 CarriesBeside view other nobody old Show response new = IsShownBeside view other old response new
 CarriesBeside view other nobody old call response new =
     Carries (within view) nobody old call response new × (others_of other new.sessions ≡ others_of other old.sessions)
 
 -- a call was refused as it has to be, or was carried out
-abbrev pub PerformsBeside : {S T : Type 0} → (S → SessionView) → (S → SessionView) → (T → SessionView) → WholeManager (Fused S) T → Call → Response
+abbrev pub PerformsBeside : {S T : Type 0} → (S → SessionView) → (S → SessionView) → (T → SessionView)
+    → WholeManager (Fused S) T → Call → Response
     → WholeManager (Fused S) T → Type 0
-PerformsBeside view other nobody old call response new = IsRefused old call response new ⊎ CarriesBeside view other nobody old call response new
+PerformsBeside view other nobody old call response new =
+    IsRefused old call response new ⊎ CarriesBeside view other nobody old call response new
 
 -- no transaction was begun, nothing is open, no session fails, and the two sessions of a store are a pair
-pub record BeginsBeside {S T : Type 0} (view other : S → SessionView) (manager : WholeManager (Fused S) T) : Type 0 where
+pub record BeginsBeside {S T : Type 0} (view other : S → SessionView)
+    (manager : WholeManager (Fused S) T) : Type 0 where
   pub decisions : manager.decisions ≡ []
   pub stages : manager.stages ≡ []
   pub anew : StartsAnew manager.branches manager.sessions
@@ -87,15 +94,19 @@ pub record BeginsBeside {S T : Type 0} (view other : S → SessionView) (manager
 
 -- memory was refused for a call, and no session got a statement and nothing changed; or it was carried out,
 -- and memory was refused for its answer
-pub record IsRefusedBeside {S T : Type 0} (view other : S → SessionView) (nobody : T → SessionView) (old : WholeManager (Fused S) T) (call : Call)
+pub record IsRefusedBeside {S T : Type 0} (view other : S → SessionView) (nobody : T → SessionView)
+    (old : WholeManager (Fused S) T) (call : Call)
     (text : List ℕ) (new : WholeManager (Fused S) T) : Type 0 where
   pub speaks : call ≡ Silent → ⊥
   pub told : text ≡ refused_text
-  pub stands : (new ≡ old) ⊎ ((response : Response) × (has_few_words response ≡ false) × PerformsBeside view other nobody old call response new)
+  pub stands : (new ≡ old) ⊎ ((response : Response) × (has_few_words response ≡ false)
+      × PerformsBeside view other nobody old call response new)
 
 -- a call was refused or carried out, and its response is written; or memory was refused
-abbrev pub IsBesideAnswer : {S T : Type 0} → (S → SessionView) → (S → SessionView) → (T → SessionView) → WholeManager (Fused S) T → Received → List ℕ
+abbrev pub IsBesideAnswer : {S T : Type 0} → (S → SessionView) → (S → SessionView) → (T → SessionView)
+    → WholeManager (Fused S) T → Received → List ℕ
     → WholeManager (Fused S) T → Type 0
 IsBesideAnswer view other nobody old line text new =
-    ((response : Response) × PerformsBeside view other nobody old (call_said line) response new × (text ≡ answer_text new.decisions response))
+    ((response : Response) × PerformsBeside view other nobody old (call_said line) response new
+    × (text ≡ answer_text new.decisions response))
     ⊎ IsRefusedBeside view other nobody old (call_said line) text new

@@ -2,14 +2,16 @@
 --     takes_rows       the statements that a transaction can give: GET, PUT and DEL
 --     call_of          the call that a line is read as
 --     IsWritten        a call as a line can spell it
-use Rattle.std.specs.Prelude.{◌≡◌, ℕ, Bool, true, false, bytes_eq, if◌then◌else◌, Option, Some, None, Result, Ok, Err, List, [], ◌∷◌, codes}
+use Rattle.std.specs.Prelude.{◌≡◌, ℕ, Bool, true, false, bytes_eq, if◌then◌else◌, Option, Some, None, Result, Ok, Err}
+use Rattle.std.specs.Prelude.{List, [], ◌∷◌, codes}
 use Rattle.xa_xid.specs.Bytes.{unblank}
 use Rattle.xa_xid.specs.declared.statement.Statement.{Statement}
 use Rattle.xa_xid.specs.declared.statement.Statement.TheVariants.{Get, Put, Del}
 use Rattle.xa_statement.specs.Reading.{read_of}
 use Rattle.xa_lines.specs.Script.{is_comment_line, is_empty_line, first_word, behind_word, number_of_word}
 use Rattle.xa_manager.specs.declared.call.Call.{Call}
-use Rattle.xa_manager.specs.declared.call.Call.TheVariants.{Silent, Unread, Begin, Work, Prepare as PrepareCall, Decide, Finish, Abandon, Fail, Stop}
+use Rattle.xa_manager.specs.declared.call.Call.TheVariants.{Silent, Unread, Begin, Work, Prepare as PrepareCall, Decide}
+use Rattle.xa_manager.specs.declared.call.Call.TheVariants.{Finish, Abandon, Fail, Stop}
 use Rattle.xa_manager.specs.declared.call.Call.TheVariants.{Recover as RecoverCall, At, Show}
 
 -- GET, PUT and DEL
@@ -52,7 +54,8 @@ with_number (Some number) call = call number
 unfoldable pub work_of : List ℕ → Call
 work_of text =
     with_number (number_of_word (first_word text)) (λ number.
-    with_number (number_of_word (first_word (behind_word text))) (λ store. work_call number store (read_of (behind_word (behind_word text)))))
+    with_number (number_of_word (first_word (behind_word text)))
+    (λ store. work_call number store (read_of (behind_word (behind_word text)))))
 
 -- k STATEMENT
 unfoldable pub at_of : List ℕ → Call
@@ -62,7 +65,8 @@ at_of text = with_number (number_of_word (first_word text)) (λ store. at_call s
 unfoldable pub fail_of : List ℕ → Call
 fail_of text =
     with_number (number_of_word (first_word text)) (λ store.
-    if bytes_eq (first_word (behind_word text)) (codes "AFTER") then numbered (λ calls. Fail store calls) (lone_number (behind_word (behind_word text)))
+    if bytes_eq (first_word (behind_word text)) (codes "AFTER") then numbered (λ calls. Fail store calls)
+    (lone_number (behind_word (behind_word text)))
     else Unread 0)
 
 -- the calls that are about no transaction, by their first word and the text after it
@@ -82,7 +86,8 @@ call_named word text =
     if bytes_eq word (codes "PREPARE") then numbered (λ number. PrepareCall number) (lone_number text) else
     if bytes_eq word (codes "DECIDE") then numbered (λ number. Decide number) (lone_number text) else
     if bytes_eq word (codes "FINISH") then numbered (λ number. Finish number) (lone_number text) else
-    if bytes_eq word (codes "ABANDON") then numbered (λ number. Abandon number) (lone_number text) else plain_call word text
+    if bytes_eq word (codes "ABANDON") then numbered (λ number. Abandon number)
+    (lone_number text) else plain_call word text
 
 -- what is left of a line after its blanks
 abbrev pub filled_call : List ℕ → Call

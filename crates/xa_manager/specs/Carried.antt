@@ -16,7 +16,8 @@
 --     HasReplied       AT
 --     IsShown          SHOW
 --     Carries          a call was carried out, by the call
-use Rattle.std.specs.Prelude.{◌≡◌, ◌⊎◌, ◌<◌, ◌≤◌, ◌+◌, ℕ, true, false, Option, Some, None, Result, IfOk, IfErr, OnOk, List, [], ◌∷◌, ◌++◌, length, map}
+use Rattle.std.specs.Prelude.{◌≡◌, ◌⊎◌, ◌<◌, ◌≤◌, ◌+◌, ℕ, true, false, Option, Some, None, Result, IfOk, IfErr, OnOk}
+use Rattle.std.specs.Prelude.{List, [], ◌∷◌, ◌++◌, length, map}
 use Rattle.std.specs.Prelude.{slice_get, codes}
 use Rattle.xa_xid.specs.declared.statement.Statement.{Statement}
 use Rattle.xa_server.specs.declared.reply.Reply.{Reply}
@@ -35,7 +36,8 @@ use Rattle.xa_coordinator.specs.declared.report.Report.{Report}
 use Rattle.xa_coordinator.specs.declared.transaction.Prepared.{Prepared}
 use Rattle.xa_coordinator.specs.declared.transaction.Transaction.{Transaction}
 use Rattle.xa_coordinator.specs.declared.vote.Vote.{Vote}
-use Rattle.xa_coordinator.specs.declared.vote.Vote.TheVariants.{Ready as VoteReady, OnePhase as VoteOnePhase, No as VoteNo, Nothing as VoteNothing}
+use Rattle.xa_coordinator.specs.declared.vote.Vote.TheVariants.{Ready as VoteReady, OnePhase as VoteOnePhase}
+use Rattle.xa_coordinator.specs.declared.vote.Vote.TheVariants.{No as VoteNo, Nothing as VoteNothing}
 use Rattle.xa_coordinator.specs.Decisions.{closed_of, is_decided, may_be_decided, with_decided}
 use Rattle.xa_coordinator.specs.Limits.{most_numbers}
 use Rattle.xa_coordinator.specs.OpenBranches.{KeepsOpen}
@@ -46,16 +48,19 @@ use Rattle.xa_coordinator.specs.Stores.{AtStore, EachStore, ChangesAt}
 use Rattle.xa_coordinator.specs.Work.{KeepsOthers, WorksAs}
 use Rattle.xa_lines.specs.Printed.{converts}
 use Rattle.xa_manager.specs.declared.call.Call.{Call}
-use Rattle.xa_manager.specs.declared.call.Call.TheVariants.{Silent as SilentCall, Unread, Begin, Work, Prepare, Decide, Finish, Abandon, Fail}
+use Rattle.xa_manager.specs.declared.call.Call.TheVariants.{Silent as SilentCall, Unread, Begin, Work, Prepare, Decide}
+use Rattle.xa_manager.specs.declared.call.Call.TheVariants.{Finish, Abandon, Fail}
 use Rattle.xa_manager.specs.declared.call.Call.TheVariants.{Stop, Recover, At, Show}
 use Rattle.xa_manager.specs.declared.listing.Listing.{Listing}
 use Rattle.xa_manager.specs.declared.response.Response.{Response}
-use Rattle.xa_manager.specs.declared.response.Response.TheVariants.{Silent, Begun, NumbersSpent, Worked, Voted, Decided, Closed, Ended, Limited, Stopped}
+use Rattle.xa_manager.specs.declared.response.Response.TheVariants.{Silent, Begun, NumbersSpent, Worked, Voted, Decided}
+use Rattle.xa_manager.specs.declared.response.Response.TheVariants.{Closed, Ended, Limited, Stopped}
 use Rattle.xa_manager.specs.declared.response.Response.TheVariants.{Recovered, Replied, Shown}
 use Rattle.xa_manager.specs.declared.stage.Stage.{Stage}
 use Rattle.xa_manager.specs.declared.stage.Stage.TheVariants.{Working, Ready, Voted as VotedStage, Over}
 use Rattle.xa_manager.specs.declared.vote_answer.VoteAnswer.{VoteAnswer}
-use Rattle.xa_manager.specs.declared.vote_answer.VoteAnswer.TheVariants.{Ready as ToldReady, OnePhase as ToldOnePhase, Nothing as ToldNothing, No as ToldNo}
+use Rattle.xa_manager.specs.declared.vote_answer.VoteAnswer.TheVariants.{Ready as ToldReady, OnePhase as ToldOnePhase}
+use Rattle.xa_manager.specs.declared.vote_answer.VoteAnswer.TheVariants.{Nothing as ToldNothing, No as ToldNo}
 use Rattle.xa_manager.specs.Ledger.{stage_of, with_stage, IsTransactionOf}
 use Rattle.xa_manager.specs.Limits.{LimitsAlone, StartsAnew}
 use Rattle.xa_manager.specs.Said.{IsGiven, IsListed}
@@ -72,10 +77,12 @@ pub record WholeManager (C T : Type 0) : Type 0 where
 
 -- only the coordinator's sessions were used, each stays of its log, and there are as many; these are the
 -- decisions and stages now
-pub record SpeaksAlone {C T : Type 0} (view : C → SessionView) (decisions : List Decision) (stages : List Stage) (old new : WholeManager C T) : Type 0 where
+pub record SpeaksAlone {C T : Type 0} (view : C → SessionView) (decisions : List Decision) (stages : List Stage)
+    (old new : WholeManager C T) : Type 0 where
   pub logs : EachStore view (λ store. StaysOfLog) old.sessions new.sessions
   pub count : length new.sessions ≡ length old.sessions
-  pub stands : new ≡ record old { decisions = decisions; stages = stages; branches = new.branches; sessions = new.sessions }
+  pub stands : new
+      ≡ record old { decisions = decisions; stages = stages; branches = new.branches; sessions = new.sessions }
 
 -- the answer for a vote
 abbrev pub vote_answer_of : Vote → VoteAnswer
@@ -97,7 +104,8 @@ pub record IsBegun {C T : Type 0} (old : WholeManager C T) (response : Response)
   pub named : IsTransactionOf old.stores (length old.stages + 1) transaction
   pub nobody : (store : ℕ) → takes_part transaction.participants store ≡ false
   pub told : response ≡ Begun (length old.stages + 1)
-  pub stands : new ≡ record old { decisions = old.decisions ++ Undecided ∷ []; stages = old.stages ++ Working transaction ∷ [] }
+  pub stands : new
+      ≡ record old { decisions = old.decisions ++ Undecided ∷ []; stages = old.stages ++ Working transaction ∷ [] }
 
 -- no number is left
 pub record IsSpent {C T : Type 0} (old : WholeManager C T) (response : Response) (new : WholeManager C T) : Type 0 where
@@ -107,7 +115,8 @@ pub record IsSpent {C T : Type 0} (old : WholeManager C T) (response : Response)
 
 -- a transaction that takes work worked in a store, with this result; in the other stores nothing changed, nor
 -- whether they take part
-pub record HasWorked {C T : Type 0} (view : C → SessionView) (number store : ℕ) (statement : Statement) (old : WholeManager C T) (response : Response)
+pub record HasWorked {C T : Type 0} (view : C → SessionView) (number store : ℕ) (statement : Statement)
+    (old : WholeManager C T) (response : Response)
     (new : WholeManager C T) : Type 0 where
   pub before : Transaction
   pub after : Transaction
@@ -121,8 +130,10 @@ pub record HasWorked {C T : Type 0} (view : C → SessionView) (number store : �
   pub marks : ChangesAt store old.branches new.branches
   pub alone : SpeaksAlone view old.decisions (with_stage old.stages number (Working after)) old new
 
--- the stores of a transaction that takes work voted, and this is the vote, which is kept; what is open in the other stores stays so
-pub record HasVoted {C T : Type 0} (view : C → SessionView) (number : ℕ) (old : WholeManager C T) (response : Response) (new : WholeManager C T) : Type 0 where
+-- the stores of a transaction that takes work voted, and this is the vote, which is kept; what is open in the other
+-- stores stays so
+pub record HasVoted {C T : Type 0} (view : C → SessionView) (number : ℕ) (old : WholeManager C T) (response : Response)
+    (new : WholeManager C T) : Type 0 where
   pub before : Transaction
   pub vote : Vote
   pub working : stage_of old.stages number ≡ Some (Working before)
@@ -133,15 +144,18 @@ pub record HasVoted {C T : Type 0} (view : C → SessionView) (number : ℕ) (ol
   pub alone : SpeaksAlone view old.decisions (with_stage old.stages number (stage_after vote)) old new
 
 -- a transaction with a vote of Ready is decided, or its number is closed
-pub record IsDecided {C T : Type 0} (number : ℕ) (old : WholeManager C T) (response : Response) (new : WholeManager C T) : Type 0 where
+pub record IsDecided {C T : Type 0} (number : ℕ) (old : WholeManager C T) (response : Response)
+    (new : WholeManager C T) : Type 0 where
   pub prepared : Prepared
   pub ready : stage_of old.stages number ≡ Some (Ready prepared)
   pub outcome :
-      ((may_be_decided old.decisions number ≡ true) × (response ≡ Decided) × (new ≡ record old { decisions = with_decided old.decisions number }))
+      ((may_be_decided old.decisions number ≡ true) × (response ≡ Decided)
+      × (new ≡ record old { decisions = with_decided old.decisions number }))
       ⊎ ((may_be_decided old.decisions number ≡ false) × (response ≡ Closed) × (new ≡ old))
 
 -- a transaction was to end by this closing, and this is how it ended; what is open in the other stores stays so
-pub record HasEnded {C T : Type 0} (view : C → SessionView) (number : ℕ) (transaction : Transaction) (closing : Closing) (old : WholeManager C T)
+pub record HasEnded {C T : Type 0} (view : C → SessionView) (number : ℕ) (transaction : Transaction) (closing : Closing)
+    (old : WholeManager C T)
     (response : Response) (new : WholeManager C T) : Type 0 where
   pub ending : Ending
   pub told : response ≡ Ended ending
@@ -150,29 +164,35 @@ pub record HasEnded {C T : Type 0} (view : C → SessionView) (number : ℕ) (tr
   pub alone : SpeaksAlone view old.decisions (with_stage old.stages number Over) old new
 
 -- a transaction that was voted on ended as the decisions say
-pub record IsFinished {C T : Type 0} (view : C → SessionView) (number : ℕ) (old : WholeManager C T) (response : Response)
+pub record IsFinished {C T : Type 0} (view : C → SessionView) (number : ℕ) (old : WholeManager C T)
+    (response : Response)
     (new : WholeManager C T) : Type 0 where
   pub prepared : Prepared
-  pub voted : (stage_of old.stages number ≡ Some (Ready prepared)) ⊎ (stage_of old.stages number ≡ Some (VotedStage prepared))
+  pub voted : (stage_of old.stages number ≡ Some (Ready prepared))
+      ⊎ (stage_of old.stages number ≡ Some (VotedStage prepared))
   pub of_number : prepared.transaction.number ≡ number
-  pub ends : HasEnded view number prepared.transaction (finish_for (is_decided old.decisions number) prepared.vote_kind) old response new
+  pub ends : HasEnded view number prepared.transaction (finish_for
+      (is_decided old.decisions number) prepared.vote_kind) old response new
 
 -- a transaction that takes work was rolled back
-pub record IsAbandoned {C T : Type 0} (view : C → SessionView) (number : ℕ) (old : WholeManager C T) (response : Response)
+pub record IsAbandoned {C T : Type 0} (view : C → SessionView) (number : ℕ) (old : WholeManager C T)
+    (response : Response)
     (new : WholeManager C T) : Type 0 where
   pub before : Transaction
   pub working : stage_of old.stages number ≡ Some (Working before)
   pub ends : HasEnded view number before RollBack old response new
 
 -- the coordinator's session in a store passes on so many calls, and no session got a statement
-pub record IsLimited {S T : Type 0} (store calls : ℕ) (old : WholeManager (Fused S) T) (response : Response) (new : WholeManager (Fused S) T) : Type 0 where
+pub record IsLimited {S T : Type 0} (store calls : ℕ) (old : WholeManager (Fused S) T) (response : Response)
+    (new : WholeManager (Fused S) T) : Type 0 where
   pub known : store < old.stores
   pub told : response ≡ Limited
   pub limited : LimitsAlone store calls old.sessions new.sessions
   pub stands : new ≡ record old { sessions = new.sessions }
 
 -- a new coordinator replaced the old one, over the same sessions, which got no statement
-pub record IsStopped {S T : Type 0} (old : WholeManager (Fused S) T) (response : Response) (new : WholeManager (Fused S) T) : Type 0 where
+pub record IsStopped {S T : Type 0} (old : WholeManager (Fused S) T) (response : Response)
+    (new : WholeManager (Fused S) T) : Type 0 where
   pub told : response ≡ Stopped
   pub anew : StartsAnew new.branches new.sessions
   pub within : map (λ (s : Fused S). s.inner) new.sessions ≡ map (λ (s : Fused S). s.inner) old.sessions
@@ -180,18 +200,22 @@ pub record IsStopped {S T : Type 0} (old : WholeManager (Fused S) T) (response :
 
 -- the coordinator recovered by the decisions, of which none is undecided then, with this result; nothing is
 -- open then, or after a fault, in the stores that it didn't reach, what was open before
-pub record HasRecovered {C T : Type 0} (view : C → SessionView) (old : WholeManager C T) (response : Response) (new : WholeManager C T) : Type 0 where
+pub record HasRecovered {C T : Type 0} (view : C → SessionView) (old : WholeManager C T) (response : Response)
+    (new : WholeManager C T) : Type 0 where
   pub outcome : Result Report RecoverFault
   pub told : response ≡ Recovered outcome
   pub done : IfOk outcome (λ report. Recovers view new.decisions (codes "c") report old.sessions new.sessions)
-  pub broken : IfErr outcome (λ fault. BreaksOff view new.decisions (codes "c") fault old.branches new.branches old.sessions new.sessions)
+  pub broken : IfErr outcome (λ fault. BreaksOff view new.decisions
+      (codes "c") fault old.branches new.branches old.sessions new.sessions)
   pub free : OnOk outcome ((store : ℕ) → store < new.stores → slice_get new.branches store ≡ Some None)
-  pub marks : IfErr outcome (λ fault. (store : ℕ) → asked_by_fault fault ≤ store → slice_get new.branches store ≡ slice_get old.branches store)
+  pub marks : IfErr outcome (λ fault. (store : ℕ) → asked_by_fault fault ≤ store
+      → slice_get new.branches store ≡ slice_get old.branches store)
   pub alone : SpeaksAlone view (map closed_of old.decisions) old.stages old new
 
 -- the other client's session in a store was given a statement, and this is its answer; no other session got a
 -- statement
-pub record HasReplied {C T : Type 0} (view : T → SessionView) (store : ℕ) (statement : Statement) (old : WholeManager C T) (response : Response)
+pub record HasReplied {C T : Type 0} (view : T → SessionView) (store : ℕ) (statement : Statement)
+    (old : WholeManager C T) (response : Response)
     (new : WholeManager C T) : Type 0 where
   pub answer : Result Reply Fault
   pub known : store < old.stores
@@ -201,7 +225,8 @@ pub record HasReplied {C T : Type 0} (view : T → SessionView) (store : ℕ) (s
   pub stands : new ≡ record old { other_clients = new.other_clients }
 
 -- the other client's session in each store was given XA RECOVER CONVERT XID, and this is what each answered
-pub record IsShown {C T : Type 0} (view : T → SessionView) (old : WholeManager C T) (response : Response) (new : WholeManager C T) : Type 0 where
+pub record IsShown {C T : Type 0} (view : T → SessionView) (old : WholeManager C T) (response : Response)
+    (new : WholeManager C T) : Type 0 where
   pub listing : Listing
   pub count : length listing.answers.items ≡ old.stores
   pub told : response ≡ Shown listing
@@ -209,12 +234,14 @@ pub record IsShown {C T : Type 0} (view : T → SessionView) (old : WholeManager
   pub stands : new ≡ record old { other_clients = new.other_clients }
 
 -- a call was carried out, by the call
-abbrev pub Carries : {S T : Type 0} → (Fused S → SessionView) → (T → SessionView) → WholeManager (Fused S) T → Call → Response → WholeManager (Fused S) T
+abbrev pub Carries : {S T : Type 0} → (Fused S → SessionView) → (T → SessionView) → WholeManager (Fused S) T → Call
+    → Response → WholeManager (Fused S) T
     → Type 0
 Carries view view' old SilentCall response new = (response ≡ Silent) × (new ≡ old)
 Carries view view' old (Unread place) response new = ⊥
 Carries view view' old Begin response new = IsBegun old response new ⊎ IsSpent old response new
-Carries view view' old (Work number store statement) response new = HasWorked view number store statement old response new
+Carries view view' old (Work number store statement) response new =
+    HasWorked view number store statement old response new
 Carries view view' old (Prepare number) response new = HasVoted view number old response new
 Carries view view' old (Decide number) response new = IsDecided number old response new
 Carries view view' old (Finish number) response new = IsFinished view number old response new

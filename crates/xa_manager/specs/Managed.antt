@@ -6,7 +6,8 @@ use Rattle.xa_manager.specs.Carried.{WholeManager}
 use Rattle.xa_manager.specs.declared.manager.Manager.{Manager}
 
 -- its stores are counted, all else is as it is
-abbrev pub whole_of : {C T : Type 0} {session : SpeakOf C} {other_client : SpeakOf T} → Manager C T session other_client → WholeManager C T
+abbrev pub whole_of : {C T : Type 0} {session : SpeakOf C} {other_client : SpeakOf T} → Manager C T session other_client
+    → WholeManager C T
 whole_of manager = record {
   stores = vec_len manager.coordinator.stores;
   decisions = manager.decisions;

@@ -5,11 +5,13 @@
 --     refusal_of       the refusal of a call
 use Rattle.std.specs.Prelude.{ℕ, Bool, true, false, nat_lt, if◌then◌else◌, Option, Some, None, List}
 use Rattle.xa_manager.specs.declared.call.Call.{Call}
-use Rattle.xa_manager.specs.declared.call.Call.TheVariants.{Unread as UnreadCall, Work, Prepare, Decide, Finish, Abandon, Fail, At}
+use Rattle.xa_manager.specs.declared.call.Call.TheVariants.{Unread as UnreadCall, Work, Prepare, Decide, Finish}
+use Rattle.xa_manager.specs.declared.call.Call.TheVariants.{Abandon, Fail, At}
 use Rattle.xa_manager.specs.declared.stage.Stage.{Stage}
 use Rattle.xa_manager.specs.declared.stage.Stage.TheVariants.{Working, Ready, Voted}
 use Rattle.xa_manager.specs.declared.response.Response.{Response}
-use Rattle.xa_manager.specs.declared.response.Response.TheVariants.{Unread, UnknownStore, UnknownTransaction, WrongStage}
+use Rattle.xa_manager.specs.declared.response.Response.TheVariants.{Unread, UnknownStore, UnknownTransaction}
+use Rattle.xa_manager.specs.declared.response.Response.TheVariants.{WrongStage}
 use Rattle.xa_manager.specs.Ledger.{stage_of}
 
 -- a transaction that takes work
@@ -41,7 +43,8 @@ refusal_at stores store refusal = if nat_lt store stores then refusal else Some 
 -- order
 abbrev pub refusal_of : ℕ → List Stage → Call → Option Response
 refusal_of stores stages (UnreadCall place) = Some (Unread place)
-refusal_of stores stages (Work number store statement) = refusal_at stores store (refusal_in takes_work number (stage_of stages number))
+refusal_of stores stages (Work number store statement) =
+    refusal_at stores store (refusal_in takes_work number (stage_of stages number))
 refusal_of stores stages (Prepare number) = refusal_in takes_work number (stage_of stages number)
 refusal_of stores stages (Decide number) = refusal_in takes_decision number (stage_of stages number)
 refusal_of stores stages (Finish number) = refusal_in takes_finish number (stage_of stages number)

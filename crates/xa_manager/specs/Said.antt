@@ -19,8 +19,10 @@ reply_of (Err fault) = Err fault
 
 -- a session answered a statement, or failed, with this result
 abbrev pub RepliesAs : Statement → Result Reply Fault → SessionView → SessionView → Type 0
-RepliesAs statement (Ok reply) old new = (place : ℕ) × IsAnswered old.base statement (record { place = place; reply = reply }) old.known new.known
-RepliesAs statement (Err fault) old new = Fails old.turns old.identity.capacity old.base statement fault old.known new.known
+RepliesAs statement (Ok reply) old new =
+    (place : ℕ) × IsAnswered old.base statement (record { place = place; reply = reply }) old.known new.known
+RepliesAs statement (Err fault) old new =
+    Fails old.turns old.identity.capacity old.base statement fault old.known new.known
 
 -- a session was given the statement, in the log that it was of, with this result
 pub record IsGiven (statement : Statement) (answer : Result Reply Fault) (old new : SessionView) : Type 0 where

@@ -17,7 +17,8 @@ use Rattle.xa_manager.specs.declared.call.Call.TheVariants.{Silent, Unread}
 use Rattle.xa_manager.specs.declared.vote_answer.VoteAnswer.TheVariants.{No}
 use Rattle.xa_manager.specs.declared.response.Response.{Response}
 use Rattle.xa_manager.specs.declared.response.Response.TheVariants.{Begun}
-use Rattle.xa_manager.specs.declared.response.Response.TheVariants.{NumbersSpent, Worked, Voted, Decided, Closed, Ended, Limited, Stopped, Replied}
+use Rattle.xa_manager.specs.declared.response.Response.TheVariants.{NumbersSpent, Worked, Voted, Decided, Closed, Ended}
+use Rattle.xa_manager.specs.declared.response.Response.TheVariants.{Limited, Stopped, Replied}
 use Rattle.xa_manager.specs.Calls.{call_of}
 use Rattle.xa_manager.specs.Texts.{answer_text}
 use Rattle.xa_manager.specs.Carried.{WholeManager}
@@ -59,15 +60,19 @@ has_few_words response = false
 -- memory was refused for a call, and no session got a statement and nothing changed; or it was carried out,
 -- and memory was refused for its answer, which is then of many words: so a begin, a decision, a limit and a
 -- stop aren't carried out
-pub record IsRefusedCall {S T : Type 0} (view : S → SessionView) (view' : T → SessionView) (old : WholeManager (Fused S) T) (call : Call) (text : List ℕ)
+pub record IsRefusedCall {S T : Type 0} (view : S → SessionView) (view' : T → SessionView)
+    (old : WholeManager (Fused S) T) (call : Call) (text : List ℕ)
     (new : WholeManager (Fused S) T) : Type 0 where
   pub speaks : call ≡ Silent → ⊥
   pub told : text ≡ refused_text
-  pub stands : (new ≡ old) ⊎ ((response : Response) × (has_few_words response ≡ false) × Performs view view' old call response new)
+  pub stands : (new ≡ old) ⊎ ((response : Response) × (has_few_words response ≡ false)
+      × Performs view view' old call response new)
 
 -- a call was refused or carried out, and its response is written; or memory was refused
-abbrev pub IsCallAnswer : {S T : Type 0} → (S → SessionView) → (T → SessionView) → WholeManager (Fused S) T → Received → List ℕ → WholeManager (Fused S) T
+abbrev pub IsCallAnswer : {S T : Type 0} → (S → SessionView) → (T → SessionView) → WholeManager (Fused S) T → Received
+    → List ℕ → WholeManager (Fused S) T
     → Type 0
 IsCallAnswer view view' old line text new =
-    ((response : Response) × Performs view view' old (call_said line) response new × (text ≡ answer_text new.decisions response))
+    ((response : Response) × Performs view view' old (call_said line) response new
+    × (text ≡ answer_text new.decisions response))
     ⊎ IsRefusedCall view view' old (call_said line) text new

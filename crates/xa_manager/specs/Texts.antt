@@ -9,7 +9,8 @@
 --     decisions_text               the numbers by their states
 --     response_text                the response to a call
 --     answer_text                  the same with its line feed, and nothing for a line that is no call
-use Rattle.std.specs.Prelude.{ℕ, ◌+◌, Bool, true, false, if◌then◌else◌, Result, Ok, Err, List, [], ◌∷◌, ◌++◌, codes, decimal}
+use Rattle.std.specs.Prelude.{ℕ, ◌+◌, Bool, true, false, if◌then◌else◌, Result, Ok, Err, List, [], ◌∷◌, ◌++◌, codes}
+use Rattle.std.specs.Prelude.{decimal}
 use Rattle.xa_server.specs.declared.reply.Reply.{Reply}
 use Rattle.xa_session.specs.declared.fault.Fault.{Fault}
 use Rattle.xa_session.specs.declared.fault.Fault.TheVariants.{Overtaken, Full, NoMemory, Busy}
@@ -17,20 +18,24 @@ use Rattle.xa_lines.specs.Printed.{reply_text, error_text, syntax_text}
 use Rattle.xa_coordinator.specs.declared.fault.Cause.{Cause}
 use Rattle.xa_coordinator.specs.declared.fault.Cause.TheVariants.{Session as SessionCause, Refused as RefusedCause}
 use Rattle.xa_coordinator.specs.declared.fault.WorkFault.{WorkFault}
-use Rattle.xa_coordinator.specs.declared.fault.WorkFault.TheVariants.{Session as WorkSession, Refused as WorkRefused, Lost}
+use Rattle.xa_coordinator.specs.declared.fault.WorkFault.TheVariants.{Session as WorkSession, Refused as WorkRefused}
+use Rattle.xa_coordinator.specs.declared.fault.WorkFault.TheVariants.{Lost}
 use Rattle.xa_coordinator.specs.declared.ending.Ending.{Ending}
 use Rattle.xa_coordinator.specs.declared.ending.Ending.TheVariants.{Committed, RolledBack, Hazard, Unfinished}
 use Rattle.xa_coordinator.specs.declared.report.Report.{Report}
 use Rattle.xa_coordinator.specs.declared.fault.RecoverFault.{RecoverFault}
-use Rattle.xa_coordinator.specs.declared.fault.RecoverFault.TheVariants.{Session as RecoverSession, StillPrepared, NoMemory as RecoverNoMemory}
+use Rattle.xa_coordinator.specs.declared.fault.RecoverFault.TheVariants.{Session as RecoverSession, StillPrepared}
+use Rattle.xa_coordinator.specs.declared.fault.RecoverFault.TheVariants.{NoMemory as RecoverNoMemory}
 use Rattle.xa_coordinator.specs.declared.fault.RecoverFault.TheVariants.{Refused as RecoverRefused}
 use Rattle.xa_coordinator.specs.declared.decisions.Decision.{Decision}
 use Rattle.xa_coordinator.specs.declared.decisions.Decision.TheVariants.{Undecided, Decided, Closed}
 use Rattle.xa_manager.specs.declared.vote_answer.VoteAnswer.{VoteAnswer}
 use Rattle.xa_manager.specs.declared.vote_answer.VoteAnswer.TheVariants.{Ready, OnePhase, Nothing, No}
 use Rattle.xa_manager.specs.declared.response.Response.{Response}
-use Rattle.xa_manager.specs.declared.response.Response.TheVariants.{Silent, Unread, UnknownStore, UnknownTransaction, WrongStage, Begun, NumbersSpent, Worked}
-use Rattle.xa_manager.specs.declared.response.Response.TheVariants.{Voted, Decided as WasDecided, Closed as WasClosed, Ended, Limited, Stopped, Recovered}
+use Rattle.xa_manager.specs.declared.response.Response.TheVariants.{Silent, Unread, UnknownStore, UnknownTransaction}
+use Rattle.xa_manager.specs.declared.response.Response.TheVariants.{WrongStage, Begun, NumbersSpent, Worked}
+use Rattle.xa_manager.specs.declared.response.Response.TheVariants.{Voted, Decided as WasDecided, Closed as WasClosed}
+use Rattle.xa_manager.specs.declared.response.Response.TheVariants.{Ended, Limited, Stopped, Recovered}
 use Rattle.xa_manager.specs.declared.response.Response.TheVariants.{Replied, Shown}
 
 -- why a session didn't answer; a session that tries again is never left overtaken or busy
@@ -73,15 +78,18 @@ ending_text (Unfinished store cause) = codes "UNFINISHED " ++ decimal store ++ c
 
 -- why a recovery failed
 abbrev pub recover_fault_text : RecoverFault → List ℕ
-recover_fault_text (RecoverSession store fault) = codes "UNRECOVERED " ++ decimal store ++ codes ": " ++ fault_text fault
+recover_fault_text (RecoverSession store fault) =
+    codes "UNRECOVERED " ++ decimal store ++ codes ": " ++ fault_text fault
 recover_fault_text (StillPrepared store) = codes "STILL PREPARED " ++ decimal store
 recover_fault_text RecoverNoMemory = codes "UNRECOVERED: out of memory"
-recover_fault_text (RecoverRefused store error) = codes "UNRECOVERED " ++ decimal store ++ codes ": " ++ error_text error
+recover_fault_text (RecoverRefused store error) =
+    codes "UNRECOVERED " ++ decimal store ++ codes ": " ++ error_text error
 
 -- what a recovery did
 abbrev pub report_text : Report → List ℕ
 report_text report =
-    codes "RECOVERED committed " ++ decimal report.committed ++ codes " rolled back " ++ decimal report.rolled_back ++ codes " missing "
+    codes "RECOVERED committed " ++ decimal report.committed ++ codes " rolled back " ++ decimal report.rolled_back
+    ++ codes " missing "
     ++ decimal report.missing
 
 -- the result of a recovery
@@ -117,12 +125,14 @@ number_text wanted number decision = if stands_as wanted decision then codes " "
 -- the numbers from this one on that have the wanted state, ascending, each after a space
 abbrev pub numbers_text : Decision → ℕ → List Decision → List ℕ
 numbers_text wanted number [] = []
-numbers_text wanted number (decision ∷ decisions) = number_text wanted number decision ++ numbers_text wanted (number + 1) decisions
+numbers_text wanted number (decision ∷ decisions) =
+    number_text wanted number decision ++ numbers_text wanted (number + 1) decisions
 
 -- the numbers by their states
 abbrev pub decisions_text : List Decision → List ℕ
 decisions_text decisions =
-    codes "UNDECIDED" ++ numbers_text Undecided 1 decisions ++ codes "\nDECIDED" ++ numbers_text Decided 1 decisions ++ codes "\nCLOSED"
+    codes "UNDECIDED" ++ numbers_text Undecided 1 decisions ++ codes "\nDECIDED" ++ numbers_text Decided 1 decisions
+    ++ codes "\nCLOSED"
     ++ numbers_text Closed 1 decisions
 
 -- the response to a call, when the decisions are these

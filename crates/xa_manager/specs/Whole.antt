@@ -23,18 +23,23 @@ pub record IsPair (first second : SessionView) : Type 0 where
   pub first_known : first.known ≡ newcomer 1
   pub second_known : second.known ≡ newcomer 2
 
--- no transaction was begun, nothing is open, no session fails, and the coordinator's session in each store and the other client's are a pair
-pub record ManagerBegins {S T : Type 0} (view : S → SessionView) (view' : T → SessionView) (manager : WholeManager (Fused S) T) : Type 0 where
+-- no transaction was begun, nothing is open, no session fails, and the coordinator's session in each store and the
+-- other client's are a pair
+pub record ManagerBegins {S T : Type 0} (view : S → SessionView) (view' : T → SessionView)
+    (manager : WholeManager (Fused S) T) : Type 0 where
   pub decisions : manager.decisions ≡ []
   pub stages : manager.stages ≡ []
   pub anew : StartsAnew manager.branches manager.sessions
   pub pairs : AllZip (λ session other. IsPair (view session.inner) (view' other)) manager.sessions manager.other_clients
 
 -- a call was refused by the table; no session got a statement, and nothing changed
-pub record IsRefused {C T : Type 0} (old : WholeManager C T) (call : Call) (response : Response) (new : WholeManager C T) : Type 0 where
+pub record IsRefused {C T : Type 0} (old : WholeManager C T) (call : Call) (response : Response)
+    (new : WholeManager C T) : Type 0 where
   pub told : refusal_of old.stores old.stages call ≡ Some response
   pub stands : new ≡ old
 
 -- a call was refused as the table says, or was carried out; sessions are seen without their limits
-abbrev pub Performs : {S T : Type 0} → (S → SessionView) → (T → SessionView) → WholeManager (Fused S) T → Call → Response → WholeManager (Fused S) T → Type 0
-Performs view view' old call response new = IsRefused old call response new ⊎ Carries (λ session. view session.inner) view' old call response new
+abbrev pub Performs : {S T : Type 0} → (S → SessionView) → (T → SessionView) → WholeManager (Fused S) T → Call
+    → Response → WholeManager (Fused S) T → Type 0
+Performs view view' old call response new =
+    IsRefused old call response new ⊎ Carries (λ session. view session.inner) view' old call response new

@@ -2,7 +2,8 @@
 ghost use Rattle.std.specs.Prelude.{◌≡◌, ◌≤◌, ◌<◌, ◌-◌, ◌^◌, ◌⊎◌, ℕ, true, nat_lt, IfOk, OnErr, vec_len, length, map};
 ghost use Rattle.xa_coordinator.specs.Stores.{EachStore};
 ghost use Rattle.xa_manager.specs.Calls.{takes_rows, IsWritten};
-ghost use Rattle.xa_manager.specs.Carried.{vote_answer_of, stage_after as stage_with, IsBegun, IsSpent, HasWorked, HasVoted, IsDecided, IsFinished};
+ghost use Rattle.xa_manager.specs.Carried.{vote_answer_of, stage_after as stage_with, IsBegun, IsSpent, HasWorked};
+ghost use Rattle.xa_manager.specs.Carried.{HasVoted, IsDecided, IsFinished};
 ghost use Rattle.xa_manager.specs.Carried.{IsAbandoned, IsLimited, IsStopped, HasRecovered, HasReplied, IsShown};
 ghost use Rattle.xa_manager.specs.Limits.{Passes};
 ghost use Rattle.xa_manager.specs.Managed.{whole_of};
@@ -73,7 +74,8 @@ fn listed_by_each<T: Speak, R: Wait>(
 ) -> Result<Vec<Result<Reply, Fault>>, NoMemory>
     ensures each { IfOk result (λ answers. vec_len answers ≡ length other_clients.old) }
     ensures count { length other_clients.new ≡ length other_clients.old }
-    ensures listed { IfOk result (λ answers. EachStore T.view (IsListed answers.items) other_clients.old other_clients.new) }
+    ensures listed { IfOk result (λ answers. EachStore T.view
+        (IsListed answers.items) other_clients.old other_clients.new) }
     ensures nothing { OnErr result (other_clients.new ≡ other_clients.old) }
 {
     let mut answers = Vec::with_capacity(alloc, other_clients.len())?;
@@ -88,7 +90,8 @@ fn listed_by_each<T: Speak, R: Wait>(
 fn allow_all<S: Speak>(coordinator: &mut Coordinator<Fused<S>>, count: u8)
     requires { count ≤ vec_len coordinator.old.stores }
     ensures name { coordinator.new.name ≡ coordinator.old.name }
-    ensures sessions { map (λ session. session.inner) coordinator.new.stores.items ≡ map (λ session. session.inner) coordinator.old.stores.items }
+    ensures sessions { map (λ session. session.inner) coordinator.new.stores.items
+        ≡ map (λ session. session.inner) coordinator.old.stores.items }
     ensures passes { (store : ℕ) → store < count → Passes store (2 ^ 64 - 1) coordinator.new.stores.items }
 {
     for store in 0..count {
@@ -107,7 +110,8 @@ impl<C: Speak, T: Speak> Manager<C, T> {
     /// Begins a transaction.
     fn begin(&mut self) -> Result<Response, NoMemory>
         ensures answers { IfOk result
-            (λ response. IsBegun (whole_of self.old) response (whole_of self.new) ⊎ IsSpent (whole_of self.old) response (whole_of self.new)) }
+            (λ response. IsBegun (whole_of self.old) response (whole_of self.new)
+            ⊎ IsSpent (whole_of self.old) response (whole_of self.new)) }
         ensures nothing { OnErr result (whole_of self.new ≡ whole_of self.old) }
     {
         self.ledger.add(Stage::Over)?;
@@ -288,7 +292,8 @@ impl<S: Speak, T: Speak> Manager<Fused<S>, T> {
         // Proved (manager, limits): After `FAIL` is answered OK only that session's limit changes, to the
         //   given number of calls. After `STOP` each session passes on 2^64 - 1 calls, and nothing is open in
         //   any store.
-        ensures answers { IfOk result (λ response. Performs S.view T.view (whole_of self.old) (call.now) response (whole_of self.new)) }
+        ensures answers { IfOk result (λ response. Performs S.view T.view (whole_of self.old) (call.now) response
+            (whole_of self.new)) }
         // Proved (manager, no-memory): If `NoMemory` is returned, no session got a statement, and numbers,
         //   stages, sessions, limits and what is open are as they were.
         ensures nothing { OnErr result (whole_of self.new ≡ whole_of self.old) }

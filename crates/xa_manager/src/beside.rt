@@ -30,7 +30,8 @@ fn listed_beside<S: Beside, R: Wait>(
     ensures count { length coordinator.new.stores.items ≡ length coordinator.old.stores.items }
     ensures alone { LeavesAlone S.view coordinator.old.stores.items coordinator.new.stores.items }
     ensures listed { IfOk result
-        (λ answers. EachStore (within S.other) (IsListed answers.items) coordinator.old.stores.items coordinator.new.stores.items) }
+        (λ answers. EachStore (within S.other) (IsListed answers.items) coordinator.old.stores.items
+        coordinator.new.stores.items) }
     ensures nothing { OnErr result (coordinator.new ≡ coordinator.old) }
 {
     let count = coordinator.count();
@@ -59,7 +60,8 @@ impl<S: Beside, T: Speak> Manager<Fused<S>, T> {
 
     /// Has the other client of each store list what is prepared there.
     fn show_beside<R: Wait>(&mut self, rt: &R, alloc: Global) -> Result<Response, NoMemory>
-        ensures answers { IfOk result (λ response. IsShownBeside S.view S.other (whole_of self.old) response (whole_of self.new)) }
+        ensures answers { IfOk result (λ response. IsShownBeside S.view S.other (whole_of self.old) response
+            (whole_of self.new)) }
         ensures nothing { OnErr result (whole_of self.new ≡ whole_of self.old) }
     {
         let answers = listed_beside(rt, alloc, &mut self.coordinator)?;
@@ -85,7 +87,8 @@ impl<S: Beside, T: Speak> Manager<Fused<S>, T> {
         // Proved (manager, answers-beside): If the coordinator's sessions hold the other clients', calls are
         //   refused and carried out in the same way, and only `AT` and `SHOW` give a statement to the other
         //   clients'.
-        ensures answers { IfOk result (λ response. PerformsBeside S.view S.other T.view (whole_of self.old) (call.now) response (whole_of self.new)) }
+        ensures answers { IfOk result (λ response. PerformsBeside S.view S.other T.view (whole_of self.old)
+            (call.now) response (whole_of self.new)) }
         // Proved (manager, no-memory)
         ensures nothing { OnErr result (whole_of self.new ≡ whole_of self.old) }
     {

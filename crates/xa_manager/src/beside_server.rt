@@ -36,7 +36,8 @@ impl<'r, S: Beside, T: Speak, R: Wait> LineServer for BesideServer<'r, Fused<S>,
 
     ghost begins = { λ server. BeginsBeside S.view S.other (whole_of server.manager) };
 
-    ghost answers = { λ old line text new. IsBesideAnswer S.view S.other T.view (whole_of old.manager) line text (whole_of new.manager) };
+    ghost answers = { λ old line text new. IsBesideAnswer S.view S.other T.view (whole_of old.manager) line text
+        (whole_of new.manager) };
 
     fn answer(&mut self, alloc: Global, line: &[u8]) -> Answer {
         let call = read_call(line);

@@ -36,7 +36,8 @@ fn begun(number: u64) -> Answer
 
 /// A reply of one word.
 fn word_of(reply: &Reply) -> Option<Answer>
-    ensures words { IfSome result (λ answer. (convert : Bool) → bytes_of answer ≡ reply_text convert reply.now ++ codes "\n") }
+    ensures words { IfSome result (λ answer. (convert : Bool)
+        → bytes_of answer ≡ reply_text convert reply.now ++ codes "\n") }
     ensures none { result ≡ None → is_word reply.now ≡ false }
 {
     match reply {
@@ -73,7 +74,8 @@ fn ending_of(ending: &Ending) -> Option<Answer>
 
 /// The answer to a call that was carried out, if its words are few. It takes no memory.
 pub(crate) fn few_words(response: &Response) -> Option<Answer>
-    ensures words { IfSome result (λ answer. (decisions : List Decision) → bytes_of answer ≡ answer_text decisions response.now) }
+    ensures words { IfSome result (λ answer. (decisions : List Decision)
+        → bytes_of answer ≡ answer_text decisions response.now) }
     ensures none { result ≡ None → has_few_words response.now ≡ false }
 {
     match response {

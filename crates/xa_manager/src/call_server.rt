@@ -63,7 +63,8 @@ impl<'r, S: Speak, T: Speak, R: Wait> LineServer for CallServer<'r, Fused<S>, T,
 
     ghost begins = { λ server. ManagerBegins S.view T.view (whole_of server.manager) };
 
-    ghost answers = { λ old line text new. IsCallAnswer S.view T.view (whole_of old.manager) line text (whole_of new.manager) };
+    ghost answers = { λ old line text new. IsCallAnswer S.view T.view (whole_of old.manager) line text
+        (whole_of new.manager) };
 
     fn answer(&mut self, alloc: Global, line: &[u8]) -> Answer {
         let call = read_call(line);

@@ -1,5 +1,6 @@
 //! The transactions that were begun, and their stages.
-ghost use Rattle.std.specs.Prelude.{◌≡◌, ◌≢◌, ◌<◌, ◌+◌, ◌-◌, ◌++◌, ◌∷◌, [], ◌⊎◌, length, take, Some, None, OnOk, OnErr, IfOk, IfErr, IfSome};
+ghost use Rattle.std.specs.Prelude.{◌≡◌, ◌≢◌, ◌<◌, ◌+◌, ◌-◌, ◌++◌, ◌∷◌, [], ◌⊎◌, length, take, Some, None, OnOk, OnErr};
+ghost use Rattle.std.specs.Prelude.{IfOk, IfErr, IfSome};
 ghost use Rattle.xa_manager.specs.Ledger.{stage_of, with_stage};
 ghost use Rattle.xa_manager.specs.Refusals.{refusal_in, takes_work, takes_decision, takes_finish};
 
@@ -109,7 +110,8 @@ impl Ledger {
     pub fn take_working(&mut self, number: u64) -> Result<Transaction, Response>
         ensures taken { IfOk result (λ transaction. stage_of self.old number ≡ Some (Stage.Working transaction)) }
         ensures over { OnOk result (self.new ≡ with_stage self.old number Stage.Over) }
-        ensures refused { IfErr result (λ refusal. refusal_in takes_work number (stage_of self.old number) ≡ Some refusal) }
+        ensures refused { IfErr result (λ refusal. refusal_in takes_work number (stage_of self.old number)
+            ≡ Some refusal) }
         ensures kept { OnErr result (self.new ≡ self.old) }
     {
         match self.take(number) {
@@ -131,7 +133,8 @@ impl Ledger {
     pub fn take_ready(&mut self, number: u64) -> Result<Prepared, Response>
         ensures taken { IfOk result (λ prepared. stage_of self.old number ≡ Some (Stage.Ready prepared)) }
         ensures over { OnOk result (self.new ≡ with_stage self.old number Stage.Over) }
-        ensures refused { IfErr result (λ refusal. refusal_in takes_decision number (stage_of self.old number) ≡ Some refusal) }
+        ensures refused { IfErr result (λ refusal. refusal_in takes_decision number (stage_of self.old number)
+            ≡ Some refusal) }
         ensures kept { OnErr result (self.new ≡ self.old) }
     {
         match self.take(number) {
@@ -153,9 +156,11 @@ impl Ledger {
     /// Own rule: docs/COORDINATOR.md#calls.
     pub fn take_voted(&mut self, number: u64) -> Result<Prepared, Response>
         ensures taken { IfOk result
-            (λ prepared. (stage_of self.old number ≡ Some (Stage.Ready prepared)) ⊎ (stage_of self.old number ≡ Some (Stage.Voted prepared))) }
+            (λ prepared. (stage_of self.old number ≡ Some (Stage.Ready prepared))
+            ⊎ (stage_of self.old number ≡ Some (Stage.Voted prepared))) }
         ensures over { OnOk result (self.new ≡ with_stage self.old number Stage.Over) }
-        ensures refused { IfErr result (λ refusal. refusal_in takes_finish number (stage_of self.old number) ≡ Some refusal) }
+        ensures refused { IfErr result (λ refusal. refusal_in takes_finish number (stage_of self.old number)
+            ≡ Some refusal) }
         ensures kept { OnErr result (self.new ≡ self.old) }
     {
         match self.take(number) {

@@ -36,7 +36,8 @@ pub struct Manager<C: Speak, T: Speak> {
         → stage_of ledger number ≡ Some stage
         → transaction_in stage ≡ Some transaction
         → IsTransactionOf (vec_len coordinator.stores) number transaction },
-    ghost ready: { (number : ℕ) (prepared : Prepared) → stage_of ledger number ≡ Some (StageReady prepared) → prepared.vote_kind ≡ VoteKindReady },
+    ghost ready: { (number : ℕ) (prepared : Prepared) → stage_of ledger number ≡ Some (StageReady prepared)
+        → prepared.vote_kind ≡ VoteKindReady },
 }
 
 impl<C: Speak, T: Speak> Manager<C, T> {
@@ -54,7 +55,8 @@ impl<C: Speak, T: Speak> Manager<C, T> {
         ensures ledger { result.ledger ≡ [] }
         ensures sessions { result.coordinator.stores ≡ sessions }
         ensures other_clients { result.other_clients ≡ other_clients }
-        ensures free { (store : ℕ) → store < vec_len sessions → slice_get result.coordinator.branches store ≡ Some None }
+        ensures free { (store : ℕ) → store < vec_len sessions
+            → slice_get result.coordinator.branches store ≡ Some None }
     {
         Manager {
             coordinator: Coordinator::new(name(), sessions),

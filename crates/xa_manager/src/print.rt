@@ -3,8 +3,10 @@ ghost use Rattle.std.specs.Prelude.{◌≡◌, [], ◌++◌, false, OnOk, OnErr,
 ghost use Rattle.xa_lines.specs.Answer.{bytes_of};
 ghost use Rattle.xa_manager.specs.Served.{has_few_words};
 ghost use Rattle.xa_lines.specs.Printed.{error_text};
-ghost use Rattle.xa_manager.specs.Texts.{fault_text, cause_text, stores_text, worked_text, vote_text, ending_text, recover_fault_text, report_text};
-ghost use Rattle.xa_manager.specs.Texts.{replied_text, store_text, stores_shown_text, stands_as, numbers_text, decisions_text, response_text, answer_text};
+ghost use Rattle.xa_manager.specs.Texts.{fault_text, cause_text, stores_text, worked_text, vote_text, ending_text};
+ghost use Rattle.xa_manager.specs.Texts.{recover_fault_text, report_text};
+ghost use Rattle.xa_manager.specs.Texts.{replied_text, store_text, stores_shown_text, stands_as, numbers_text};
+ghost use Rattle.xa_manager.specs.Texts.{decisions_text, response_text, answer_text};
 
 use crate::brief::few_words;
 use crate::{Response, VoteAnswer};
@@ -69,7 +71,8 @@ fn push_store_cause(
     store: u8,
     cause: &Cause,
 ) -> Result<(), NoMemory>
-    ensures { OnOk result (text.new.items ≡ text.old.items ++ (word.now ++ decimal store ++ codes ": " ++ cause_text cause.now)) }
+    ensures { OnOk result (text.new.items ≡ text.old.items
+        ++ (word.now ++ decimal store ++ codes ": " ++ cause_text cause.now)) }
 {
     push_numbered(text, word, u64::from(store))?;
     text.extend_from_slice(b": ")?;

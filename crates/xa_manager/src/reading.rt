@@ -1,7 +1,8 @@
 //! Reading lines as calls.
 ghost use Rattle.std.specs.Prelude.{◌≡◌, Some, None, MatchOption};
 ghost use Rattle.xa_lines.specs.Script.{first_word, behind_word, number_of_word};
-ghost use Rattle.xa_manager.specs.Calls.{lone_number, takes_rows, alone as alone_call, work_of, at_of, fail_of, plain_call, call_named, call_of};
+ghost use Rattle.xa_manager.specs.Calls.{lone_number, takes_rows, alone as alone_call, work_of, at_of, fail_of};
+ghost use Rattle.xa_manager.specs.Calls.{plain_call, call_named, call_of};
 ghost use Rattle.xa_manager.specs.Calls.{numbered, IsWritten};
 
 use crate::Call;

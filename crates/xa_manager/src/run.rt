@@ -1,5 +1,6 @@
 //! A coordinator's calls over stores with a log, line by line.
-ghost use Rattle.std.specs.Prelude.{◌≡◌, ◌≤◌, ◌<◌, ◌-◌, ◌^◌, [], ℕ, All, length, map, vec_len, IfOk, IfErr, IfSome, OnOk};
+ghost use Rattle.std.specs.Prelude.{◌≡◌, ◌≤◌, ◌<◌, ◌-◌, ◌^◌, [], ℕ, All, length, map, vec_len, IfOk, IfErr, IfSome};
+ghost use Rattle.std.specs.Prelude.{OnOk};
 ghost use Rattle.std.specs.List.{AllZip};
 ghost use Rattle.decision_log.specs.Known.{newcomer};
 ghost use Rattle.xa_server.specs.State.{no_state};
@@ -22,7 +23,8 @@ use xa_xid::NoMemory;
 
 /// Opens a store, and returns it with the passes of its two sessions.
 fn open_store(alloc: Global, capacity: u64) -> Result<(Store, Pass, Pass), NoMemory>
-    ensures logs { IfOk result (λ opened. (log_of opened.1 ≡ identity_of opened.0.log) × (log_of opened.2 ≡ identity_of opened.0.log)) }
+    ensures logs { IfOk result (λ opened. (log_of opened.1 ≡ identity_of opened.0.log)
+        × (log_of opened.2 ≡ identity_of opened.0.log)) }
     ensures capacity { IfOk result (λ opened. (identity_of opened.0.log).capacity ≡ capacity) }
     ensures empty { IfOk result (λ opened. opened.0.base ≡ no_state) }
     ensures known { IfOk result (λ opened. (known_of opened.1 ≡ newcomer 1) × (known_of opened.2 ≡ newcomer 2)) }
@@ -99,7 +101,8 @@ fn connect_each<'a>(
 fn fuse_each<S: Speak + Drop>(alloc: Global, sessions: Vec<S>) -> Result<Vec<Fused<S>>, NoMemory>
     ensures count { IfOk result (λ fused. vec_len fused ≡ vec_len sessions) }
     ensures within { IfOk result (λ fused. map (λ session. session.inner) fused.items ≡ sessions.items) }
-    ensures passes { IfOk result (λ fused. (store : ℕ) → store < length fused.items → Passes store (2 ^ 64 - 1) fused.items) }
+    ensures passes { IfOk result (λ fused. (store : ℕ) → store < length fused.items
+        → Passes store (2 ^ 64 - 1) fused.items) }
 {
     let mut fused = Vec::new(alloc);
     for session in sessions {
@@ -135,12 +138,16 @@ pub fn manager_over<'a>(
     // Proved (manager, manager-begins)
     ensures anew { IfOk result (λ manager. StartsAnew manager.coordinator.branches manager.coordinator.stores.items) }
     // Proved (manager, manager-begins)
-    ensures sessions { IfOk result (λ manager. map (λ session. session.inner.pass) manager.coordinator.stores.items ≡ firsts.items) }
+    ensures sessions { IfOk result (λ manager. map (λ session. session.inner.pass) manager.coordinator.stores.items
+        ≡ firsts.items) }
     // Proved (manager, manager-begins)
-    ensures other_clients { IfOk result (λ manager. map (λ session. session.pass) manager.other_clients.items ≡ seconds.items) }
+    ensures other_clients { IfOk result (λ manager. map (λ session. session.pass) manager.other_clients.items
+        ≡ seconds.items) }
     // Proved (manager, manager-begins)
     ensures begins { AreNew stores.now firsts.items seconds.items
-        → IfOk result (λ manager. ManagerBegins ⟦<Session<'a, Log> as Speak>⟧.view ⟦<Session<'a, Log> as Speak>⟧.view (whole_of manager)) }
+        → IfOk result
+        (λ manager. ManagerBegins ⟦<Session<'a, Log> as Speak>⟧.view ⟦<Session<'a, Log> as Speak>⟧.view
+        (whole_of manager)) }
 {
     let sessions = connect_each(alloc, stores, firsts)?;
     let other_clients = connect_each(alloc, stores, seconds)?;

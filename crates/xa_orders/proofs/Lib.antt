@@ -1,4 +1,5 @@
 pub mod Lists
+pub mod Differing
 pub mod Levels
 pub mod Places
 pub mod Ends

@@ -1,5 +1,6 @@
 -- Lists one or each two of which are so, and orders that precede others.
-use Rattle.std.proofs.Common.{◌≡◌, ℕ, zero, suc, ◌<◌, Some, List, [], ◌∷◌, ◌++◌, length, get_or, take, refl, sym, ap, ◌∙◌, inl, inr, arith}
+use Rattle.std.proofs.Common.{◌≡◌, ℕ, zero, suc, ◌<◌, Some, List, [], ◌∷◌, ◌++◌, length, get_or, take, refl, sym, ap}
+use Rattle.std.proofs.Common.{◌∙◌, inl, inr, arith}
 use Rattle.std.specs.Prelude.{slice_get}
 use Rattle.std.specs.List.{All}
 use Rattle.std.proofs.lemmas.Option.{none-some, same_Some, slice_get_read}
@@ -48,17 +49,23 @@ module _ {A : Type 0} where
   any_read P xs i x below at p = any_at P xs i x (slice_get_read xs (length xs) i x refl below at) p
 
   -- one more at the end
-  pub pairwise_push : (R : A → A → Type 0) (xs : List A) (y : A) → Pairwise R xs → All (λ x. R x y) xs → Pairwise R (xs ++ y ∷ [])
+  pub pairwise_push : (R : A → A → Type 0) (xs : List A) (y : A) → Pairwise R xs → All (λ x. R x y) xs
+      → Pairwise R (xs ++ y ∷ [])
   pairwise_push R [] y pairs all = (All-nil (R y), tt)
-  pairwise_push R (x ∷ xs) y pairs all =
-      (All-push (R x) xs y pairs.0 (All-head (λ z. R z y) x xs all), pairwise_push R xs y pairs.1 (All-tail (λ z. R z y) x xs all))
+  pairwise_push R (x ∷ xs) y pairs all = (
+    All-push (R x) xs y pairs.0 (All-head (λ z. R z y) x xs all),
+    pairwise_push R xs y pairs.1
+        (All-tail (λ z. R z y) x xs all),
+  )
 
   -- those before a place, and the one there
-  pub pairwise_front : (R : A → A → Type 0) (xs : List A) (i : ℕ) (d : A) → i < length xs → Pairwise R xs → All (λ x. R x (get_or xs i d)) (take i xs)
+  pub pairwise_front : (R : A → A → Type 0) (xs : List A) (i : ℕ) (d : A) → i < length xs → Pairwise R xs
+      → All (λ x. R x (get_or xs i d)) (take i xs)
   pairwise_front R [] i d below pairs = absurd (omega (arith, below))
   pairwise_front R (x ∷ xs) zero d below pairs = All-nil (λ z. R z x)
   pairwise_front R (x ∷ xs) (suc i) d below pairs =
-      All-cons (λ z. R z (get_or xs i d)) x (take i xs) (pairs.0 i d (omega (arith, below))) (pairwise_front R xs i d (omega (arith, below)) pairs.1)
+      All-cons (λ z. R z (get_or xs i d)) x (take i xs) (pairs.0 i d (omega (arith, below)))
+      (pairwise_front R xs i d (omega (arith, below)) pairs.1)
 
   -- the last one of a list that has one
   pub split_last : (x : A) (xs : List A) → (ys : List A) × (y : A) × (x ∷ xs ≡ ys ++ y ∷ [])

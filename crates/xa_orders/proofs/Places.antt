@@ -1,5 +1,6 @@
 -- The places of lines.
-use Rattle.std.proofs.Common.{◌≡◌, ℕ, ◌+◌, ◌==◌, ◌&&◌, Bool, not, cond, List, [], ◌∷◌, length, position, refl, ap, ◌∙◌, arith}
+use Rattle.std.proofs.Common.{◌≡◌, ℕ, ◌+◌, ◌==◌, ◌&&◌, Bool, not, cond, List, [], ◌∷◌, length, position, refl, ap, ◌∙◌}
+use Rattle.std.proofs.Common.{arith}
 use Rattle.std.specs.List.{zip, prefix_len}
 use Rattle.std.proofs.lemmas.Bool.Decides.{nat_tests}
 use Rattle.xa_lines.specs.Script.{is_empty_line}
@@ -10,17 +11,21 @@ is_empty_length [] = grind (arith, nat_tests)
 is_empty_length (byte ∷ text) = grind (arith, nat_tests)
 
 -- two tests that are the same find the same place
-prefix_same : {A : Type 0} (p q : A → Bool) (xs : List A) → ((x : A) → p x ≡ q x) → prefix_len (λ x. not (p x)) xs ≡ prefix_len (λ x. not (q x)) xs
+prefix_same : {A : Type 0} (p q : A → Bool) (xs : List A) → ((x : A) → p x ≡ q x)
+    → prefix_len (λ x. not (p x)) xs ≡ prefix_len (λ x. not (q x)) xs
 prefix_same p q [] same = refl
 prefix_same p q (x ∷ xs) same =
-    ap (λ b. cond (not b) (1 + prefix_len (λ z. not (p z)) xs) 0) (same x) ∙ ap (λ n. cond (not (q x)) (1 + n) 0) (prefix_same p q xs same)
+    ap (λ b. cond (not b) (1 + prefix_len (λ z. not (p z)) xs) 0) (same x)
+    ∙ ap (λ n. cond (not (q x)) (1 + n) 0) (prefix_same p q xs same)
 
 position_same : {A : Type 0} (p q : A → Bool) (xs : List A) → ((x : A) → p x ≡ q x) → position p xs ≡ position q xs
 position_same p q xs same = rw (prefix_same p q xs same)
 
 -- the place of a session's first line that has no text
 pub next_is : (session : ℕ) (lines : List Told) (texts : List (List ℕ))
-    → position (λ pair. (pair.0.session == session) && (length pair.1 == 0)) (zip lines texts) ≡ next_place session lines texts
+    → position (λ pair. (pair.0.session == session) && (length pair.1 == 0)) (zip lines texts)
+    ≡ next_place session lines texts
 next_is session lines texts =
-    position_same (λ (pair : Told × List ℕ). (pair.0.session == session) && (length pair.1 == 0)) (is_left session) (zip lines texts)
+    position_same (λ (pair : Told × List ℕ). (pair.0.session == session) && (length pair.1 == 0)) (is_left session)
+    (zip lines texts)
     (λ pair. ap (λ b. (pair.0.session == session) && b) (is_empty_length pair.1))

@@ -17,12 +17,15 @@ text_from first later way = first ++ concat way.answers ++ told_text way.server 
 abbrev pub IsOutcomeAdded : List ℕ → List ℕ → List Outcome → List Outcome → Type 0
 IsOutcomeAdded order text old new =
     (Any (λ one. one.text.items ≡ text) old × (new ≡ old))
-    ⊎ ((next : Outcome) × (next.order.items ≡ order) × (next.text.items ≡ text) × All (λ one. one.text.items ≢ text) old × (new ≡ old ++ next ∷ []))
+    ⊎ ((next : Outcome) × (next.order.items ≡ order) × (next.text.items ≡ text) × All (λ one. one.text.items ≢ text) old
+    × (new ≡ old ++ next ∷ []))
 
 -- each outcome is that of a way; each way has one with an order that is at most its own; and none is there
 -- twice
 pub record AreOutcomes (text_of : Way → List ℕ) (ways : List Way) (outcomes : List Outcome) : Type 0 where
-  pub each : All (λ one. Any (λ way. (one.order.items ≡ way.order.items) × (one.text.items ≡ text_of way)) ways) outcomes
-  pub all : All (λ way. Any (λ one. (one.text.items ≡ text_of way) × AtMost one.order.items way.order.items) outcomes) ways
+  pub each : All (λ one. Any (λ way. (one.order.items ≡ way.order.items) × (one.text.items ≡ text_of way)) ways)
+      outcomes
+  pub all : All (λ way. Any (λ one. (one.text.items ≡ text_of way) × AtMost one.order.items way.order.items) outcomes)
+      ways
   pub once : Pairwise (λ one other. one.text.items ≢ other.text.items) outcomes
   pub ascending : IsAscending (λ one. one.order.items) outcomes

@@ -7,12 +7,16 @@
 --     IsTurn, IsNextOf     a way is another one with one more turn;  ways are all that one more turn leads
 --                          to, each configuration once
 --     IsTurnAdded          the way to which a session's turn leads is added
+--     AreDifferent         no two ways of a list have come to the same
+--     HasDifferent         a list has so many ways of which no two have come to the same
+--     IsSpread             it has more of them than allowed
 --     IsWideNext, IsWide   one more turn leads to more ways than allowed;  orders of one length do
-use Rattle.std.specs.Prelude.{◌≡◌, ◌⊎◌, ℕ, ◌<◌, Some, None, List, [], ◌∷◌, ◌++◌, length}
+use Rattle.std.specs.Prelude.{◌≡◌, ◌≢◌, ◌⊎◌, ℕ, ◌<◌, Some, None, List, [], ◌∷◌, ◌++◌, length}
 use Rattle.std.specs.List.{All}
 use Rattle.xa_orders.specs.declared.way.Way.{Way}
 use Rattle.xa_server.specs.State.{State}
-use Rattle.xa_orders.specs.Orders.{Told, Config, opening, turn, IsSession, LeadsTo, Precedes, AtMost, Any, IsAscending}
+use Rattle.xa_orders.specs.Orders.{Told, Config, opening, turn, IsSession, LeadsTo, Precedes, AtMost, Any, Pairwise}
+use Rattle.xa_orders.specs.Orders.{IsAscending}
 
 -- the configuration to which the way has come
 abbrev pub config_of : Way → Config
@@ -33,7 +37,8 @@ HasBy ways config order = Any (λ way. (config_of way ≡ config) × AtMost way.
 -- these are the ways with this many turns
 pub record IsLevel (lines : List Told) (base : Config) (count : ℕ) (ways : List Way) : Type 0 where
   pub each : All (IsReached lines base count) ways
-  pub all : (order : List ℕ) (config : Config) → length order ≡ count → LeadsTo lines base order config → HasBy ways config order
+  pub all : (order : List ℕ) (config : Config) → length order ≡ count → LeadsTo lines base order config
+      → HasBy ways config order
   pub ascending : IsAscending order_of ways
 
 -- a turn of this session leads from the way to the new one
@@ -45,7 +50,8 @@ pub record IsTurn (lines : List Told) (session : ℕ) (way new : Way) : Type 0 w
 -- the list has what each turn of a session below the number leads to
 abbrev pub Covers : List Told → ℕ → Way → List Way → Type 0
 Covers lines number way list =
-    (session : ℕ) (config : Config) → session < number → IsSession session → turn lines (config_of way) session ≡ Some config
+    (session : ℕ) (config : Config) → session < number → IsSession session
+    → turn lines (config_of way) session ≡ Some config
     → HasBy list config (way.order.items ++ session ∷ [])
 
 -- the list is what one more turn of the ways leads to
@@ -65,20 +71,42 @@ AddsUnlessThere old one new = (Any (λ way. config_of way ≡ config_of one) old
 -- the session has no turn, and the list is as it was; or the way to which its turn leads is added
 abbrev pub IsTurnAdded : List Told → Way → ℕ → List Way → List Way → Type 0
 IsTurnAdded lines way session old new =
-    ((IsSession session → turn lines (config_of way) session ≡ None) × (new ≡ old)) ⊎ ((next : Way) × IsTurn lines session way next × AddsUnlessThere old next new)
+    ((IsSession session → turn lines (config_of way) session ≡ None) × (new ≡ old))
+    ⊎ ((next : Way) × IsTurn lines session way next × AddsUnlessThere old next new)
 
 -- the only way before all lines
 abbrev pub IsOpening : List Told → State → List Way → Type 0
-IsOpening lines state ways = (one : Way) × (ways ≡ one ∷ []) × (config_of one ≡ opening lines state) × (one.order.items ≡ [])
+IsOpening lines state ways =
+    (one : Way) × (ways ≡ one ∷ []) × (config_of one ≡ opening lines state) × (one.order.items ≡ [])
 
--- one more turn leads to a list of more ways than allowed; nothing says that these differ
-abbrev pub IsWideNext : List Told → List Way → ℕ → Type 0
-IsWideNext lines ways limit =
-    (many : List Way) × (limit < length many) × All (λ new. Any (λ way. (session : ℕ) × IsTurn lines session way new) ways) many
+-- no two of the ways have come to the same: some line was answered otherwise, or the servers differ
+abbrev pub AreDifferent : List Way → Type 0
+AreDifferent ways = Pairwise (λ one other. config_of one ≢ config_of other) ways
 
--- orders of some length lead to a list of more ways than allowed; nothing says that these differ
+-- the list has so many ways of which no two have come to the same
+pub record HasDifferent (count : ℕ) (ways : List Way) : Type 0 where
+  pub many : List Way
+  pub counted : length many ≡ count
+  pub differ : AreDifferent many
+  pub among : All (λ one. Any (λ way. way ≡ one) ways) many
+
+-- the list has more of them than allowed
+pub record IsSpread (limit : ℕ) (ways : List Way) : Type 0 where
+  pub count : ℕ
+  pub over : limit < count
+  pub different : HasDifferent count ways
+
+-- one more turn leads to more ways than allowed, no two of which have come to the same
+pub record IsWideNext (lines : List Told) (ways : List Way) (limit : ℕ) : Type 0 where
+  pub many : List Way
+  pub over : limit < length many
+  pub differ : AreDifferent many
+  pub each : All (λ new. Any (λ way. (session : ℕ) × IsTurn lines session way new) ways) many
+
+-- orders of some length lead to more ways than allowed, no two of which have come to the same
 pub record IsWide (lines : List Told) (base : Config) (limit : ℕ) : Type 0 where
   pub count : ℕ
   pub many : List Way
   pub over : limit < length many
+  pub differ : AreDifferent many
   pub reached : All (IsReached lines base count) many

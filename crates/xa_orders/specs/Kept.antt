@@ -5,4 +5,10 @@ use Rattle.xa_orders.specs.Scripts.{Reading}
 
 abbrev pub read_kept : Script → Reading
 read_kept script =
-    record { stage = script.stage; before = script.before.items; beside = script.beside.items; later = script.later.items; faults = script.faults.items }
+    record {
+      stage = script.stage;
+      before = script.before.items;
+      beside = script.beside.items;
+      later = script.later.items;
+      faults = script.faults.items;
+    }

@@ -11,7 +11,8 @@
 --                          of one of a list
 --     IsAscending          orders ascend
 --     IsExplored           these are all outcomes, each once, with its least order, in the order of these
-use Rattle.std.specs.Prelude.{◌≡◌, ◌≢◌, ◌⊎◌, ℕ, ◌<◌, ◌≤◌, Bool, ◌==◌, ◌&&◌, Option, Some, List, [], ◌∷◌, ◌++◌, length, replicate, position, slice_get, slice_set}
+use Rattle.std.specs.Prelude.{◌≡◌, ◌≢◌, ◌⊎◌, ℕ, ◌<◌, ◌≤◌, Bool, ◌==◌, ◌&&◌, Option, Some, List, [], ◌∷◌, ◌++◌, length}
+use Rattle.std.specs.Prelude.{replicate, position, slice_get, slice_set}
 use Rattle.std.specs.List.{All, zip, concat}
 use Rattle.std.specs.Option.{option_map, option_map_or}
 use Rattle.xa_server.specs.State.{State, no_state}
@@ -34,7 +35,8 @@ pub record Parts : Type 0 where
 -- what is written for lines that are carried out one after another; it is what a script's run writes
 unfoldable pub told_text : State → List Told → List ℕ
 told_text state [] = []
-told_text state (told ∷ lines) = answer_to state told.session (read_of told.text) ++ told_text (state_then state told.session (read_of told.text)) lines
+told_text state (told ∷ lines) = answer_to state told.session (read_of told.text)
+    ++ told_text (state_then state told.session (read_of told.text)) lines
 
 -- the state after them
 unfoldable pub told_state : State → List Told → State
@@ -71,7 +73,8 @@ carried_out session text config place =
 
 -- the session's next line is carried out, if it has one left
 unfoldable pub turn : List Told → Config → ℕ → Option Config
-turn lines config session = option_map (λ place. carried_out session (text_at lines place) config place) (next_place session lines config.answers)
+turn lines config session = option_map (λ place. carried_out session (text_at lines place) config place)
+    (next_place session lines config.answers)
 
 abbrev pub IsSession : ℕ → Type 0
 IsSession session = (1 ≤ session) × (session ≤ 16)
@@ -79,7 +82,8 @@ IsSession session = (1 ≤ session) × (session ≤ 16)
 -- sessions take turns in this order, and lead from old to new
 abbrev pub LeadsTo : List Told → Config → List ℕ → Config → Type 0
 LeadsTo lines old [] new = new ≡ old
-LeadsTo lines old (session ∷ order) new = (mid : Config) × IsSession session × (turn lines old session ≡ Some mid) × LeadsTo lines mid order new
+LeadsTo lines old (session ∷ order) new =
+    (mid : Config) × IsSession session × (turn lines old session ≡ Some mid) × LeadsTo lines mid order new
 
 -- the configuration before the lines side by side
 abbrev pub base_of : Parts → Config
@@ -87,7 +91,8 @@ base_of parts = opening parts.beside (told_state no_state parts.before)
 
 -- what all lines were answered, in the order in which the script has them
 abbrev pub outcome_text : Parts → Config → List ℕ
-outcome_text parts config = told_text no_state parts.before ++ concat config.answers ++ told_text config.state parts.later
+outcome_text parts config =
+    told_text no_state parts.before ++ concat config.answers ++ told_text config.state parts.later
 
 -- in this order each line side by side is carried out, and all lines are answered with this text
 pub record Gives (parts : Parts) (order text : List ℕ) : Type 0 where
@@ -120,6 +125,7 @@ IsAscending order list = Pairwise (λ one other. Precedes (order one) (order oth
 -- is at most that one; none is there twice; and the orders ascend
 pub record IsExplored (parts : Parts) (outcomes : List Outcome) : Type 0 where
   pub each : All (λ one. Gives parts one.order.items one.text.items) outcomes
-  pub all : (order text : List ℕ) → Gives parts order text → Any (λ one. (one.text.items ≡ text) × AtMost one.order.items order) outcomes
+  pub all : (order text : List ℕ) → Gives parts order text
+      → Any (λ one. (one.text.items ≡ text) × AtMost one.order.items order) outcomes
   pub once : Pairwise (λ one other. one.text.items ≢ other.text.items) outcomes
   pub ascending : IsAscending (λ one. one.order.items) outcomes

@@ -6,13 +6,15 @@
 --     parts_of                   the lines of the script's parts
 --     explored_text              what is written for outcomes
 --     IsExploredText             what is written for a script, and how exploring it ends
-use Rattle.std.specs.Prelude.{◌≡◌, ℕ, ◌+◌, Bool, ◌&&◌, if◌then◌else◌, Option, nat_eq, Result, Ok, Err, List, [], ◌∷◌, ◌++◌, length, codes, decimal, IfSome}
+use Rattle.std.specs.Prelude.{◌≡◌, ℕ, ◌+◌, Bool, ◌&&◌, if◌then◌else◌, Option, nat_eq, Result, Ok, Err, List, [], ◌∷◌}
+use Rattle.std.specs.Prelude.{◌++◌, length, codes, decimal, IfSome}
 use Rattle.std.specs.Cmp.Lexicographic.{pointwise}
 use Rattle.std.specs.Io.KnownBytes.{Keeps, Appends}
 use Rattle.xa_xid.specs.Bytes.{unblank}
 use Rattle.xa_xid.specs.declared.statement.Statement.{Statement}
 use Rattle.xa_statement.specs.Reading.{read_of}
-use Rattle.xa_lines.specs.Script.{Line, Blank, Bad, Given, line_of, lines_of, first_word, behind_word, is_empty_line, is_comment_line}
+use Rattle.xa_lines.specs.Script.{Line, Blank, Bad, Given, line_of, lines_of, first_word, behind_word, is_empty_line}
+use Rattle.xa_lines.specs.Script.{is_comment_line}
 use Rattle.xa_lines.specs.Printed.{syntax_text}
 use Rattle.xa_lines.specs.Transcript.{AppendsPrefix}
 use Rattle.xa_lines.specs.declared.script_fault.ScriptFault.{ScriptFault}
@@ -68,7 +70,8 @@ with_statement read number told (Err place) = blamed read number place
 abbrev pub with_line : Reading → ℕ → Line → Reading
 with_line read number Blank = read
 with_line read number Bad = blamed read number 0
-with_line read number (Given session text) = with_statement read number (record { session = session; text = text }) (read_of text)
+with_line read number (Given session text) =
+    with_statement read number (record { session = session; text = text }) (read_of text)
 
 -- the line has only this word
 abbrev pub is_word : List ℕ → List ℕ → Bool
@@ -81,7 +84,8 @@ read_more read number line =
     then read
     else (if is_word (codes "BESIDE") line
     then with_beside read.stage read number
-    else (if is_word (codes "AFTER") line then with_after read.stage read number else with_line read number (line_of line)))
+    else (if is_word (codes "AFTER") line then with_after read.stage read number else with_line read number
+    (line_of line)))
 
 unfoldable pub read_lines : Reading → ℕ → List (List ℕ) → Reading
 read_lines read number [] = read
@@ -101,7 +105,8 @@ sessions_text (session ∷ order) = codes " " ++ decimal session ++ sessions_tex
 -- the outcome of this number: its answers, and its order
 abbrev pub outcome_lines : ℕ → Outcome → List ℕ
 outcome_lines number one =
-    codes "OUTCOME " ++ decimal number ++ codes "\n" ++ one.text.items ++ codes "ORDER" ++ sessions_text one.order.items ++ codes "\n"
+    codes "OUTCOME " ++ decimal number ++ codes "\n" ++ one.text.items ++ codes "ORDER" ++ sessions_text one.order.items
+    ++ codes "\n"
 
 unfoldable pub outcomes_text : ℕ → List Outcome → List ℕ
 outcomes_text number [] = []
@@ -113,7 +118,8 @@ explored_text outcomes = codes "OUTCOMES " ++ decimal (length outcomes) ++ codes
 
 -- all outcomes are written; or that there are too many ways
 abbrev pub IsPartsText : Parts → ℕ → Ended → List ℕ → Type 0
-IsPartsText parts limit Done text = (outcomes : List Outcome) × IsExplored parts outcomes × (text ≡ explored_text outcomes)
+IsPartsText parts limit Done text =
+    (outcomes : List Outcome) × IsExplored parts outcomes × (text ≡ explored_text outcomes)
 IsPartsText parts limit Undecided text = IsWide parts.beside (base_of parts) limit × (text ≡ codes "UNDECIDED\n")
 IsPartsText parts limit Faulty text = ⊥
 
@@ -124,7 +130,8 @@ IsReadText (byte ∷ faults) parts limit ended text = (ended ≡ Faulty) × (tex
 
 -- what is written for a script, and how exploring it ends
 abbrev pub IsExploredText : List ℕ → ℕ → Ended → List ℕ → Type 0
-IsExploredText script limit ended text = IsReadText (script_read script).faults (parts_of (script_read script)) limit ended text
+IsExploredText script limit ended text =
+    IsReadText (script_read script).faults (parts_of (script_read script)) limit ended text
 
 -- what may be written for a script, however exploring it ends
 abbrev pub IsSomeText : ℕ → List ℕ → List ℕ → Type 0
@@ -132,11 +139,13 @@ IsSomeText limit script text = (ended : Ended) × IsExploredText script limit en
 
 -- the writer got what is written for the script
 abbrev pub AppendsExplored : ℕ → Ended → List ℕ → Option (List ℕ) → Option (List ℕ) → Type 0
-AppendsExplored limit ended script old new = (text : List ℕ) × IsExploredText script limit ended text × Appends old new text
+AppendsExplored limit ended script old new =
+    (text : List ℕ) × IsExploredText script limit ended text × Appends old new text
 
 -- the writer got a prefix of that
 abbrev pub AppendsExploredPrefix : ℕ → List ℕ → Option (List ℕ) → Option (List ℕ) → Type 0
-AppendsExploredPrefix limit script old new = (ended : Ended) × (text : List ℕ) × IsExploredText script limit ended text × AppendsPrefix old new text
+AppendsExploredPrefix limit script old new =
+    (ended : Ended) × (text : List ℕ) × IsExploredText script limit ended text × AppendsPrefix old new text
 
 -- a fault of exploring a script that was read
 abbrev pub IsFaultOfExploring : List ℕ → ScriptFault → Type 0

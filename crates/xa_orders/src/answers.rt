@@ -1,10 +1,12 @@
 //! What lines were answered.
-ghost use Rattle.std.specs.Prelude.{◌≡◌, ◌≢◌, ◌<◌, ◌==◌, ◌&&◌, ◌++◌, ◌∷◌, [], true, false, length, replicate, slice_set, position, IfOk, OnOk, IfSome};
+ghost use Rattle.std.specs.Prelude.{◌≡◌, ◌≢◌, ◌<◌, ◌==◌, ◌&&◌, ◌++◌, ◌∷◌, [], true, false, length, replicate};
+ghost use Rattle.std.specs.Prelude.{slice_set, position, fold, IfOk, OnOk, IfSome};
 ghost use Rattle.std.specs.List.{concat, zip};
+ghost use Rattle.xa_orders.specs.Marks.{with_text as with_text_of};
 ghost use Rattle.xa_orders.specs.Orders.{next_place as place_of_next};
 
 use crate::line::Line;
-use crate::marks::with;
+use crate::marks::{with, with_text};
 use crate::shared_text::SharedText;
 use std::alloc::Global;
 use std::marker::Model;
@@ -28,7 +30,8 @@ impl Model for Answers {
 
 /// The place of the session's first line that has no text.
 fn first_left(lines: &[Line<'_>], texts: &[SharedText], session: SessionNo) -> Option<usize>
-    ensures place { result ≡ position (λ pair. (pair.0.session == session) && (length pair.1 == 0)) (zip lines.now texts.now) }
+    ensures place { result ≡ position (λ pair. (pair.0.session == session) && (length pair.1 == 0))
+        (zip lines.now texts.now) }
     ensures line { IfSome result (λ place. place < length lines.now) }
     ensures text { IfSome result (λ place. place < length texts.now) }
 {
@@ -77,6 +80,17 @@ fn copy_of_texts(alloc: Global, texts: &[SharedText]) -> Result<Vec<SharedText>,
         copy.push(text.try_clone()?)?;
     }
     Ok(copy)
+}
+
+/// Adds each of the texts to a mark.
+fn with_texts(mark: u64, texts: &[SharedText]) -> u64
+    ensures { result ≡ fold with_text_of mark texts.now }
+{
+    let mut longer = mark;
+    for text in texts {
+        longer = with_text(longer, text.text());
+    }
+    longer
 }
 
 /// Appends each of the texts.
@@ -132,6 +146,13 @@ impl Answers {
         ensures { result ≡ true → self.now ≡ other.now }
     {
         is_same_texts(self.texts.as_slice(), other.texts.as_slice())
+    }
+
+    /// Adds all of them to a mark. Answers with different marks differ.
+    pub fn add_to(&self, mark: u64) -> u64
+        ensures { result ≡ fold with_text_of mark self.now }
+    {
+        with_texts(mark, self.texts.as_slice())
     }
 
     /// Returns a number made of the texts and their places, by which equal answers are found.

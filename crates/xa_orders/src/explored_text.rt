@@ -1,6 +1,7 @@
 //! Writes outcomes.
 ghost use Rattle.std.specs.Prelude.{◌≡◌, ◌++◌, OnOk, IfOk};
-ghost use Rattle.xa_orders.specs.Scripts.{sessions_text, outcome_lines, outcomes_text, explored_text as text_of_outcomes};
+ghost use Rattle.xa_orders.specs.Scripts.{sessions_text, outcome_lines, outcomes_text};
+ghost use Rattle.xa_orders.specs.Scripts.{explored_text as text_of_outcomes};
 
 use crate::outcome::Outcome;
 use std::alloc::Global;

@@ -13,12 +13,13 @@ use xa_server::Server;
 use xa_xid::{Key, NoMemory};
 
 /// Returns every outcome of the lines `beside` each other, each once with its least order, or None if more
-/// than `limit` ways were found.
+/// than `limit` different ways were found.
 ///
 /// The lines `before` are carried out first and the lines `later` last, each list in order, by a server that
 /// holds nothing at first. `written` has the rows that lines write; a row that is missing there makes the
-/// search slower, and changes no result. None means that for some number of lines more than `limit` ways have
-/// carried out that many.
+/// search slower, or lets it keep more ways than `limit`, and changes no outcome. None means that for some number
+/// of lines more than `limit` ways have carried out that many, and each two of these ways differ: a line was
+/// answered otherwise, or the servers aren't the same.
 /// Errors: `NoMemory` if an allocation failed.
 /// May return `NoMemory`. Doesn't wait.
 /// Own rule: docs/COMMANDS.md#explore.
@@ -33,11 +34,13 @@ pub fn explore(
     // Proved (orders, outcomes): Each listed outcome is what its order gives. Every outcome that an order
     //   gives is listed, with an order that is at most that one. None is listed twice, and the orders ascend.
     ensures explored { IfOk result
-        (λ found. IfSome found (λ outcomes. IsExplored (record { before = before.now; beside = beside.now; later = later.now }) outcomes.items)) }
-    // Proved (orders, undecided): Exploring is undecided only if orders of one length lead to a list of more
-    //   ways than the limit. Nothing says that two ways of that list differ.
+        (λ found. IfSome found (λ outcomes. IsExplored (record
+        { before = before.now; beside = beside.now; later = later.now }) outcomes.items)) }
+    // Proved (orders, undecided): Exploring is undecided only if orders of one length lead to more ways than
+    //   the limit, no two of which have come to the same.
     ensures wide { IfOk result
-        (λ found. found ≡ None → IsWide beside.now (base_of (record { before = before.now; beside = beside.now; later = later.now })) limit) }
+        (λ found. found ≡ None → IsWide beside.now (base_of
+        (record { before = before.now; beside = beside.now; later = later.now })) limit) }
 {
     let mut server = Server::new(alloc);
     let mut first = Vec::new(alloc);

@@ -2,7 +2,7 @@
 
 use crate::fingerprint_index::FingerprintIndex;
 use crate::line::Line;
-use crate::marks::with_value;
+use crate::marks::with_values;
 use crate::packing::Packing;
 use crate::texts::Texts;
 use crate::way::Way;
@@ -41,12 +41,10 @@ impl Keeper {
     /// Returns the fingerprint of a way whose server is kept as itself: made of its answers and of the
     /// committed values of the rows.
     pub fn mark_of(&self, way: &Way) -> u64 {
-        let mut mark = way.answers.mark();
-        if let Some(server) = way.server.own() {
-            for key in self.packing.written() {
-                mark = with_value(mark, &server.value_of(key));
-            }
+        let mark = way.answers.mark();
+        match way.server.own() {
+            Some(server) => with_values(mark, server, self.packing.written()),
+            None => mark,
         }
-        mark
     }
 }

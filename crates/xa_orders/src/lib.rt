@@ -6,6 +6,7 @@
 #![tactic(auto)]
 
 mod answers;
+mod different;
 mod done;
 mod ended;
 mod explored_text;

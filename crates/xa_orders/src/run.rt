@@ -4,7 +4,8 @@ ghost use Rattle.std.specs.Io.KnownBytes.{Appends, IsAtEnd};
 ghost use Rattle.xa_lines.specs.Calls.{HasWritten, StopsWriting, Completes, Stops};
 ghost use Rattle.xa_lines.specs.Limits.{script_bytes, script_reads};
 ghost use Rattle.xa_lines.specs.Transcript.{AppendsPrefix, ConsumesMoreThan};
-ghost use Rattle.xa_orders.specs.Scripts.{IsExploredText, IsSomeText, AppendsExplored, AfterExploreFault, IsFaultOfExploring};
+ghost use Rattle.xa_orders.specs.Scripts.{IsExploredText, IsSomeText, AppendsExplored, AfterExploreFault};
+ghost use Rattle.xa_orders.specs.Scripts.{IsFaultOfExploring};
 
 use crate::ended::Ended;
 use crate::explored_text::explored_text;
@@ -25,7 +26,7 @@ pub struct Explored {
 
 /// Explores the script of this text.
 ///
-/// At most `limit` ways are kept at once. If more are found, the end is `Undecided`.
+/// At most `limit` different ways are kept at once. If more are found, the end is `Undecided`.
 /// Errors: `NoMemory` if an allocation failed.
 /// May return `NoMemory`. Doesn't wait.
 /// Own rule: docs/COMMANDS.md#explore.
@@ -67,7 +68,8 @@ fn write_explored<W: PieceWriter>(writer: &mut W, explored: &Explored) -> Result
     ensures ended { IfOk result (λ ended. ended ≡ explored.now.ended) }
     ensures all { OnOk result (Appends (W.contents writer.old) (W.contents writer.new) explored.now.text.items) }
     ensures fault { IfErr result (λ fault. fault ≡ ScriptFault.Write) }
-    ensures prefix { OnErr result (AppendsPrefix (W.contents writer.old) (W.contents writer.new) explored.now.text.items) }
+    ensures prefix { OnErr result (AppendsPrefix (W.contents writer.old)
+        (W.contents writer.new) explored.now.text.items) }
     ensures calls { MatchResult result
         (λ _. HasWritten W.takes writer.old explored.now.text.items writer.new)
         (λ _. StopsWriting W.takes W.refuses writer.old explored.now.text.items writer.new) }
@@ -80,8 +82,8 @@ fn write_explored<W: PieceWriter>(writer: &mut W, explored: &Explored) -> Result
 /// or its faulty lines.
 ///
 /// A script has at most 1,048,576 bytes, and takes at most 2,097,152 reads. The server holds nothing at
-/// first. At most `limit` ways are kept at once; if more are found, `UNDECIDED` is written. Nothing is
-/// written before all outcomes are found. The writer isn't flushed.
+/// first. At most `limit` different ways are kept at once; if more are found, `UNDECIDED` is written. Nothing
+/// is written before all outcomes are found. The writer isn't flushed.
 /// Errors: `Read` if a read failed, or the script needs more reads; `TooLong` if the script is longer;
 /// `NoMemory` if an allocation failed; `Write` if a write failed or took no byte.
 /// After `Write` a prefix of the text was written, after any other error nothing. A reader or a writer that
@@ -98,27 +100,32 @@ pub fn explore_script<R: PieceReader, W: PieceWriter>(
     ensures read { OnOk result (IsAtEnd (R.remaining reader.new)) }
     // Proved (orders, script-written): After Ok of exploring, every outcome that an order of the lines side
     //   by side gives is written once, with the least order that gives it, and no other. A script with faulty
-    //   lines has exactly these written. `UNDECIDED` is written only if orders of one length lead to a list
-    //   of more ways than allowed.
+    //   lines has exactly these written. `UNDECIDED` is written only if orders of one length lead to more
+    //   ways than allowed, no two of which have come to the same.
     ensures written { IfOk result
-        (λ ended. IfSome (R.remaining reader.old) (λ script. AppendsExplored limit ended script (W.contents writer.old) (W.contents writer.new))) }
+        (λ ended. IfSome (R.remaining reader.old) (λ script. AppendsExplored limit ended script (W.contents writer.old)
+        (W.contents writer.new))) }
     // Proved (orders, script-length): A script that was explored has at most 1,048,576 bytes.
     ensures short { OnOk result (IfSome (R.remaining reader.old) (λ script. length script ≤ script_bytes)) }
 
     // Proved (orders, script-fault): After `Write` a prefix of such a text was written, after any other fault
     //   of exploring nothing. The fault is `Read`, `TooLong`, `Write` or `NoMemory`.
-    ensures fault { IfErr result (λ fault. AfterExploreFault limit fault (R.remaining reader.old) (W.contents writer.old) (W.contents writer.new)) }
+    ensures fault { IfErr result (λ fault. AfterExploreFault limit fault (R.remaining reader.old)
+        (W.contents writer.old) (W.contents writer.new)) }
     // Proved (orders, script-too-long): Exploring returns `TooLong` only if more than 1,048,576 bytes were
     //   read.
-    ensures too_long { result ≡ Err ScriptFault.TooLong → ConsumesMoreThan script_bytes (R.remaining reader.old) (R.remaining reader.new) }
+    ensures too_long { result ≡ Err ScriptFault.TooLong → ConsumesMoreThan script_bytes (R.remaining reader.old)
+        (R.remaining reader.new) }
 
     // Proved (orders, script-stream-faults): After Ok of exploring all calls on the reader and the writer
     //   succeeded. Otherwise the last call on one of them failed, and that is the fault, or exploring itself
     //   ran out of memory. This holds for every reader and writer.
-    ensures calls { OnOk result (Completes R.gives W.takes script_reads (IsSomeText limit) reader.old reader.new writer.old writer.new) }
+    ensures calls { OnOk result (Completes R.gives W.takes script_reads
+        (IsSomeText limit) reader.old reader.new writer.old writer.new) }
     // Proved (orders, script-stream-faults)
     ensures cause { IfErr result
-        (λ fault. Stops R.gives R.fails W.takes W.refuses script_reads script_bytes (IsSomeText limit) IsFaultOfExploring fault reader.old reader.new
+        (λ fault. Stops R.gives R.fails W.takes W.refuses script_reads script_bytes
+        (IsSomeText limit) IsFaultOfExploring fault reader.old reader.new
         writer.old writer.new) }
 {
     let script = read_all(alloc, reader)?;

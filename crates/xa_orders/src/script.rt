@@ -2,7 +2,8 @@
 ghost use Rattle.std.specs.Prelude.{◌≡◌, OnOk, IfOk};
 ghost use Rattle.xa_lines.specs.Script.{line_of};
 ghost use Rattle.xa_statement.specs.Reading.{read_of};
-ghost use Rattle.xa_orders.specs.Scripts.{blamed, with_beside, with_after, with_told, with_statement, with_line, nothing_read, read_more, script_read};
+ghost use Rattle.xa_orders.specs.Scripts.{blamed, with_beside, with_after, with_told, with_statement, with_line};
+ghost use Rattle.xa_orders.specs.Scripts.{nothing_read, read_more, script_read};
 ghost use Rattle.xa_orders.specs.Scripts.{is_word as is_word_of};
 ghost use Rattle.xa_orders.specs.Kept.{read_kept};
 
@@ -114,7 +115,8 @@ impl<'a> Script<'a> {
 
     /// Takes the line of a session whose statement is read.
     fn take_told(&mut self, session: SessionNo, text: &'a [u8]) -> Result<(), NoMemory>
-        ensures { OnOk result (read_kept self.new ≡ with_told self.old.stage (read_kept self.old) (record { session = session; text = text.entry.now })) }
+        ensures { OnOk result (read_kept self.new ≡ with_told self.old.stage (read_kept self.old)
+            (record { session = session; text = text.entry.now })) }
     {
         match self.stage {
             Stage::First => {
@@ -141,7 +143,8 @@ impl<'a> Script<'a> {
     ) -> Result<(), NoMemory>
         ensures { OnOk result
             (read_kept self.new
-            ≡ with_statement (read_kept self.old) number (record { session = session; text = text.entry.now }) (read_of text.entry.now)) }
+            ≡ with_statement (read_kept self.old) number (record { session = session; text = text.entry.now })
+            (read_of text.entry.now)) }
     {
         match read_statement(text) {
             Ok(statement) => {

@@ -21,7 +21,7 @@ fn opening_ways(alloc: Global, lines: &[Line<'_>], server: Server) -> Result<Vec
 }
 
 /// Returns the ways that have carried out all lines, each configuration once, with the least order that leads
-/// there; or None if more than `limit` ways were found.
+/// there; or None if more than `limit` different ways were found.
 ///
 /// May return `NoMemory`.
 pub fn every_way(

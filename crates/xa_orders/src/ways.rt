@@ -2,8 +2,10 @@
 ghost use Rattle.std.specs.Prelude.{◌≡◌, ◌++◌, ◌∷◌, [], ◌<◌, List, true, None, length, IfOk, OnOk, IfSome};
 ghost use Rattle.xa_orders.specs.declared.way.Way.{Way as Found};
 ghost use Rattle.xa_orders.specs.Orders.{Any, IsAscending};
-ghost use Rattle.xa_orders.specs.Found.{config_of, order_of, AddsUnlessThere, IsTurnAdded, AllPrecede, IsNextOf, IsWideNext};
+ghost use Rattle.xa_orders.specs.Found.{config_of, order_of, AddsUnlessThere, IsTurnAdded, AllPrecede, IsNextOf};
+ghost use Rattle.xa_orders.specs.Found.{IsWideNext};
 
+use crate::different::is_wide;
 use crate::fingerprint_index::FingerprintIndex;
 use crate::keeper::Keeper;
 use crate::line::Line;
@@ -148,6 +150,7 @@ fn add_turns(
 /// Returns the ways to which one more turn leads, each configuration once; or None if those are more than
 /// `limit`.
 ///
+/// Where two of the list may have come to the same, it grows beyond `limit` until so many are known to differ.
 /// May return `NoMemory`.
 pub fn next_level(
     alloc: Global,
@@ -162,9 +165,12 @@ pub fn next_level(
 {
     keeper.index.clear();
     let mut next = Vec::new(alloc);
+    let mut most = limit;
     for way in ways {
         add_turns(alloc, &mut next, keeper, lines, way)?;
-        if limit < next.len() {
+        let keys = keeper.packing.written();
+        let spread = is_wide(alloc, next.as_slice(), keys, limit, &mut most)?;
+        if spread {
             return Ok(None);
         }
     }

@@ -1,45 +1,48 @@
 -- What the sessions of a long race come to.
-use Rattle.std.proofs.Common.{◌≡◌, ◌⊎◌, ℕ, zero, suc, Bool, ◌<◌, ◌≤◌, ◌+◌, ◌-◌, List, [], ◌∷◌, length, map, drop, get_or, Option, Some, None, inl, inr, ⊎_elim, refl, ap, sym, ◌∙◌, subst, arith}
+use Rattle.std.proofs.Common.{◌≡◌, ℕ, zero, suc, Bool, ◌≤◌, ◌+◌, ◌-◌, List, [], ◌∷◌, length, map, drop}
+use Rattle.std.proofs.Common.{Option, Some, None, refl, ap, sym, ◌∙◌, subst, arith}
 use Rattle.std.specs.Prelude.{slice_get}
 use Rattle.std.specs.List.{All, AllZip, AllByRecursion}
-use Rattle.std.proofs.lemmas.List.Elements.{All-nil, All-cons, All-head, All-tail, All-weaker, All-from_recursion, recursion_from_All}
-use Rattle.std.proofs.lemmas.Option.{none-some, same_Some}
+use Rattle.std.proofs.lemmas.List.Elements.{All-nil, All-cons, All-head, All-tail, All-weaker, All-from_recursion}
+use Rattle.std.proofs.lemmas.List.Elements.{recursion_from_All}
 use Rattle.xa_words.specs.Entry.{Entry}
 use Rattle.xa_server.specs.State.{no_state}
-use Rattle.decision_log.specs.Known.{AllOf}
 use Rattle.decision_log.proofs.Histories.{get_begins, begins_through}
 use Rattle.xa_session.specs.declared.answer.Answer.{Answer}
 use Rattle.xa_endless.specs.declared.session.EndlessSession.{EndlessSession}
 use Rattle.xa_endless.specs.declared.store.EndlessStore.{EndlessStore}
-use Rattle.ring_log.specs.RingPass.{identity_of, log_of}
+use Rattle.chain_log.specs.RingPass.{identity_of, log_of}
 use Rattle.xa_store.specs.Gathered.{IsTakenIn}
 use Rattle.xa_store.specs.Legal.{IsLegal, LetsIn}
-use Rattle.xa_store.specs.Spread.{HasAnswered, StopsSome}
-use Rattle.xa_store.specs.Lowest.{IsTold}
-use Rattle.xa_store.specs.declared.first_fault.FirstFault.{FirstFault}
+use Rattle.xa_store.specs.Spread.{HasAnswered}
 use Rattle.xa_store.specs.declared.race_fault.RaceFault.{RaceFault}
 use Rattle.xa_store.specs.declared.race_fault.RaceFault.TheVariants.{GateShut, Full, NoMemory, ThreadRefused}
-use Rattle.xa_store.proofs.Races.{legal_in, taken_before}
-use Rattle.xa_store.proofs.Spreading.{zip_get, zip_ended, zip_first, zip_chain, map_twice}
-use Rattle.xa_races.specs.Long.{known_in, IsAddedBy, IsListed, HasRaced, EndsAt, StopsAt, Settles, Keeps, HoldsAll, AreOfOne, seen_by_last, IsLongOutcome, IsBlamed, BlamesLong}
-use Rattle.xa_races.specs.Assembled.{Fits, IsWithin}
+use Rattle.xa_store.proofs.Races.{legal_in}
+use Rattle.xa_store.proofs.Spreading.{zip_get, zip_first, zip_chain, map_twice}
+use Rattle.xa_races.specs.Long.{known_in, IsAddedBy, IsListed, HasRaced, EndsAt, StopsAt, Settles, Keeps}
+use Rattle.xa_races.specs.Long.{AreOfOne, seen_by_last, IsLongOutcome, BlamesLong}
+use Rattle.xa_races.specs.Assembled.{IsWithin}
 use Rattle.xa_races.specs.declared.added.Added.{Added}
 use Rattle.xa_races.specs.declared.racer.Raced.{Raced}
 use Rattle.xa_races.specs.declared.long_run.LongRun.{LongRun}
 use Rattle.xa_races.specs.declared.long_outcome.LongOutcome.{LongOutcome}
-use Rattle.xa_races.proofs.Statements.{own_part, same_log}
+use Rattle.xa_races.proofs.Statements.{own_part}
 
 -- a place of a list, counted from another on
-pub get_drop : (from place : ℕ) (list : List Entry) → from ≤ place → slice_get (drop from list) (place - from) ≡ slice_get list place
+pub get_drop : (from place : ℕ) (list : List Entry) → from ≤ place
+    → slice_get (drop from list) (place - from) ≡ slice_get list place
 get_drop zero place list low = let same : place - 0 ≡ place = omega arith in ap (slice_get list) same
 get_drop (suc from) zero list low = absurd (omega (arith, low))
-get_drop (suc from) (suc place) [] low = let e : suc place - suc from ≡ place - from = omega arith in ap (slice_get []) e
+get_drop (suc from) (suc place) [] low = let e : suc place - suc from ≡ place - from = omega arith in
+    ap (slice_get []) e
 get_drop (suc from) (suc place) (entry ∷ list) low =
-    let e : suc place - suc from ≡ place - from = omega arith in ap (slice_get (drop from list)) e ∙ get_drop from place list (omega (arith, low))
+    let e : suc place - suc from ≡ place - from = omega arith in
+    ap (slice_get (drop from list)) e ∙ get_drop from place list (omega (arith, low))
 
 pub all_of_mapped : {A B : Type 0} (P : B → Type 0) (f : A → B) (xs : List A) → All P (map f xs) → All (λ x. P (f x)) xs
 all_of_mapped P f [] all = All-nil (λ x. P (f x))
-all_of_mapped P f (x ∷ xs) all = All-cons (λ y. P (f y)) x xs (All-head P (f x) (map f xs) all) (all_of_mapped P f xs (All-tail P (f x) (map f xs) all))
+all_of_mapped P f (x ∷ xs) all = All-cons (λ y. P (f y)) x xs (All-head P (f x) (map f xs) all)
+    (all_of_mapped P f xs (All-tail P (f x) (map f xs) all))
 
 pub length_drop : (from : ℕ) (list : List Entry) → length (drop from list) ≡ length list - from
 length_drop zero list = omega arith
@@ -48,20 +51,27 @@ length_drop (suc from) (entry ∷ list) = let rest = length_drop from list in om
 
 pub all_mapped : {A B : Type 0} (P : B → Type 0) (f : A → B) (xs : List A) → All (λ x. P (f x)) xs → All P (map f xs)
 all_mapped P f [] all = All-nil P
-all_mapped P f (x ∷ xs) all = All-cons P (f x) (map f xs) (All-head (λ y. P (f y)) x xs all) (all_mapped P f xs (All-tail (λ y. P (f y)) x xs all))
+all_mapped P f (x ∷ xs) all = All-cons P (f x) (map f xs) (All-head (λ y. P (f y)) x xs all)
+    (all_mapped P f xs (All-tail (λ y. P (f y)) x xs all))
 
 -- an entry of the history is in what is left of it
-pub listed_within : (whole : List Entry) (limit from : ℕ) (added : Added) → IsListed whole limit added → IsWithin (drop from whole) limit from added
-listed_within whole limit from added is low = record { at = get_drop from added.place whole low ∙ is.at; some = is.some; few = is.few }
+pub listed_within : (whole : List Entry) (limit from : ℕ) (added : Added) → IsListed whole limit added
+    → IsWithin (drop from whole) limit from added
+listed_within whole limit from added is low =
+    record { at = get_drop from added.place whole low ∙ is.at; some = is.some; few = is.few }
 
-pub lists_within : (whole : List Entry) (limit from : ℕ) (raced : List Raced) → All (λ one. All (IsListed whole limit) one.said.added.items) raced
+pub lists_within : (whole : List Entry) (limit from : ℕ) (raced : List Raced)
+    → All (λ one. All (IsListed whole limit) one.said.added.items) raced
     → All (λ one. All (IsWithin (drop from whole) limit from) one.said.added.items) raced
 lists_within whole limit from raced all =
-    All-weaker (λ one. All (IsListed whole limit) one.said.added.items) (λ one. All (IsWithin (drop from whole) limit from) one.said.added.items)
-    (λ one listed. All-weaker (IsListed whole limit) (IsWithin (drop from whole) limit from) (listed_within whole limit from) one.said.added.items listed) raced all
+    All-weaker (λ one. All (IsListed whole limit) one.said.added.items)
+    (λ one. All (IsWithin (drop from whole) limit from) one.said.added.items)
+    (λ one listed. All-weaker (IsListed whole limit) (IsWithin (drop from whole) limit from)
+    (listed_within whole limit from) one.said.added.items listed) raced all
 
 -- what is known of each second stands beside it
-pub zip_with : {A B : Type 0} (R : A → B → Type 0) (P : B → Type 0) (xs : List A) (ys : List B) → AllZip R xs ys → AllByRecursion P ys
+pub zip_with : {A B : Type 0} (R : A → B → Type 0) (P : B → Type 0) (xs : List A) (ys : List B) → AllZip R xs ys
+    → AllByRecursion P ys
     → AllZip (λ x y. R x y × P y) xs ys
 zip_with R P [] [] zip all = tt
 zip_with R P [] (y ∷ ys) zip all = absurd zip
@@ -69,7 +79,8 @@ zip_with R P (x ∷ xs) [] zip all = absurd zip
 zip_with R P (x ∷ xs) (y ∷ ys) zip all = ((zip.0, all.0), zip_with R P xs ys zip.1 all.1)
 
 -- and of each first
-pub zip_beside : {A B : Type 0} (R : A → B → Type 0) (P : A → Type 0) (xs : List A) (ys : List B) → AllZip R xs ys → AllByRecursion P xs
+pub zip_beside : {A B : Type 0} (R : A → B → Type 0) (P : A → Type 0) (xs : List A) (ys : List B) → AllZip R xs ys
+    → AllByRecursion P xs
     → AllZip (λ x y. R x y × P x) xs ys
 zip_beside R P [] [] zip all = tt
 zip_beside R P [] (y ∷ ys) zip all = absurd zip
@@ -77,7 +88,8 @@ zip_beside R P (x ∷ xs) [] zip all = absurd zip
 zip_beside R P (x ∷ xs) (y ∷ ys) zip all = ((zip.0, all.0), zip_beside R P xs ys zip.1 all.1)
 
 -- what holds of each second, by its first
-pub zip_second : {A B : Type 0} (R : A → B → Type 0) (P : B → Type 0) → ((a : A) (b : B) → R a b → P b) → (xs : List A) (ys : List B) → AllZip R xs ys
+pub zip_second : {A B : Type 0} (R : A → B → Type 0) (P : B → Type 0) → ((a : A) (b : B) → R a b → P b)
+    → (xs : List A) (ys : List B) → AllZip R xs ys
     → AllByRecursion P ys
 zip_second R P keep [] [] zip = tt
 zip_second R P keep [] (y ∷ ys) zip = absurd zip
@@ -85,27 +97,34 @@ zip_second R P keep (x ∷ xs) [] zip = absurd zip
 zip_second R P keep (x ∷ xs) (y ∷ ys) zip = (keep x y zip.0, zip_second R P keep xs ys zip.1)
 
 -- the sessions are of the log that their store's is
-pub of_one : (gate : ℕ → ℕ → Bool → Type 0) (store : EndlessStore) (runs : List LongRun) (raced : List Raced) → All (λ run. run.session.store.value ≡ store) runs
-    → AllZip (λ run one. HasRaced gate run.session run.lines.items one) runs raced → AreOfOne (map (λ one. one.session) raced)
+pub of_one : (gate : ℕ → ℕ → Bool → Type 0) (store : EndlessStore) (runs : List LongRun) (raced : List Raced)
+    → All (λ run. run.session.store.value ≡ store) runs
+    → AllZip (λ run one. HasRaced gate run.session run.lines.items one) runs raced
+    → AreOfOne (map (λ one. one.session) raced)
 of_one gate store runs raced all zip = record {
   identity = identity_of store.log;
   belong =
-      all_mapped (λ (session : EndlessSession). log_of session.member.pass ≡ identity_of store.log) (λ one. one.session) raced
+      all_mapped (λ (session : EndlessSession). log_of session.member.pass ≡ identity_of store.log)
+      (λ one. one.session) raced
       (All-from_recursion (λ (one : Raced). log_of one.session.member.pass ≡ identity_of store.log) raced
       (zip_second (λ run one. HasRaced gate run.session run.lines.items one × (run.session.store.value ≡ store))
       (λ (one : Raced). log_of one.session.member.pass ≡ identity_of store.log)
       (λ run one is. one.session.belongs ∙ ap (λ (s : EndlessStore). identity_of s.log) (is.0.store ∙ is.1)) runs raced
-      (zip_beside (λ run one. HasRaced gate run.session run.lines.items one) (λ run. run.session.store.value ≡ store) runs raced zip
+      (zip_beside (λ run one. HasRaced gate run.session run.lines.items one)
+      (λ run. run.session.store.value ≡ store) runs raced zip
       (recursion_from_All (λ run. run.session.store.value ≡ store) runs all))));
 }
 
-answered_of : (gate : ℕ → ℕ → Bool → Type 0) (run : LongRun) (one : Raced) → one.fault ≡ None → (is : HasRaced gate run.session run.lines.items one)
+answered_of : (gate : ℕ → ℕ → Bool → Type 0) (run : LongRun) (one : Raced) → one.fault ≡ None
+    → (is : HasRaced gate run.session run.lines.items one)
     → HasAnswered gate no_state (known_in run.session) (known_in is.mid) run.lines.items one.said.answers.items
 answered_of gate run one none is =
-    subst (λ (fault : Option RaceFault). EndsAt gate (known_in run.session) run.lines.items one.said.answers.items fault is.mid) none is.ends
+    subst (λ (fault : Option RaceFault). EndsAt gate (known_in run.session) run.lines.items one.said.answers.items fault
+    is.mid) none is.ends
 
 -- what was added is in the history, if all of it is taken in
-listed_of : (gate : ℕ → ℕ → Bool → Type 0) (whole : List Entry) (limit : ℕ) (run : LongRun) (one : Raced) → HasRaced gate run.session run.lines.items one
+listed_of : (gate : ℕ → ℕ → Bool → Type 0) (whole : List Entry) (limit : ℕ) (run : LongRun) (one : Raced)
+    → HasRaced gate run.session run.lines.items one
     → IsTakenIn whole (known_in one.session) → 1 ≤ (known_in run.session).number → (known_in run.session).number ≤ limit
     → All (IsListed whole limit) one.said.added.items
 listed_of gate whole limit run one is taken some few =
@@ -127,37 +146,46 @@ abbrev total : List LongRun → ℕ
 total [] = 0
 total (run ∷ runs) = (known_in run.session).number + total runs
 
-few_of : (runs : List LongRun) (bound : ℕ) → total runs ≤ bound → AllByRecursion (λ run. (known_in run.session).number ≤ bound) runs
+few_of : (runs : List LongRun) (bound : ℕ) → total runs ≤ bound
+    → AllByRecursion (λ run. (known_in run.session).number ≤ bound) runs
 few_of [] bound le = tt
 few_of (run ∷ runs) bound le = (omega (arith, le), few_of runs bound (omega (arith, le)))
 
 module _ (gate : ℕ → ℕ → Bool → Type 0) (from : ℕ) (runs : List LongRun) (raced : List Raced) (outcome : LongOutcome)
-    (went : AllZip (λ run one. HasRaced gate run.session run.lines.items one) runs raced) (none : All (λ one. one.fault ≡ None) raced)
+    (went : AllZip (λ run one. HasRaced gate run.session run.lines.items one) runs raced)
+    (none : All (λ one. one.fault ≡ None) raced)
     (settles : Settles from raced outcome) where
-  all : AllZip (λ run one. (HasRaced gate run.session run.lines.items one × (one.fault ≡ None)) × IsTakenIn (seen_by_last outcome.sessions.items) (known_in one.session))
+  all : AllZip (λ run one. (HasRaced gate run.session run.lines.items one × (one.fault ≡ None))
+      × IsTakenIn (seen_by_last outcome.sessions.items) (known_in one.session))
       runs raced
   all =
       zip_with (λ run one. HasRaced gate run.session run.lines.items one × (one.fault ≡ None))
       (λ one. IsTakenIn (seen_by_last outcome.sessions.items) (known_in one.session)) runs raced
-      (zip_with (λ run one. HasRaced gate run.session run.lines.items one) (λ (one : Raced). one.fault ≡ None) runs raced went
+      (zip_with (λ run one. HasRaced gate run.session run.lines.items one)
+      (λ (one : Raced). one.fault ≡ None) runs raced went
       (recursion_from_All (λ (one : Raced). one.fault ≡ None) raced none))
-      (recursion_from_All (λ one. IsTakenIn (seen_by_last outcome.sessions.items) (known_in one.session)) raced settles.taken)
+      (recursion_from_All (λ one. IsTakenIn (seen_by_last outcome.sessions.items)
+      (known_in one.session)) raced settles.taken)
 
-  legal : AllZip (λ run answers. IsLegal no_state (seen_by_last outcome.sessions.items) (known_in run.session) run.lines.items answers) runs
+  legal : AllZip (λ run answers. IsLegal no_state (seen_by_last outcome.sessions.items)
+      (known_in run.session) run.lines.items answers) runs
       (map (λ one. one.said.answers.items) raced)
   legal = zip_to_map runs raced all
     where
       zip_to_map : (runs : List LongRun) (raced : List Raced)
           → AllZip (λ run one. (HasRaced gate run.session run.lines.items one × (one.fault ≡ None))
           × IsTakenIn (seen_by_last outcome.sessions.items) (known_in one.session)) runs raced
-          → AllZip (λ run answers. IsLegal no_state (seen_by_last outcome.sessions.items) (known_in run.session) run.lines.items answers) runs
+          → AllZip (λ run answers. IsLegal no_state (seen_by_last outcome.sessions.items)
+          (known_in run.session) run.lines.items answers) runs
           (map (λ one. one.said.answers.items) raced)
       zip_to_map [] [] zip = tt
       zip_to_map [] (one ∷ raced) zip = absurd zip
       zip_to_map (run ∷ runs) [] zip = absurd zip
       zip_to_map (run ∷ runs) (one ∷ raced) zip = (
-        legal_in gate no_state (seen_by_last outcome.sessions.items) (known_in run.session) (known_in zip.0.0.0.mid) (known_in one.session) run.lines.items
-            one.said.answers.items (own_part zip.0.0.0.mid) (answered_of gate run one zip.0.0.1 zip.0.0.0) zip.0.0.0.rests zip.0.1,
+        legal_in gate no_state (seen_by_last outcome.sessions.items) (known_in run.session) (known_in zip.0.0.0.mid)
+            (known_in one.session) run.lines.items
+            one.said.answers.items (own_part zip.0.0.0.mid) (answered_of gate run one zip.0.0.1 zip.0.0.0)
+            zip.0.0.0.rests zip.0.1,
         zip_to_map runs raced zip.1,
       )
 
@@ -166,36 +194,45 @@ module _ (gate : ℕ → ℕ → Bool → Type 0) (from : ℕ) (runs : List Long
   listed limit few =
       All-from_recursion (λ one. All (IsListed (seen_by_last outcome.sessions.items) limit) one.said.added.items) raced
       (zip_second (λ run one. ((HasRaced gate run.session run.lines.items one × (one.fault ≡ None))
-      × IsTakenIn (seen_by_last outcome.sessions.items) (known_in one.session)) × ((known_in run.session).number ≤ limit))
+      × IsTakenIn (seen_by_last outcome.sessions.items) (known_in one.session))
+      × ((known_in run.session).number ≤ limit))
       (λ one. All (IsListed (seen_by_last outcome.sessions.items) limit) one.said.added.items)
-      (λ run one is. listed_of gate (seen_by_last outcome.sessions.items) limit run one is.0.0.0 is.0.1 (numbered run.session) is.1)
+      (λ run one is. listed_of gate (seen_by_last outcome.sessions.items) limit run one is.0.0.0 is.0.1
+      (numbered run.session) is.1)
       runs raced
       (zip_beside (λ run one. (HasRaced gate run.session run.lines.items one × (one.fault ≡ None))
-      × IsTakenIn (seen_by_last outcome.sessions.items) (known_in one.session)) (λ run. (known_in run.session).number ≤ limit) runs raced all
+      × IsTakenIn (seen_by_last outcome.sessions.items) (known_in one.session))
+      (λ run. (known_in run.session).number ≤ limit) runs raced all
       (recursion_from_All (λ run. (known_in run.session).number ≤ limit) runs few)))
 
   few_always : All (λ run. (known_in run.session).number ≤ total runs) runs
-  few_always = All-from_recursion (λ run. (known_in run.session).number ≤ total runs) runs (few_of runs (total runs) (omega arith))
+  few_always = All-from_recursion (λ run. (known_in run.session).number ≤ total runs) runs
+      (few_of runs (total runs) (omega arith))
 
   pub is_outcome : IsLongOutcome gate from runs outcome
   is_outcome = record {
     whole = seen_by_last outcome.sessions.items;
     whole_is = refl;
     legal =
-        subst (λ (answers : List (List Answer)). AllZip (λ run answers. IsLegal no_state (seen_by_last outcome.sessions.items) (known_in run.session)
+        subst (λ (answers : List (List Answer)). AllZip (λ run answers. IsLegal no_state
+        (seen_by_last outcome.sessions.items) (known_in run.session)
         run.lines.items answers) runs answers)
-        (sym (ap (map (λ answers. answers.items)) settles.answers ∙ map_twice (λ one. one.said.answers) (λ answers. answers.items) raced)) legal;
+        (sym (ap (map (λ answers. answers.items)) settles.answers
+        ∙ map_twice (λ one. one.said.answers) (λ answers. answers.items) raced)) legal;
     history = (settles.history (total runs) (listed (total runs) few_always)).0;
     own = λ count few. (settles.history count (listed count few)).1;
     sessions =
-        zip_chain (λ run one. HasRaced gate run.session run.lines.items one × (one.fault ≡ None)) (λ one session. Keeps one.session session)
-        (λ run session. (session.store.value ≡ run.session.store.value) × ((known_in session).number ≡ (known_in run.session).number))
+        zip_chain (λ run one. HasRaced gate run.session run.lines.items one × (one.fault ≡ None))
+        (λ one session. Keeps one.session session)
+        (λ run session. (session.store.value ≡ run.session.store.value)
+        × ((known_in session).number ≡ (known_in run.session).number))
         (λ run one session is keeps. (
           keeps.store ∙ is.0.store,
           keeps.adds_nothing.number ∙ is.0.rests.number ∙ (answered_of gate run one is.1 is.0).number,
         ))
         runs raced outcome.sessions.items
-        (zip_with (λ run one. HasRaced gate run.session run.lines.items one) (λ (one : Raced). one.fault ≡ None) runs raced went
+        (zip_with (λ run one. HasRaced gate run.session run.lines.items one)
+        (λ (one : Raced). one.fault ≡ None) runs raced went
         (recursion_from_All (λ (one : Raced). one.fault ≡ None) raced none))
         settles.keeps;
     holds = settles.holds;
@@ -204,22 +241,28 @@ module _ (gate : ℕ → ℕ → Bool → Type 0) (from : ℕ) (runs : List Long
         (zip_first (λ run one. HasRaced gate run.session run.lines.items one × (one.fault ≡ None))
         (λ run. LetsIn gate (known_in run.session).number (length run.lines.items))
         (λ run one is. (answered_of gate run one is.1 is.0).opened) runs raced
-        (zip_with (λ run one. HasRaced gate run.session run.lines.items one) (λ (one : Raced). one.fault ≡ None) runs raced went
+        (zip_with (λ run one. HasRaced gate run.session run.lines.items one)
+        (λ (one : Raced). one.fault ≡ None) runs raced went
         (recursion_from_All (λ (one : Raced). one.fault ≡ None) raced none)));
   }
 
 -- a session that stopped is blamed
-pub blames_one : (gate : ℕ → ℕ → Bool → Type 0) (runs : List LongRun) (raced : List Raced) (place : ℕ) (one : Raced) (fault : RaceFault)
-    → AllZip (λ run one. HasRaced gate run.session run.lines.items one) runs raced → slice_get raced place ≡ Some one → one.fault ≡ Some fault
+pub blames_one : (gate : ℕ → ℕ → Bool → Type 0) (runs : List LongRun) (raced : List Raced) (place : ℕ) (one : Raced)
+    (fault : RaceFault)
+    → AllZip (λ run one. HasRaced gate run.session run.lines.items one) runs raced → slice_get raced place ≡ Some one
+    → one.fault ≡ Some fault
     → BlamesLong gate runs fault
 blames_one gate runs raced place one fault went found has =
     let at = zip_get (λ run one. HasRaced gate run.session run.lines.items one) runs raced place one went found in
     by fault at.0 at.2.mid
-    (subst (λ (f : Option RaceFault). EndsAt gate (known_in at.0.session) at.0.lines.items one.said.answers.items f at.2.mid) has at.2.ends) at.1
+    (subst (λ (f : Option RaceFault). EndsAt gate (known_in at.0.session) at.0.lines.items one.said.answers.items f
+    at.2.mid) has at.2.ends) at.1
   where
-    by : (fault : RaceFault) → (run : LongRun) → (session : EndlessSession) → StopsAt gate (known_in run.session) run.lines.items fault session
+    by : (fault : RaceFault) → (run : LongRun) → (session : EndlessSession)
+        → StopsAt gate (known_in run.session) run.lines.items fault session
         → slice_get runs place ≡ Some run → BlamesLong gate runs fault
-    by (GateShut session line) run mid stops found = record { index = place; run = run; found = found; session = mid; stops = stops }
+    by (GateShut session line) run mid stops found =
+        record { index = place; run = run; found = found; session = mid; stops = stops }
     by (Full session line) run mid stops found = absurd stops
     by NoMemory run mid stops found = tt
     by ThreadRefused run mid stops found = absurd stops

@@ -1,13 +1,15 @@
 -- Sessions of a store without an end that meet.
-use Rattle.std.proofs.Common.{◌≡◌, ℕ, zero, suc, ◌<◌, List, [], ◌∷◌, length, get_or, set, refl, ap, sym, subst, ◌∙◌, arith}
+use Rattle.std.proofs.Common.{◌≡◌, ℕ, zero, suc, ◌<◌, List, [], ◌∷◌, length, get_or, set, refl, ap, sym, subst, ◌∙◌}
+use Rattle.std.proofs.Common.{arith}
 use Rattle.std.specs.List.{All, AllZip}
 use Rattle.std.proofs.lemmas.List.Elements.{All-get_or, AllZip-get_or, length_all_zip}
 use Rattle.decision_log.specs.Calls.{MeetsFirst}
 use Rattle.decision_log.specs.History.{Begins, entries_of}
-use Rattle.decision_log.proofs.Histories.{begins_itself, begins_through}
+use Rattle.decision_log.proofs.Histories.{begins_itself}
 use Rattle.xa_store.specs.Gathered.{IsTakenIn, AddsNothing}
 use Rattle.xa_endless.specs.declared.session.EndlessSession.{EndlessSession}
-use Rattle.xa_store.proofs.Gathering.{meets_nobody, meets_again, keeps_itself, keeps_again, meets_keeps, zip_weaker, zip_through, all_kept}
+use Rattle.xa_store.proofs.Gathering.{meets_nobody, meets_again, keeps_itself, keeps_again, meets_keeps, zip_weaker}
+use Rattle.xa_store.proofs.Gathering.{zip_through, all_kept}
 use Rattle.xa_races.specs.Long.{known_in, Keeps, HoldsAll}
 use Rattle.xa_races.proofs.Statements.{own_part}
 
@@ -26,31 +28,42 @@ stays_itself session = record { store = refl; adds_nothing = keeps_itself (known
 
 pub stays_through : (old now new : EndlessSession) → Keeps old now → Keeps now new → Keeps old new
 stays_through old now new s t =
-    record { store = t.store ∙ s.store; adds_nothing = keeps_again (known_in old) (known_in now) (known_in new) s.adds_nothing t.adds_nothing }
+    record {
+      store = t.store ∙ s.store;
+      adds_nothing = keeps_again (known_in old) (known_in now)
+          (known_in new) s.adds_nothing t.adds_nothing;
+    }
 
 -- one element more has changed
-pub zip_set : {S : Type 0} (R : S → S → Type 0) → ((a b c : S) → R a b → R b c → R a c) → (before now : List S) (index : ℕ) (new d : S) → index < length now
+pub zip_set : {S : Type 0} (R : S → S → Type 0) → ((a b c : S) → R a b → R b c → R a c)
+    → (before now : List S) (index : ℕ) (new d : S) → index < length now
     → AllZip R before now → R (get_or now index d) new → AllZip R before (set now index new)
 zip_set R through [] [] index new d below zip step = absurd (omega arith)
 zip_set R through [] (t ∷ now) index new d below zip step = absurd zip
 zip_set R through (s ∷ before) [] index new d below zip step = absurd zip
 zip_set R through (s ∷ before) (t ∷ now) zero new d below zip step = (through s t new zip.0 step, zip.1)
-zip_set R through (s ∷ before) (t ∷ now) (suc index) new d below zip step = (zip.0, zip_set R through before now index new d (omega (arith, below)) zip.1 step)
+zip_set R through (s ∷ before) (t ∷ now) (suc index) new d below zip step =
+    (zip.0, zip_set R through before now index new d (omega (arith, below)) zip.1 step)
 
 -- what is true of each changed element was true of it before, where its change keeps it
-pub all_back : {S : Type 0} (R : S → S → Type 0) (P Q : S → Type 0) → ((a b : S) → R a b → Q b → P a) → (before now : List S) → AllZip R before now
+pub all_back : {S : Type 0} (R : S → S → Type 0) (P Q : S → Type 0) → ((a b : S) → R a b → Q b → P a)
+    → (before now : List S) → AllZip R before now
     → All Q now → All P before
 all_back R P Q back before now zip all k d below =
     let long = length_all_zip R before now zip in
-    back (get_or before k d) (get_or now k d) (AllZip-get_or R before now k d d zip below) (All-get_or Q now k d (omega (arith, below, long)) all)
+    back (get_or before k d) (get_or now k d) (AllZip-get_or R before now k d d zip below)
+    (All-get_or Q now k d (omega (arith, below, long)) all)
 
 -- others meet the last, once and again, and then it tells them what it has seen
-module _ (first once twice told : List EndlessSession) (last last1 last2 last3 : EndlessSession) (m1 : AllZip Meets first once)
-    (s1 : All (λ session. Begins (known_in session).seen (known_in last1).seen) once) (l1 : AddsNothing (known_in last) (known_in last1))
+module _ (first once twice told : List EndlessSession) (last last1 last2 last3 : EndlessSession)
+    (m1 : AllZip Meets first once)
+    (s1 : All (λ session. Begins (known_in session).seen (known_in last1).seen) once)
+    (l1 : AddsNothing (known_in last) (known_in last1))
     (m2 : AllZip Meets once twice) (s2 : All (λ session. Begins (known_in session).seen (known_in last2).seen) twice)
     (w2 : All (λ session. entries_of (known_in session).number (known_in last2).seen ≡ (known_in session).mine) twice)
     (l2 : AddsNothing (known_in last1) (known_in last2)) (k3 : AllZip Keeps twice told)
-    (t3 : All (λ session. Begins (known_in last3).seen (known_in session).seen) told) (f3 : MeetsFirst (known_in last2) (known_in last3)) where
+    (t3 : All (λ session. Begins (known_in last3).seen (known_in session).seen) told)
+    (f3 : MeetsFirst (known_in last2) (known_in last3)) where
   pub others_keep : AllZip Keeps first told
   others_keep =
       zip_through Keeps stays_through first twice told
@@ -62,7 +75,8 @@ module _ (first once twice told : List EndlessSession) (last last1 last2 last3 :
   pub last_keeps : AddsNothing (known_in last) (known_in last3)
   last_keeps =
       keeps_again (known_in last) (known_in last1) (known_in last3) l1
-      (keeps_again (known_in last1) (known_in last2) (known_in last3) l2 (meets_keeps (known_in last2) (known_in last3) f3))
+      (keeps_again (known_in last1) (known_in last2) (known_in last3) l2
+      (meets_keeps (known_in last2) (known_in last3) f3))
 
   taken_twice : All (λ session. IsTakenIn (known_in last3).seen (known_in session)) twice
   taken_twice k d below = record {
@@ -72,7 +86,8 @@ module _ (first once twice told : List EndlessSession) (last last1 last2 last3 :
 
   pub others_taken : All (λ session. IsTakenIn (known_in last3).seen (known_in session)) first
   others_taken =
-      all_back Meets (λ session. IsTakenIn (known_in last3).seen (known_in session)) (λ session. IsTakenIn (known_in last3).seen (known_in session))
+      all_back Meets (λ session. IsTakenIn (known_in last3).seen (known_in session))
+      (λ session. IsTakenIn (known_in last3).seen (known_in session))
       (λ old new is taken. record {
         seen = subst (λ list. Begins list (known_in last3).seen) is.1.seen taken.seen;
         mine = ap (λ n. entries_of n (known_in last3).seen) (sym is.1.number) ∙ taken.mine ∙ is.1.mine;
@@ -89,7 +104,8 @@ module _ (first once twice told : List EndlessSession) (last last1 last2 last3 :
   mines =
       all_kept Keeps (λ session. IsTakenIn (known_in last3).seen (known_in session))
       (λ session. entries_of (known_in session).number (known_in last3).seen ≡ (known_in session).mine)
-      (λ old new is taken. ap (λ n. entries_of n (known_in last3).seen) is.adds_nothing.number ∙ taken.mine ∙ sym is.adds_nothing.mine) twice told k3
+      (λ old new is taken. ap (λ n. entries_of n (known_in last3).seen) is.adds_nothing.number ∙ taken.mine
+      ∙ sym is.adds_nothing.mine) twice told k3
       taken_twice
 
   pub others_hold : All (λ session. HoldsAll (known_in last3).seen (known_in session)) told

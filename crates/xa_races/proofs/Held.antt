@@ -1,15 +1,19 @@
 -- The text of a race that was held.
-use Rattle.std.proofs.Common.{◌≡◌, ℕ, zero, suc, Bool, ◌+◌, Vec, Global, List, [], ◌∷◌, map, take, ap, ◌∙◌, arith, zero-add}
+use Rattle.std.proofs.Common.{◌≡◌, ℕ, zero, suc, Bool, ◌+◌, Vec, Global, List, [], ◌∷◌, map, take, ap, ◌∙◌, arith}
+use Rattle.std.proofs.Common.{zero-add}
 use Rattle.xa_xid.specs.declared.statement.Statement.{Statement}
 use Rattle.xa_races.specs.Race.{part_at, statements_of}
 use Rattle.xa_races.specs.Outcome.{AreListsFrom, IsRacedInLog, IsRacedOn}
 use Rattle.xa_races.specs.HeldOn.{IsHeldInLog, IsHeldEndless}
 
-pub raced_in_log : (gate : ℕ → ℕ → Bool → Type 0) (capacity : ℕ) (lines : List (List ℕ)) (text : List ℕ) → IsHeldInLog gate capacity lines text
+pub raced_in_log : (gate : ℕ → ℕ → Bool → Type 0) (capacity : ℕ) (lines : List (List ℕ)) (text : List ℕ)
+    → IsHeldInLog gate capacity lines text
     → IsRacedInLog capacity lines text
-raced_in_log gate capacity lines text is = record { runs = is.runs; outcome = is.outcome; are_runs = is.are_runs; held = is.held; text_is = is.text_is }
+raced_in_log gate capacity lines text is =
+    record { runs = is.runs; outcome = is.outcome; are_runs = is.are_runs; held = is.held; text_is = is.text_is }
 
-pub raced_on : (gate : ℕ → ℕ → Bool → Type 0) (rows : ℕ) (lines : List (List ℕ)) (text : List ℕ) → IsHeldEndless gate rows lines text
+pub raced_on : (gate : ℕ → ℕ → Bool → Type 0) (rows : ℕ) (lines : List (List ℕ)) (text : List ℕ)
+    → IsHeldEndless gate rows lines text
     → IsRacedOn lines text
 raced_on gate rows lines text is = record {
   lists = is.lists;
@@ -30,5 +34,6 @@ lists_from session lines (suc count) [] given = tt
 lists_from session lines (suc count) (list ∷ lists) given = (
   given 0 ∙ ap (λ n. statements_of n lines) (zero-add session),
   lists_from (session + 1) lines count lists
-      (λ index. given (suc index) ∙ ap (λ n. statements_of n lines) (let same : suc index + session ≡ index + (session + 1) = omega arith in same)),
+      (λ index. given (suc index) ∙ ap (λ n. statements_of n lines)
+      (let same : suc index + session ≡ index + (session + 1) = omega arith in same)),
 )

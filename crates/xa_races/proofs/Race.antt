@@ -1,5 +1,6 @@
 -- The lines of a race, its runs, and how its outcome is printed.
-use Rattle.std.proofs.Common.{◌≡◌, ℕ, zero, suc, ◌+◌, ◌<◌, ◌≤◌, ◌==◌, max, true, Bool, Option, Some, None, List, [], ◌∷◌, ◌++◌, length, map, take, get_or, min, refl}
+use Rattle.std.proofs.Common.{◌≡◌, ℕ, zero, suc, ◌+◌, ◌<◌, ◌≤◌, ◌==◌, max, true, Bool, Option, Some, None, List, []}
+use Rattle.std.proofs.Common.{◌∷◌, ◌++◌, length, map, take, get_or, min, refl}
 use Rattle.std.proofs.Common.{ap, sym, ◌∙◌, arith, append_assoc, append-nil}
 use Rattle.std.specs.List.{filter_map, cons_option}
 use Rattle.std.specs.Option.{option_to_list}
@@ -9,19 +10,22 @@ use Rattle.xa_words.specs.Entry.{Entry}
 use Rattle.xa_session.specs.declared.answer.Answer.{Answer}
 use Rattle.xa_lines.specs.Printed.{converts}
 use Rattle.xa_lines.specs.Script.{lines_of, line_of}
-use Rattle.xa_races.specs.Race.{fault_place, fault_text, faults_text, session_in, last_session, statement_by, statements_of}
+use Rattle.xa_races.specs.Race.{fault_place, fault_text, faults_text, session_in, last_session, statement_by}
+use Rattle.xa_races.specs.Race.{statements_of}
 use Rattle.xa_races.specs.Outcome.{entry_text, entries_text, placed_text, session_text, answers_text}
 
 -- what is told of the faults, when one more line was cut off
 pub faults_text-line : (number : ℕ) (text line rest : List ℕ) → lines_of text ≡ line ∷ lines_of rest
-    → faults_text number (lines_of text) ≡ fault_text number (fault_place (line_of line)) ++ faults_text (number + 1) (lines_of rest)
+    → faults_text number (lines_of text) ≡ fault_text number (fault_place (line_of line))
+    ++ faults_text (number + 1) (lines_of rest)
 unfolding faults_text
 faults_text-line number text line rest cut = rw cut refl
 
 pub faults_text-end : (number : ℕ) (text : List ℕ) → (length text == 0) ≡ true → faults_text number (lines_of text) ≡ []
 unfolding faults_text lines_of
 faults_text-end number [] empty = refl
-faults_text-end number (x ∷ xs) empty = absurd (let none : length (x ∷ xs) ≡ 0 = grind (arith, common_steps) in omega arith)
+faults_text-end number (x ∷ xs) empty =
+    absurd (let none : length (x ∷ xs) ≡ 0 = grind (arith, common_steps) in omega arith)
 
 -- the greatest session, when one more line was cut off
 pub last_session-line : (text line rest : List ℕ) → lines_of text ≡ line ∷ lines_of rest
@@ -34,21 +38,26 @@ unfolding last_session lines_of
 last_session-end [] empty = refl
 last_session-end (x ∷ xs) empty = absurd (let none : length (x ∷ xs) ≡ 0 = grind (arith, common_steps) in omega arith)
 
-cons_option-list : {A : Type 0} (first : Option A) (rest : List A) → cons_option first rest ≡ option_to_list first ++ rest
+cons_option-list : {A : Type 0} (first : Option A) (rest : List A)
+    → cons_option first rest ≡ option_to_list first ++ rest
 cons_option-list None rest = refl
 cons_option-list (Some x) rest = refl
 
 -- a session's statements, when one more line was cut off
 pub statements_of-line : (session : ℕ) (text line rest : List ℕ) → lines_of text ≡ line ∷ lines_of rest
-    → statements_of session (lines_of text) ≡ option_to_list (statement_by session (line_of line)) ++ statements_of session (lines_of rest)
+    → statements_of session (lines_of text) ≡ option_to_list (statement_by session (line_of line))
+    ++ statements_of session (lines_of rest)
 unfolding statements_of
 statements_of-line session text line rest cut =
-    rw cut (cons_option-list (statement_by session (line_of line)) (filter_map (λ l. statement_by session (line_of l)) (lines_of rest)))
+    rw cut (cons_option-list (statement_by session (line_of line))
+    (filter_map (λ l. statement_by session (line_of l)) (lines_of rest)))
 
-pub statements_of-end : (session : ℕ) (text : List ℕ) → (length text == 0) ≡ true → statements_of session (lines_of text) ≡ []
+pub statements_of-end : (session : ℕ) (text : List ℕ) → (length text == 0) ≡ true
+    → statements_of session (lines_of text) ≡ []
 unfolding statements_of lines_of
 statements_of-end session [] empty = refl
-statements_of-end session (x ∷ xs) empty = absurd (let none : length (x ∷ xs) ≡ 0 = grind (arith, common_steps) in omega arith)
+statements_of-end session (x ∷ xs) empty =
+    absurd (let none : length (x ∷ xs) ≡ 0 = grind (arith, common_steps) in omega arith)
 
 entries_text-append : (place : ℕ) (entries more : List Entry)
     → entries_text place (entries ++ more) ≡ entries_text place entries ++ entries_text (place + length entries) more
@@ -57,8 +66,10 @@ entries_text-append place [] more = let none : place + 0 ≡ place = omega arith
 entries_text-append place (entry ∷ entries) more =
     let far : place + 1 + length entries ≡ place + length (entry ∷ entries) = omega arith in
     ap (λ text. entry_text place entry ++ text)
-    (entries_text-append (place + 1) entries more ∙ ap (λ n. entries_text (place + 1) entries ++ entries_text n more) far)
-    ∙ sym (append_assoc (entry_text place entry) (entries_text (place + 1) entries) (entries_text (place + length (entry ∷ entries)) more))
+    (entries_text-append (place + 1) entries more ∙ ap (λ n. entries_text (place + 1) entries
+    ++ entries_text n more) far)
+    ∙ sym (append_assoc (entry_text place entry) (entries_text (place + 1) entries)
+    (entries_text (place + length (entry ∷ entries)) more))
 
 entries_text-one : (place : ℕ) (entry : Entry) → entries_text place (entry ∷ []) ≡ entry_text place entry
 unfolding entries_text
@@ -70,7 +81,8 @@ length_front (x ∷ xs) zero below = refl
 length_front (x ∷ xs) (suc i) below = ap suc (length_front xs i (omega (arith, below)))
 
 -- one entry more
-pub entries_text-more : (entries : List Entry) (place : ℕ) (entry : Entry) → place < length entries → entry ≡ get_or entries place entry
+pub entries_text-more : (entries : List Entry) (place : ℕ) (entry : Entry) → place < length entries
+    → entry ≡ get_or entries place entry
     → entries_text 0 (take (place + 1) entries) ≡ entries_text 0 (take place entries) ++ entry_text place entry
 entries_text-more entries place entry below is =
     let far : 0 + length (take place entries) ≡ place = omega (arith, length_front entries place below) in
@@ -84,7 +96,8 @@ unfolding entries_text
 entries_text-none place = refl
 
 -- one answer more
-pub session_text-more : (session : ℕ) (statements : List Bool) (answers : List Answer) (i : ℕ) (statement : Bool) (answer : Answer)
+pub session_text-more : (session : ℕ) (statements : List Bool) (answers : List Answer) (i : ℕ) (statement : Bool)
+    (answer : Answer)
     → i < length statements → i < length answers
     → statement ≡ get_or statements i statement → answer ≡ get_or answers i answer
     → session_text session (take (i + 1) statements) (take (i + 1) answers)
@@ -98,10 +111,12 @@ session_text-more session (x ∷ statements) (y ∷ answers) (suc i) s a below b
     let next : suc i + 1 ≡ suc (i + 1) = omega arith in
     rw next (ap (λ text. placed_text session x y ++ text)
     (session_text-more session statements answers i s a (omega (arith, below)) (omega (arith, below')) is is')
-    ∙ sym (append_assoc (placed_text session x y) (session_text session (take i statements) (take i answers)) (placed_text session s a)))
+    ∙ sym (append_assoc (placed_text session x y) (session_text session (take i statements) (take i answers))
+    (placed_text session s a)))
 
 -- the answers to statements, as many as there are of both
-pub session_text-whole : (session : ℕ) (statements : List Bool) (answers : List Answer) (n : ℕ) → min (length statements) (length answers) ≤ n
+pub session_text-whole : (session : ℕ) (statements : List Bool) (answers : List Answer) (n : ℕ)
+    → min (length statements) (length answers) ≤ n
     → session_text session (take n statements) (take n answers) ≡ session_text session statements answers
 unfolding session_text
 session_text-whole session [] answers zero enough = refl
@@ -110,14 +125,17 @@ session_text-whole session (x ∷ statements) [] zero enough = refl
 session_text-whole session (x ∷ statements) [] (suc n) enough = refl
 session_text-whole session (x ∷ statements) (y ∷ answers) zero enough = absurd (omega (arith, enough))
 session_text-whole session (x ∷ statements) (y ∷ answers) (suc n) enough =
-    ap (λ text. placed_text session x y ++ text) (session_text-whole session statements answers n (omega (arith, enough)))
+    ap (λ text. placed_text session x y ++ text) (session_text-whole session statements answers n
+    (omega (arith, enough)))
 
-pub session_text-none : (session : ℕ) (statements : List Bool) (answers : List Answer) → session_text session (take 0 statements) (take 0 answers) ≡ []
+pub session_text-none : (session : ℕ) (statements : List Bool) (answers : List Answer)
+    → session_text session (take 0 statements) (take 0 answers) ≡ []
 unfolding session_text
 session_text-none session statements answers = refl
 
 answers_text-append : (session : ℕ) (lines : List (List ℕ)) (answers more : List (List Answer))
-    → answers_text session lines (answers ++ more) ≡ answers_text session lines answers ++ answers_text (session + length answers) lines more
+    → answers_text session lines (answers ++ more) ≡ answers_text session lines answers
+    ++ answers_text (session + length answers) lines more
 unfolding answers_text
 answers_text-append session lines [] more = let none : session + 0 ≡ session = omega arith in rw none refl
 answers_text-append session lines (one ∷ answers) more =
@@ -125,12 +143,15 @@ answers_text-append session lines (one ∷ answers) more =
     let text = session_text session (map converts (statements_of session lines)) one in
     ap (λ t. text ++ t) (answers_text-append (session + 1) lines answers more
     ∙ ap (λ n. answers_text (session + 1) lines answers ++ answers_text n lines more) far)
-    ∙ sym (append_assoc text (answers_text (session + 1) lines answers) (answers_text (session + length (one ∷ answers)) lines more))
+    ∙ sym (append_assoc text (answers_text (session + 1) lines answers)
+    (answers_text (session + length (one ∷ answers)) lines more))
 
 answers_text-one : (session : ℕ) (lines : List (List ℕ)) (answers : List Answer)
-    → answers_text session lines (answers ∷ []) ≡ session_text session (map converts (statements_of session lines)) answers
+    → answers_text session lines (answers ∷ []) ≡ session_text session
+    (map converts (statements_of session lines)) answers
 unfolding answers_text
-answers_text-one session lines answers = append-nil (session_text session (map converts (statements_of session lines)) answers)
+answers_text-one session lines answers =
+    append-nil (session_text session (map converts (statements_of session lines)) answers)
 
 pub answers_text-none : (session : ℕ) (lines : List (List ℕ)) → answers_text session lines [] ≡ []
 unfolding answers_text
@@ -151,10 +172,12 @@ map_more f (y ∷ xs) (suc i) x below is =
     rw next (ap (λ l. f y ∷ l) (map_more f xs i x (omega (arith, below)) is))
 
 -- what f gives of one item more
-pub mapped_more : {A B : Type 0} (f : A → B) (xs : List A) (i : ℕ) (x : A) (done now : List B) (y : B) → i < length xs → x ≡ get_or xs i x
+pub mapped_more : {A B : Type 0} (f : A → B) (xs : List A) (i : ℕ) (x : A) (done now : List B) (y : B) → i < length xs
+    → x ≡ get_or xs i x
     → done ≡ map f (take i xs) → y ≡ f x → now ≡ done ++ y ∷ [] → now ≡ map f (take (i + 1) xs)
 mapped_more f xs i x done now y below is before gives pushed =
-    pushed ∙ ap (λ l. l ++ y ∷ []) before ∙ ap (λ b. map f (take i xs) ++ b ∷ []) gives ∙ sym (map_more f xs i x below is)
+    pushed ∙ ap (λ l. l ++ y ∷ []) before ∙ ap (λ b. map f (take i xs) ++ b ∷ []) gives
+    ∙ sym (map_more f xs i x below is)
 
 length_map_take : {A B : Type 0} (f : A → B) (xs : List A) (i : ℕ) → i < length xs → length (map f (take i xs)) ≡ i
 length_map_take f [] i below = absurd (omega arith)
@@ -163,26 +186,35 @@ length_map_take f (x ∷ xs) (suc i) below = ap suc (length_map_take f xs i (ome
 
 module _ {S : Type 0} (answers_of : S → List Answer) where
   -- one session's answers more
-  pub answers_text-more : (lines : List (List ℕ)) (all : List S) (i : ℕ) (answers : S) (session : ℕ) → i < length all → answers ≡ get_or all i answers
+  pub answers_text-more : (lines : List (List ℕ)) (all : List S) (i : ℕ) (answers : S) (session : ℕ) → i < length all
+      → answers ≡ get_or all i answers
       → session ≡ i + 1
       → answers_text 1 lines (map answers_of (take (i + 1) all))
-      ≡ answers_text 1 lines (map answers_of (take i all)) ++ session_text session (map converts (statements_of session lines)) (answers_of answers)
+      ≡ answers_text 1 lines (map answers_of (take i all))
+      ++ session_text session (map converts (statements_of session lines)) (answers_of answers)
   answers_text-more lines all i answers session below is number =
-      let far : 1 + length (map answers_of (take i all)) ≡ session = omega (arith, length_map_take answers_of all i below, number) in
+      let far : 1 + length (map answers_of (take i all)) ≡ session =
+      omega (arith, length_map_take answers_of all i below, number) in
       ap (answers_text 1 lines) (map_more answers_of all i answers below is)
       ∙ answers_text-append 1 lines (map answers_of (take i all)) (answers_of answers ∷ [])
-      ∙ ap (λ n. answers_text 1 lines (map answers_of (take i all)) ++ answers_text n lines (answers_of answers ∷ [])) far
-      ∙ ap (λ text. answers_text 1 lines (map answers_of (take i all)) ++ text) (answers_text-one session lines (answers_of answers))
+      ∙ ap (λ n. answers_text 1 lines (map answers_of (take i all))
+      ++ answers_text n lines (answers_of answers ∷ [])) far
+      ∙ ap (λ text. answers_text 1 lines (map answers_of (take i all)) ++ text)
+      (answers_text-one session lines (answers_of answers))
 
 -- what is left of a whole, when one more piece was taken off and put behind what was there
-pub moved : {A : Type 0} (whole before now left piece rest : List A) → whole ≡ before ++ left → left ≡ piece ++ rest → now ≡ before ++ piece
+pub moved : {A : Type 0} (whole before now left piece rest : List A) → whole ≡ before ++ left → left ≡ piece ++ rest
+    → now ≡ before ++ piece
     → whole ≡ now ++ rest
-moved whole before now left piece rest w l n = w ∙ ap (λ t. before ++ t) l ∙ sym (append_assoc before piece rest) ∙ ap (λ t. t ++ rest) (sym n)
+moved whole before now left piece rest w l n =
+    w ∙ ap (λ t. before ++ t) l ∙ sym (append_assoc before piece rest) ∙ ap (λ t. t ++ rest) (sym n)
 
 pub moved_whole : {A : Type 0} (whole now left : List A) → whole ≡ now ++ left → left ≡ [] → now ≡ whole
 moved_whole whole now left w none = sym (w ∙ ap (λ t. now ++ t) none ∙ append-nil now)
 
 -- a text got one more piece, which is the next of what it gets
-pub grown : {A : Type 0} (begin before now done piece longer : List A) → before ≡ begin ++ done → now ≡ before ++ piece → longer ≡ done ++ piece
+pub grown : {A : Type 0} (begin before now done piece longer : List A) → before ≡ begin ++ done → now ≡ before ++ piece
+    → longer ≡ done ++ piece
     → now ≡ begin ++ longer
-grown begin before now done piece longer b n l = n ∙ ap (λ t. t ++ piece) b ∙ append_assoc begin done piece ∙ ap (λ t. begin ++ t) (sym l)
+grown begin before now done piece longer b n l =
+    n ∙ ap (λ t. t ++ piece) b ∙ append_assoc begin done piece ∙ ap (λ t. begin ++ t) (sym l)

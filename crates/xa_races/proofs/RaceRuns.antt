@@ -1,5 +1,6 @@
 -- The runs of a race, and the sessions of its history.
-use Rattle.std.proofs.Common.{◌≡◌, ℕ, zero, suc, Some, None, get_or, Vec, Global, ◌+◌, ◌<◌, ◌≤◌, max, List, [], ◌∷◌, ◌++◌, length, map, take, refl, ap, sym, ◌∙◌, subst, arith}
+use Rattle.std.proofs.Common.{◌≡◌, ℕ, zero, suc, Some, None, get_or, Vec, Global, ◌+◌, ◌<◌, ◌≤◌, max, List, [], ◌∷◌}
+use Rattle.std.proofs.Common.{◌++◌, length, map, take, refl, ap, sym, ◌∙◌, subst, arith}
 use Rattle.std.specs.Prelude.{slice_get}
 use Rattle.std.specs.List.{All, AllZip, zip}
 use Rattle.std.proofs.lemmas.List.Elements.{All-head, All-tail, All-cons, All-nil, All-take}
@@ -24,19 +25,22 @@ length_mapped f (x ∷ xs) = ap suc (length_mapped f xs)
 
 pub all_of_mapped : {A B : Type 0} (P : B → Type 0) (f : A → B) (xs : List A) → All P (map f xs) → All (λ x. P (f x)) xs
 all_of_mapped P f [] all = All-nil (λ x. P (f x))
-all_of_mapped P f (x ∷ xs) all = All-cons (λ y. P (f y)) x xs (All-head P (f x) (map f xs) all) (all_of_mapped P f xs (All-tail P (f x) (map f xs) all))
+all_of_mapped P f (x ∷ xs) all = All-cons (λ y. P (f y)) x xs (All-head P (f x) (map f xs) all)
+    (all_of_mapped P f xs (All-tail P (f x) (map f xs) all))
 
 never : {A : Type 0} (x : A) → None ≡ Some x → ⊥
 never x is = cc
 
-pub get_taken : {A : Type 0} (n : ℕ) (xs : List A) (place : ℕ) (x : A) → slice_get (take n xs) place ≡ Some x → slice_get xs place ≡ Some x
+pub get_taken : {A : Type 0} (n : ℕ) (xs : List A) (place : ℕ) (x : A) → slice_get (take n xs) place ≡ Some x
+    → slice_get xs place ≡ Some x
 get_taken zero xs place x is = absurd (never x is)
 get_taken (suc n) [] place x is = absurd (never x is)
 get_taken (suc n) (y ∷ xs) zero x is = is
 get_taken (suc n) (y ∷ xs) (suc place) x is = get_taken n xs place x is
 
 -- the runs are of the log that the passes are of
-pub runs_belong : (identity : LogIdentity) (n : ℕ) (passes taken : List Pass) (runs : List Run) → All (λ pass. log_of pass ≡ identity) passes
+pub runs_belong : (identity : LogIdentity) (n : ℕ) (passes taken : List Pass) (runs : List Run)
+    → All (λ pass. log_of pass ≡ identity) passes
     → taken ≡ take n passes
     → map (λ run. run.pass) runs ≡ taken
     → All (λ run. log_of run.pass ≡ identity) runs
@@ -46,12 +50,14 @@ runs_belong identity n passes taken runs belong cut are =
     all_of_mapped Belongs (λ run. run.pass) runs (subst AllBelong (sym (are ∙ cut)) (All-take Belongs n passes belong))
 
 -- their log has the room that it was opened with
-pub have_room : (identity : LogIdentity) (capacity : ℕ) (runs : List Run) → All (λ run. log_of run.pass ≡ identity) runs → identity.capacity ≡ capacity
+pub have_room : (identity : LogIdentity) (capacity : ℕ) (runs : List Run) → All (λ run. log_of run.pass ≡ identity) runs
+    → identity.capacity ≡ capacity
     → All (λ run. (log_of run.pass).capacity ≡ capacity) runs
 have_room identity capacity [] belong room = All-nil (λ run. (log_of run.pass).capacity ≡ capacity)
 have_room identity capacity (run ∷ runs) belong room =
     let Belongs : Run → Type 0 = λ r. log_of r.pass ≡ identity in
-    All-cons (λ r. (log_of r.pass).capacity ≡ capacity) run runs (ap (λ i. i.capacity) (All-head Belongs run runs belong) ∙ room)
+    All-cons (λ r. (log_of r.pass).capacity ≡ capacity) run runs
+    (ap (λ i. i.capacity) (All-head Belongs run runs belong) ∙ room)
     (have_room identity capacity runs (All-tail Belongs run runs belong) room)
 
 abbrev head_or : {A : Type 0} → List A → A → A
@@ -63,10 +69,12 @@ tail_of [] = []
 tail_of (x ∷ xs) = xs
 
 -- the runs of passes and lists, one after another
-pub runs_from : (session : ℕ) (lines : List (List ℕ)) (runs : List Run) (passes : List Pass) (lists : List (Vec Statement Global))
+pub runs_from : (session : ℕ) (lines : List (List ℕ)) (runs : List Run) (passes : List Pass)
+    (lists : List (Vec Statement Global))
     → map (λ run. (run.pass, run.lines)) runs ≡ zip passes lists
     → ((index : ℕ) (pass : Pass) → slice_get passes index ≡ Some pass → known_of pass ≡ newcomer (index + session))
-    → ((index : ℕ) → part_at (map (λ list. list.items) lists) index ≡ statements_of (index + session) lines) → AreRunsFrom session lines runs
+    → ((index : ℕ) → part_at (map (λ list. list.items) lists) index ≡ statements_of (index + session) lines)
+    → AreRunsFrom session lines runs
 runs_from session lines [] passes lists zipped known given = tt
 runs_from session lines (run ∷ runs) [] lists zipped known given = absurd cc
 runs_from session lines (run ∷ runs) (pass ∷ passes) [] zipped known given = absurd cc
@@ -74,17 +82,21 @@ runs_from session lines (run ∷ runs) (pass ∷ passes) (list ∷ lists) zipped
     let first : (run.pass, run.lines) ≡ (pass, list) = ap (λ l. head_or l (run.pass, run.lines)) zipped in
     let rest : map (λ r. (r.pass, r.lines)) runs ≡ zip passes lists = ap tail_of zipped in (
       record {
-        pass = ap (λ (p : Pass × Vec Statement Global). known_of p.0) first ∙ known 0 pass refl ∙ ap newcomer (let none : 0 + session ≡ session = omega arith in none);
+        pass = ap (λ (p : Pass × Vec Statement Global). known_of p.0) first ∙ known 0 pass refl
+            ∙ ap newcomer (let none : 0 + session ≡ session = omega arith in none);
         statements = ap (λ (p : Pass × Vec Statement Global). p.1.items) first ∙ given 0
             ∙ ap (λ n. statements_of n lines) (let none : 0 + session ≡ session = omega arith in none);
       },
       runs_from (session + 1) lines runs passes lists rest
-          (λ index p is. known (suc index) p is ∙ ap newcomer (let same : suc index + session ≡ index + (session + 1) = omega arith in same))
-          (λ index. given (suc index) ∙ ap (λ n. statements_of n lines) (let same : suc index + session ≡ index + (session + 1) = omega arith in same)),
+          (λ index p is. known (suc index) p is ∙ ap newcomer
+          (let same : suc index + session ≡ index + (session + 1) = omega arith in same))
+          (λ index. given (suc index) ∙ ap (λ n. statements_of n lines)
+          (let same : suc index + session ≡ index + (session + 1) = omega arith in same)),
     )
 
 -- their passes are the passes, where there is a list for each
-pub passes_of : (runs : List Run) (passes : List Pass) (lists : List (Vec Statement Global)) → map (λ run. (run.pass, run.lines)) runs ≡ zip passes lists
+pub passes_of : (runs : List Run) (passes : List Pass) (lists : List (Vec Statement Global))
+    → map (λ run. (run.pass, run.lines)) runs ≡ zip passes lists
     → length passes ≤ length lists
     → map (λ run. run.pass) runs ≡ passes
 passes_of [] [] lists zipped enough = refl
@@ -95,7 +107,8 @@ passes_of (run ∷ runs) (pass ∷ passes) [] zipped enough = absurd cc
 passes_of (run ∷ runs) (pass ∷ passes) (list ∷ lists) zipped enough =
     let first : (run.pass, run.lines) ≡ (pass, list) = ap (λ l. head_or l (run.pass, run.lines)) zipped in
     let rest : map (λ r. (r.pass, r.lines)) runs ≡ zip passes lists = ap tail_of zipped in
-    ap (λ p. p ∷ map (λ r. r.pass) runs) (ap (λ (p : Pass × Vec Statement Global). p.0) first) ∙ ap (λ l. pass ∷ l) (passes_of runs passes lists rest (omega (arith, enough)))
+    ap (λ p. p ∷ map (λ r. r.pass) runs) (ap (λ (p : Pass × Vec Statement Global). p.0) first)
+    ∙ ap (λ l. pass ∷ l) (passes_of runs passes lists rest (omega (arith, enough)))
 
 -- the list at a place, where there is one, or there is none
 pub part_within : {V A : Type 0} (items : V → List A) (lists : List V) (index : ℕ) (d : V) → index < length lists
@@ -104,12 +117,14 @@ part_within items [] index d below = absurd (omega arith)
 part_within items (one ∷ lists) zero d below = refl
 part_within items (one ∷ lists) (suc index) d below = part_within items lists index d (omega (arith, below))
 
-pub part_beyond : {V A : Type 0} (items : V → List A) (lists : List V) (index : ℕ) → length lists ≤ index → [] ≡ part_at (map items lists) index
+pub part_beyond : {V A : Type 0} (items : V → List A) (lists : List V) (index : ℕ) → length lists ≤ index
+    → [] ≡ part_at (map items lists) index
 part_beyond items [] index beyond = refl
 part_beyond items (one ∷ lists) zero beyond = absurd (omega (arith, beyond))
 part_beyond items (one ∷ lists) (suc index) beyond = part_beyond items lists index (omega (arith, beyond))
 
-pub get_or-any : {A : Type 0} (xs : List A) (index : ℕ) (d e : A) → index < length xs → get_or xs index d ≡ get_or xs index e
+pub get_or-any : {A : Type 0} (xs : List A) (index : ℕ) (d e : A) → index < length xs
+    → get_or xs index d ≡ get_or xs index e
 get_or-any [] index d e below = absurd (omega arith)
 get_or-any (x ∷ xs) zero d e below = refl
 get_or-any (x ∷ xs) (suc index) d e below = get_or-any xs index d e (omega (arith, below))
@@ -126,15 +141,18 @@ map_same [] = refl
 map_same (pair ∷ pairs) = ap (λ l. pair ∷ l) (map_same pairs)
 
 -- as many runs as passes were kept
-pub runs_count : (n : ℕ) (passes taken : List Pass) (runs : List Run) → length passes ≡ max n 1 → taken ≡ take n passes → map (λ run. run.pass) runs ≡ taken
+pub runs_count : (n : ℕ) (passes taken : List Pass) (runs : List Run) → length passes ≡ max n 1 → taken ≡ take n passes
+    → map (λ run. run.pass) runs ≡ taken
     → length runs ≡ n
 runs_count n passes taken runs count cut are =
-    let all : length runs ≡ length (take n passes) = sym (length_mapped (λ run. run.pass) runs) ∙ ap length are ∙ ap length cut in
+    let all : length runs ≡ length (take n passes) = sym (length_mapped (λ run. run.pass) runs) ∙ ap length are
+    ∙ ap length cut in
     omega (arith, all, length-take n passes, count)
 
 -- what each pass keeps of its log is true of what the last one knows
 module _ (P : LogIdentity → Known → Type 0) (kept : (pass : Pass) → P (log_of pass) (known_of pass)) where
-  last_keeps : (identity : LogIdentity) (history : List Entry) (runs : List Run) (passes : List Pass) → P identity (newcomer 0)
+  last_keeps : (identity : LogIdentity) (history : List Entry) (runs : List Run) (passes : List Pass)
+      → P identity (newcomer 0)
       → All (λ run. log_of run.pass ≡ identity) runs
       → AllZip (IsReturned history) runs passes
       → P identity (last_known (map known_of passes))
@@ -150,14 +168,18 @@ module _ (P : LogIdentity → Known → Type 0) (kept : (pass : Pass) → P (log
   last_keeps identity history (run ∷ other ∷ runs) (pass ∷ []) none belong zip = absurd zip.1
   last_keeps identity history (run ∷ other ∷ runs) (pass ∷ other' ∷ passes) none belong zip =
       let Belongs : Run → Type 0 = λ r. log_of r.pass ≡ identity in
-      last_keeps identity history (other ∷ runs) (other' ∷ passes) none (All-tail Belongs run (other ∷ runs) belong) zip.1
+      last_keeps identity history (other ∷ runs) (other' ∷ passes) none
+      (All-tail Belongs run (other ∷ runs) belong) zip.1
 
 -- the history has entries of the runs' sessions alone
-pub own_sessions : (identity : LogIdentity) (history : List Entry) (runs : List Run) (passes : List Pass) → identity.sessions ≡ max (length runs) 1
+pub own_sessions : (identity : LogIdentity) (history : List Entry) (runs : List Run) (passes : List Pass)
+    → identity.sessions ≡ max (length runs) 1
     → All (λ run. log_of run.pass ≡ identity) runs
-    → AllZip (IsReturned history) runs passes → history ≡ (last_known (map known_of passes)).seen → AllOf (length runs) history
+    → AllZip (IsReturned history) runs passes → history ≡ (last_known (map known_of passes)).seen
+    → AllOf (length runs) history
 own_sessions identity history [] [] sessions belong zip is =
-    let P : List Entry → Type 0 = λ list. AllOf 0 list in subst P (sym is) (All-nil (λ entry. (1 ≤ entry.session) × (entry.session ≤ 0)))
+    let P : List Entry → Type 0 = λ list. AllOf 0 list in
+    subst P (sym is) (All-nil (λ entry. (1 ≤ entry.session) × (entry.session ≤ 0)))
 own_sessions identity history [] (pass ∷ passes) sessions belong zip is = absurd zip
 own_sessions identity history (run ∷ runs) passes sessions belong zip is =
     let count : identity.sessions ≡ length (run ∷ runs) = omega (arith, sessions) in
@@ -168,9 +190,11 @@ own_sessions identity history (run ∷ runs) passes sessions belong zip is =
     (All-nil (λ entry. (1 ≤ entry.session) × (entry.session ≤ identity.sessions))) belong zip))
 
 -- the history has no more entries than the log has room for
-pub own_room : (identity : LogIdentity) (history : List Entry) (runs : List Run) (passes : List Pass) → All (λ run. log_of run.pass ≡ identity) runs
+pub own_room : (identity : LogIdentity) (history : List Entry) (runs : List Run) (passes : List Pass)
+    → All (λ run. log_of run.pass ≡ identity) runs
     → AllZip (IsReturned history) runs passes
     → history ≡ (last_known (map known_of passes)).seen → length history ≤ identity.capacity
 own_room identity history runs passes belong zip is =
     let P : List Entry → Type 0 = λ list. length list ≤ identity.capacity in
-    subst P (sym is) (last_keeps (λ p k. length k.seen ≤ p.capacity) (λ pass. pass.state.within) identity history runs passes (omega arith) belong zip)
+    subst P (sym is) (last_keeps (λ p k. length k.seen ≤ p.capacity)
+    (λ pass. pass.state.within) identity history runs passes (omega arith) belong zip)

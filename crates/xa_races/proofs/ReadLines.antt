@@ -1,5 +1,6 @@
 -- What a script gives to a race, line by line.
-use Rattle.std.proofs.Common.{◌≡◌, ℕ, zero, suc, ◌+◌, ◌-◌, ◌<◌, ◌≤◌, ◌==◌, max, true, false, Bool, cond, Some, None, Result, Ok, Err, Vec, Global, List, [], ◌∷◌, ◌++◌, length, map}
+use Rattle.std.proofs.Common.{◌≡◌, ℕ, zero, suc, ◌+◌, ◌-◌, ◌<◌, ◌≤◌, ◌==◌, max, true, false, Bool, cond, Some, None}
+use Rattle.std.proofs.Common.{Result, Ok, Err, Vec, Global, List, [], ◌∷◌, ◌++◌, length, map}
 use Rattle.std.proofs.Common.{get_or, refl, ap, sym, ◌∙◌, arith, append-nil}
 use Rattle.std.specs.Option.{option_to_list}
 use Rattle.std.specs.Prelude.{slice_set, OnOk}
@@ -12,30 +13,37 @@ use Rattle.xa_races.specs.declared.given.RaceScript.{RaceScript}
 use Rattle.xa_races.specs.Race.{fault_text, faults_text, last_session, statements_of, part_at, Gains, TakesLine}
 use Rattle.xa_races.specs.Race.{HasRead, place_of_fault, statement_read}
 use Rattle.xa_races.proofs.RaceRuns.{map_push}
-use Rattle.xa_races.proofs.Race.{faults_text-line, faults_text-end, last_session-line, last_session-end, statements_of-line, statements_of-end, moved, moved_whole}
+use Rattle.xa_races.proofs.Race.{faults_text-line, faults_text-end, last_session-line, last_session-end}
+use Rattle.xa_races.proofs.Race.{statements_of-line, statements_of-end, moved, moved_whole}
 
 -- one empty list more
-pub part_at-more : {A : Type 0} (lists : List (List A)) (index : ℕ) → part_at (lists ++ [] ∷ []) index ≡ part_at lists index
+pub part_at-more : {A : Type 0} (lists : List (List A)) (index : ℕ)
+    → part_at (lists ++ [] ∷ []) index ≡ part_at lists index
 part_at-more [] zero = refl
 part_at-more [] (suc index) = refl
 part_at-more (list ∷ lists) zero = refl
 part_at-more (list ∷ lists) (suc index) = part_at-more lists index
 
-pub empty_more : {V A : Type 0} (items : V → List A) (lists new : List V) (one : V) → new ≡ lists ++ one ∷ [] → items one ≡ []
+pub empty_more : {V A : Type 0} (items : V → List A) (lists new : List V) (one : V) → new ≡ lists ++ one ∷ []
+    → items one ≡ []
     → ((index : ℕ) → part_at (map items lists) index ≡ []) → (index : ℕ) → part_at (map items new) index ≡ []
 empty_more items lists new one now none empty index =
-    ap (λ l. part_at (map items l) index) now ∙ ap (λ l. part_at l index) (map_push items lists one ∙ ap (λ l. map items lists ++ l ∷ []) none)
+    ap (λ l. part_at (map items l) index) now ∙ ap (λ l. part_at l index)
+    (map_push items lists one ∙ ap (λ l. map items lists ++ l ∷ []) none)
     ∙ part_at-more (map items lists) index ∙ empty index
 
 -- an item is put behind the list at a place
-pub gains_at : {V A : Type 0} (items : V → List A) (lists : List V) (place : ℕ) (list d : V) (x : A) → place < length lists
+pub gains_at : {V A : Type 0} (items : V → List A) (lists : List V) (place : ℕ) (list d : V) (x : A)
+    → place < length lists
     → items list ≡ items (get_or lists place d) ++ x ∷ []
     → (index : ℕ)
-    → part_at (map items (slice_set lists place list)) index ≡ part_at (map items lists) index ++ option_to_list (cond (place == index) (Some x) None)
+    → part_at (map items (slice_set lists place list)) index ≡ part_at (map items lists) index
+    ++ option_to_list (cond (place == index) (Some x) None)
 gains_at items [] place list d x below is index = absurd (omega arith)
 gains_at items (one ∷ lists) zero list d x below is zero = is
 gains_at items (one ∷ lists) zero list d x below is (suc index) =
-    let off : (0 == suc index) ≡ false = grind (arith, nat_tests) in rw off (sym (append-nil (part_at (map items lists) index)))
+    let off : (0 == suc index) ≡ false = grind (arith, nat_tests) in
+    rw off (sym (append-nil (part_at (map items lists) index)))
 gains_at items (one ∷ lists) (suc place) list d x below is zero =
     let off : (suc place == 0) ≡ false = grind (arith, nat_tests) in rw off (sym (append-nil (items one)))
 gains_at items (one ∷ lists) (suc place) list d x below is (suc index) =
@@ -46,7 +54,8 @@ gains_at items (one ∷ lists) (suc place) list d x below is (suc index) =
 same_place : (session index : ℕ) → 1 ≤ session → (session - 1 == index) ≡ (session == index + 1)
 same_place session index some = grind (arith, nat_tests)
 
-pub gains : {V : Type 0} (items : V → List Statement) (lists new : List V) (session place : ℕ) (list d : V) (statement : Statement) → 1 ≤ session
+pub gains : {V : Type 0} (items : V → List Statement) (lists new : List V) (session place : ℕ) (list d : V)
+    (statement : Statement) → 1 ≤ session
     → place ≡ session - 1 → place < length lists → new ≡ slice_set lists place list
     → items list ≡ items (get_or lists place d) ++ statement ∷ []
     → Gains (λ other. cond (session == other) (Some statement) None) (map items lists) (map items new)
@@ -59,13 +68,16 @@ pub unread_at : (read : Result Statement ℕ) (fault : SyntaxFault) → Err faul
 unread_at (Ok statement) fault is = cc
 unread_at (Err place) fault is = cc
 
-given_nothing : (b : Bool) (read : Result Statement ℕ) (place : ℕ) → read ≡ Err place → cond b (statement_read read) None ≡ None
+given_nothing : (b : Bool) (read : Result Statement ℕ) (place : ℕ) → read ≡ Err place
+    → cond b (statement_read read) None ≡ None
 given_nothing true read place is = ap statement_read is
 given_nothing false read place is = refl
 
 -- a line whose statement isn't read
-pub takes_unread : {A E : Type 0} (result : Result A E) (number session : ℕ) (text : List ℕ) (place : ℕ) (old new : RaceScript) → read_of text ≡ Err place
-    → OnOk result (new.faults.items ≡ old.faults.items ++ fault_text number (Some place)) → new.greatest ≡ max old.greatest session
+pub takes_unread : {A E : Type 0} (result : Result A E) (number session : ℕ) (text : List ℕ) (place : ℕ)
+    (old new : RaceScript) → read_of text ≡ Err place
+    → OnOk result (new.faults.items ≡ old.faults.items ++ fault_text number (Some place))
+    → new.greatest ≡ max old.greatest session
     → new.lists ≡ old.lists → OnOk result (TakesLine number (Given session text) old new)
 takes_unread (Err fault) number session text place old new unread listed greatest same = tt
 takes_unread (Ok value) number session text place old new unread listed greatest same = record {
@@ -97,15 +109,19 @@ read_nothing script given r = record {
   lists = λ index. ap (λ l. l ++ statements_of (index + 1) (lines_of script)) (sym (r.lists index));
 }
 
-pub read_more : (script rest line lines : List ℕ) (number : ℕ) (given new : RaceScript) → lines_of rest ≡ line ∷ lines_of lines
-    → TakesLine number (line_of line) given new → IsReadUpTo script rest number given → IsReadUpTo script lines (number + 1) new
+pub read_more : (script rest line lines : List ℕ) (number : ℕ) (given new : RaceScript)
+    → lines_of rest ≡ line ∷ lines_of lines
+    → TakesLine number (line_of line) given new → IsReadUpTo script rest number given
+    → IsReadUpTo script lines (number + 1) new
 read_more script rest line lines number given new cut takes r = record {
   faults = moved _ _ _ _ _ _ r.faults (faults_text-line number rest line lines cut) takes.faults;
   greatest = let first = last_session-line rest line lines cut in omega (arith, r.greatest, first, takes.greatest);
-  lists = λ index. moved _ _ _ _ _ _ (r.lists index) (statements_of-line (index + 1) rest line lines cut) (takes.lists index);
+  lists = λ index. moved _ _ _ _ _ _ (r.lists index) (statements_of-line (index + 1) rest line lines cut)
+      (takes.lists index);
 }
 
-pub read_all_lines : (script rest : List ℕ) (number : ℕ) (given : RaceScript) → (length rest == 0) ≡ true → IsReadUpTo script rest number given
+pub read_all_lines : (script rest : List ℕ) (number : ℕ) (given : RaceScript) → (length rest == 0) ≡ true
+    → IsReadUpTo script rest number given
     → HasRead (lines_of script) given
 read_all_lines script rest number given empty r = record {
   faults = moved_whole _ _ _ r.faults (faults_text-end number rest empty);

@@ -1,5 +1,6 @@
 -- What a session of a long race says, one statement after another.
-use Rattle.std.proofs.Common.{◌≡◌, ℕ, Bool, true, false, ◌<◌, ◌≤◌, List, length, take, refl, ap, sym, ◌∙◌, subst, Some, arith}
+use Rattle.std.proofs.Common.{◌≡◌, ℕ, Bool, true, false, ◌<◌, List, length, take, refl, ap, sym, ◌∙◌, subst, Some}
+use Rattle.std.proofs.Common.{arith}
 use Rattle.std.specs.Prelude.{slice_get}
 use Rattle.std.specs.List.{All}
 use Rattle.std.proofs.lemmas.List.Elements.{All-weaker}
@@ -13,14 +14,13 @@ use Rattle.decision_log.proofs.Histories.{get_begins, begins_itself, begins_thro
 use Rattle.xa_session.specs.Answer.{IsAnswered}
 use Rattle.xa_session.specs.Replay.{state_at}
 use Rattle.xa_session.specs.declared.answer.Answer.{Answer}
-use Rattle.ring_log.specs.RingPass.{identity_of, log_of, known_of}
+use Rattle.chain_log.specs.RingPass.{identity_of, log_of}
 use Rattle.xa_endless.specs.Answers.{IsCaused}
 use Rattle.xa_endless.specs.Seen.{HasOnlySeen}
 use Rattle.xa_endless.specs.declared.fault.EndlessFault.TheVariants.{NoMemory as NoMoreMemory}
 use Rattle.xa_endless.specs.declared.session.EndlessSession.{EndlessSession}
 use Rattle.xa_endless.specs.declared.store.EndlessStore.{EndlessStore}
 use Rattle.xa_store.specs.Gathered.{IsTakenIn, AddsNothing}
-use Rattle.xa_store.specs.Legal.{IsReachedInRun}
 use Rattle.xa_store.specs.declared.race_fault.RaceFault.{RaceFault}
 use Rattle.xa_store.specs.declared.race_fault.RaceFault.TheVariants.{GateShut, Full, NoMemory, ThreadRefused}
 use Rattle.xa_store.proofs.Legality.{IsOnTheWay, legal_longer, no_further}
@@ -28,28 +28,35 @@ use Rattle.xa_races.specs.Long.{known_in, IsAddedBy, HaltsAt, StopsAt}
 use Rattle.xa_races.specs.declared.added.Added.{Added}
 
 -- an entry that was added is at its place in all that is seen later
-pub added_longer : (front list : List Entry) (session : ℕ) (added : List Added) → Begins front list → All (IsAddedBy front session) added
+pub added_longer : (front list : List Entry) (session : ℕ) (added : List Added) → Begins front list
+    → All (IsAddedBy front session) added
     → All (IsAddedBy list session) added
 added_longer front list session added begins all =
     All-weaker (IsAddedBy front session) (IsAddedBy list session)
     (λ one is. record { at = get_begins front list one.place one.entry begins is.at; own = is.own }) added all
 
 -- a session of the same store is of the same log
-pub same_log : (old new : EndlessSession) → new.store.value ≡ old.store.value → log_of new.member.pass ≡ log_of old.member.pass
+pub same_log : (old new : EndlessSession) → new.store.value ≡ old.store.value
+    → log_of new.member.pass ≡ log_of old.member.pass
 same_log old new same = new.belongs ∙ ap (λ (store : EndlessStore). identity_of store.log) same ∙ sym old.belongs
 
 -- what a session has seen has its own entries
-pub own_part : (session : EndlessSession) → entries_of (known_in session).number (known_in session).seen ≡ (known_in session).mine
+pub own_part : (session : EndlessSession) → entries_of (known_in session).number (known_in session).seen
+    ≡ (known_in session).mine
 own_part session = session.member.pass.state.part
 
 -- why a run stops at one of its statements
-module _ (gate : ℕ → ℕ → Bool → Type 0) (before : Known) (now new : EndlessSession) (statements : List Statement) (answers : List Answer) (place : ℕ)
+module _ (gate : ℕ → ℕ → Bool → Type 0) (before : Known) (now new : EndlessSession) (statements : List Statement)
+    (answers : List Answer) (place : ℕ)
     (statement : Statement) where
-  pub stops_at : (fault : RaceFault) → place < length statements → slice_get statements place ≡ Some statement → new.store.value ≡ now.store.value
-      → IsOnTheWay no_state before (known_in now) (take place statements) answers → HaltsAt gate place statement fault now new
+  pub stops_at : (fault : RaceFault) → place < length statements → slice_get statements place ≡ Some statement
+      → new.store.value ≡ now.store.value
+      → IsOnTheWay no_state before (known_in now) (take place statements) answers
+      → HaltsAt gate place statement fault now new
       → StopsAt gate before statements fault new
   stops_at (GateShut session line) below given store way is = (
-    no_further gate no_state 0 before (known_in now) (known_in new) statements answers place statement (GateShut session line) below (own_part now)
+    no_further gate no_state 0 before (known_in now) (known_in new) statements answers place statement
+        (GateShut session line) below (own_part now)
         (own_part new) way is,
     is.2.shut,
   )
@@ -58,7 +65,8 @@ module _ (gate : ℕ → ℕ → Bool → Type 0) (before : Known) (now new : En
       let unanswered = is.failed.fails in
       let taken : IsTakenIn (known_in new).seen (known_in now) = record {
         seen = unanswered.advances.seen;
-        mine = ap (λ n. entries_of n (known_in new).seen) (sym unanswered.advances.number) ∙ own_part new ∙ unanswered.mine;
+        mine = ap (λ n. entries_of n (known_in new).seen) (sym unanswered.advances.number) ∙ own_part new
+            ∙ unanswered.mine;
       } in
       record {
         line = place;
@@ -66,17 +74,21 @@ module _ (gate : ℕ → ℕ → Bool → Type 0) (before : Known) (now new : En
           number = refl;
           below = below;
           answers = answers;
-          legal = legal_longer no_state (known_in new).seen before (known_in now) (take place statements) answers way.number (own_part now) taken way.legal;
+          legal = legal_longer no_state (known_in new).seen before (known_in now)
+              (take place statements) answers way.number (own_part now) taken way.legal;
         };
         statement = statement;
         given = given;
         opened = subst (λ n. gate n place true) way.number is.opened;
-        cause = subst (λ (store : EndlessStore). IsCaused store.log statement NoMoreMemory new.member.replica new.member.pass) (sym store) is.failed.cause;
+        cause = subst
+            (λ (store : EndlessStore). IsCaused store.log statement NoMoreMemory new.member.replica new.member.pass)
+            (sym store) is.failed.cause;
       }
   stops_at ThreadRefused below given store way is = absurd is
 
 -- a session that stops at a statement has seen no less
-pub halts_begins : (gate : ℕ → ℕ → Bool → Type 0) (place : ℕ) (statement : Statement) (fault : RaceFault) (now new : EndlessSession)
+pub halts_begins : (gate : ℕ → ℕ → Bool → Type 0) (place : ℕ) (statement : Statement) (fault : RaceFault)
+    (now new : EndlessSession)
     → HaltsAt gate place statement fault now new → Begins (known_in now).seen (known_in new).seen
 halts_begins gate place statement (GateShut session line) now new is =
     subst (λ (known : Known). Begins (known_in now).seen known.seen) (sym is.2.same) (begins_itself (known_in now).seen)
@@ -85,9 +97,11 @@ halts_begins gate place statement NoMemory now new is = is.failed.fails.advances
 halts_begins gate place statement ThreadRefused now new is = absurd is
 
 -- more is seen than the answer's place, so the statement was logged
-pub entered_where_longer : (statement : Statement) (answer : Answer) (old new : Known) → IsAnswered no_state statement answer old new
+pub entered_where_longer : (statement : Statement) (answer : Answer) (old new : Known)
+    → IsAnswered no_state statement answer old new
     → answer.place < length new.seen → enters (state_at no_state new.seen answer.place) old.number statement ≡ true
-entered_where_longer statement answer old new answered longer = by (enters (state_at no_state new.seen answer.place) old.number statement) refl
+entered_where_longer statement answer old new answered longer =
+    by (enters (state_at no_state new.seen answer.place) old.number statement) refl
   where
     by : (b : Bool) → enters (state_at no_state new.seen answer.place) old.number statement ≡ b
         → enters (state_at no_state new.seen answer.place) old.number statement ≡ true
@@ -96,7 +110,8 @@ entered_where_longer statement answer old new answered longer = by (enters (stat
 
 -- a session that rests
 pub rests_itself : (known : Known) → AddsNothing known known
-rests_itself known = record { number = refl; seen = begins_itself known.seen; mine = refl; looks = omega arith; tries = refl }
+rests_itself known =
+    record { number = refl; seen = begins_itself known.seen; mine = refl; looks = omega arith; tries = refl }
 
 pub rests_more : (old now new : Known) → AddsNothing old now → HasOnlySeen now new → AddsNothing old new
 rests_more old now new rests seen = record {

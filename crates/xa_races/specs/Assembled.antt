@@ -12,7 +12,8 @@ pub record Fits (list : List Entry) (limit place : ℕ) (entry : Entry) : Type 0
   pub few : entry.session ≤ limit
 
 abbrev pub HasOnly : List Entry → ℕ → List (Option Entry) → Type 0
-HasOnly list limit places = (place : ℕ) (entry : Entry) → slice_get places place ≡ Some (Some entry) → Fits list limit place entry
+HasOnly list limit places = (place : ℕ) (entry : Entry) → slice_get places place ≡ Some (Some entry)
+    → Fits list limit place entry
 
 abbrev pub IsWithin : List Entry → ℕ → ℕ → Added → Type 0
 IsWithin list limit from added = from ≤ added.place → Fits list limit (added.place - from) added.entry

@@ -18,7 +18,8 @@ use Rattle.xa_store.specs.declared.outcome.Outcome.{Outcome}
 use Rattle.xa_store.specs.declared.race_fault.RaceFault.{RaceFault}
 use Rattle.xa_lines.specs.Script.{lines_of}
 use Rattle.xa_lines.specs.declared.script_fault.ScriptFault.{ScriptFault}
-use Rattle.xa_lines.specs.declared.script_fault.ScriptFault.TheVariants.{Read, TooLong, Write, NoMemory, Full, GateShut, ThreadRefused}
+use Rattle.xa_lines.specs.declared.script_fault.ScriptFault.TheVariants.{Read, TooLong, Write, NoMemory, Full, GateShut}
+use Rattle.xa_lines.specs.declared.script_fault.ScriptFault.TheVariants.{ThreadRefused}
 use Rattle.xa_races.specs.Race.{AreRuns, IsReadable}
 use Rattle.xa_races.specs.Outcome.{IsHeld, AreLists, outcome_text, script_fault_of}
 use Rattle.xa_races.specs.LongRace.{IsLongRace, BlamesRace}
@@ -30,7 +31,8 @@ HaveRoom capacity runs = All (λ run. (log_of run.pass).capacity ≡ capacity) r
 
 -- the text of an outcome of a race of the script's runs, in a log with that room, with a gate that can let in
 -- each of their statements
-pub record IsHeldInLog (gate : ℕ → ℕ → Bool → Type 0) (capacity : ℕ) (lines : List (List ℕ)) (text : List ℕ) : Type 0 where
+pub record IsHeldInLog (gate : ℕ → ℕ → Bool → Type 0) (capacity : ℕ) (lines : List (List ℕ))
+    (text : List ℕ) : Type 0 where
   pub runs : List Run
   pub outcome : Outcome
   pub are_runs : AreRuns lines runs
@@ -40,7 +42,8 @@ pub record IsHeldInLog (gate : ℕ → ℕ → Bool → Type 0) (capacity : ℕ)
   pub text_is : text ≡ outcome_text lines outcome.history.items (map (λ answers. answers.items) outcome.answers.items)
 
 -- the same over a store without an end, whose ring has so many rows
-pub record IsHeldEndless (gate : ℕ → ℕ → Bool → Type 0) (rows : ℕ) (lines : List (List ℕ)) (text : List ℕ) : Type 0 where
+pub record IsHeldEndless (gate : ℕ → ℕ → Bool → Type 0) (rows : ℕ) (lines : List (List ℕ))
+    (text : List ℕ) : Type 0 where
   pub lists : List (List Statement)
   pub are_lists : AreLists lines lists
   pub outcome : LongOutcome
@@ -48,7 +51,8 @@ pub record IsHeldEndless (gate : ℕ → ℕ → Bool → Type 0) (rows : ℕ) (
   pub text_is : text ≡ outcome_text lines outcome.history.items (map (λ answers. answers.items) outcome.answers.items)
 
 -- a race of the script's runs, in a log with that room, ended with this fault, which has its cause
-pub record EndsInLog (gate : ℕ → ℕ → Bool → Type 0) (capacity : ℕ) (lines : List (List ℕ)) (fault : ScriptFault) : Type 0 where
+pub record EndsInLog (gate : ℕ → ℕ → Bool → Type 0) (capacity : ℕ) (lines : List (List ℕ))
+    (fault : ScriptFault) : Type 0 where
   pub runs : List Run
   pub raced : RaceFault
   pub are_runs : AreRuns lines runs
@@ -70,7 +74,8 @@ IsCaused Ends fault = (fault ≡ NoMemory) ⊎ Ends fault
 
 -- the writer got the text of such a race
 abbrev pub AppendsHeld : (List (List ℕ) → List ℕ → Type 0) → List ℕ → Option (List ℕ) → Option (List ℕ) → Type 0
-AppendsHeld IsHeldText script old new = IsReadable script → (text : List ℕ) × IsHeldText (lines_of script) text × Appends old new text
+AppendsHeld IsHeldText script old new = IsReadable script
+    → (text : List ℕ) × IsHeldText (lines_of script) text × Appends old new text
 
 -- a fault of a stream isn't a race's, and memory may be missing anywhere; each other fault comes from such a race
 abbrev pub IsCausedIn : (List (List ℕ) → ScriptFault → Type 0) → List ℕ → ScriptFault → Type 0

@@ -17,7 +17,8 @@
 --     Settles         the sessions have met, and the history is put together
 --     IsLongOutcome   what a race over a store without an end gives
 --     BlamesLong      why such a race fails
-use Rattle.std.specs.Prelude.{◌≡◌, ◌<◌, ◌≤◌, ◌++◌, [], ◌∷◌, ℕ, Bool, true, false, Option, Some, None, Result, Ok, Err, List, length, map, drop, slice_get}
+use Rattle.std.specs.Prelude.{◌≡◌, ◌<◌, ◌≤◌, ◌++◌, [], ◌∷◌, ℕ, Bool, true, false, Option, Some, None, Result, Ok, Err}
+use Rattle.std.specs.Prelude.{List, length, map, drop, slice_get}
 use Rattle.std.specs.List.{All, AllZip}
 use Rattle.xa_xid.specs.declared.statement.Statement.{Statement}
 use Rattle.xa_words.specs.Entry.{Entry}
@@ -25,9 +26,8 @@ use Rattle.xa_server.specs.State.{no_state}
 use Rattle.decision_log.specs.declared.known.Known.{Known}
 use Rattle.decision_log.specs.History.{Begins, entries_of}
 use Rattle.decision_log.specs.Known.{AllOf, LogIdentity}
-use Rattle.xa_session.specs.Answer.{IsAnswered}
 use Rattle.xa_session.specs.declared.answer.Answer.{Answer}
-use Rattle.ring_log.specs.RingPass.{log_of, known_of}
+use Rattle.chain_log.specs.RingPass.{log_of, known_of}
 use Rattle.xa_endless.specs.Answers.{IsCaused, HasFailed}
 use Rattle.xa_endless.specs.declared.fault.EndlessFault.TheVariants.{NoMemory as NoMoreMemory}
 use Rattle.xa_endless.specs.declared.session.EndlessSession.{EndlessSession}
@@ -51,11 +51,13 @@ pub record IsAddedBy (history : List Entry) (session : ℕ) (added : Added) : Ty
   pub own : added.entry.session ≡ session
 
 -- the gate can have let the session go on, and the session has failed for want of memory
-pub record WantsMemory (gate : ℕ → ℕ → Bool → Type 0) (place : ℕ) (statement : Statement) (old new : EndlessSession) : Type 0 where
+pub record WantsMemory (gate : ℕ → ℕ → Bool → Type 0) (place : ℕ) (statement : Statement)
+    (old new : EndlessSession) : Type 0 where
   pub opened : gate (known_in old).number place true
   pub failed : HasFailed old.store.value.log statement NoMoreMemory new.member.replica old.member.pass new.member.pass
 
--- the fault names the session and the statement that isn't answered; the gate stopped the run, or there is no memory. No history is full
+-- the fault names the session and the statement that isn't answered; the gate stopped the run, or there is no memory.
+-- No history is full
 abbrev pub HaltsAt : (ℕ → ℕ → Bool → Type 0) → ℕ → Statement → RaceFault → EndlessSession → EndlessSession → Type 0
 HaltsAt gate place statement (GateShut session line) old new =
     (session ≡ (known_in old).number) × (line ≡ place) × IsTurnedAway gate session line (known_in old) (known_in new)
@@ -64,12 +66,15 @@ HaltsAt gate place statement NoMemory old new = WantsMemory gate place statement
 HaltsAt gate place statement ThreadRefused old new = ⊥
 
 -- the statement was answered, or the run stops at it
-abbrev pub EndsOne : (ℕ → ℕ → Bool → Type 0) → ℕ → Statement → Result Answer RaceFault → EndlessSession → EndlessSession → Type 0
-EndsOne gate place statement (Ok answer) old new = IsLetIn gate no_state statement place answer (known_in old) (known_in new)
+abbrev pub EndsOne : (ℕ → ℕ → Bool → Type 0) → ℕ → Statement → Result Answer RaceFault → EndlessSession → EndlessSession
+    → Type 0
+EndsOne gate place statement (Ok answer) old new =
+    IsLetIn gate no_state statement place answer (known_in old) (known_in new)
 EndsOne gate place statement (Err fault) old new = HaltsAt gate place statement fault old new
 
 -- the answer is noted, and the entry, if the statement was logged
-pub record SaysOne (gate : ℕ → ℕ → Bool → Type 0) (place : ℕ) (statement : Statement) (old new : EndlessSession) (before after : Said) : Type 0 where
+pub record SaysOne (gate : ℕ → ℕ → Bool → Type 0) (place : ℕ) (statement : Statement) (old new : EndlessSession)
+    (before after : Said) : Type 0 where
   pub answer : Answer
   pub let_in : IsLetIn gate no_state statement place answer (known_in old) (known_in new)
   pub answers : after.answers.items ≡ before.answers.items ++ answer ∷ []
@@ -78,8 +83,10 @@ pub record SaysOne (gate : ℕ → ℕ → Bool → Type 0) (place : ℕ) (state
   pub few : length added ≤ 1
   pub own : All (IsAddedBy (known_in new).seen (known_in old).number) added
 
--- the statements before one were answered, the gate can have let the session go on there, and it has no memory for that statement
-pub record RunsOut (gate : ℕ → ℕ → Bool → Type 0) (before : Known) (statements : List Statement) (session : EndlessSession) : Type 0 where
+-- the statements before one were answered, the gate can have let the session go on there, and it has no memory for that
+-- statement
+pub record RunsOut (gate : ℕ → ℕ → Bool → Type 0) (before : Known) (statements : List Statement)
+    (session : EndlessSession) : Type 0 where
   pub line : ℕ
   pub reached : IsReachedInRun no_state (known_in session).seen before statements before.number line
   pub statement : Statement
@@ -87,21 +94,24 @@ pub record RunsOut (gate : ℕ → ℕ → Bool → Type 0) (before : Known) (st
   pub opened : gate before.number line true
   pub cause : IsCaused session.store.value.log statement NoMoreMemory session.member.replica session.member.pass
 
--- in all that the session has seen, the statements before the named one were answered, and none after it; the gate can stop it there, or it has
--- no memory
+-- in all that the session has seen, the statements before the named one were answered, and none after it; the gate can
+-- stop it there, or it has no memory
 abbrev pub StopsAt : (ℕ → ℕ → Bool → Type 0) → Known → List Statement → RaceFault → EndlessSession → Type 0
-StopsAt gate before statements (GateShut session line) after = IsReachedInRun no_state (known_in after).seen before statements session line × gate session line false
+StopsAt gate before statements (GateShut session line) after =
+    IsReachedInRun no_state (known_in after).seen before statements session line × gate session line false
 StopsAt gate before statements (Full session line) after = ⊥
 StopsAt gate before statements NoMemory after = RunsOut gate before statements after
 StopsAt gate before statements ThreadRefused after = ⊥
 
 -- all statements were answered, or the run stopped
-abbrev pub EndsAt : (ℕ → ℕ → Bool → Type 0) → Known → List Statement → List Answer → Option RaceFault → EndlessSession → Type 0
+abbrev pub EndsAt : (ℕ → ℕ → Bool → Type 0) → Known → List Statement → List Answer → Option RaceFault → EndlessSession
+    → Type 0
 EndsAt gate before statements answers None after = HasAnswered gate no_state before (known_in after) statements answers
 EndsAt gate before statements answers (Some fault) after = StopsAt gate before statements fault after
 
 -- the session ended its run, or stopped; it has added nothing since
-pub record HasRaced (gate : ℕ → ℕ → Bool → Type 0) (old : EndlessSession) (statements : List Statement) (raced : Raced) : Type 0 where
+pub record HasRaced (gate : ℕ → ℕ → Bool → Type 0) (old : EndlessSession) (statements : List Statement)
+    (raced : Raced) : Type 0 where
   pub store : raced.session.store.value ≡ old.store.value
   pub mid : EndlessSession
   pub ends : EndsAt gate (known_in old) statements raced.said.answers.items raced.fault mid
@@ -139,19 +149,22 @@ pub record Settles (from : ℕ) (raced : List Raced) (outcome : LongOutcome) : T
   pub keeps : AllZip (λ one session. Keeps one.session session) raced outcome.sessions.items
   pub holds : All (λ session. HoldsAll (seen_by_last outcome.sessions.items) (known_in session)) outcome.sessions.items
   pub answers : outcome.answers.items ≡ map (λ one. one.said.answers) raced
-  pub history : (limit : ℕ) → All (λ one. All (IsListed (seen_by_last outcome.sessions.items) limit) one.said.added.items) raced
+  pub history : (limit : ℕ)
+      → All (λ one. All (IsListed (seen_by_last outcome.sessions.items) limit) one.said.added.items) raced
       → (outcome.history.items ≡ drop from (seen_by_last outcome.sessions.items)) × AllOf limit outcome.history.items
 
--- one history, from the store's first entry on, explains all answers. From the place `from` on it is what the outcome tells; its entries there are of the
--- runs' sessions
-pub record IsLongOutcome (gate : ℕ → ℕ → Bool → Type 0) (from : ℕ) (runs : List LongRun) (outcome : LongOutcome) : Type 0 where
+-- one history, from the store's first entry on, explains all answers. From the place `from` on it is what the outcome
+-- tells; its entries there are of the runs' sessions
+pub record IsLongOutcome (gate : ℕ → ℕ → Bool → Type 0) (from : ℕ) (runs : List LongRun)
+    (outcome : LongOutcome) : Type 0 where
   pub whole : List Entry
   pub whole_is : whole ≡ seen_by_last outcome.sessions.items
   pub legal : AllZip (λ run answers. IsLegal no_state whole (known_in run.session) run.lines.items answers) runs
       (map (λ answers. answers.items) outcome.answers.items)
   pub history : outcome.history.items ≡ drop from whole
   pub own : (count : ℕ) → All (λ run. (known_in run.session).number ≤ count) runs → AllOf count outcome.history.items
-  pub sessions : AllZip (λ run session. (session.store.value ≡ run.session.store.value) × ((known_in session).number ≡ (known_in run.session).number)) runs
+  pub sessions : AllZip (λ run session. (session.store.value ≡ run.session.store.value)
+      × ((known_in session).number ≡ (known_in run.session).number)) runs
       outcome.sessions.items
   pub holds : All (λ session. HoldsAll whole (known_in session)) outcome.sessions.items
   pub opened : All (λ run. LetsIn gate (known_in run.session).number (length run.lines.items)) runs

@@ -33,7 +33,8 @@ abbrev pub AreNewRuns : EndlessStore → ℕ → List (List Statement) → List 
 AreNewRuns store session [] [] = Unit {0}
 AreNewRuns store session [] (run ∷ runs) = ⊥
 AreNewRuns store session (statements ∷ lists) [] = ⊥
-AreNewRuns store session (statements ∷ lists) (run ∷ runs) = IsNewRun store session statements run × AreNewRuns store (session + 1) lists runs
+AreNewRuns store session (statements ∷ lists) (run ∷ runs) =
+    IsNewRun store session statements run × AreNewRuns store (session + 1) lists runs
 
 -- all statements of the sessions from this number on were answered, legally in the history
 abbrev pub AllAnswered : State → List Entry → ℕ → List (List Statement) → List (List Answer) → Type 0
@@ -48,8 +49,10 @@ abbrev pub AllLetIn : (ℕ → ℕ → Bool → Type 0) → ℕ → List (List S
 AllLetIn gate session [] = Unit {0}
 AllLetIn gate session (statements ∷ lists) = LetsIn gate session (length statements) × AllLetIn gate (session + 1) lists
 
--- one history, from the first entry of a store with so many rows on, explains all answers, and has entries of these sessions alone
-pub record IsLongRace (gate : ℕ → ℕ → Bool → Type 0) (rows : ℕ) (lists : List (List Statement)) (outcome : LongOutcome) : Type 0 where
+-- one history, from the first entry of a store with so many rows on, explains all answers, and has entries of these
+-- sessions alone
+pub record IsLongRace (gate : ℕ → ℕ → Bool → Type 0) (rows : ℕ) (lists : List (List Statement))
+    (outcome : LongOutcome) : Type 0 where
   pub store : EndlessStore
   pub rows_are : store.log.rows ≡ rows
   pub sessions : All (λ session. session.store.value ≡ store) outcome.sessions.items

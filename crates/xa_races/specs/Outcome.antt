@@ -12,7 +12,8 @@
 --     AppendsRace, AppendsRacePrefix      the writer got that text, or a prefix of it
 --     script_fault_of              the fault that is returned for a race's fault
 --     AfterRaceFault               what a fault leaves in the writer
-use Rattle.std.specs.Prelude.{◌≡◌, ◌≤◌, ◌⊎◌, ℕ, Bool, ◌+◌, Option, Some, None, List, [], ◌∷◌, ◌++◌, length, map, codes, decimal, IfSome}
+use Rattle.std.specs.Prelude.{◌≡◌, ◌≤◌, ◌⊎◌, ℕ, Bool, ◌+◌, Option, Some, None, List, [], ◌∷◌, ◌++◌, length, map, codes}
+use Rattle.std.specs.Prelude.{decimal, IfSome}
 use Rattle.std.specs.Io.KnownBytes.{Keeps, Appends}
 use Rattle.xa_statement.specs.Canonical.{statement_text}
 use Rattle.xa_words.specs.Entry.{Entry}
@@ -35,7 +36,8 @@ use Rattle.xa_lines.specs.Transcript.{AppendsPrefix}
 
 -- place, session and canonical text of an entry
 abbrev pub entry_text : ℕ → Entry → List ℕ
-entry_text place entry = decimal place ++ codes " " ++ decimal entry.session ++ codes " " ++ statement_text entry.statement ++ codes "\n"
+entry_text place entry =
+    decimal place ++ codes " " ++ decimal entry.session ++ codes " " ++ statement_text entry.statement ++ codes "\n"
 
 -- entries, the first of which has this place
 unfoldable pub entries_text : ℕ → List Entry → List ℕ
@@ -53,7 +55,8 @@ placed_text session convert answer =
 
 -- a session's answers, each with whether its statement asks for digits
 unfoldable pub session_text : ℕ → List Bool → List Answer → List ℕ
-session_text session (convert ∷ asked) (answer ∷ answers) = placed_text session convert answer ++ session_text session asked answers
+session_text session (convert ∷ asked) (answer ∷ answers) =
+    placed_text session convert answer ++ session_text session asked answers
 session_text session asked answers = []
 
 -- whether each statement of each session asks for identifiers in digits, session 1 first
@@ -70,8 +73,8 @@ answers_text session lines (answers ∷ others) =
 abbrev pub outcome_text : List (List ℕ) → List Entry → List (List Answer) → List ℕ
 outcome_text lines history answers = history_text history ++ answers_text 1 lines answers
 
--- what a race of runs in one log gives: a history that begins with an empty store, has no more entries than there is room for, only entries of the
--- runs' sessions, and explains all answers
+-- what a race of runs in one log gives: a history that begins with an empty store, has no more entries than there is
+-- room for, only entries of the runs' sessions, and explains all answers
 pub record IsHeld (capacity : ℕ) (runs : List Run) (outcome : Outcome) : Type 0 where
   pub explained : IsOutcome no_state runs outcome
   pub within : length outcome.history.items ≤ capacity
@@ -88,14 +91,16 @@ pub record IsRacedInLog (capacity : ℕ) (lines : List (List ℕ)) (text : List 
 -- what consecutive sessions give, this one first
 abbrev pub AreListsFrom : ℕ → List (List ℕ) → List (List Statement) → Type 0
 AreListsFrom session lines [] = Unit {0}
-AreListsFrom session lines (statements ∷ lists) = (statements ≡ statements_of session lines) × AreListsFrom (session + 1) lines lists
+AreListsFrom session lines (statements ∷ lists) =
+    (statements ≡ statements_of session lines) × AreListsFrom (session + 1) lines lists
 
 -- what the sessions 1 to the greatest give that a line names (own rule)
 pub record AreLists (lines : List (List ℕ)) (lists : List (List Statement)) : Type 0 where
   pub count : length lists ≡ last_session lines
   pub each : AreListsFrom 1 lines lists
 
--- one history of any length, of a store that begins empty, explains all answers, and has only entries of the script's sessions
+-- one history of any length, of a store that begins empty, explains all answers, and has only entries of the script's
+-- sessions
 pub record IsRacedOn (lines : List (List ℕ)) (text : List ℕ) : Type 0 where
   pub lists : List (List Statement)
   pub are_lists : AreLists lines lists

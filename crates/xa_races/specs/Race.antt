@@ -6,7 +6,8 @@
 --     part_at, Gains               the list at a place;  lists of which each gets one item more, or none
 --     IsGiven, TakesLine, HasRead  lists are what the sessions give;  a line is read;  a script is read
 --     IsRun, AreRuns               a session's run;  the runs of the sessions 1 to the last
-use Rattle.std.specs.Prelude.{◌≡◌, ℕ, zero, suc, map, ◌+◌, max, ◌==◌, cond, Option, Some, None, Result, Ok, Err, List, [], ◌∷◌, ◌++◌, length, codes, decimal}
+use Rattle.std.specs.Prelude.{◌≡◌, ℕ, zero, suc, map, ◌+◌, max, ◌==◌, cond, Option, Some, None, Result, Ok, Err, List}
+use Rattle.std.specs.Prelude.{[], ◌∷◌, ◌++◌, length, codes, decimal}
 use Rattle.std.specs.List.{filter_map}
 use Rattle.std.specs.Option.{option_to_list}
 use Rattle.xa_xid.specs.declared.statement.Statement.{Statement}
@@ -85,7 +86,8 @@ IsGiven lines lists = (index : ℕ) → part_at lists index ≡ statements_of (i
 pub record TakesLine (number : ℕ) (line : Line) (old new : RaceScript) : Type 0 where
   pub faults : new.faults.items ≡ old.faults.items ++ fault_text number (fault_place line)
   pub greatest : new.greatest ≡ max old.greatest (session_in line)
-  pub lists : Gains (λ session. statement_by session line) (map (λ list. list.items) old.lists.items) (map (λ list. list.items) new.lists.items)
+  pub lists : Gains (λ session. statement_by session line) (map (λ list. list.items) old.lists.items)
+      (map (λ list. list.items) new.lists.items)
 
 -- these lines were read
 pub record HasRead (lines : List (List ℕ)) (given : RaceScript) : Type 0 where

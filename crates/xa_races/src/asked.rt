@@ -21,7 +21,8 @@ fn asked_by(alloc: Global, statements: &[Statement]) -> Result<Vec<bool>, NoMemo
 ///
 /// May return `NoMemory`. Doesn't wait.
 pub fn asked_of(alloc: Global, lists: &[Vec<Statement>]) -> Result<Vec<Vec<bool>>, NoMemory>
-    ensures { IfOk result (λ asked. map (λ list. list.items) asked.items ≡ map (λ list. map converts_of list.items) lists.now) }
+    ensures { IfOk result (λ asked. map (λ list. list.items) asked.items
+        ≡ map (λ list. map converts_of list.items) lists.now) }
 {
     let mut asked = Vec::new(alloc);
     for list in lists {

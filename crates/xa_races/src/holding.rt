@@ -2,7 +2,7 @@
 ghost use Rattle.std.specs.Prelude.{◌≡◌, ◌≤◌, ◌+◌, ℕ, List, length, map, max, vec_len, Some, None, IfOk, IfErr};
 ghost use Rattle.std.specs.List.{All, zip};
 ghost use Rattle.decision_log.specs.Opens.{IsCapacity};
-ghost use Rattle.ring_log.specs.RingOpens.{AreRows};
+ghost use Rattle.chain_log.specs.RingOpens.{AreRows};
 ghost use Rattle.xa_server.specs.State.{no_state};
 ghost use Rattle.xa_store.specs.Passes.{identity_of, log_of};
 ghost use Rattle.xa_lines.specs.Script.{lines_of};
@@ -54,7 +54,8 @@ fn entered(
     ensures room { IfOk result (λ both. (identity_of both.0.log).capacity ≡ capacity) }
     ensures empty { IfOk result (λ both. both.0.base ≡ no_state) }
     ensures runs { IfOk result
-        (λ both. (lines : List (List ℕ)) → greatest ≡ last_session lines → IsGiven lines (map (λ list. list.items) lists.items) → AreRuns lines both.1.items) }
+        (λ both. (lines : List (List ℕ)) → greatest ≡ last_session lines
+        → IsGiven lines (map (λ list. list.items) lists.items) → AreRuns lines both.1.items) }
 {
     let Ok((store, mut passes)) = Store::open(alloc, capacity, greatest.max(1)) else {
         return Err(AllocError);
@@ -146,10 +147,10 @@ fn hold_endless<G: Gate + Sync, R: Threads + Wait + Sync>(
 
 /// Gives what is written for a script: its faulty lines, or the outcome of a race of its sessions in one log.
 ///
-/// `capacity` is the number of entries for which the log has room, in `[1, 1024]`. If a line is faulty, no race is held.
-/// Errors: `NoMemory` if an allocation failed. Only if no line is faulty: `GateShut`, `Full` and `ThreadRefused`, as the
-/// race returns them.
-/// May return `NoMemory`. Waits for its threads.
+/// `capacity` is the number of entries for which the log has room, in `[1, 1024]`. If a line is faulty, no race is
+/// held.
+/// Errors: `NoMemory` if an allocation failed. Only if no line is faulty: `GateShut`, `Full` and `ThreadRefused`, as
+/// the race returns them. May return `NoMemory`. Waits for its threads.
 /// Own rule: docs/COMMANDS.md#race.
 pub fn text_in_log<G: Gate + Sync, R: Threads + Wait + Sync>(
     rt: &R,
@@ -161,7 +162,8 @@ pub fn text_in_log<G: Gate + Sync, R: Threads + Wait + Sync>(
     requires capacity { IsCapacity capacity }
     requires short { length script.now ≤ script_bytes }
     ensures text { IfOk result (λ text. IsRaceText (Some capacity) script.now text.items) }
-    ensures on { IsReadable script.now → IfOk result (λ text. IsHeldInLog (G.may_answer gate.now) capacity (lines_of script.now) text.items) }
+    ensures on { IsReadable script.now → IfOk result (λ text. IsHeldInLog (G.may_answer gate.now) capacity
+        (lines_of script.now) text.items) }
     ensures fault { IfErr result (IsOfText (Some capacity) script.now) }
     ensures cause { IfErr result (IsCaused (EndsInLog (G.may_answer gate.now) capacity (lines_of script.now))) }
 {
@@ -194,7 +196,8 @@ pub fn text_endless<G: Gate + Sync, R: Threads + Wait + Sync>(
     requires rows { AreRows rows }
     requires short { length script.now ≤ script_bytes }
     ensures text { IfOk result (λ text. IsRaceText None script.now text.items) }
-    ensures on { IsReadable script.now → IfOk result (λ text. IsHeldEndless (G.may_answer gate.now) rows (lines_of script.now) text.items) }
+    ensures on { IsReadable script.now → IfOk result (λ text. IsHeldEndless (G.may_answer gate.now) rows
+        (lines_of script.now) text.items) }
     ensures fault { IfErr result (IsOfText None script.now) }
     ensures cause { IfErr result (IsCaused (EndsEndless (G.may_answer gate.now) (lines_of script.now))) }
 {

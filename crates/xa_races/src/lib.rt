@@ -1,21 +1,41 @@
 //! Races: each session's statements are executed by a thread of its own, over one store.
 //!
-//! `race_script` races in one log with room for a stated number of entries; `race_script_in_rounds` over a store without
-//! an end, so that the history has any length. Both write the history that explains the answers, and the answers, or
-//! only the script's faulty lines. Read docs/COMMANDS.md#race, then `specs/Race.antt`, `specs/Outcome.antt`,
-//! `src/racing.rt` and `src/holding.rt`.
+//! `race_script` races in one log with room for a stated number of entries; `race_script_in_rounds` over a store
+//! without an end, so that the history has any length. Both write the history that explains the answers, and the
+//! answers, or only the script's faulty lines. Read docs/COMMANDS.md#race, then `specs/Race.antt`,
+//! `specs/Outcome.antt`, `src/racing.rt` and `src/holding.rt`.
 //!
 //! `hold_long_race` races lists of statements over a new store without an end, `race_on` those of sessions of a store
 //! that is there. Both return the history that explains the answers, from notes of what each session added, since the
 //! store keeps only the last entries. Read docs/RATTLE.md#races-without-an-end first, then `specs/Long.antt`,
 //! `src/saying.rt`, `src/meeting.rt` and `src/long_racing.rt`.
+//!
+//! `runs_script` races a script many times, and counts which of its outcomes came. Each race has a store of its own.
+//! The lines before and the later lines are carried out one after another; those side by side race, each session on
+//! its own thread. The law in `src/counted_laws.rt` says that whatever comes is one of the outcomes that `xa_orders`
+//! explores. Read docs/COMMANDS.md#race-statistics, then `specs/CountedRaced.antt`, `specs/Came.antt` and
+//! `src/runs.rt`.
+//!
+//! `race_is_explained` is a law that ties the judge to the store, the contract of a function that does nothing:
+//! whatever a race of fresh sessions returns, the judge's definition of an explained record accepts, once it is
+//! written down as overlapping calls. Read `specs/Overlapping.antt` first: it says how a race becomes a record. Then
+//! read docs/PROOF.md#the-judge.
 #![tactic(auto)]
 
 mod added;
 mod asked;
 mod assembling;
+mod came_tally;
+mod came_text;
+pub mod counted_laws;
+mod counted_lines;
+mod counted_opened;
+mod counted_parts;
+mod counted_statements;
+mod explained;
 mod given;
 mod holding;
+mod laying;
 mod long_entering;
 mod long_outcome;
 mod long_race;
@@ -25,17 +45,26 @@ mod meeting;
 mod parting;
 mod race_fault;
 mod race_lines;
+mod race_runs;
 mod race_text;
 mod racer;
 mod racing;
+mod reshuffled;
+mod running;
+mod runs;
+mod runs_of;
 mod said;
 mod saying;
+mod tallies;
 
 pub use added::Added;
+pub use explained::race_is_explained;
 pub use long_outcome::LongOutcome;
 pub use long_race::race_script_in_rounds;
 pub use long_racing::{count_seen, hold_long_race, race_on};
 pub use long_run::LongRun;
 pub use racer::Raced;
 pub use racing::race_script;
+pub use reshuffled::ReshuffledGate;
+pub use running::runs_script;
 pub use said::Said;

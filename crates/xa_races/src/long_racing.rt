@@ -1,7 +1,7 @@
 //! Races over a store without an end.
 ghost use Rattle.std.specs.Prelude.{◌≡◌, ◌≤◌, length, map, IfOk, IfErr};
 ghost use Rattle.std.specs.List.{All, AllZip};
-ghost use Rattle.ring_log.specs.RingOpens.{AreRows};
+ghost use Rattle.chain_log.specs.RingOpens.{AreRows};
 ghost use Rattle.xa_store.specs.Gathered.{last_known};
 ghost use Rattle.xa_races.specs.Long.{known_in, AreOfOne, Settles, IsLongOutcome, BlamesLong};
 ghost use Rattle.xa_races.specs.LongRace.{IsLongRace, BlamesRace};
@@ -24,7 +24,8 @@ use xa_xid::{NoMemory, Statement};
 /// A racer for a run, with room for what it will be answered and will add.
 fn ready<'g, G: Gate>(alloc: Global, run: LongRun, gate: &'g G) -> Result<Racer<'g, G>, NoMemory>
     ensures { IfOk result
-        (λ racer. (racer.session ≡ run.session) × (racer.lines.items ≡ run.lines.items) × (racer.gate.now ≡ gate.entry.now)) }
+        (λ racer. (racer.session ≡ run.session) × (racer.lines.items ≡ run.lines.items)
+        × (racer.gate.now ≡ gate.entry.now)) }
 {
     let LongRun { session, lines } = run;
     let answers = Vec::with_capacity(alloc, lines.len())?;
@@ -45,7 +46,8 @@ fn line_up<'g, G: Gate>(
 ) -> Result<Vec<Racer<'g, G>>, NoMemory>
     ensures { IfOk result
         (λ racers. AllZip
-        (λ run racer. (racer.session ≡ run.session) × (racer.lines.items ≡ run.lines.items) × (racer.gate.now ≡ gate.entry.now))
+        (λ run racer. (racer.session ≡ run.session) × (racer.lines.items ≡ run.lines.items)
+        × (racer.gate.now ≡ gate.entry.now))
         runs.items racers.items) }
 {
     let mut racers = Vec::with_capacity(alloc, runs.len())?;

@@ -3,7 +3,7 @@ ghost use Rattle.std.specs.Prelude.{◌≡◌, map, vec_capacity};
 ghost use Rattle.std.specs.List.{All, AllZip};
 ghost use Rattle.decision_log.specs.History.{Begins, entries_of};
 ghost use Rattle.decision_log.specs.Calls.{MeetsFirst};
-ghost use Rattle.ring_log.specs.RingPass.{log_of};
+ghost use Rattle.chain_log.specs.RingPass.{log_of};
 ghost use Rattle.xa_store.specs.Gathered.{IsTakenIn, AddsNothing, last_known};
 ghost use Rattle.xa_races.specs.Long.{known_in, AreOfOne, Keeps, HoldsAll};
 
@@ -13,7 +13,8 @@ use xa_endless::EndlessSession;
 /// sees no more, and its entries of each session's number are exactly that session's own.
 fn meet_each(others: &mut Vec<EndlessSession>, last: &mut EndlessSession)
     requires { All (λ session. log_of session.member.pass ≡ log_of last.old.member.pass) others.old.items }
-    ensures others { AllZip (λ old new. (new.store.value ≡ old.store.value) × MeetsFirst (known_in old) (known_in new)) others.old.items others.new.items }
+    ensures others { AllZip (λ old new. (new.store.value ≡ old.store.value)
+        × MeetsFirst (known_in old) (known_in new)) others.old.items others.new.items }
     ensures belong { All (λ session. log_of session.member.pass ≡ log_of last.new.member.pass) others.new.items }
     ensures room { vec_capacity others.new ≡ vec_capacity others.old }
     ensures store { last.new.store.value ≡ last.old.store.value }
@@ -21,7 +22,8 @@ fn meet_each(others: &mut Vec<EndlessSession>, last: &mut EndlessSession)
     ensures seen { All (λ session. Begins (known_in session).seen (known_in last.new).seen) others.new.items }
     ensures whole { All (λ session. Begins (known_in session).seen (known_in last.old).seen) others.old.items
         → ((known_in last.new).seen ≡ (known_in last.old).seen)
-        × All (λ session. entries_of (known_in session).number (known_in last.new).seen ≡ (known_in session).mine) others.new.items }
+        × All (λ session. entries_of (known_in session).number (known_in last.new).seen
+        ≡ (known_in session).mine) others.new.items }
 {
     for index in 0..others.len() {
         others[index].meet(last);
@@ -49,8 +51,10 @@ fn tell_each(others: &mut Vec<EndlessSession>, last: &mut EndlessSession)
 pub(crate) fn gather(sessions: &mut Vec<EndlessSession>)
     requires { AreOfOne sessions.old.items }
     ensures keeps { AllZip Keeps sessions.old.items sessions.new.items }
-    ensures taken { All (λ session. IsTakenIn (last_known (map known_in sessions.new.items)).seen (known_in session)) sessions.old.items }
-    ensures holds { All (λ session. HoldsAll (last_known (map known_in sessions.new.items)).seen (known_in session)) sessions.new.items }
+    ensures taken { All (λ session. IsTakenIn (last_known (map known_in sessions.new.items)).seen
+        (known_in session)) sessions.old.items }
+    ensures holds { All (λ session. HoldsAll (last_known (map known_in sessions.new.items)).seen
+        (known_in session)) sessions.new.items }
 {
     if sessions.is_empty() {
         return;

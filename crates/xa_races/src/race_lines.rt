@@ -1,5 +1,6 @@
 //! Reads a script for a race; each line is read once.
-ghost use Rattle.std.specs.Prelude.{◌≡◌, ◌≤◌, ◌==◌, ◌+◌, ◌++◌, [], ℕ, Some, None, cond, length, map, vec_len, IfOk, OnOk};
+ghost use Rattle.std.specs.Prelude.{◌≡◌, ◌≤◌, ◌==◌, ◌+◌, ◌++◌, [], ℕ, Some, None, cond, length, map, vec_len, IfOk};
+ghost use Rattle.std.specs.Prelude.{OnOk};
 ghost use Rattle.xa_lines.specs.Script.{Given, line_of, lines_of};
 ghost use Rattle.xa_lines.specs.Limits.{script_bytes};
 ghost use Rattle.xa_races.specs.Race.{fault_text, part_at, Gains, TakesLine, HasRead};
@@ -55,7 +56,8 @@ fn push_statement(
     requires { vec_len lists.old ≡ 16 }
     ensures count { vec_len lists.new ≡ 16 }
     ensures gains { OnOk result
-        (Gains (λ other. cond (session == other) (Some statement) None) (map (λ list. list.items) lists.old.items) (map (λ list. list.items) lists.new.items)) }
+        (Gains (λ other. cond (session == other) (Some statement) None) (map (λ list. list.items) lists.old.items)
+        (map (λ list. list.items) lists.new.items)) }
 {
     lists[(session.get() - 1) as usize].push(statement)?;
     Ok(())

@@ -1,7 +1,8 @@
 //! Prints the outcome of a race.
 ghost use Rattle.std.specs.Prelude.{◌≡◌, ◌++◌, ℕ, List, OnOk, IfOk, map};
 ghost use Rattle.xa_races.specs.Race.{part_at};
-ghost use Rattle.xa_races.specs.Outcome.{entry_text, entries_text, history_text, placed_text, session_text, answers_text, outcome_text, AreAsked};
+ghost use Rattle.xa_races.specs.Outcome.{entry_text, entries_text, history_text, placed_text, session_text};
+ghost use Rattle.xa_races.specs.Outcome.{answers_text, outcome_text, AreAsked};
 
 use std::alloc::Global;
 use xa_lines::{push_number, push_reply};
@@ -125,7 +126,8 @@ pub fn print_outcome(
 ) -> Result<Vec<u8>, NoMemory>
     ensures { (lines : List (List ℕ))
         → AreAsked lines (map (λ list. list.items) asked.now)
-        → IfOk result (λ text. text.items ≡ outcome_text lines history.now (map (λ answers. answers.items) answers.now)) }
+        → IfOk result (λ text. text.items ≡ outcome_text lines history.now
+        (map (λ answers. answers.items) answers.now)) }
 {
     let mut text = Vec::new(alloc);
     push_history(alloc, &mut text, history)?;

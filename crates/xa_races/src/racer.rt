@@ -1,6 +1,6 @@
 //! A session of a long race, on its thread.
 ghost use Rattle.std.specs.Prelude.{◌≡◌, ◌≤◌, [], length, vec_capacity};
-ghost use Rattle.ring_log.specs.RingPass.{known_of};
+ghost use Rattle.chain_log.specs.RingPass.{known_of};
 ghost use Rattle.xa_store.specs.Gathered.{AddsNothing};
 
 use crate::said::Said;

@@ -45,30 +45,37 @@ pub fn race_script<I: PieceReader, O: PieceWriter, G: Gate + Sync, R: Threads + 
     //   there are none, one history and the answers of the sessions 1 to the greatest were written. The
     //   history begins with an empty store, has only entries of these sessions, no more than the log has room
     //   for, and explains every answer.
-    ensures written { OnOk result (IfSome (I.remaining reader.old) (λ script. AppendsRace (Some capacity) script (O.contents writer.old) (O.contents writer.new))) }
+    ensures written { OnOk result (IfSome (I.remaining reader.old)
+        (λ script. AppendsRace (Some capacity) script (O.contents writer.old) (O.contents writer.new))) }
     // Proved (races, script-held-as-asked): A race of a script is held in a log with the room, or over a ring with
     //   the rows, that was asked for, and the gate can let in each statement. After `GateShut` the gate can shut a
     //   statement of one of the script's runs; after `Full` such a statement has no room in the log.
     ensures held { OnOk result (IfSome (I.remaining reader.old) (λ script.
-        AppendsHeld (IsHeldInLog (G.may_answer gate.now) capacity) script (O.contents writer.old) (O.contents writer.new))) }
+        AppendsHeld (IsHeldInLog (G.may_answer gate.now) capacity) script (O.contents writer.old)
+        (O.contents writer.new))) }
     // Proved (races, script-held-as-asked)
-    ensures caused { IfErr result (λ fault. IfSome (I.remaining reader.old) (λ script. IsCausedIn (EndsInLog (G.may_answer gate.now) capacity) script fault)) }
+    ensures caused { IfErr result (λ fault. IfSome (I.remaining reader.old)
+        (λ script. IsCausedIn (EndsInLog (G.may_answer gate.now) capacity) script fault)) }
     // Proved (races, script-length): A script that was raced in one log has at most 1,048,576 bytes.
     ensures short { OnOk result (IfSome (I.remaining reader.old) (λ script. length script ≤ script_bytes)) }
 
     // Proved (races, script-fault): After `Write` a prefix of such a text was written, after any other fault
     //   of a race nothing. `Full`, `GateShut` and `ThreadRefused` are returned only if no line is faulty.
-    ensures fault { IfErr result (λ fault. AfterRaceFault (Some capacity) fault (I.remaining reader.old) (O.contents writer.old) (O.contents writer.new)) }
+    ensures fault { IfErr result (λ fault. AfterRaceFault (Some capacity) fault (I.remaining reader.old)
+        (O.contents writer.old) (O.contents writer.new)) }
     // Proved (races, script-too-long): `TooLong` is returned only if more than 1,048,576 bytes were read.
-    ensures too_long { result ≡ Err ScriptFault.TooLong → ConsumesMoreThan script_bytes (I.remaining reader.old) (I.remaining reader.new) }
+    ensures too_long { result ≡ Err ScriptFault.TooLong → ConsumesMoreThan script_bytes (I.remaining reader.old)
+        (I.remaining reader.new) }
 
     // Proved (races, script-stream-faults): `Read`, `TooLong` and `Write` have only their causes: the last
     //   call on that stream failed, or too much was read. A stream that failed isn't called again. After Ok
     //   all calls on both streams succeeded. This holds for every reader and writer.
-    ensures calls { OnOk result (Completes I.gives O.takes script_reads (IsRaceText (Some capacity)) reader.old reader.new writer.old writer.new) }
+    ensures calls { OnOk result (Completes I.gives O.takes script_reads
+        (IsRaceText (Some capacity)) reader.old reader.new writer.old writer.new) }
     // Proved (races, script-stream-faults)
     ensures cause { IfErr result
-        (λ fault. Stops I.gives I.fails O.takes O.refuses script_reads script_bytes (IsRaceText (Some capacity)) (IsOfText (Some capacity)) fault reader.old reader.new writer.old writer.new) }
+        (λ fault. Stops I.gives I.fails O.takes O.refuses script_reads script_bytes (IsRaceText (Some capacity))
+        (IsOfText (Some capacity)) fault reader.old reader.new writer.old writer.new) }
 {
     let script = read_all(alloc, reader)?;
     let text = text_in_log(rt, alloc, script.as_slice(), capacity, gate)?;

@@ -52,8 +52,10 @@ fn say_one<G: Gate, R: Wait>(
     ensures store { session.new.store.value ≡ session.old.store.value }
     ensures answers { vec_capacity said.new.answers ≡ vec_capacity said.old.answers }
     ensures added { vec_capacity said.new.added ≡ vec_capacity said.old.added }
-    ensures ok { OnOk result (SaysOne (G.may_answer gate.now) line statement.now session.old session.new said.old said.new) }
-    ensures fault { IfErr result (λ fault. EndsOne (G.may_answer gate.now) line statement.now (Err fault) session.old session.new) }
+    ensures ok { OnOk result
+        (SaysOne (G.may_answer gate.now) line statement.now session.old session.new said.old said.new) }
+    ensures fault { IfErr result (λ fault. EndsOne (G.may_answer gate.now) line statement.now
+        (Err fault) session.old session.new) }
     ensures kept { OnErr result (said.new ≡ said.old) }
 {
     let answer = answer_one(rt, session, line, statement, gate)?;
@@ -83,9 +85,11 @@ fn say_all<G: Gate, R: Wait>(
     requires added { length lines.now ≤ vec_capacity said.old.added }
     ensures store { session.new.store.value ≡ session.old.store.value }
     ensures ok { OnOk result
-        (HasAnswered (G.may_answer gate.now) no_state (known_in session.old) (known_in session.new) lines.now said.new.answers.items) }
+        (HasAnswered (G.may_answer gate.now) no_state (known_in session.old)
+        (known_in session.new) lines.now said.new.answers.items) }
     ensures own { All (IsAddedBy (known_in session.new).seen (known_in session.old).number) said.new.added.items }
-    ensures fault { IfErr result (λ fault. StopsAt (G.may_answer gate.now) (known_in session.old) lines.now fault session.new) }
+    ensures fault { IfErr result (λ fault. StopsAt (G.may_answer gate.now)
+        (known_in session.old) lines.now fault session.new) }
 {
     for index in 0..lines.len() {
         say_one(rt, session, index as u64, &lines[index], gate, said)?;
@@ -106,7 +110,8 @@ pub(crate) fn say_out<G: Gate, R: Wait>(
     requires answers { length lines.now ≤ vec_capacity said.old.answers }
     requires added { length lines.now ≤ vec_capacity said.old.added }
     ensures store { session.new.store.value ≡ session.old.store.value }
-    ensures ends { EndsAt (G.may_answer gate.now) (known_in session.old) lines.now said.new.answers.items result session.new }
+    ensures ends { EndsAt (G.may_answer gate.now) (known_in session.old) lines.now said.new.answers.items result
+        session.new }
     ensures own { All (IsAddedBy (known_in session.new).seen (known_in session.old).number) said.new.added.items }
 {
     match say_all(rt, session, lines, gate, said) {

@@ -1,5 +1,6 @@
 -- Allowances, one by one.
-use Rattle.std.proofs.Common.{◌≡◌, ℕ, zero, suc, ◌+◌, ◌<◌, ◌≤◌, ◌==◌, Bool, true, false, if◌then◌else◌, Option, Some, None, Result, Ok, Err, List, [], ◌∷◌, ◌++◌, length, drop, get_or}
+use Rattle.std.proofs.Common.{◌≡◌, ℕ, zero, suc, ◌+◌, ◌<◌, ◌≤◌, ◌==◌, Bool, true, false, if◌then◌else◌, Option, Some}
+use Rattle.std.proofs.Common.{None, Result, Ok, Err, List, [], ◌∷◌, ◌++◌, length, drop, get_or}
 use Rattle.std.proofs.Common.{option_to_list, refl, ap, sym, ◌∙◌, arith, append_assoc, append-nil}
 use Rattle.std.proofs.lemmas.List.{drop_all}
 use Rattle.std.proofs.lemmas.Grind.{common_steps}
@@ -17,28 +18,34 @@ allowed_for-front : (one : Allowance) (more : List Allowance) (kind : StatementK
     → allowed_for (one ∷ more) kind number ≡ allowed_for (one ∷ []) kind number ++ allowed_for more kind number
 allowed_for-front one more kind number = if-front (lets_stand one kind number) one.rules (allowed_for more kind number)
 
-get_or-within : (list : List Allowance) (index : ℕ) (any other : Allowance) → index < length list → get_or list index any ≡ get_or list index other
+get_or-within : (list : List Allowance) (index : ℕ) (any other : Allowance) → index < length list
+    → get_or list index any ≡ get_or list index other
 get_or-within [] index any other within = absurd (omega (arith, within))
 get_or-within (first ∷ more) zero any other within = refl
 get_or-within (first ∷ more) (suc index) any other within = get_or-within more index any other (omega (arith, within))
 
 -- one allowance more was gone through
-pub allowed_for-next : (allowances : List Allowance) (kind : StatementKind) (number : ℕ) (whole others longer : List ℕ) (index : ℕ) (any : Allowance)
+pub allowed_for-next : (allowances : List Allowance) (kind : StatementKind) (number : ℕ) (whole others longer : List ℕ)
+    (index : ℕ) (any : Allowance)
     → index < length allowances → whole ≡ others ++ allowed_for (drop index allowances) kind number
-    → longer ≡ others ++ allowed_for (get_or allowances index any ∷ []) kind number → whole ≡ longer ++ allowed_for (drop (index + 1) allowances) kind number
+    → longer ≡ others ++ allowed_for (get_or allowances index any ∷ []) kind number
+    → whole ≡ longer ++ allowed_for (drop (index + 1) allowances) kind number
 allowed_for-next allowances kind number whole others longer index any within is parts =
     let one = get_or allowances index any in
     let at : one ≡ get_or allowances index one = get_or-within allowances index any one within in
     is ∙ ap (λ (l : List Allowance). others ++ allowed_for l kind number) (dropped allowances index one within at)
     ∙ ap (λ (l : List ℕ). others ++ l) (allowed_for-front one (drop (index + 1) allowances) kind number)
-    ∙ sym (append_assoc others (allowed_for (one ∷ []) kind number) (allowed_for (drop (index + 1) allowances) kind number))
+    ∙ sym (append_assoc others (allowed_for (one ∷ []) kind number)
+    (allowed_for (drop (index + 1) allowances) kind number))
     ∙ ap (λ (l : List ℕ). l ++ allowed_for (drop (index + 1) allowances) kind number) (sym parts)
 
 -- all were
-pub allowed_for-whole : (allowances : List Allowance) (kind : StatementKind) (number : ℕ) (whole others : List ℕ) (index : ℕ) → length allowances ≤ index
+pub allowed_for-whole : (allowances : List Allowance) (kind : StatementKind) (number : ℕ) (whole others : List ℕ)
+    (index : ℕ) → length allowances ≤ index
     → whole ≡ others ++ allowed_for (drop index allowances) kind number → others ≡ whole
 allowed_for-whole allowances kind number whole others index past is =
-    sym (is ∙ ap (λ (l : List Allowance). others ++ allowed_for l kind number) (drop_all index allowances past) ∙ append-nil others)
+    sym (is ∙ ap (λ (l : List Allowance). others ++ allowed_for l kind number) (drop_all index allowances past)
+    ∙ append-nil others)
 
 -- these allowances stand before what is read
 abbrev pub prepended : List Allowance → Result (List Allowance) ℕ → Result (List Allowance) ℕ
@@ -57,8 +64,10 @@ prepended-none (Ok more) = refl
 prepended-none (Err number) = refl
 
 -- one line was cut off, and it isn't faulty
-pub allowances_in-line : (whole : Result (List Allowance) ℕ) (list longer : List Allowance) (number : ℕ) (text line rest : List ℕ) (found : Option Allowance)
-    → whole ≡ prepended list (allowances_in number (lines_of text)) → lines_of text ≡ line ∷ lines_of rest → Ok found ≡ line_allows number line
+pub allowances_in-line : (whole : Result (List Allowance) ℕ) (list longer : List Allowance) (number : ℕ)
+    (text line rest : List ℕ) (found : Option Allowance)
+    → whole ≡ prepended list (allowances_in number (lines_of text)) → lines_of text ≡ line ∷ lines_of rest
+    → Ok found ≡ line_allows number line
     → longer ≡ list ++ option_to_list found → whole ≡ prepended longer (allowances_in (number + 1) (lines_of rest))
 unfolding allowances_in
 allowances_in-line whole list longer number text line rest found is cut said parts =
@@ -68,8 +77,10 @@ allowances_in-line whole list longer number text line rest found is cut said par
     ∙ prepended-first list found below ∙ ap (λ (l : List Allowance). prepended l below) (sym parts)
 
 -- one line was cut off, and it is faulty
-pub allowances_in-faulty : (whole : Result (List Allowance) ℕ) (list : List Allowance) (number : ℕ) (text line rest : List ℕ) (faulty : ℕ)
-    → whole ≡ prepended list (allowances_in number (lines_of text)) → lines_of text ≡ line ∷ lines_of rest → Err faulty ≡ line_allows number line
+pub allowances_in-faulty : (whole : Result (List Allowance) ℕ) (list : List Allowance) (number : ℕ)
+    (text line rest : List ℕ) (faulty : ℕ)
+    → whole ≡ prepended list (allowances_in number (lines_of text)) → lines_of text ≡ line ∷ lines_of rest
+    → Err faulty ≡ line_allows number line
     → whole ≡ Err faulty
 unfolding allowances_in
 allowances_in-faulty whole list number text line rest faulty is cut said =
@@ -78,8 +89,10 @@ allowances_in-faulty whole list number text line rest faulty is cut said =
     ∙ ap (λ (r : Result (Option Allowance) ℕ). prepended list (first_allows r below)) (sym said)
 
 -- no line is left
-pub allowances_in-end : (whole : Result (List Allowance) ℕ) (list : List Allowance) (number : ℕ) (text : List ℕ) → (length text == 0) ≡ true
+pub allowances_in-end : (whole : Result (List Allowance) ℕ) (list : List Allowance) (number : ℕ) (text : List ℕ)
+    → (length text == 0) ≡ true
     → whole ≡ prepended list (allowances_in number (lines_of text)) → whole ≡ Ok list
 unfolding allowances_in lines_of
 allowances_in-end whole list number [] empty is = is ∙ ap (λ (l : List Allowance). Ok l) (append-nil list)
-allowances_in-end whole list number (x ∷ xs) empty is = absurd (let none : length (x ∷ xs) ≡ 0 = grind (arith, common_steps) in omega arith)
+allowances_in-end whole list number (x ∷ xs) empty is =
+    absurd (let none : length (x ∷ xs) ≡ 0 = grind (arith, common_steps) in omega arith)

@@ -1,5 +1,6 @@
 -- What the lines of a record tell sessions to call for begins with no blank, and has no line feed.
-use Rattle.std.proofs.Common.{◌≡◌, ℕ, zero, suc, ◌==◌, true, false, Bool, not, cond, if◌then◌else◌, Option, Some, None, Ok, Err, List, [], ◌∷◌, ◌++◌, reverse, drop, codes, refl, ap, sym, ◌∙◌, subst}
+use Rattle.std.proofs.Common.{◌≡◌, ℕ, zero, suc, ◌==◌, true, false, Bool, not, cond, if◌then◌else◌, Option, Some, None}
+use Rattle.std.proofs.Common.{Ok, Err, List, [], ◌∷◌, ◌++◌, reverse, drop, codes, refl, ap, sym, ◌∙◌, subst}
 use Rattle.std.specs.Prelude.{bytes_eq, nat_lt}
 use Rattle.std.specs.List.{AllByRecursion as All, list_all, prefix_len}
 use Rattle.std.proofs.lemmas.List.{reverse-append}
@@ -7,13 +8,17 @@ use Rattle.xa_xid.specs.Bytes.{belongs, behind, unblank}
 use Rattle.xa_xid.specs.Literal.{Reading, literal_ahead}
 use Rattle.xa_xid.specs.Xid.{Text}
 use Rattle.xa_xid.specs.declared.byte_class.ByteClass.TheVariants.{Blank as BlankByte}
-use Rattle.xa_lines.specs.Script.{lines_of, with_first, Line, Blank, line_of, first_word, after_word, behind_word, is_no_blank, is_empty_line}
+use Rattle.xa_lines.specs.Script.{lines_of, with_first, Line, Blank, line_of, first_word, after_word, behind_word}
+use Rattle.xa_lines.specs.Script.{is_no_blank, is_empty_line}
 use Rattle.xa_lines.specs.Script.{line_given, session_named, filled_line, number_of_word}
-use Rattle.xa_record.specs.Lines.{ShowsOk, ShowsValue, Calls, Returns, ReturnsUnknown, Leaves, LineSaid, Nothing, Bad, Says, Awaits, Closed, is_silent, trimmed, alone}
-use Rattle.xa_record.specs.Lines.{value_said, rows_said, error_said, return_said, loss_said, session_said, filled_said, reading_of_line}
+use Rattle.xa_record.specs.Lines.{ShowsOk, ShowsValue, Calls, Returns, ReturnsUnknown, Leaves, LineSaid, Nothing, Bad}
+use Rattle.xa_record.specs.Lines.{Says, Awaits, Closed, is_silent, trimmed, alone}
+use Rattle.xa_record.specs.Lines.{value_said, rows_said, error_said, return_said, loss_said, session_said, filled_said}
+use Rattle.xa_record.specs.Lines.{reading_of_line}
 use Rattle.xa_record.specs.Rows.{leading_number}
 use Rattle.xa_record.specs.Reading.{NumberedEvent, notes_of}
-use Rattle.xa_record.specs.Records.{Tells, no_line, silent_line, call_line, return_line, rows_lines, unknown_line, lost_line, gone_line, on_next_line}
+use Rattle.xa_record.specs.Records.{Tells, no_line, silent_line, call_line, return_line, rows_lines, unknown_line}
+use Rattle.xa_record.specs.Records.{lost_line, gone_line, on_next_line}
 use Rattle.xa_record.specs.Replaying.{HasNoFeed, IsBare, IsBareTold, AreBare}
 use Rattle.xa_record.proofs.Feeds.{both, both_first, both_second, feed-append}
 use Rattle.xa_record.proofs.TextsTold.{text-tells}
@@ -35,7 +40,8 @@ unfolding behind
 feed-unblank [] free = refl
 feed-unblank (byte ∷ text) free = by (belongs BlankByte byte) (feed-unblank text (rest_of byte text free))
   where
-    by : (b : Bool) → HasNoFeed (behind (belongs BlankByte) text) → HasNoFeed (if b then behind (belongs BlankByte) text else byte ∷ text)
+    by : (b : Bool) → HasNoFeed (behind (belongs BlankByte) text)
+        → HasNoFeed (if b then behind (belongs BlankByte) text else byte ∷ text)
     by true later = later
     by false later = free
 
@@ -43,15 +49,18 @@ feed-reverse : (text : List ℕ) → HasNoFeed text → HasNoFeed (reverse text)
 feed-reverse [] free = refl
 feed-reverse (byte ∷ text) free =
     subst HasNoFeed (sym (reverse-append (byte ∷ []) text))
-    (feed-append (reverse text) (byte ∷ []) (feed-reverse text (rest_of byte text free)) (both _ _ (first_of byte text free) refl))
+    (feed-append (reverse text) (byte ∷ []) (feed-reverse text (rest_of byte text free))
+    (both _ _ (first_of byte text free) refl))
 
 -- a text is as it is where its first byte is no blank
-unblank_end : (text : List ℕ) (byte : ℕ) → belongs BlankByte byte ≡ false → unblank (text ++ byte ∷ []) ≡ unblank text ++ byte ∷ []
+unblank_end : (text : List ℕ) (byte : ℕ) → belongs BlankByte byte ≡ false
+    → unblank (text ++ byte ∷ []) ≡ unblank text ++ byte ∷ []
 unfolding behind
 unblank_end [] byte full = rw full refl
 unblank_end (first ∷ text) byte full = by (belongs BlankByte first) (unblank_end text byte full)
   where
-    by : (b : Bool) → behind (belongs BlankByte) (text ++ byte ∷ []) ≡ behind (belongs BlankByte) text ++ byte ∷ [] → (if b then behind (belongs BlankByte) (text ++ byte ∷ []) else first ∷ (text ++ byte ∷ []))
+    by : (b : Bool) → behind (belongs BlankByte) (text ++ byte ∷ []) ≡ behind (belongs BlankByte) text ++ byte ∷ []
+        → (if b then behind (belongs BlankByte) (text ++ byte ∷ []) else first ∷ (text ++ byte ∷ []))
         ≡ (if b then behind (belongs BlankByte) text else first ∷ text) ++ byte ∷ []
     by true later = later
     by false later = refl
@@ -61,21 +70,26 @@ unfolding behind
 begins_full [] byte more is = absurd (cc)
 begins_full (first ∷ text) byte more is = by (belongs BlankByte first) refl (begins_full text byte more) is
   where
-    by : (b : Bool) → belongs BlankByte first ≡ b → (unblank text ≡ byte ∷ more → belongs BlankByte byte ≡ false) → (if b then behind (belongs BlankByte) text else first ∷ text) ≡ byte ∷ more → belongs BlankByte byte ≡ false
+    by : (b : Bool) → belongs BlankByte first ≡ b → (unblank text ≡ byte ∷ more → belongs BlankByte byte ≡ false)
+        → (if b then behind (belongs BlankByte) text else first ∷ text) ≡ byte ∷ more → belongs BlankByte byte ≡ false
     by true blank later same = later same
-    by false full later same = let alike : first ≡ byte = cc in subst (λ (n : ℕ). belongs BlankByte n ≡ false) alike full
+    by false full later same = let alike : first ≡ byte = cc in
+        subst (λ (n : ℕ). belongs BlankByte n ≡ false) alike full
 
-trimmed_begins : (byte : ℕ) (more : List ℕ) → belongs BlankByte byte ≡ false → trimmed (byte ∷ more) ≡ byte ∷ reverse (unblank (reverse more))
+trimmed_begins : (byte : ℕ) (more : List ℕ) → belongs BlankByte byte ≡ false
+    → trimmed (byte ∷ more) ≡ byte ∷ reverse (unblank (reverse more))
 unfolding trimmed
 trimmed_begins byte more full =
-    ap (λ (l : List ℕ). reverse (unblank l)) (reverse-append (byte ∷ []) more) ∙ ap reverse (unblank_end (reverse more) byte full)
+    ap (λ (l : List ℕ). reverse (unblank l)) (reverse-append (byte ∷ []) more)
+    ∙ ap reverse (unblank_end (reverse more) byte full)
     ∙ reverse-append (unblank (reverse more)) (byte ∷ [])
 
 stands_full : (byte : ℕ) (more : List ℕ) → belongs BlankByte byte ≡ false → unblank (byte ∷ more) ≡ byte ∷ more
 unfolding behind
 stands_full byte more full = rw full refl
 
-bare_where : (text : List ℕ) → ((byte : ℕ) (more : List ℕ) → text ≡ byte ∷ more → belongs BlankByte byte ≡ false) → unblank (trimmed text) ≡ trimmed text
+bare_where : (text : List ℕ) → ((byte : ℕ) (more : List ℕ) → text ≡ byte ∷ more → belongs BlankByte byte ≡ false)
+    → unblank (trimmed text) ≡ trimmed text
 unfolding trimmed behind
 bare_where [] full = refl
 bare_where (byte ∷ more) full =
@@ -133,21 +147,25 @@ loss_bare session word text =
     either (bytes_eq word (codes "LOST")) _ _ (alone_bare (Says (Leaves session)) text tt)
     (either (bytes_eq word (codes "GONE")) _ Bad (alone_bare (Closed session) text tt) tt)
 
-given_bare : (session : ℕ) (text : List ℕ) → HasNoFeed text → CallsBare (session_said session (first_word text) (behind_word text))
+given_bare : (session : ℕ) (text : List ℕ) → HasNoFeed text
+    → CallsBare (session_said session (first_word text) (behind_word text))
 unfolding session_said
 given_bare session text free =
     let sign = first_word text in
     let rest = behind_word text in
-    either (bytes_eq sign (codes ">")) _ _ (trimmed_bare (after_word text) (feed-drop (prefix_len is_no_blank text) text free))
+    either (bytes_eq sign (codes ">")) _ _ (trimmed_bare (after_word text)
+    (feed-drop (prefix_len is_no_blank text) text free))
     (either (bytes_eq sign (codes "<")) _ _ (return_bare session (first_word rest) (behind_word rest))
-    (either (bytes_eq sign (codes "?")) _ _ (either (bytes_eq (first_word rest) (codes "ERROR")) (Says (ReturnsUnknown session)) Bad tt tt)
+    (either (bytes_eq sign (codes "?")) _ _ (either (bytes_eq (first_word rest) (codes "ERROR"))
+    (Says (ReturnsUnknown session)) Bad tt tt)
     (either (bytes_eq sign (codes "!")) _ Bad (loss_bare session (first_word rest) (behind_word rest)) tt)))
 
 named_bare : (session : Option ℕ) (text : List ℕ) → HasNoFeed text → CallsBare (filled_said (line_given session text))
 named_bare None text free = tt
 named_bare (Some session) text free = given_bare session text free
 
-said_bare : (b : Bool) (one two : Line) → CallsBare (filled_said one) → CallsBare (filled_said two) → CallsBare (filled_said (cond b one two))
+said_bare : (b : Bool) (one two : Line) → CallsBare (filled_said one) → CallsBare (filled_said two)
+    → CallsBare (filled_said (cond b one two))
 said_bare true one two first second = first
 said_bare false one two first second = second
 
@@ -158,7 +176,8 @@ line_bare line free =
     let whole : HasNoFeed text = feed-unblank line free in
     either (is_silent line) Nothing _ tt
     (said_bare (is_empty_line text) Blank (filled_line text) tt
-    (named_bare (session_named (first_word text)) (behind_word text) (feed-unblank (after_word text) (feed-drop (prefix_len is_no_blank text) text whole))))
+    (named_bare (session_named (first_word text)) (behind_word text)
+    (feed-unblank (after_word text) (feed-drop (prefix_len is_no_blank text) text whole))))
 
 All-append : {A : Type 0} (P : A → Type 0) (xs ys : List A) → All P xs → All P ys → All P (xs ++ ys)
 All-append P [] ys first second = second
@@ -174,23 +193,29 @@ tells-bare lines list (silent_line before line same tells is) free =
     tells-bare before same tells (All-parts HasNoFeed before (line ∷ []) free).0
 tells-bare lines list (call_line before line old session text tells is fits) free =
     let parts = All-parts HasNoFeed before (line ∷ []) free in
-    All-append (λ one. IsBareTold one.told) old (on_next_line before (Calls session text) ∷ []) (tells-bare before old tells parts.0)
+    All-append (λ one. IsBareTold one.told) old (on_next_line before (Calls session text) ∷ [])
+    (tells-bare before old tells parts.0)
     (subst CallsBare is (line_bare line parts.1.0), tt)
 tells-bare lines list (return_line before line old session shown tells is fits) free =
-    All-append (λ one. IsBareTold one.told) old _ (tells-bare before old tells (All-parts HasNoFeed before (line ∷ []) free).0) (tt, tt)
+    All-append (λ one. IsBareTold one.told) old _ (tells-bare before old tells
+    (All-parts HasNoFeed before (line ∷ []) free).0) (tt, tt)
 tells-bare lines list (rows_lines before line more old session count rows tells is came fits) free =
-    All-append (λ one. IsBareTold one.told) old _ (tells-bare before old tells (All-parts HasNoFeed before (line ∷ more) free).0) (tt, tt)
+    All-append (λ one. IsBareTold one.told) old _ (tells-bare before old tells
+    (All-parts HasNoFeed before (line ∷ more) free).0) (tt, tt)
 tells-bare lines list (unknown_line before line old session tells is fits) free =
-    All-append (λ one. IsBareTold one.told) old _ (tells-bare before old tells (All-parts HasNoFeed before (line ∷ []) free).0) (tt, tt)
+    All-append (λ one. IsBareTold one.told) old _ (tells-bare before old tells
+    (All-parts HasNoFeed before (line ∷ []) free).0) (tt, tt)
 tells-bare lines list (lost_line before line old session tells is fits) free =
-    All-append (λ one. IsBareTold one.told) old _ (tells-bare before old tells (All-parts HasNoFeed before (line ∷ []) free).0) (tt, tt)
+    All-append (λ one. IsBareTold one.told) old _ (tells-bare before old tells
+    (All-parts HasNoFeed before (line ∷ []) free).0) (tt, tt)
 tells-bare lines list (gone_line before line front back session tells is ends_so last fits) free =
     let all = All-parts (λ (one : NumberedEvent). IsBareTold one.told) front back
     (tells-bare before (front ++ back) tells (All-parts HasNoFeed before (line ∷ []) free).0) in
     All-append (λ one. IsBareTold one.told) front (on_next_line before (Leaves session) ∷ back) all.0 (tt, all.1)
 
 -- lines are cut at line feeds
-first-feed : (byte : ℕ) (lines : List (List ℕ)) → (byte == 10) ≡ false → All HasNoFeed lines → All HasNoFeed (with_first byte lines)
+first-feed : (byte : ℕ) (lines : List (List ℕ)) → (byte == 10) ≡ false → All HasNoFeed lines
+    → All HasNoFeed (with_first byte lines)
 first-feed byte [] apart free = (both _ _ (ap not apart) refl, tt)
 first-feed byte (line ∷ lines) apart free = (both _ _ (ap not apart) free.0, free.1)
 
@@ -199,7 +224,8 @@ unfolding lines_of
 lines-feed [] = tt
 lines-feed (byte ∷ bytes) = by (byte == 10) refl (lines-feed bytes)
   where
-    by : (b : Bool) → (byte == 10) ≡ b → All HasNoFeed (lines_of bytes) → All HasNoFeed (cond b ([] ∷ lines_of bytes) (with_first byte (lines_of bytes)))
+    by : (b : Bool) → (byte == 10) ≡ b → All HasNoFeed (lines_of bytes)
+        → All HasNoFeed (cond b ([] ∷ lines_of bytes) (with_first byte (lines_of bytes)))
     by true is later = (refl, later)
     by false is later = first-feed byte (lines_of bytes) is later
 

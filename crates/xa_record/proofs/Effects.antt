@@ -1,5 +1,6 @@
 -- The lines of an order.
-use Rattle.std.proofs.Common.{◌≡◌, ℕ, suc, ◌+◌, ◌<◌, ◌≤◌, Option, Some, List, [], ◌∷◌, ◌++◌, length, map, set, drop, get_or, slice_get, refl, ap, sym, ◌∙◌, arith}
+use Rattle.std.proofs.Common.{◌≡◌, ℕ, suc, ◌+◌, ◌<◌, ◌≤◌, Option, Some, List, [], ◌∷◌, ◌++◌, length, map, set, drop}
+use Rattle.std.proofs.Common.{get_or, slice_get, refl, ap, sym, ◌∙◌, arith}
 use Rattle.std.proofs.Common.{add-one, append_assoc, append-nil}
 use Rattle.std.proofs.Math.Seq.{drop-cons}
 use Rattle.std.specs.List.{drop-map}
@@ -18,25 +19,30 @@ use Rattle.xa_record.specs.VerdictText.{with_call, effect_text, order_text}
 use Rattle.xa_record.proofs.Places.{text_at-kept}
 
 -- the text of a session's last call, by its place
-pub text_of_last : (all : List NumberedEvent) (places : List (Option ℕ)) (session : ℕ) (place : Option ℕ) → slice_get places session ≡ Some place
+pub text_of_last : (all : List NumberedEvent) (places : List (Option ℕ)) (session : ℕ) (place : Option ℕ)
+    → slice_get places session ≡ Some place
     → slice_get (map (text_at all) places) session ≡ Some (text_at all place)
 text_of_last all places session place at = slice_get-map (text_at all) places session ∙ ap (option_map (text_at all)) at
 
 -- the line of an effect was written
-pub moved_effect : (out new : List ℕ) (calls : List (List ℕ)) (numbered : List NumberedEvent) (session : ℕ) (act : Act) (moves : List Move)
+pub moved_effect : (out new : List ℕ) (calls : List (List ℕ)) (numbered : List NumberedEvent) (session : ℕ) (act : Act)
+    (moves : List Move)
     → new ≡ out ++ effect_text calls session act
     → out ++ order_text calls numbered (Effect session act ∷ moves) ≡ new ++ order_text calls numbered moves
 unfolding order_text
 moved_effect out new calls numbered session act moves written =
-    sym (append_assoc out (effect_text calls session act) (order_text calls numbered moves)) ∙ ap (λ l. l ++ order_text calls numbered moves) (sym written)
+    sym (append_assoc out (effect_text calls session act) (order_text calls numbered moves))
+    ∙ ap (λ l. l ++ order_text calls numbered moves) (sym written)
 
 -- nothing is left to happen
-pub moved_over : (out : List ℕ) (calls : List (List ℕ)) (moves : List Move) → out ++ order_text calls [] (Seeing ∷ moves) ≡ out ++ order_text calls [] moves
+pub moved_over : (out : List ℕ) (calls : List (List ℕ)) (moves : List Move)
+    → out ++ order_text calls [] (Seeing ∷ moves) ≡ out ++ order_text calls [] moves
 unfolding order_text
 moved_over out calls moves = refl
 
 -- one thing more has happened
-pub moved_event : (out : List ℕ) (calls new : List (List ℕ)) (one : NumberedEvent) (more : List NumberedEvent) (moves : List Move) → new ≡ with_call one.told calls
+pub moved_event : (out : List ℕ) (calls new : List (List ℕ)) (one : NumberedEvent) (more : List NumberedEvent)
+    (moves : List Move) → new ≡ with_call one.told calls
     → out ++ order_text calls (one ∷ more) (Seeing ∷ moves) ≡ out ++ order_text new more moves
 unfolding order_text
 moved_event out calls new one more moves next = ap (λ c. out ++ order_text c more moves) (sym next)
@@ -44,21 +50,26 @@ moved_event out calls new one more moves next = ap (λ c. out ++ order_text c mo
 -- a list from a place on, the next of which is this
 pub dropped : {A : Type 0} (list : List A) (index : ℕ) (next : A) → index < length list → next ≡ get_or list index next
     → drop index list ≡ next ∷ drop (index + 1) list
-dropped list index next within at = rw add-one (drop-cons list index next within ∙ ap (λ x. x ∷ drop (suc index) list) (sym at))
+dropped list index next within at =
+    rw add-one (drop-cons list index next within ∙ ap (λ x. x ∷ drop (suc index) list) (sym at))
 
 -- no move is left
-pub moved_whole : (whole out : List ℕ) (calls : List (List ℕ)) (numbered : List NumberedEvent) (moves : List Move) (index : ℕ) → length moves ≤ index
+pub moved_whole : (whole out : List ℕ) (calls : List (List ℕ)) (numbered : List NumberedEvent) (moves : List Move)
+    (index : ℕ) → length moves ≤ index
     → whole ≡ out ++ order_text calls numbered (drop index moves) → out ≡ whole
 unfolding order_text
-moved_whole whole out calls numbered moves index past is = sym (is ∙ ap (λ m. out ++ order_text calls numbered m) (drop_all index moves past) ∙ append-nil out)
+moved_whole whole out calls numbered moves index past is =
+    sym (is ∙ ap (λ m. out ++ order_text calls numbered m) (drop_all index moves past) ∙ append-nil out)
 
-mapped : (numbered : List NumberedRead) (place : ℕ) (one : NumberedRead) → place < length numbered → one ≡ get_or numbered place one
+mapped : (numbered : List NumberedRead) (place : ℕ) (one : NumberedRead) → place < length numbered
+    → one ≡ get_or numbered place one
     → drop place (map numbered_kept numbered) ≡ numbered_kept one ∷ drop (place + 1) (map numbered_kept numbered)
 mapped numbered place one within at =
     drop-map numbered_kept place numbered ∙ ap (map numbered_kept) (dropped numbered place one within at)
     ∙ ap (λ l. numbered_kept one ∷ l) (sym (drop-map numbered_kept (place + 1) numbered))
 
-calls-followed : (all : List NumberedEvent) (places : List (Option ℕ)) (place : ℕ) (told : Told) → text_at all (Some place) ≡ text_told told
+calls-followed : (all : List NumberedEvent) (places : List (Option ℕ)) (place : ℕ) (told : Told)
+    → text_at all (Some place) ≡ text_told told
     → map (text_at all) (with_place place told places) ≡ with_call told (map (text_at all) places)
 calls-followed all places place (Calls session text) at =
     map-set (text_at all) places session (Some place) ∙ ap (set (map (text_at all) places) session) at
@@ -67,19 +78,27 @@ calls-followed all places place (ReturnsUnknown session) at = refl
 calls-followed all places place (Leaves session) at = refl
 
 -- one thing more of the list as the program keeps it has happened
-pub moved_event_at : (out : List ℕ) (old new : LastCalls) (numbered : List NumberedRead) (place : ℕ) (one : NumberedRead) (moves : List Move)
+pub moved_event_at : (out : List ℕ) (old new : LastCalls) (numbered : List NumberedRead) (place : ℕ)
+    (one : NumberedRead) (moves : List Move)
     → place < length numbered → one ≡ get_or numbered place one
     → new.places ≡ with_place place (told_kept one.line_event) old.places
-    → out ++ order_text (calls_kept (map numbered_kept numbered) old) (drop place (map numbered_kept numbered)) (Seeing ∷ moves)
-    ≡ out ++ order_text (calls_kept (map numbered_kept numbered) new) (drop (place + 1) (map numbered_kept numbered)) moves
+    → out ++ order_text (calls_kept (map numbered_kept numbered) old) (drop place (map numbered_kept numbered))
+    (Seeing ∷ moves)
+    ≡ out ++ order_text (calls_kept (map numbered_kept numbered) new)
+    (drop (place + 1) (map numbered_kept numbered)) moves
 moved_event_at out old new numbered place one moves within at next =
     let all = map numbered_kept numbered in
     ap (λ l. out ++ order_text (calls_kept all old) l (Seeing ∷ moves)) (mapped numbered place one within at)
     ∙ moved_event out (calls_kept all old) (calls_kept all new) (numbered_kept one) (drop (place + 1) all) moves
-    (ap (map (text_at all)) next ∙ calls-followed all old.places place (told_kept one.line_event) (sym (text_at-kept numbered place one within at)))
+    (ap (map (text_at all)) next ∙ calls-followed all old.places place (told_kept one.line_event)
+    (sym (text_at-kept numbered place one within at)))
 
-pub moved_over_at : (out : List ℕ) (calls : List (List ℕ)) (numbered : List NumberedRead) (place : ℕ) (moves : List Move) → length numbered ≤ place
-    → out ++ order_text calls (drop place (map numbered_kept numbered)) (Seeing ∷ moves) ≡ out ++ order_text calls (drop place (map numbered_kept numbered)) moves
+pub moved_over_at : (out : List ℕ) (calls : List (List ℕ)) (numbered : List NumberedRead) (place : ℕ)
+    (moves : List Move) → length numbered ≤ place
+    → out ++ order_text calls (drop place (map numbered_kept numbered)) (Seeing ∷ moves) ≡ out
+    ++ order_text calls (drop place (map numbered_kept numbered)) moves
 moved_over_at out calls numbered place moves past =
-    let none : drop place (map numbered_kept numbered) ≡ [] = drop_all place (map numbered_kept numbered) (omega (arith, length-map numbered numbered_kept)) in
-    ap (λ l. out ++ order_text calls l (Seeing ∷ moves)) none ∙ moved_over out calls moves ∙ sym (ap (λ l. out ++ order_text calls l moves) none)
+    let none : drop place (map numbered_kept numbered) ≡ [] =
+    drop_all place (map numbered_kept numbered) (omega (arith, length-map numbered numbered_kept)) in
+    ap (λ l. out ++ order_text calls l (Seeing ∷ moves)) none ∙ moved_over out calls moves
+    ∙ sym (ap (λ l. out ++ order_text calls l moves) none)

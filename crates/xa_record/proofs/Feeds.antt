@@ -1,5 +1,6 @@
 -- Texts without a line feed, and lines that are cut where they were joined.
-use Rattle.std.proofs.Common.{◌≡◌, ℕ, zero, suc, ◌+◌, ◌<◌, ◌/◌, ◌%◌, ◌^◌, ◌==◌, true, false, Bool, not, ◌&&◌, List, [], ◌∷◌, ◌++◌, map, codes, decimal, refl, ap, sym, ◌∙◌, subst}
+use Rattle.std.proofs.Common.{◌≡◌, ℕ, zero, suc, ◌+◌, ◌<◌, ◌/◌, ◌%◌, ◌^◌, ◌==◌, true, false, Bool, not, ◌&&◌, List, []}
+use Rattle.std.proofs.Common.{◌∷◌, ◌++◌, map, codes, decimal, refl, ap, sym, ◌∙◌, subst}
 use Rattle.std.proofs.Common.{arith, lit<}
 use Rattle.std.specs.Prelude.{slice_index}
 use Rattle.std.specs.List.{AllByRecursion as All, list_all}
@@ -11,7 +12,8 @@ use Rattle.hex.specs.Hex.{encode_with, encode_lower, lower_digits}
 use Rattle.xa_xid.specs.XidText.{part_text, xid_text}
 use Rattle.xa_xid.specs.declared.xid.Xid.{Xid}
 use Rattle.xa_xid.specs.declared.statement.Statement.{Statement}
-use Rattle.xa_xid.specs.declared.statement.Statement.TheVariants.{Start, End, Prepare, Commit, Rollback, Recover, Unsupported, Get, Put, Del, Disconnect}
+use Rattle.xa_xid.specs.declared.statement.Statement.TheVariants.{Start, End, Prepare, Commit, Rollback, Recover}
+use Rattle.xa_xid.specs.declared.statement.Statement.TheVariants.{Unsupported, Get, Put, Del, Disconnect}
 use Rattle.xa_statement.specs.Canonical.{statement_text}
 use Rattle.xa_lines.specs.Script.{lines_of, with_first}
 use Rattle.xa_record.specs.Replaying.{HasNoFeed, joined, IsFit}
@@ -44,28 +46,33 @@ unfolding lines_of
 cut [] rest free = refl
 cut (byte ∷ line) rest free =
     let p : ℕ → Bool = λ b. not (b == 10) in
-    rw (not_so (byte == 10) (both_first (p byte) (list_all p line) free)) (ap (with_first byte) (cut line rest (both_second (p byte) (list_all p line) free)))
+    rw (not_so (byte == 10) (both_first (p byte) (list_all p line) free))
+    (ap (with_first byte) (cut line rest (both_second (p byte) (list_all p line) free)))
 
 pub cut_where_joined : (lines : List (List ℕ)) → All HasNoFeed lines → lines_of (joined lines) ≡ lines
 unfolding lines_of joined
 cut_where_joined [] free = refl
-cut_where_joined (line ∷ lines) free = cut line (joined lines) free.0 ∙ ap (λ (l : List (List ℕ)). line ∷ l) (cut_where_joined lines free.1)
+cut_where_joined (line ∷ lines) free =
+    cut line (joined lines) free.0 ∙ ap (λ (l : List (List ℕ)). line ∷ l) (cut_where_joined lines free.1)
 
 -- digits are no line feeds
 digit_feed : (table : List ℕ) → HasNoFeed table → (place : ℕ) → not (slice_index table place == 10) ≡ true
 digit_feed [] free place = refl
 digit_feed (byte ∷ table) free zero = both_first (not (byte == 10)) (list_all (λ b. not (b == 10)) table) free
-digit_feed (byte ∷ table) free (suc place) = digit_feed table (both_second (not (byte == 10)) (list_all (λ b. not (b == 10)) table) free) place
+digit_feed (byte ∷ table) free (suc place) =
+    digit_feed table (both_second (not (byte == 10)) (list_all (λ b. not (b == 10)) table) free) place
 
 encoded_feed : (table : List ℕ) → HasNoFeed table → (bytes : List ℕ) → HasNoFeed (encode_with table bytes)
 unfolding encode_with
 encoded_feed table free [] = refl
 encoded_feed table free (byte ∷ bytes) =
-    both _ _ (digit_feed table free (byte / 16)) (both _ _ (digit_feed table free (byte % 16)) (encoded_feed table free bytes))
+    both _ _ (digit_feed table free (byte / 16)) (both _ _ (digit_feed table free (byte % 16))
+    (encoded_feed table free bytes))
 
 part_feed : (bytes : List ℕ) → HasNoFeed (part_text bytes)
 part_feed [] = refl
-part_feed (byte ∷ bytes) = feed-append (codes "0x") (encode_lower (byte ∷ bytes)) refl (encoded_feed lower_digits refl (byte ∷ bytes))
+part_feed (byte ∷ bytes) =
+    feed-append (codes "0x") (encode_lower (byte ∷ bytes)) refl (encoded_feed lower_digits refl (byte ∷ bytes))
 
 shifted : (digit : ℕ) → not (48 + digit == 10) ≡ true
 shifted digit = let apart : (48 + digit == 10) ≡ false = grind (arith, nat_tests) in ap not apart
@@ -81,8 +88,10 @@ decimal_feed (suc number) fits =
 
 xid_feed : (xid : Xid) → xid.format_id < 2 ^ 64 → HasNoFeed (xid_text xid)
 xid_feed xid fits =
-    feed-append (part_text xid.gtrid.items) (44 ∷ (part_text xid.bqual.items ++ (44 ∷ decimal xid.format_id))) (part_feed xid.gtrid.items)
-    (feed-append (part_text xid.bqual.items) (44 ∷ decimal xid.format_id) (part_feed xid.bqual.items) (decimal_feed xid.format_id fits))
+    feed-append (part_text xid.gtrid.items) (44 ∷ (part_text xid.bqual.items ++ (44 ∷ decimal xid.format_id)))
+    (part_feed xid.gtrid.items)
+    (feed-append (part_text xid.bqual.items) (44 ∷ decimal xid.format_id) (part_feed xid.bqual.items)
+    (decimal_feed xid.format_id fits))
 
 -- the canonical form of a statement is no more than a line
 pub statement_feed : (statement : Statement) → IsFit statement → HasNoFeed (statement_text statement)
@@ -90,10 +99,13 @@ unfolding statement_text
 statement_feed (Start xid) fit = feed-append (codes "XA START ") (xid_text xid) refl (xid_feed xid fit.format_fits)
 statement_feed (End xid) fit = feed-append (codes "XA END ") (xid_text xid) refl (xid_feed xid fit.format_fits)
 statement_feed (Prepare xid) fit = feed-append (codes "XA PREPARE ") (xid_text xid) refl (xid_feed xid fit.format_fits)
-statement_feed (Commit xid false) fit = feed-append (codes "XA COMMIT ") (xid_text xid) refl (xid_feed xid fit.format_fits)
+statement_feed (Commit xid false) fit =
+    feed-append (codes "XA COMMIT ") (xid_text xid) refl (xid_feed xid fit.format_fits)
 statement_feed (Commit xid true) fit =
-    feed-append (codes "XA COMMIT ") (xid_text xid ++ codes " ONE PHASE") refl (feed-append (xid_text xid) (codes " ONE PHASE") (xid_feed xid fit.format_fits) refl)
-statement_feed (Rollback xid) fit = feed-append (codes "XA ROLLBACK ") (xid_text xid) refl (xid_feed xid fit.format_fits)
+    feed-append (codes "XA COMMIT ") (xid_text xid ++ codes " ONE PHASE") refl
+    (feed-append (xid_text xid) (codes " ONE PHASE") (xid_feed xid fit.format_fits) refl)
+statement_feed (Rollback xid) fit =
+    feed-append (codes "XA ROLLBACK ") (xid_text xid) refl (xid_feed xid fit.format_fits)
 statement_feed (Recover false) fit = refl
 statement_feed (Recover true) fit = refl
 statement_feed Unsupported fit = refl

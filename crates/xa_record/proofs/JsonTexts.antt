@@ -1,5 +1,6 @@
 -- Texts as strings of JSON.
-use Rattle.std.proofs.Common.{◌≡◌, ℕ, ◌+◌, ◌<◌, ◌==◌, true, Result, Ok, Err, OnOk, List, [], ◌∷◌, ◌++◌, length, take, get_or, codes, decimal, refl, ap, sym, ◌∙◌, arith}
+use Rattle.std.proofs.Common.{◌≡◌, ℕ, ◌+◌, ◌<◌, ◌==◌, true, Result, Ok, Err, OnOk, List, [], ◌∷◌, ◌++◌, length, take}
+use Rattle.std.proofs.Common.{get_or, codes, decimal, refl, ap, sym, ◌∙◌, arith}
 use Rattle.std.proofs.Common.{append_assoc, append-nil}
 use Rattle.std.proofs.lemmas.Grind.{common_steps}
 use Rattle.std.proofs.lemmas.List.{take_more}
@@ -12,29 +13,35 @@ use Rattle.xa_lines.specs.Script.{lines_of}
 use Rattle.xa_record.specs.Forms.{text_value, texts_value, values_of, with_verdict, with_line}
 
 -- one character more
-pub characters_more : (text old new : List ℕ) (index : ℕ) → index < length text → old ≡ encode_utf8_all (take index text)
+pub characters_more : (text old new : List ℕ) (index : ℕ) → index < length text
+    → old ≡ encode_utf8_all (take index text)
     → new ≡ old ++ encode_utf8 (get_or text index 0)
     → new ≡ encode_utf8_all (take (index + 1) text)
 characters_more text old new index within before put =
     let byte = get_or text index 0 in
-    put ∙ ap (λ l. l ++ encode_utf8 byte) before ∙ ap (λ l. encode_utf8_all (take index text) ++ l) (sym (append-nil (encode_utf8 byte)))
+    put ∙ ap (λ l. l ++ encode_utf8 byte) before ∙ ap (λ l. encode_utf8_all (take index text) ++ l)
+    (sym (append-nil (encode_utf8 byte)))
     ∙ sym (encodes-append (take index text) (byte ∷ [])) ∙ sym (ap encode_utf8_all (take_more text index 0 within))
 
 -- the array was begun
 pub array-begun : (old new : List Token) (texts : List (List ℕ)) → new ≡ old ++ begin_array ∷ []
     → old ++ json_tokens (texts_value texts) ≡ new ++ items_tokens (values_of texts)
 array-begun old new texts begun =
-    sym (append_assoc old (begin_array ∷ []) (items_tokens (values_of texts))) ∙ ap (λ l. l ++ items_tokens (values_of texts)) (sym begun)
+    sym (append_assoc old (begin_array ∷ []) (items_tokens (values_of texts)))
+    ∙ ap (λ l. l ++ items_tokens (values_of texts)) (sym begun)
 
 -- one text more was written
-pub array-more : (whole old new : List Token) (text : List ℕ) (texts : List (List ℕ)) → whole ≡ old ++ items_tokens (values_of (text ∷ texts))
+pub array-more : (whole old new : List Token) (text : List ℕ) (texts : List (List ℕ))
+    → whole ≡ old ++ items_tokens (values_of (text ∷ texts))
     → new ≡ old ++ json_tokens (text_value text)
     → whole ≡ new ++ items_tokens (values_of texts)
 array-more whole old new text texts is written =
-    is ∙ sym (append_assoc old (json_tokens (text_value text)) (items_tokens (values_of texts))) ∙ ap (λ l. l ++ items_tokens (values_of texts)) (sym written)
+    is ∙ sym (append_assoc old (json_tokens (text_value text)) (items_tokens (values_of texts)))
+    ∙ ap (λ l. l ++ items_tokens (values_of texts)) (sym written)
 
 -- no text is left, and the array was ended
-pub array-ended : (whole old new : List Token) (texts : List (List ℕ)) → whole ≡ old ++ items_tokens (values_of texts) → texts ≡ []
+pub array-ended : (whole old new : List Token) (texts : List (List ℕ)) → whole ≡ old ++ items_tokens (values_of texts)
+    → texts ≡ []
     → new ≡ old ++ end_array ∷ [] → new ≡ whole
 array-ended whole old new texts is none ended = ended ∙ sym (is ∙ ap (λ t. old ++ items_tokens (values_of t)) none)
 
@@ -42,7 +49,8 @@ array-ended whole old new texts is none ended = ended ∙ sym (is ∙ ap (λ t. 
 pub lines-none : (text : List ℕ) → (length text == 0) ≡ true → lines_of text ≡ []
 unfolding lines_of
 lines-none [] empty = refl
-lines-none (byte ∷ text) empty = absurd (let none : length (byte ∷ text) ≡ 0 = grind (arith, common_steps) in omega arith)
+lines-none (byte ∷ text) empty =
+    absurd (let none : length (byte ∷ text) ≡ 0 = grind (arith, common_steps) in omega arith)
 
 -- the same, where the end may have failed
 pub array-ended-ok : {X E : Type 0} (result : Result X E) (whole old new : List Token) (texts : List (List ℕ))
@@ -53,13 +61,17 @@ array-ended-ok (Err e) whole old new texts is none ended = tt
 
 -- a verdict and a line's number were written, and the object's end
 pub line-ended-ok : {X E : Type 0} (result : Result X E) (old one two new : List Token) (word : List ℕ) (line : ℕ)
-    → one ≡ old ++ key (codes "verdict") ∷ string word ∷ [] → two ≡ one ++ key (codes "line") ∷ number (decimal line) ∷ []
+    → one ≡ old ++ key (codes "verdict") ∷ string word ∷ []
+    → two ≡ one ++ key (codes "line") ∷ number (decimal line) ∷ []
     → OnOk result (new ≡ two ++ end_object ∷ [])
     → OnOk result (new ≡ old ++ members_tokens (with_verdict word (with_line line no_members)))
 line-ended-ok (Ok x) old one two new word line first second ended =
-    let made : two ≡ (old ++ key (codes "verdict") ∷ string word ∷ []) ++ key (codes "line") ∷ number (decimal line) ∷ [] =
+    let made : two ≡ (old ++ key (codes "verdict") ∷ string word ∷ [])
+    ++ key (codes "line") ∷ number (decimal line) ∷ [] =
     second ∙ ap (λ l. l ++ key (codes "line") ∷ number (decimal line) ∷ []) first in
     ended ∙ ap (λ l. l ++ end_object ∷ []) made
-    ∙ append_assoc (old ++ key (codes "verdict") ∷ string word ∷ []) (key (codes "line") ∷ number (decimal line) ∷ []) (end_object ∷ [])
-    ∙ append_assoc old (key (codes "verdict") ∷ string word ∷ []) (key (codes "line") ∷ number (decimal line) ∷ end_object ∷ [])
+    ∙ append_assoc (old ++ key (codes "verdict") ∷ string word ∷ []) (key (codes "line") ∷ number (decimal line) ∷ [])
+    (end_object ∷ [])
+    ∙ append_assoc old (key (codes "verdict") ∷ string word ∷ [])
+    (key (codes "line") ∷ number (decimal line) ∷ end_object ∷ [])
 line-ended-ok (Err e) old one two new word line first second ended = tt

@@ -1,5 +1,6 @@
 -- What was read was judged, and what was written.
-use Rattle.std.proofs.Common.{◌≡◌, ℕ, Option, Some, None, Result, Ok, Err, List, ◌++◌, IfSome, IfOk, IfErr, OnOk, OnErr, ap, sym, ◌∙◌, subst, append-nil}
+use Rattle.std.proofs.Common.{◌≡◌, ℕ, Option, Some, None, Result, Ok, Err, List, ◌++◌, IfSome, IfOk, IfErr, OnOk, OnErr}
+use Rattle.std.proofs.Common.{ap, sym, ◌∙◌, subst, append-nil}
 use Rattle.std.specs.Io.KnownBytes.{Appends, Consumes, IsAtEnd}
 use Rattle.xa_lines.specs.declared.script_fault.ScriptFault.{ScriptFault}
 use Rattle.xa_lines.specs.declared.script_fault.ScriptFault.TheVariants.{Write}
@@ -11,7 +12,8 @@ use Rattle.xa_record.specs.declared.outcome.Outcome.{Outcome}
 use Rattle.xa_record.specs.Judged.{IsJudgedFrom, AppendsJudgedFrom, AppendsJudgedPrefix, AfterJudgeFaultFrom}
 
 -- what holds of the bytes that were read up to the end holds of all that the reader had
-read-whole : (P : List ℕ → Type 0) (input rest : Option (List ℕ)) (given : List ℕ) → Consumes input rest given → IsAtEnd rest → P given → IfSome input P
+read-whole : (P : List ℕ → Type 0) (input rest : Option (List ℕ)) (given : List ℕ) → Consumes input rest given
+    → IsAtEnd rest → P given → IfSome input P
 read-whole P None rest given read end p = tt
 read-whole P (Some x) None given read end p = absurd read
 read-whole P (Some x) (Some y) given read end p = subst P (sym (read ∙ ap (λ l. given ++ l) end ∙ append-nil given)) p

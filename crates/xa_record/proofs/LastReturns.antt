@@ -1,5 +1,6 @@
 -- Where the last return to a session stands, and what is put behind it.
-use Rattle.std.proofs.Common.{◌≡◌, ◌⊎◌, inl, inr, ℕ, zero, suc, ◌+◌, Bool, true, false, List, [], ◌∷◌, ◌++◌, length, take, drop}
+use Rattle.std.proofs.Common.{◌≡◌, ◌⊎◌, inl, inr, ℕ, zero, suc, ◌+◌, Bool, true, false, List, [], ◌∷◌, ◌++◌, length}
+use Rattle.std.proofs.Common.{take, drop}
 use Rattle.std.proofs.Common.{refl, ap, sym, ◌∙◌, subst, arith, add-one}
 use Rattle.std.proofs.lemmas.Grind.{common_steps}
 use Rattle.std.proofs.Math.Seq.{take-append_seam, drop-append_seam}
@@ -19,10 +20,12 @@ drop-none (one ∷ more) = refl
 
 abbrev pub Ends : ℕ → ℕ → List NumberedEvent → Type 0
 Ends session place list =
-    ((place ≡ 0) ⊎ ((front : List NumberedEvent) × (one : NumberedEvent) × (take place list ≡ front ++ one ∷ []) × (is_return_of session one.told ≡ true)))
+    ((place ≡ 0) ⊎ ((front : List NumberedEvent) × (one : NumberedEvent) × (take place list ≡ front ++ one ∷ [])
+    × (is_return_of session one.told ≡ true)))
     × HasNoReturn session (drop place list)
 
-pub ends-cons : (session : ℕ) (one : NumberedEvent) (more : List NumberedEvent) (place : ℕ) (returns : Bool) → is_return_of session one.told ≡ returns
+pub ends-cons : (session : ℕ) (one : NumberedEvent) (more : List NumberedEvent) (place : ℕ) (returns : Bool)
+    → is_return_of session one.told ≡ returns
     → Ends session place more → Ends session (one_more place returns) (one ∷ more)
 ends-cons session one more zero true is ends =
     (inr ([], one, ap (λ (l : List NumberedEvent). one ∷ l) (take-none more), is), ends.1)
@@ -34,25 +37,31 @@ ends-cons session one more (suc place) returns is (inr (front, last, parts, foun
 pub ends : (session : ℕ) (list : List NumberedEvent) → Ends session (up_to_return session list) list
 unfolding up_to_return
 ends session [] = (inl refl, tt)
-ends session (one ∷ more) = ends-cons session one more (up_to_return session more) (is_return_of session one.told) refl (ends session more)
+ends session (one ∷ more) =
+    ends-cons session one more (up_to_return session more) (is_return_of session one.told) refl (ends session more)
 
-pub ends-in : (session place : ℕ) (list : List NumberedEvent) → Ends session place list → EndsInReturn session (take place list)
+pub ends-in : (session place : ℕ) (list : List NumberedEvent) → Ends session place list
+    → EndsInReturn session (take place list)
 ends-in session place list (inl none, after) = inl (ap (λ (n : ℕ). take n list) none ∙ take-none list)
 ends-in session place list (inr found, after) = inr found
 
 -- the same the other way round
-pub no-return-none : (session : ℕ) (list : List NumberedEvent) → HasNoReturn session list → up_to_return session list ≡ 0
+pub no-return-none : (session : ℕ) (list : List NumberedEvent) → HasNoReturn session list
+    → up_to_return session list ≡ 0
 unfolding up_to_return
 no-return-none session [] none = refl
-no-return-none session (one ∷ more) none = ap (one_more (up_to_return session more)) none.0 ∙ ap (λ (n : ℕ). one_more n false) (no-return-none session more none.1)
+no-return-none session (one ∷ more) none = ap (one_more (up_to_return session more)) none.0
+    ∙ ap (λ (n : ℕ). one_more n false) (no-return-none session more none.1)
 
 pub one_more-some : (count : ℕ) (returns : Bool) → one_more (count + 1) returns ≡ count + 1 + 1
 one_more-some count returns = rw (add-one count, add-one (suc count)) refl
 
-pub last-found : (session : ℕ) (front after : List NumberedEvent) (one : NumberedEvent) → is_return_of session one.told ≡ true → HasNoReturn session after
+pub last-found : (session : ℕ) (front after : List NumberedEvent) (one : NumberedEvent)
+    → is_return_of session one.told ≡ true → HasNoReturn session after
     → up_to_return session ((front ++ one ∷ []) ++ after) ≡ length front + 1
 unfolding up_to_return
-last-found session [] after one is none = ap (one_more (up_to_return session after)) is ∙ ap (λ (n : ℕ). one_more n true) (no-return-none session after none)
+last-found session [] after one is none =
+    ap (one_more (up_to_return session after)) is ∙ ap (λ (n : ℕ). one_more n true) (no-return-none session after none)
 last-found session (first ∷ front) after one is none =
     ap (λ (n : ℕ). one_more n (is_return_of session first.told)) (last-found session front after one is none)
     ∙ one_more-some (length front) (is_return_of session first.told) ∙ omega arith
@@ -60,15 +69,19 @@ last-found session (first ∷ front) after one is none =
 pub length-last : (front : List NumberedEvent) (one : NumberedEvent) → length (front ++ one ∷ []) ≡ length front + 1
 length-last front one = grind (arith, common_steps)
 
-pub up_to-before : (session : ℕ) (before after : List NumberedEvent) → EndsInReturn session before → HasNoReturn session after
+pub up_to-before : (session : ℕ) (before after : List NumberedEvent) → EndsInReturn session before
+    → HasNoReturn session after
     → up_to_return session (before ++ after) ≡ length before
 up_to-before session before after (inl none) last =
-    ap (λ (l : List NumberedEvent). up_to_return session (l ++ after)) none ∙ no-return-none session after last ∙ ap length (sym none)
+    ap (λ (l : List NumberedEvent). up_to_return session (l ++ after)) none ∙ no-return-none session after last
+    ∙ ap length (sym none)
 up_to-before session before after (inr (front, one, parts, is)) last =
-    ap (λ (l : List NumberedEvent). up_to_return session (l ++ after)) parts ∙ last-found session front after one is last
+    ap (λ (l : List NumberedEvent). up_to_return session (l ++ after)) parts
+    ∙ last-found session front after one is last
     ∙ sym (ap length parts ∙ length-last front one)
 
-pub inserted : (session : ℕ) (before after : List NumberedEvent) (one : NumberedEvent) → EndsInReturn session before → HasNoReturn session after
+pub inserted : (session : ℕ) (before after : List NumberedEvent) (one : NumberedEvent) → EndsInReturn session before
+    → HasNoReturn session after
     → insert (before ++ after) (up_to_return session (before ++ after)) one ≡ before ++ one ∷ after
 inserted session before after one ends last =
     ap (λ (n : ℕ). insert (before ++ after) n one) (up_to-before session before after ends last)

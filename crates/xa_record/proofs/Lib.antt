@@ -27,3 +27,4 @@ pub mod Presences
 pub mod SessionsWithin
 pub mod FirstFaults
 pub mod TextsTold
+pub mod RowsLeft

@@ -1,10 +1,12 @@
 -- The line of an effect, read back.
-use Rattle.std.proofs.Common.{◌≡◌, ◌≢◌, ℕ, zero, suc, true, false, Result, Ok, Err, List, [], ◌∷◌, ◌++◌, codes, decimal, refl, ap, sym, ◌∙◌, subst}
+use Rattle.std.proofs.Common.{◌≡◌, ◌≢◌, ℕ, zero, suc, true, false, Result, Ok, Err, List, [], ◌∷◌, ◌++◌, codes, decimal}
+use Rattle.std.proofs.Common.{refl, ap, sym, ◌∙◌, subst}
 use Rattle.std.proofs.Common.{◌<◌, ◌≤◌, ◌^◌, arith, lit<, lit≤}
 use Rattle.std.proofs.lemmas.Fmt.{decimal_digit, decimal_step}
 use Rattle.xa_xid.specs.Bytes.{belongs, behind, unblank}
 use Rattle.xa_xid.specs.declared.statement.Statement.{Statement}
-use Rattle.xa_xid.specs.declared.statement.Statement.TheVariants.{Start, End, Prepare, Commit, Rollback, Recover, Unsupported, Get, Put, Del, Disconnect}
+use Rattle.xa_xid.specs.declared.statement.Statement.TheVariants.{Start, End, Prepare, Commit, Rollback, Recover}
+use Rattle.xa_xid.specs.declared.statement.Statement.TheVariants.{Unsupported, Get, Put, Del, Disconnect}
 use Rattle.xa_statement.specs.Canonical.{statement_text}
 use Rattle.xa_statement.specs.Grammar.{Spells}
 use Rattle.xa_statement.specs.Reading.{read_of}
@@ -22,45 +24,63 @@ pub line_back : (session : ℕ) → IsSession session → (text : List ℕ) → 
 unfolding line_of behind belongs
 line_back zero is text bare = absurd (omega (arith, is.0))
 line_back (suc zero) is text bare =
-    subst (λ (d : List ℕ). line_of (d ++ codes " " ++ text) ≡ Given 1 text) (sym (decimal_digit 1 (lit< tt))) (ap (Given 1) bare)
+    subst (λ (d : List ℕ). line_of (d ++ codes " " ++ text) ≡ Given 1 text) (sym (decimal_digit 1 (lit< tt)))
+    (ap (Given 1) bare)
 line_back (suc (suc zero)) is text bare =
-    subst (λ (d : List ℕ). line_of (d ++ codes " " ++ text) ≡ Given 2 text) (sym (decimal_digit 2 (lit< tt))) (ap (Given 2) bare)
+    subst (λ (d : List ℕ). line_of (d ++ codes " " ++ text) ≡ Given 2 text) (sym (decimal_digit 2 (lit< tt)))
+    (ap (Given 2) bare)
 line_back (suc (suc (suc zero))) is text bare =
-    subst (λ (d : List ℕ). line_of (d ++ codes " " ++ text) ≡ Given 3 text) (sym (decimal_digit 3 (lit< tt))) (ap (Given 3) bare)
+    subst (λ (d : List ℕ). line_of (d ++ codes " " ++ text) ≡ Given 3 text) (sym (decimal_digit 3 (lit< tt)))
+    (ap (Given 3) bare)
 line_back (suc (suc (suc (suc zero)))) is text bare =
-    subst (λ (d : List ℕ). line_of (d ++ codes " " ++ text) ≡ Given 4 text) (sym (decimal_digit 4 (lit< tt))) (ap (Given 4) bare)
+    subst (λ (d : List ℕ). line_of (d ++ codes " " ++ text) ≡ Given 4 text) (sym (decimal_digit 4 (lit< tt)))
+    (ap (Given 4) bare)
 line_back (suc (suc (suc (suc (suc zero))))) is text bare =
-    subst (λ (d : List ℕ). line_of (d ++ codes " " ++ text) ≡ Given 5 text) (sym (decimal_digit 5 (lit< tt))) (ap (Given 5) bare)
+    subst (λ (d : List ℕ). line_of (d ++ codes " " ++ text) ≡ Given 5 text) (sym (decimal_digit 5 (lit< tt)))
+    (ap (Given 5) bare)
 line_back (suc (suc (suc (suc (suc (suc zero)))))) is text bare =
-    subst (λ (d : List ℕ). line_of (d ++ codes " " ++ text) ≡ Given 6 text) (sym (decimal_digit 6 (lit< tt))) (ap (Given 6) bare)
+    subst (λ (d : List ℕ). line_of (d ++ codes " " ++ text) ≡ Given 6 text) (sym (decimal_digit 6 (lit< tt)))
+    (ap (Given 6) bare)
 line_back (suc (suc (suc (suc (suc (suc (suc zero))))))) is text bare =
-    subst (λ (d : List ℕ). line_of (d ++ codes " " ++ text) ≡ Given 7 text) (sym (decimal_digit 7 (lit< tt))) (ap (Given 7) bare)
+    subst (λ (d : List ℕ). line_of (d ++ codes " " ++ text) ≡ Given 7 text) (sym (decimal_digit 7 (lit< tt)))
+    (ap (Given 7) bare)
 line_back (suc (suc (suc (suc (suc (suc (suc (suc zero)))))))) is text bare =
-    subst (λ (d : List ℕ). line_of (d ++ codes " " ++ text) ≡ Given 8 text) (sym (decimal_digit 8 (lit< tt))) (ap (Given 8) bare)
+    subst (λ (d : List ℕ). line_of (d ++ codes " " ++ text) ≡ Given 8 text) (sym (decimal_digit 8 (lit< tt)))
+    (ap (Given 8) bare)
 line_back (suc (suc (suc (suc (suc (suc (suc (suc (suc zero))))))))) is text bare =
-    subst (λ (d : List ℕ). line_of (d ++ codes " " ++ text) ≡ Given 9 text) (sym (decimal_digit 9 (lit< tt))) (ap (Given 9) bare)
+    subst (λ (d : List ℕ). line_of (d ++ codes " " ++ text) ≡ Given 9 text) (sym (decimal_digit 9 (lit< tt)))
+    (ap (Given 9) bare)
 line_back (suc (suc (suc (suc (suc (suc (suc (suc (suc (suc zero)))))))))) is text bare =
     subst (λ (d : List ℕ). line_of (d ++ codes " " ++ text) ≡ Given 10 text)
-    (sym (decimal_step 10 (lit≤ tt) (lit< tt) ∙ ap (λ (d : List ℕ). d ++ 48 ∷ []) (decimal_digit 1 (lit< tt)))) (ap (Given 10) bare)
+    (sym (decimal_step 10 (lit≤ tt) (lit< tt) ∙ ap (λ (d : List ℕ). d ++ 48 ∷ []) (decimal_digit 1 (lit< tt))))
+    (ap (Given 10) bare)
 line_back (suc (suc (suc (suc (suc (suc (suc (suc (suc (suc (suc zero))))))))))) is text bare =
     subst (λ (d : List ℕ). line_of (d ++ codes " " ++ text) ≡ Given 11 text)
-    (sym (decimal_step 11 (lit≤ tt) (lit< tt) ∙ ap (λ (d : List ℕ). d ++ 49 ∷ []) (decimal_digit 1 (lit< tt)))) (ap (Given 11) bare)
+    (sym (decimal_step 11 (lit≤ tt) (lit< tt) ∙ ap (λ (d : List ℕ). d ++ 49 ∷ []) (decimal_digit 1 (lit< tt))))
+    (ap (Given 11) bare)
 line_back (suc (suc (suc (suc (suc (suc (suc (suc (suc (suc (suc (suc zero)))))))))))) is text bare =
     subst (λ (d : List ℕ). line_of (d ++ codes " " ++ text) ≡ Given 12 text)
-    (sym (decimal_step 12 (lit≤ tt) (lit< tt) ∙ ap (λ (d : List ℕ). d ++ 50 ∷ []) (decimal_digit 1 (lit< tt)))) (ap (Given 12) bare)
+    (sym (decimal_step 12 (lit≤ tt) (lit< tt) ∙ ap (λ (d : List ℕ). d ++ 50 ∷ []) (decimal_digit 1 (lit< tt))))
+    (ap (Given 12) bare)
 line_back (suc (suc (suc (suc (suc (suc (suc (suc (suc (suc (suc (suc (suc zero))))))))))))) is text bare =
     subst (λ (d : List ℕ). line_of (d ++ codes " " ++ text) ≡ Given 13 text)
-    (sym (decimal_step 13 (lit≤ tt) (lit< tt) ∙ ap (λ (d : List ℕ). d ++ 51 ∷ []) (decimal_digit 1 (lit< tt)))) (ap (Given 13) bare)
+    (sym (decimal_step 13 (lit≤ tt) (lit< tt) ∙ ap (λ (d : List ℕ). d ++ 51 ∷ []) (decimal_digit 1 (lit< tt))))
+    (ap (Given 13) bare)
 line_back (suc (suc (suc (suc (suc (suc (suc (suc (suc (suc (suc (suc (suc (suc zero)))))))))))))) is text bare =
     subst (λ (d : List ℕ). line_of (d ++ codes " " ++ text) ≡ Given 14 text)
-    (sym (decimal_step 14 (lit≤ tt) (lit< tt) ∙ ap (λ (d : List ℕ). d ++ 52 ∷ []) (decimal_digit 1 (lit< tt)))) (ap (Given 14) bare)
+    (sym (decimal_step 14 (lit≤ tt) (lit< tt) ∙ ap (λ (d : List ℕ). d ++ 52 ∷ []) (decimal_digit 1 (lit< tt))))
+    (ap (Given 14) bare)
 line_back (suc (suc (suc (suc (suc (suc (suc (suc (suc (suc (suc (suc (suc (suc (suc zero))))))))))))))) is text bare =
     subst (λ (d : List ℕ). line_of (d ++ codes " " ++ text) ≡ Given 15 text)
-    (sym (decimal_step 15 (lit≤ tt) (lit< tt) ∙ ap (λ (d : List ℕ). d ++ 53 ∷ []) (decimal_digit 1 (lit< tt)))) (ap (Given 15) bare)
-line_back (suc (suc (suc (suc (suc (suc (suc (suc (suc (suc (suc (suc (suc (suc (suc (suc zero)))))))))))))))) is text bare =
+    (sym (decimal_step 15 (lit≤ tt) (lit< tt) ∙ ap (λ (d : List ℕ). d ++ 53 ∷ []) (decimal_digit 1 (lit< tt))))
+    (ap (Given 15) bare)
+line_back (suc (suc (suc (suc (suc (suc (suc (suc (suc (suc (suc (suc (suc (suc (suc (suc zero)))))))))))))))) is text
+    bare =
     subst (λ (d : List ℕ). line_of (d ++ codes " " ++ text) ≡ Given 16 text)
-    (sym (decimal_step 16 (lit≤ tt) (lit< tt) ∙ ap (λ (d : List ℕ). d ++ 54 ∷ []) (decimal_digit 1 (lit< tt)))) (ap (Given 16) bare)
-line_back (suc (suc (suc (suc (suc (suc (suc (suc (suc (suc (suc (suc (suc (suc (suc (suc (suc more))))))))))))))))) is text bare = absurd (omega (arith, is.1))
+    (sym (decimal_step 16 (lit≤ tt) (lit< tt) ∙ ap (λ (d : List ℕ). d ++ 54 ∷ []) (decimal_digit 1 (lit< tt))))
+    (ap (Given 16) bare)
+line_back (suc (suc (suc (suc (suc (suc (suc (suc (suc (suc (suc (suc (suc (suc (suc (suc (suc more))))))))))))))))) is
+    text bare = absurd (omega (arith, is.1))
 
 -- the canonical form of a statement begins with no blank
 canonical_bare : (statement : Statement) (text : List ℕ) → unblank text ≡ text
@@ -80,17 +100,20 @@ canonical_bare (Put key value) text bare = refl
 canonical_bare (Del key) text bare = refl
 canonical_bare Disconnect text bare = refl
 
-text_bare : (read : Result Statement ℕ) (text : List ℕ) → unblank text ≡ text → unblank (text_read read text) ≡ text_read read text
+text_bare : (read : Result Statement ℕ) (text : List ℕ) → unblank text ≡ text
+    → unblank (text_read read text) ≡ text_read read text
 text_bare (Ok statement) text bare = canonical_bare statement text bare
 text_bare (Err place) text bare = bare
 
 pub call_bare : (text : List ℕ) → unblank text ≡ text → unblank (call_text text) ≡ call_text text
 call_bare text bare = text_bare (read_of text) text bare
 
-spelled_back : (statement : Statement) → Spells (statement_text statement) statement → read_of (statement_text statement) ≡ Ok statement
+spelled_back : (statement : Statement) → Spells (statement_text statement) statement
+    → read_of (statement_text statement) ≡ Ok statement
 spelled_back statement spells = (reads_spelled (statement_text statement) statement).1 spells
 
-canonical_back : (statement : Statement) (text : List ℕ) → read_of text ≡ Ok statement → (statement ≢ Unsupported → IsWrittenBack statement)
+canonical_back : (statement : Statement) (text : List ℕ) → read_of text ≡ Ok statement
+    → (statement ≢ Unsupported → IsWrittenBack statement)
     → read_of (canonical_text statement text) ≡ Ok statement
 canonical_back (Start xid) text is spells = spelled_back (Start xid) (spells (λ e. cc)).spelled
 canonical_back (End xid) text is spells = spelled_back (End xid) (spells (λ e. cc)).spelled
@@ -106,7 +129,8 @@ canonical_back Disconnect text is spells = spelled_back Disconnect (spells (λ e
 
 read_back : (read : Result Statement ℕ) (text : List ℕ) → read_of text ≡ read → IsWellCalled text
     → request_read read ≡ request_read (read_of (text_read read text))
-read_back (Ok statement) text is well = sym (ap request_read (canonical_back statement text is (well.canonical statement is)))
+read_back (Ok statement) text is well =
+    sym (ap request_read (canonical_back statement text is (well.canonical statement is)))
 read_back (Err place) text is well = sym (ap request_read is)
 
 -- what is written for a text that a session called for is read as the same
@@ -114,7 +138,8 @@ pub call_back : (text : List ℕ) → IsWellCalled text → request_called text 
 call_back text well = read_back (read_of text) text refl well
 
 -- what is written for a text that a session called for is no more than a line
-canonical_feed : (statement : Statement) (text : List ℕ) → HasNoFeed text → (statement ≢ Unsupported → IsWrittenBack statement)
+canonical_feed : (statement : Statement) (text : List ℕ) → HasNoFeed text
+    → (statement ≢ Unsupported → IsWrittenBack statement)
     → HasNoFeed (canonical_text statement text)
 canonical_feed (Start xid) text free written = (written (λ e. cc)).whole
 canonical_feed (End xid) text free written = (written (λ e. cc)).whole
@@ -128,7 +153,8 @@ canonical_feed (Put key value) text free written = (written (λ e. cc)).whole
 canonical_feed (Del key) text free written = (written (λ e. cc)).whole
 canonical_feed Disconnect text free written = (written (λ e. cc)).whole
 
-read_feed : (read : Result Statement ℕ) (text : List ℕ) → read_of text ≡ read → IsWellCalled text → HasNoFeed (text_read read text)
+read_feed : (read : Result Statement ℕ) (text : List ℕ) → read_of text ≡ read → IsWellCalled text
+    → HasNoFeed (text_read read text)
 read_feed (Ok statement) text is well = canonical_feed statement text well.whole (well.canonical statement is)
 read_feed (Err place) text is well = well.whole
 
@@ -139,7 +165,8 @@ below_bound : (session : ℕ) → session ≤ 16 → session < 2 ^ 64
 below_bound session is = omega (arith, is)
 
 -- a session's number, a blank and such a text are no more than a line
-pub line_feed : (session : ℕ) → IsSession session → (text : List ℕ) → HasNoFeed text → HasNoFeed (decimal session ++ codes " " ++ text)
+pub line_feed : (session : ℕ) → IsSession session → (text : List ℕ) → HasNoFeed text
+    → HasNoFeed (decimal session ++ codes " " ++ text)
 line_feed session is text free =
     feed-append (decimal session ++ codes " ") text
     (feed-append (decimal session) (codes " ") (decimal_feed session (below_bound session is.1)) refl) free

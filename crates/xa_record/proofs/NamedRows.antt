@@ -4,13 +4,15 @@ use Rattle.std.proofs.lemmas.List.{take_more}
 use Rattle.xa_judge.specs.declared.event.Event.{Event}
 use Rattle.xa_record.specs.Reports.{with_row_called, with_rows_called, keys_named}
 
-named-append : (keys : List (List ℕ)) (events more : List Event) → with_rows_called keys (events ++ more) ≡ with_rows_called (with_rows_called keys events) more
+named-append : (keys : List (List ℕ)) (events more : List Event)
+    → with_rows_called keys (events ++ more) ≡ with_rows_called (with_rows_called keys events) more
 unfolding with_rows_called
 named-append keys [] more = refl
 named-append keys (event ∷ events) more = named-append (with_row_called event keys) events more
 
 -- one thing more was seen
-pub named-more : (events : List Event) (old new : List (List ℕ)) (index : ℕ) (event : Event) → index < length events → event ≡ get_or events index event
+pub named-more : (events : List Event) (old new : List (List ℕ)) (index : ℕ) (event : Event) → index < length events
+    → event ≡ get_or events index event
     → old ≡ keys_named (take index events) → new ≡ with_row_called event old
     → new ≡ keys_named (take (index + 1) events)
 unfolding with_rows_called

@@ -1,5 +1,6 @@
 -- Reading a record line by line.
-use Rattle.std.proofs.Common.{◌≡◌, ℕ, ◌+◌, ◌==◌, true, Option, None, List, [], ◌∷◌, ◌++◌, map, take, drop, length, slice_get, slice_set, refl, ap, sym, ◌∙◌, arith}
+use Rattle.std.proofs.Common.{◌≡◌, ℕ, ◌+◌, ◌==◌, true, Option, None, List, [], ◌∷◌, ◌++◌, map, take, drop, length}
+use Rattle.std.proofs.Common.{slice_get, slice_set, refl, ap, sym, ◌∙◌, arith}
 use Rattle.std.proofs.lemmas.Grind.{common_steps}
 use Rattle.std.proofs.lemmas.List.{map-append}
 use Rattle.std.specs.List.{insert, take-map, drop-map}
@@ -10,7 +11,8 @@ use Rattle.xa_record.specs.declared.presence.Presence.TheVariants.{Lost}
 use Rattle.xa_record.specs.declared.line_event.NumberedEvent.{NumberedEvent as NumberedRead}
 use Rattle.xa_record.specs.Kept.{numbered_kept}
 use Rattle.xa_record.specs.Lines.{Told, Leaves}
-use Rattle.xa_record.specs.Reading.{NumberedEvent, Notes, session_of, presence_after, cause_of, note_of, noted_if, up_to_return, closed_if, note_closed, noted_line, noted_lines}
+use Rattle.xa_record.specs.Reading.{NumberedEvent, Notes, session_of, presence_after, cause_of, note_of, noted_if}
+use Rattle.xa_record.specs.Reading.{up_to_return, closed_if, note_closed, noted_line, noted_lines}
 
 -- one line was cut off
 pub noted_lines-line : (notes : Notes) (number : ℕ) (text line rest : List ℕ) → lines_of text ≡ line ∷ lines_of rest
@@ -19,10 +21,12 @@ unfolding noted_lines
 noted_lines-line notes number text line rest cut = rw cut refl
 
 -- no line is left
-pub noted_lines-end : (notes : Notes) (number : ℕ) (text : List ℕ) → (length text == 0) ≡ true → noted_lines notes number (lines_of text) ≡ notes
+pub noted_lines-end : (notes : Notes) (number : ℕ) (text : List ℕ) → (length text == 0) ≡ true
+    → noted_lines notes number (lines_of text) ≡ notes
 unfolding noted_lines lines_of
 noted_lines-end notes number [] empty = refl
-noted_lines-end notes number (x ∷ xs) empty = absurd (let none : length (x ∷ xs) ≡ 0 = grind (arith, common_steps) in omega arith)
+noted_lines-end notes number (x ∷ xs) empty =
+    absurd (let none : length (x ∷ xs) ≡ 0 = grind (arith, common_steps) in omega arith)
 
 -- the notes with another list of what happens, and other words on the sessions
 abbrev pub made : Notes → List NumberedEvent → List Presence → Notes
@@ -31,22 +35,26 @@ made notes list presence = record notes { told = list; presence = presence }
 -- what happens was note_of, with what is then said of its session
 pub numbered-so : (notes : Notes) (number : ℕ) (told : Told) (list : List NumberedEvent) (presence : List Presence)
     → cause_of (slice_get notes.presence (session_of told)) told ≡ None
-    → list ≡ notes.told ++ record { number = number; told = told } ∷ [] → presence ≡ slice_set notes.presence (session_of told) (presence_after told)
+    → list ≡ notes.told ++ record { number = number; told = told } ∷ []
+    → presence ≡ slice_set notes.presence (session_of told) (presence_after told)
     → made notes list presence ≡ note_of notes number told
 unfolding noted_if
 numbered-so notes number told list presence no_fault one two =
-    ap (λ (l : List NumberedEvent). made notes l presence) one ∙ ap (made notes (notes.told ++ record { number = number; told = told } ∷ [])) two
+    ap (λ (l : List NumberedEvent). made notes l presence) one
+    ∙ ap (made notes (notes.told ++ record { number = number; told = told } ∷ [])) two
     ∙ sym (ap (λ (c : Option LineFault). noted_if c notes number told) no_fault)
 
 -- a connection was found closed, and its client is gone from its last return on
 pub closed-so : (notes : Notes) (number session : ℕ) (list : List NumberedEvent) (presence : List Presence)
     → cause_of (slice_get notes.presence session) (Leaves session) ≡ None
-    → list ≡ insert notes.told (up_to_return session notes.told) (record { number = number; told = Leaves session }) → presence ≡ slice_set notes.presence session Lost
+    → list ≡ insert notes.told (up_to_return session notes.told) (record { number = number; told = Leaves session })
+    → presence ≡ slice_set notes.presence session Lost
     → made notes list presence ≡ note_closed notes number session
 unfolding closed_if
 closed-so notes number session list presence no_fault one two =
     ap (λ (l : List NumberedEvent). made notes l presence) one
-    ∙ ap (made notes (insert notes.told (up_to_return session notes.told) (record { number = number; told = Leaves session }))) two
+    ∙ ap (made notes (insert notes.told (up_to_return session notes.told)
+    (record { number = number; told = Leaves session }))) two
     ∙ sym (ap (λ (c : Option LineFault). closed_if c notes number session) no_fault)
 
 -- one thing more, at its place
@@ -54,5 +62,7 @@ pub map-insert : (list : List NumberedRead) (place : ℕ) (one : NumberedRead)
     → map numbered_kept (insert list place one) ≡ insert (map numbered_kept list) place (numbered_kept one)
 map-insert list place one =
     map-append numbered_kept (take place list) (one ∷ drop place list)
-    ∙ ap (λ (l : List NumberedEvent). l ++ numbered_kept one ∷ map numbered_kept (drop place list)) (sym (take-map numbered_kept place list))
-    ∙ ap (λ (l : List NumberedEvent). take place (map numbered_kept list) ++ numbered_kept one ∷ l) (sym (drop-map numbered_kept place list))
+    ∙ ap (λ (l : List NumberedEvent). l ++ numbered_kept one ∷ map numbered_kept (drop place list))
+    (sym (take-map numbered_kept place list))
+    ∙ ap (λ (l : List NumberedEvent). take place (map numbered_kept list) ++ numbered_kept one ∷ l)
+    (sym (drop-map numbered_kept place list))

@@ -1,5 +1,6 @@
 -- What is said of sessions by what happens.
-use Rattle.std.proofs.Common.{◌≡◌, ◌≢◌, ℕ, zero, suc, ◌<◌, ◌==◌, Bool, true, false, if◌then◌else◌, Option, Some, None, List, [], ◌∷◌, ◌++◌, length}
+use Rattle.std.proofs.Common.{◌≡◌, ◌≢◌, ℕ, zero, suc, ◌<◌, ◌==◌, Bool, true, false, if◌then◌else◌, Option, Some, None}
+use Rattle.std.proofs.Common.{List, [], ◌∷◌, ◌++◌, length}
 use Rattle.std.proofs.Common.{replicate, slice_get, slice_set, refl, ap, sym, ◌∙◌, arith}
 use Rattle.std.proofs.lemmas.Bool.Decides.{nat_tests}
 use Rattle.std.proofs.lemmas.Option.{none-some, slice_get_within}
@@ -9,12 +10,14 @@ use Rattle.xa_record.specs.Lines.{Told, Calls, Returns, ReturnsUnknown, Leaves}
 use Rattle.xa_record.specs.Reading.{NumberedEvent, session_of, presence_after, cause_of}
 use Rattle.xa_record.specs.Records.{presence_then, presence_from, presence_in, cause_next, Fits}
 
-set_same : {A : Type 0} (xs : List A) (place : ℕ) (x : A) → place < length xs → slice_get (slice_set xs place x) place ≡ Some x
+set_same : {A : Type 0} (xs : List A) (place : ℕ) (x : A) → place < length xs
+    → slice_get (slice_set xs place x) place ≡ Some x
 set_same [] place x below = absurd (omega arith)
 set_same (y ∷ ys) zero x below = refl
 set_same (y ∷ ys) (suc place) x below = set_same ys place x (omega arith)
 
-set_other : {A : Type 0} (xs : List A) (place other : ℕ) (x : A) → other ≢ place → slice_get (slice_set xs place x) other ≡ slice_get xs other
+set_other : {A : Type 0} (xs : List A) (place other : ℕ) (x : A) → other ≢ place
+    → slice_get (slice_set xs place x) other ≡ slice_get xs other
 set_other [] place other x apart = refl
 set_other (y ∷ ys) zero zero x apart = absurd (apart refl)
 set_other (y ∷ ys) zero (suc other) x apart = refl
@@ -38,7 +41,8 @@ unfolding presence_from
 lost-stays session [] = refl
 lost-stays session (one ∷ more) = by (session_of one.told == session) (lost-stays session more)
   where
-    by : (b : Bool) → presence_from session Lost more ≡ Lost → presence_from session (if b then presence_then Lost one.told else Lost) more ≡ Lost
+    by : (b : Bool) → presence_from session Lost more ≡ Lost
+        → presence_from session (if b then presence_then Lost one.told else Lost) more ≡ Lost
     by true later = later
     by false later = later
 
@@ -46,25 +50,31 @@ pub from-append : (session : ℕ) (presence : Presence) (xs ys : List NumberedEv
     → presence_from session presence (xs ++ ys) ≡ presence_from session (presence_from session presence xs) ys
 unfolding presence_from
 from-append session presence [] ys = refl
-from-append session presence (one ∷ xs) ys = from-append session (if session_of one.told == session then presence_then presence one.told else presence) xs ys
+from-append session presence (one ∷ xs) ys =
+    from-append session (if session_of one.told == session then presence_then presence one.told else presence) xs ys
 
 -- one thing more of the session, or of another one
-own : (session : ℕ) (presence : Presence) (one : NumberedEvent) (more : List NumberedEvent) → (session_of one.told == session) ≡ true
+own : (session : ℕ) (presence : Presence) (one : NumberedEvent) (more : List NumberedEvent)
+    → (session_of one.told == session) ≡ true
     → presence_from session presence (one ∷ more) ≡ presence_from session (presence_then presence one.told) more
 unfolding presence_from
-own session presence one more is = ap (λ (b : Bool). presence_from session (if b then presence_then presence one.told else presence) more) is
+own session presence one more is =
+    ap (λ (b : Bool). presence_from session (if b then presence_then presence one.told else presence) more) is
 
-other : (session : ℕ) (presence : Presence) (one : NumberedEvent) (more : List NumberedEvent) → (session_of one.told == session) ≡ false
+other : (session : ℕ) (presence : Presence) (one : NumberedEvent) (more : List NumberedEvent)
+    → (session_of one.told == session) ≡ false
     → presence_from session presence (one ∷ more) ≡ presence_from session presence more
 unfolding presence_from
-other session presence one more is = ap (λ (b : Bool). presence_from session (if b then presence_then presence one.told else presence) more) is
+other session presence one more is =
+    ap (λ (b : Bool). presence_from session (if b then presence_then presence one.told else presence) more) is
 
 none-from : (session : ℕ) (presence : Presence) → presence_from session presence [] ≡ presence
 unfolding presence_from
 none-from session presence = refl
 
 -- what can happen leaves the session as it says
-then-after : (presence : Presence) (told : Told) → cause_of (Some presence) told ≡ None → presence_then presence told ≡ presence_after told
+then-after : (presence : Presence) (told : Told) → cause_of (Some presence) told ≡ None
+    → presence_then presence told ≡ presence_after told
 then-after Idle told fits = refl
 then-after Open told fits = refl
 then-after Lost (Calls session text) fits = absurd (none-some _ (sym fits))
@@ -85,12 +95,16 @@ pub placed-none : Placed (replicate 17 Idle) []
 unfolding presence_from
 placed-none session within = replicated 17 session Idle within
 
-pub fits-here : (presence : List Presence) (list : List NumberedEvent) (told : Told) → session_of told < 17 → Placed presence list
+pub fits-here : (presence : List Presence) (list : List NumberedEvent) (told : Told) → session_of told < 17
+    → Placed presence list
     → cause_of (slice_get presence (session_of told)) told ≡ cause_next list told
-fits-here presence list told within placed = ap (λ (o : Option Presence). cause_of o told) (placed (session_of told) within)
+fits-here presence list told within placed =
+    ap (λ (o : Option Presence). cause_of o told) (placed (session_of told) within)
 
-pub placed-next : (presence : List Presence) (list : List NumberedEvent) (number : ℕ) (told : Told) → session_of told < 17 → Placed presence list → Fits list told
-    → Placed (slice_set presence (session_of told) (presence_after told)) (list ++ record { number = number; told = told } ∷ [])
+pub placed-next : (presence : List Presence) (list : List NumberedEvent) (number : ℕ) (told : Told)
+    → session_of told < 17 → Placed presence list → Fits list told
+    → Placed (slice_set presence (session_of told) (presence_after told))
+    (list ++ record { number = number; told = told } ∷ [])
 placed-next presence list number told within placed fits session below = by (session_of told == session) refl
   where
     one : NumberedEvent
@@ -100,22 +114,28 @@ placed-next presence list number told within placed fits session below = by (ses
     now = presence_in session list
 
     by : (b : Bool) → (session_of told == session) ≡ b
-        → slice_get (slice_set presence (session_of told) (presence_after told)) session ≡ Some (presence_in session (list ++ one ∷ []))
+        → slice_get (slice_set presence (session_of told) (presence_after told)) session
+        ≡ Some (presence_in session (list ++ one ∷ []))
     by true is =
         let same : session_of told ≡ session = tested (session_of told) session is in
         let said : presence_in session (list ++ one ∷ []) ≡ presence_after told =
-        from-append session Idle list (one ∷ []) ∙ own session now one [] is ∙ none-from session (presence_then now told)
-        ∙ ap (λ (s : ℕ). presence_then (presence_in s list) told) (sym same) ∙ then-after (presence_in (session_of told) list) told fits in
+        from-append session Idle list (one ∷ []) ∙ own session now one [] is
+        ∙ none-from session (presence_then now told)
+        ∙ ap (λ (s : ℕ). presence_then (presence_in s list) told) (sym same)
+        ∙ then-after (presence_in (session_of told) list) told fits in
         ap (λ (s : ℕ). slice_get (slice_set presence (session_of told) (presence_after told)) s) (sym same)
-        ∙ set_same presence (session_of told) (presence_after told) (slice_get_within presence (session_of told) _ (placed (session_of told) within))
+        ∙ set_same presence (session_of told) (presence_after told)
+        (slice_get_within presence (session_of told) _ (placed (session_of told) within))
         ∙ ap Some (sym said)
     by false is =
         let said : presence_in session (list ++ one ∷ []) ≡ now =
         from-append session Idle list (one ∷ []) ∙ other session now one [] is ∙ none-from session now in
-        set_other presence (session_of told) session (presence_after told) (λ same. apart_test (session_of told) session is (sym same))
+        set_other presence (session_of told) session (presence_after told)
+        (λ same. apart_test (session_of told) session is (sym same))
         ∙ placed session below ∙ ap Some (sym said)
 
-pub placed-closed : (presence : List Presence) (before after : List NumberedEvent) (number session : ℕ) → session < 17 → Placed presence (before ++ after)
+pub placed-closed : (presence : List Presence) (before after : List NumberedEvent) (number session : ℕ) → session < 17
+    → Placed presence (before ++ after)
     → Placed (slice_set presence session Lost) (before ++ record { number = number; told = Leaves session } ∷ after)
 placed-closed presence before after number gone within placed session below = by (gone == session) refl
   where
@@ -125,7 +145,8 @@ placed-closed presence before after number gone within placed session below = by
     now : Presence
     now = presence_in session before
 
-    by : (b : Bool) → (gone == session) ≡ b → slice_get (slice_set presence gone Lost) session ≡ Some (presence_in session (before ++ one ∷ after))
+    by : (b : Bool) → (gone == session) ≡ b → slice_get (slice_set presence gone Lost) session
+        ≡ Some (presence_in session (before ++ one ∷ after))
     by true is =
         let same : gone ≡ session = tested gone session is in
         let said : presence_in session (before ++ one ∷ after) ≡ Lost =
@@ -135,5 +156,7 @@ placed-closed presence before after number gone within placed session below = by
         ∙ set_same presence gone Lost (slice_get_within presence gone _ (placed gone within)) ∙ ap Some (sym said)
     by false is =
         let said : presence_in session (before ++ one ∷ after) ≡ presence_in session (before ++ after) =
-        from-append session Idle before (one ∷ after) ∙ other session now one after is ∙ sym (from-append session Idle before after) in
-        set_other presence gone session Lost (λ same. apart_test gone session is (sym same)) ∙ placed session below ∙ ap Some (sym said)
+        from-append session Idle before (one ∷ after) ∙ other session now one after is
+        ∙ sym (from-append session Idle before after) in
+        set_other presence gone session Lost (λ same. apart_test gone session is (sym same)) ∙ placed session below
+        ∙ ap Some (sym said)

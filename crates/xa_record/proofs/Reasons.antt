@@ -1,5 +1,6 @@
 -- An order that explains what is before a line, and the store after it.
-use Rattle.std.proofs.Common.{◌≡◌, ℕ, zero, suc, ◌≤◌, Option, Some, Result, Ok, Err, IfOk, MatchOption, List, [], ◌∷◌, ◌++◌, Vec, Global, length, map, take, ap, sym, ◌∙◌, subst}
+use Rattle.std.proofs.Common.{◌≡◌, ℕ, zero, suc, ◌≤◌, Option, Some, Result, Ok, Err, IfOk, MatchOption, List, [], ◌∷◌}
+use Rattle.std.proofs.Common.{◌++◌, Vec, Global, length, map, take, ap, sym, ◌∙◌, subst}
 use Rattle.std.proofs.Common.{arith}
 use Rattle.std.specs.List.{AllZip}
 use Rattle.std.proofs.lemmas.List.{take-map, length-take-le}
@@ -31,8 +32,12 @@ pub listed : {E : Type 0} (result : Result (Vec ℕ Global) E) (base : State) (e
     → IfOk result (λ text. text.items ≡ front ++ listing store keys)
     → IfOk result (λ text. (config : Config) × LeadsThrough (opening_config base) events moves config
     × (text.items ≡ listing config.state (keys_named events)))
-listed (Ok text) base events moves store keys front none lead named is =
-    (lead.0, lead.1, is ∙ ap (λ l. l ++ listing store keys) none ∙ ap (λ s. listing s keys) (sym lead.2) ∙ ap (listing lead.0.state) named)
+listed (Ok text) base events moves store keys front none lead named is = (
+  lead.0,
+  lead.1,
+  is ∙ ap (λ l. l ++ listing store keys) none ∙ ap (λ s. listing s keys) (sym lead.2)
+      ∙ ap (listing lead.0.state) named,
+)
 listed (Err fault) base events moves store keys front none lead named is = tt
 
 -- the moves of a right verdict lead through what is seen
@@ -47,7 +52,8 @@ pub illegal_not : (base : State) (events : List Event) (limit : ℕ) (verdict : 
 illegal_not base events limit verdict place answers right is explained =
     (subst (IsVerdict base events limit) is right).0.whole explained
 
-AllZip-take : {A B : Type 0} (R : A → B → Type 0) (count : ℕ) (xs : List A) (ys : List B) → AllZip R xs ys → AllZip R (take count xs) (take count ys)
+AllZip-take : {A B : Type 0} (R : A → B → Type 0) (count : ℕ) (xs : List A) (ys : List B) → AllZip R xs ys
+    → AllZip R (take count xs) (take count ys)
 AllZip-take R zero xs ys all = tt
 AllZip-take R (suc count) [] [] all = tt
 AllZip-take R (suc count) [] (y ∷ ys) all = absurd all
@@ -55,14 +61,16 @@ AllZip-take R (suc count) (x ∷ xs) [] all = absurd all
 AllZip-take R (suc count) (x ∷ xs) (y ∷ ys) all = (all.0, AllZip-take R count xs ys all.1)
 
 -- there is a place in the list as the program keeps it
-pub place_within : (numbered : List NumberedRead) (events : List Event) (place : ℕ) → AreCalls (map numbered_kept numbered) events → place ≤ length events
+pub place_within : (numbered : List NumberedRead) (events : List Event) (place : ℕ)
+    → AreCalls (map numbered_kept numbered) events → place ≤ length events
     → place ≡ length (take place numbered)
 place_within numbered events place are within =
     let long : length numbered ≡ length events = calls-length numbered events are in
     sym (length-take-le place numbered (omega (arith, long, within)))
 
 -- what happens up to a place
-pub events_before : (numbered : List NumberedRead) (events : List Event) (place : ℕ) → AreCalls (map numbered_kept numbered) events
+pub events_before : (numbered : List NumberedRead) (events : List Event) (place : ℕ)
+    → AreCalls (map numbered_kept numbered) events
     → AreCalls (map numbered_kept (take place numbered)) (take place events)
 events_before numbered events place are =
     subst (λ (l : List NumberedEvent). AreCalls l (take place events)) (take-map numbered_kept place numbered)

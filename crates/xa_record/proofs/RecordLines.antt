@@ -1,5 +1,6 @@
 -- What is read of a record is what its lines tell, up to the first faulty one.
-use Rattle.std.proofs.Common.{◌≡◌, ◌⊎◌, inl, inr, ℕ, zero, suc, ◌+◌, ◌-◌, ◌==◌, ◌<◌, ◌≤◌, nat_le, Bool, true, false, if◌then◌else◌, Option, Some, None, List, [], ◌∷◌, ◌++◌}
+use Rattle.std.proofs.Common.{◌≡◌, ◌⊎◌, inl, inr, ℕ, zero, suc, ◌+◌, ◌-◌, ◌==◌, ◌<◌, ◌≤◌, nat_le, Bool, true, false}
+use Rattle.std.proofs.Common.{if◌then◌else◌, Option, Some, None, List, [], ◌∷◌, ◌++◌}
 use Rattle.std.proofs.Common.{length, take, drop, slice_get, refl, ap, sym, ◌∙◌, subst, arith, append_assoc, append-nil}
 use Rattle.std.specs.List.{AllByRecursion as All}
 use Rattle.std.proofs.lemmas.Bool.Decides.{nat_tests}
@@ -11,12 +12,17 @@ use Rattle.xa_record.specs.declared.line_fault.LineFault.{LineFault}
 use Rattle.xa_record.specs.declared.line_fault.LineFault.TheVariants.{NotALine, NotARow, RowsMissing}
 use Rattle.xa_record.specs.declared.presence.Presence.{Presence}
 use Rattle.xa_record.specs.declared.presence.Presence.TheVariants.{Idle, Open, Lost}
-use Rattle.xa_record.specs.Lines.{Shown, ShowsRows, Told, Calls, Returns, ReturnsUnknown, Leaves, LineSaid, Nothing, Bad, Says, Awaits, Closed, is_silent, reading_of_line}
+use Rattle.xa_record.specs.Lines.{Shown, ShowsRows, Told, Calls, Returns, ReturnsUnknown, Leaves, LineSaid, Nothing}
+use Rattle.xa_record.specs.Lines.{Bad, Says, Awaits, Closed, is_silent, reading_of_line}
 use Rattle.xa_record.specs.Rows.{row_said}
-use Rattle.xa_record.specs.Reading.{NumberedEvent, Awaited, Notes, blamed_too, noted_if, closed_if, cause_of, session_of}
-use Rattle.xa_record.specs.Reading.{up_to_return, returned, with_row, noted_row, noted_said, noted_line, noted_lines, no_notes, awaiting}
-use Rattle.xa_record.specs.Records.{RowsOf, no_row, silent_row, one_row, on_next_line, Fits, cause_next, presence_in, filled, AreRows}
-use Rattle.xa_record.specs.Records.{Tells, no_line, silent_line, call_line, return_line, rows_lines, unknown_line, lost_line, gone_line}
+use Rattle.xa_record.specs.Reading.{NumberedEvent, Awaited, Notes, blamed_too, noted_if, closed_if, cause_of}
+use Rattle.xa_record.specs.Reading.{session_of}
+use Rattle.xa_record.specs.Reading.{up_to_return, returned, with_row, noted_row, noted_said, noted_line, noted_lines}
+use Rattle.xa_record.specs.Reading.{no_notes, awaiting}
+use Rattle.xa_record.specs.Records.{RowsOf, no_row, silent_row, one_row, on_next_line, Fits, cause_next, presence_in}
+use Rattle.xa_record.specs.Records.{filled, AreRows}
+use Rattle.xa_record.specs.Records.{Tells, no_line, silent_line, call_line, return_line, rows_lines, unknown_line}
+use Rattle.xa_record.specs.Records.{lost_line, gone_line}
 use Rattle.xa_record.specs.Records.{HasFault, bad_line, unfit_line, unfit_gone, rows_missing, unfit_rows, bad_row}
 use Rattle.xa_record.proofs.LastReturns.{ends, ends-in}
 use Rattle.xa_record.proofs.Presences.{Placed, placed-none, fits-here, placed-next, placed-closed}
@@ -33,7 +39,8 @@ filled-append [] ys = omega (arith, filled-none)
 filled-append (line ∷ xs) ys = by (is_silent line) (filled-append xs ys)
   where
     by : (b : Bool) → filled (xs ++ ys) ≡ filled xs + filled ys
-        → (if b then filled (xs ++ ys) else suc (filled (xs ++ ys))) ≡ (if b then filled xs else suc (filled xs)) + filled ys
+        → (if b then filled (xs ++ ys) else suc (filled (xs ++ ys)))
+        ≡ (if b then filled xs else suc (filled xs)) + filled ys
     by true same = same
     by false same = omega (arith, same)
 
@@ -41,7 +48,8 @@ pub filled-silent : (line : List ℕ) (more : List (List ℕ)) → is_silent lin
 unfolding filled
 filled-silent line more is = ap (λ (b : Bool). if b then filled more else suc (filled more)) is
 
-pub filled-one : (line : List ℕ) (more : List (List ℕ)) → is_silent line ≡ false → filled (line ∷ more) ≡ suc (filled more)
+pub filled-one : (line : List ℕ) (more : List (List ℕ)) → is_silent line ≡ false
+    → filled (line ∷ more) ≡ suc (filled more)
 unfolding filled
 filled-one line more is = ap (λ (b : Bool). if b then filled more else suc (filled more)) is
 
@@ -59,7 +67,8 @@ record Part (done : List (List ℕ)) (a : Awaited) (list : List NumberedEvent) :
   tells : Tells before list
   says : reading_of_line line ≡ Awaits a.session count
   number : a.number ≡ length before + 1
-  extends : (lines : List (List ℕ)) (more : List Xid) → RowsOf a.missing lines more → RowsOf count (came ++ lines) (a.rows ++ more)
+  extends : (lines : List (List ℕ)) (more : List Xid) → RowsOf a.missing lines more
+      → RowsOf count (came ++ lines) (a.rows ++ more)
   clean : a.faults ≡ []
   rows : AreRows came
   counted : filled came + a.missing ≡ count
@@ -92,12 +101,16 @@ noted list presence = record { told = list; faults = []; presence = presence; aw
 pub is-zero : (n : ℕ) → (n == 0) ≡ true → n ≡ 0
 is-zero n is = grind (arith, nat_tests)
 
-told-at : (lines : List (List ℕ)) (list : List NumberedEvent) (done : List (List ℕ)) (number : ℕ) (told : Told) → number ≡ length lines + 1
-    → Tells done (list ++ on_next_line lines told ∷ []) → Tells done (list ++ record { number = number; told = told } ∷ [])
-told-at lines list done number told is tells = subst (λ (n : ℕ). Tells done (list ++ record { number = n; told = told } ∷ [])) (sym is) tells
+told-at : (lines : List (List ℕ)) (list : List NumberedEvent) (done : List (List ℕ)) (number : ℕ) (told : Told)
+    → number ≡ length lines + 1
+    → Tells done (list ++ on_next_line lines told ∷ []) → Tells done
+    (list ++ record { number = number; told = told } ∷ [])
+told-at lines list done number told is tells =
+    subst (λ (n : ℕ). Tells done (list ++ record { number = n; told = told } ∷ [])) (sym is) tells
 
 -- of a return what it shows doesn't count
-pub cause-shown : (o : Option Presence) (session : ℕ) (one two : Shown) → cause_of o (Returns session one) ≡ cause_of o (Returns session two)
+pub cause-shown : (o : Option Presence) (session : ℕ) (one two : Shown)
+    → cause_of o (Returns session one) ≡ cause_of o (Returns session two)
 cause-shown None session one two = refl
 cause-shown (Some Idle) session one two = refl
 cause-shown (Some Open) session one two = refl
@@ -113,9 +126,12 @@ part-whole done a list none part fits =
     let nothing_more : RowsOf a.missing [] [] = subst (λ (n : ℕ). RowsOf n [] []) (sym none) no_row in
     let all : RowsOf part.count part.came a.rows =
     subst (λ (l : List (List ℕ)). RowsOf part.count l a.rows) (append-nil part.came)
-    (subst (λ (l : List Xid). RowsOf part.count (part.came ++ []) l) (append-nil a.rows) (part.extends [] [] nothing_more)) in
-    subst (λ (l : List (List ℕ)). Tells l (list ++ record { number = a.number; told = Returns a.session (ShowsRows a.rows) } ∷ [])) (sym part.parts)
-    (told-at part.before list (part.before ++ part.line ∷ part.came) a.number (Returns a.session (ShowsRows a.rows)) part.number
+    (subst (λ (l : List Xid). RowsOf part.count (part.came ++ []) l) (append-nil a.rows)
+    (part.extends [] [] nothing_more)) in
+    subst (λ (l : List (List ℕ)). Tells l (list ++ record
+    { number = a.number; told = Returns a.session (ShowsRows a.rows) } ∷ [])) (sym part.parts)
+    (told-at part.before list (part.before ++ part.line ∷ part.came) a.number
+    (Returns a.session (ShowsRows a.rows)) part.number
     (rows_lines part.before part.line part.came list a.session part.count a.rows part.tells part.says all fits))
 
 -- what stands behind the return's line
@@ -125,7 +141,8 @@ behind done more a list part =
     sym (append_assoc part.before (part.line ∷ part.came) more) ∙ ap (λ (l : List (List ℕ)). l ++ more) (sym part.parts)
 
 -- all rows have come
-all-next : (list : List NumberedEvent) (presence : List Presence) (done more : List (List ℕ)) (a : Awaited) → a.missing ≡ 0 → Part done a list
+all-next : (list : List NumberedEvent) (presence : List Presence) (done more : List (List ℕ)) (a : Awaited)
+    → a.missing ≡ 0 → Part done a list
     → Placed presence list → Right done (returned (noted list presence) a) ⊎ Found (done ++ more)
 unfolding noted_if
 all-next list presence done more a none part placed = by (cause_of (slice_get presence a.session) told) refl
@@ -143,54 +160,82 @@ all-next list presence done more a none part placed = by (cause_of (slice_get pr
         → Right done (blamed_too (noted_if o (noted list presence) a.number told) a.faults) ⊎ Found (done ++ more)
     by None is =
         let fits : Fits list told = sym (fits-here presence list told within placed) ∙ is in
-        inl (record { clean = part.clean; placed = placed-next presence list a.number told within placed fits; stands = part-whole done a list none part fits })
+        inl (record {
+          clean = part.clean;
+          placed = placed-next presence list a.number told within placed fits;
+          stands = part-whole done a list none part fits;
+        })
     by (Some fault) is =
         let cause : cause_next list (Returns a.session (ShowsRows [])) ≡ Some fault =
-        cause-shown (Some (presence_in a.session list)) a.session (ShowsRows []) (ShowsRows a.rows) ∙ sym (fits-here presence list told within placed) ∙ is in
-        inr (found-as _ _ (behind done more a list part)
-        (length part.before + 1, fault, unfit_rows part.before part.line (part.came ++ more) list a.session part.count fault part.tells part.says enough cause))
+        cause-shown (Some (presence_in a.session list)) a.session (ShowsRows []) (ShowsRows a.rows)
+        ∙ sym (fits-here presence list told within placed) ∙ is in
+        inr (found-as _ _ (behind done more a list part) (
+          length part.before + 1,
+          fault,
+          unfit_rows part.before part.line
+              (part.came ++ more) list a.session part.count fault part.tells part.says enough cause,
+        ))
 
 -- they have, or some are still to come
-awaiting-next : (list : List NumberedEvent) (presence : List Presence) (done more : List (List ℕ)) (a : Awaited) → Part done a list → Placed presence list
+awaiting-next : (list : List NumberedEvent) (presence : List Presence) (done more : List (List ℕ)) (a : Awaited)
+    → Part done a list → Placed presence list
     → Right done (awaiting (noted list presence) a) ⊎ Found (done ++ more)
 awaiting-next list presence done more a part placed = by (a.missing == 0) refl
   where
     by : (b : Bool) → (a.missing == 0) ≡ b
-        → Right done (if b then returned (noted list presence) a else record { told = list; faults = []; presence = presence; awaited = Some a }) ⊎ Found (done ++ more)
+        → Right done (if b then returned (noted list presence) a else record
+        { told = list; faults = []; presence = presence; awaited = Some a }) ⊎ Found (done ++ more)
     by true is = all-next list presence done more a (is-zero a.missing is) part placed
     by false is = inl (record { clean = refl; placed = placed; stands = (part, is) })
 
-happens-tells : (told : Told) (done : List (List ℕ)) (list : List NumberedEvent) (line : List ℕ) → reading_of_line line ≡ Says told → Fits list told → Tells done list
+happens-tells : (told : Told) (done : List (List ℕ)) (list : List NumberedEvent) (line : List ℕ)
+    → reading_of_line line ≡ Says told → Fits list told → Tells done list
     → Tells (done ++ line ∷ []) (list ++ on_next_line done told ∷ [])
 happens-tells (Calls session text) done list line is fits tells = call_line done line list session text tells is fits
-happens-tells (Returns session shown) done list line is fits tells = return_line done line list session shown tells is fits
+happens-tells (Returns session shown) done list line is fits tells =
+    return_line done line list session shown tells is fits
 happens-tells (ReturnsUnknown session) done list line is fits tells = unknown_line done line list session tells is fits
 happens-tells (Leaves session) done list line is fits tells = lost_line done line list session tells is fits
 
 -- a line at which something happens
-happens-next : (told : Told) (list : List NumberedEvent) (presence : List Presence) (done : List (List ℕ)) (number : ℕ) (line : List ℕ) (todo : List (List ℕ))
-    → reading_of_line line ≡ Says told → number ≡ length done + 1 → session_of told < 17 → Placed presence list → Tells done list
-    → Next done line todo (noted_if (cause_of (slice_get presence (session_of told)) told) (noted list presence) number told)
+happens-next : (told : Told) (list : List NumberedEvent) (presence : List Presence) (done : List (List ℕ)) (number : ℕ)
+    (line : List ℕ) (todo : List (List ℕ))
+    → reading_of_line line ≡ Says told → number ≡ length done + 1 → session_of told < 17 → Placed presence list
+    → Tells done list
+    → Next done line todo (noted_if (cause_of (slice_get presence (session_of told)) told)
+    (noted list presence) number told)
 unfolding noted_if
-happens-next told list presence done number line todo is at within placed tells = by (cause_of (slice_get presence (session_of told)) told) refl
+happens-next told list presence done number line todo is at within placed tells =
+    by (cause_of (slice_get presence (session_of told)) told) refl
   where
-    by : (o : Option LineFault) → cause_of (slice_get presence (session_of told)) told ≡ o → Next done line todo (noted_if o (noted list presence) number told)
+    by : (o : Option LineFault) → cause_of (slice_get presence (session_of told)) told ≡ o
+        → Next done line todo (noted_if o (noted list presence) number told)
     by None none =
         let fits : Fits list told = sym (fits-here presence list told within placed) ∙ none in
         inl (record {
           clean = refl;
           placed = placed-next presence list number told within placed fits;
-          stands = told-at done list (done ++ line ∷ []) number told at (happens-tells told done list line is fits tells);
+          stands = told-at done list (done ++ line ∷ []) number told at
+              (happens-tells told done list line is fits tells);
         })
     by (Some fault) some =
-        inr (length done + 1, fault, unfit_line done line todo list told fault tells is (sym (fits-here presence list told within placed) ∙ some))
+        inr (
+          length done + 1,
+          fault,
+          unfit_line done line todo list told fault tells is
+              (sym (fits-here presence list told within placed) ∙ some),
+        )
 
 -- a line at which a connection was found closed
-closed-next : (session : ℕ) (list : List NumberedEvent) (presence : List Presence) (done : List (List ℕ)) (number : ℕ) (line : List ℕ) (todo : List (List ℕ))
-    → reading_of_line line ≡ Closed session → number ≡ length done + 1 → session < 17 → Placed presence list → Tells done list
-    → Next done line todo (closed_if (cause_of (slice_get presence session) (Leaves session)) (noted list presence) number session)
+closed-next : (session : ℕ) (list : List NumberedEvent) (presence : List Presence) (done : List (List ℕ)) (number : ℕ)
+    (line : List ℕ) (todo : List (List ℕ))
+    → reading_of_line line ≡ Closed session → number ≡ length done + 1 → session < 17 → Placed presence list
+    → Tells done list
+    → Next done line todo (closed_if (cause_of (slice_get presence session) (Leaves session))
+    (noted list presence) number session)
 unfolding closed_if
-closed-next session list presence done number line todo is at within placed tells = by (cause_of (slice_get presence session) (Leaves session)) refl
+closed-next session list presence done number line todo is at within placed tells =
+    by (cause_of (slice_get presence session) (Leaves session)) refl
   where
     one : ℕ → NumberedEvent
     one n = record { number = n; told = Leaves session }
@@ -201,37 +246,50 @@ closed-next session list presence done number line todo is at within placed tell
     whole : take place list ++ drop place list ≡ list
     whole = take-append-drop place list
 
-    by : (o : Option LineFault) → cause_of (slice_get presence session) (Leaves session) ≡ o → Next done line todo (closed_if o (noted list presence) number session)
+    by : (o : Option LineFault) → cause_of (slice_get presence session) (Leaves session) ≡ o
+        → Next done line todo (closed_if o (noted list presence) number session)
     by None none =
         let fits : Fits list (Leaves session) = sym (fits-here presence list (Leaves session) within placed) ∙ none in
         let parts = ends session list in
         let told : Tells (done ++ line ∷ []) (take place list ++ one (length done + 1) ∷ drop place list) =
-        gone_line done line (take place list) (drop place list) session (subst (Tells done) (sym whole) tells) is (ends-in session place list parts) parts.1
+        gone_line done line (take place list) (drop place list) session (subst (Tells done) (sym whole) tells) is
+        (ends-in session place list parts) parts.1
         (subst (λ (l : List NumberedEvent). Fits l (Leaves session)) (sym whole) fits) in
         inl (record {
           clean = refl;
-          placed = placed-closed presence (take place list) (drop place list) number session within (subst (Placed presence) (sym whole) placed);
-          stands = subst (λ (n : ℕ). Tells (done ++ line ∷ []) (take place list ++ one n ∷ drop place list)) (sym at) told;
+          placed = placed-closed presence (take place list) (drop place list) number session within
+              (subst (Placed presence) (sym whole) placed);
+          stands = subst (λ (n : ℕ). Tells (done ++ line ∷ []) (take place list ++ one n ∷ drop place list))
+              (sym at) told;
         })
     by (Some fault) some =
-        inr (length done + 1, fault, unfit_gone done line todo list session fault tells is (sym (fits-here presence list (Leaves session) within placed) ∙ some))
+        inr (
+          length done + 1,
+          fault,
+          unfit_gone done line todo list session fault tells is
+              (sym (fits-here presence list (Leaves session) within placed) ∙ some),
+        )
 
-line-end : (done : List (List ℕ)) (line : List ℕ) (todo : List (List ℕ)) → (done ++ line ∷ []) ++ todo ≡ done ++ line ∷ todo
+line-end : (done : List (List ℕ)) (line : List ℕ) (todo : List (List ℕ))
+    → (done ++ line ∷ []) ++ todo ≡ done ++ line ∷ todo
 line-end done line todo = append_assoc done (line ∷ []) todo
 
-next-as : (done : List (List ℕ)) (line : List ℕ) (todo : List (List ℕ)) (new : Notes) → Right (done ++ line ∷ []) new ⊎ Found ((done ++ line ∷ []) ++ todo)
+next-as : (done : List (List ℕ)) (line : List ℕ) (todo : List (List ℕ)) (new : Notes)
+    → Right (done ++ line ∷ []) new ⊎ Found ((done ++ line ∷ []) ++ todo)
     → Next done line todo new
 next-as done line todo new (inl right) = inl right
 next-as done line todo new (inr found) = inr (found-as _ _ (line-end done line todo) found)
 
 -- what a line says that isn't one of rows
-said-next : (said : LineSaid) (list : List NumberedEvent) (presence : List Presence) (done : List (List ℕ)) (number : ℕ) (line : List ℕ) (todo : List (List ℕ))
+said-next : (said : LineSaid) (list : List NumberedEvent) (presence : List Presence) (done : List (List ℕ)) (number : ℕ)
+    (line : List ℕ) (todo : List (List ℕ))
     → reading_of_line line ≡ said → number ≡ length done + 1 → Within said → Placed presence list → Tells done list
     → Next done line todo (noted_said (noted list presence) number said)
 unfolding noted_said
 said-next Nothing list presence done number line todo is at within placed tells =
     inl (record { clean = refl; placed = placed; stands = silent_line done line list tells is })
-said-next Bad list presence done number line todo is at within placed tells = inr (length done + 1, NotALine, bad_line done line todo list tells is)
+said-next Bad list presence done number line todo is at within placed tells =
+    inr (length done + 1, NotALine, bad_line done line todo list tells is)
 said-next (Says told) list presence done number line todo is at within placed tells =
     happens-next told list presence done number line todo is at within placed tells
 said-next (Closed session) list presence done number line todo is at within placed tells =
@@ -256,12 +314,14 @@ said-next (Awaits session count) list presence done number line todo is at withi
     next-as done line todo _ (awaiting-next list presence (done ++ line ∷ []) todo a part placed)
 
 -- a line where a row is to stand
-silent-more : (line : List ℕ) (missing : ℕ) (lines : List (List ℕ)) (more : List Xid) → (missing == 0) ≡ false → is_silent line ≡ true → RowsOf missing lines more
+silent-more : (line : List ℕ) (missing : ℕ) (lines : List (List ℕ)) (more : List Xid) → (missing == 0) ≡ false
+    → is_silent line ≡ true → RowsOf missing lines more
     → RowsOf missing (line ∷ lines) more
 silent-more line zero lines more is silent came = absurd (cc)
 silent-more line (suc missing) lines more is silent came = silent_row silent came
 
-one-more : (line : List ℕ) (missing : ℕ) (xid : Xid) (lines : List (List ℕ)) (more : List Xid) → (missing == 0) ≡ false → is_silent line ≡ false
+one-more : (line : List ℕ) (missing : ℕ) (xid : Xid) (lines : List (List ℕ)) (more : List Xid) → (missing == 0) ≡ false
+    → is_silent line ≡ false
     → row_said (unblank line) ≡ Some xid → RowsOf (missing - 1) lines more → RowsOf missing (line ∷ lines) (xid ∷ more)
 one-more line zero xid lines more is full said came = absurd (cc)
 one-more line (suc missing) xid lines more is full said came =
@@ -269,12 +329,14 @@ one-more line (suc missing) xid lines more is full said came =
 
 longer : (done : List (List ℕ)) (line : List ℕ) (a : Awaited) (list : List NumberedEvent) (part : Part done a list)
     → done ++ line ∷ [] ≡ part.before ++ part.line ∷ (part.came ++ line ∷ [])
-longer done line a list part = ap (λ (l : List (List ℕ)). l ++ line ∷ []) part.parts ∙ append_assoc part.before (part.line ∷ part.came) (line ∷ [])
+longer done line a list part = ap (λ (l : List (List ℕ)). l ++ line ∷ []) part.parts
+    ∙ append_assoc part.before (part.line ∷ part.came) (line ∷ [])
 
 some-missing : (missing : ℕ) → (missing == 0) ≡ false → 0 < missing
 some-missing missing is = grind (arith, nat_tests)
 
-part-silent : (done : List (List ℕ)) (line : List ℕ) (a : Awaited) (list : List NumberedEvent) → (a.missing == 0) ≡ false → is_silent line ≡ true → Part done a list
+part-silent : (done : List (List ℕ)) (line : List ℕ) (a : Awaited) (list : List NumberedEvent)
+    → (a.missing == 0) ≡ false → is_silent line ≡ true → Part done a list
     → Part (done ++ line ∷ []) a list
 part-silent done line a list is silent part = record {
   before = part.before;
@@ -286,14 +348,16 @@ part-silent done line a list is silent part = record {
   says = part.says;
   number = part.number;
   extends = λ lines more came.
-      subst (λ (l : List (List ℕ)). RowsOf part.count l (a.rows ++ more)) (sym (append_assoc part.came (line ∷ []) lines))
+      subst (λ (l : List (List ℕ)). RowsOf part.count l (a.rows ++ more))
+      (sym (append_assoc part.came (line ∷ []) lines))
       (part.extends (line ∷ lines) more (silent-more line a.missing lines more is silent came));
   clean = part.clean;
   rows = All-append _ part.came (line ∷ []) part.rows (inl silent, tt);
   counted = omega (arith, filled-append part.came (line ∷ []), filled-silent line [] silent, filled-none, part.counted);
 }
 
-part-row : (done : List (List ℕ)) (line : List ℕ) (a : Awaited) (list : List NumberedEvent) (xid : Xid) → (a.missing == 0) ≡ false → is_silent line ≡ false
+part-row : (done : List (List ℕ)) (line : List ℕ) (a : Awaited) (list : List NumberedEvent) (xid : Xid)
+    → (a.missing == 0) ≡ false → is_silent line ≡ false
     → row_said (unblank line) ≡ Some xid → Part done a list
     → Part (done ++ line ∷ []) (record a { missing = a.missing - 1; rows = a.rows ++ xid ∷ [] }) list
 part-row done line a list xid is full said part = record {
@@ -306,18 +370,30 @@ part-row done line a list xid is full said part = record {
   says = part.says;
   number = part.number;
   extends = λ lines more came.
-      subst (λ (l : List (List ℕ)). RowsOf part.count l ((a.rows ++ xid ∷ []) ++ more)) (sym (append_assoc part.came (line ∷ []) lines))
-      (subst (λ (l : List Xid). RowsOf part.count (part.came ++ line ∷ lines) l) (sym (append_assoc a.rows (xid ∷ []) more))
+      subst (λ (l : List (List ℕ)). RowsOf part.count l ((a.rows ++ xid ∷ []) ++ more))
+      (sym (append_assoc part.came (line ∷ []) lines))
+      (subst (λ (l : List Xid). RowsOf part.count (part.came ++ line ∷ lines) l)
+      (sym (append_assoc a.rows (xid ∷ []) more))
       (part.extends (line ∷ lines) (xid ∷ more) (one-more line a.missing xid lines more is full said came)));
   clean = part.clean;
   rows = All-append _ part.came (line ∷ []) part.rows (inr (xid, said), tt);
-  counted = omega (arith, filled-append part.came (line ∷ []), filled-one line [] full, filled-none, part.counted, some-missing a.missing is);
+  counted = omega (
+    arith,
+    filled-append part.came (line ∷ []),
+    filled-one line [] full,
+    filled-none,
+    part.counted,
+    some-missing
+        a.missing is,
+  );
 }
 
 -- a line in the place of a row that isn't one
-bad-found : (list : List NumberedEvent) (done : List (List ℕ)) (line : List ℕ) (todo : List (List ℕ)) (a : Awaited) → (a.missing == 0) ≡ false
+bad-found : (list : List NumberedEvent) (done : List (List ℕ)) (line : List ℕ) (todo : List (List ℕ)) (a : Awaited)
+    → (a.missing == 0) ≡ false
     → is_silent line ≡ false → row_said (unblank line) ≡ None → Part done a list → Found (done ++ line ∷ todo)
-bad-found list done line todo a is full said part = found-as _ _ (behind done (line ∷ todo) a list part) (by (nat_le part.count (filled (part.came ++ line ∷ todo))) refl)
+bad-found list done line todo a is full said part = found-as _ _ (behind done (line ∷ todo) a list part)
+    (by (nat_le part.count (filled (part.came ++ line ∷ todo))) refl)
   where
     lines : List (List ℕ)
     lines = part.before ++ part.line ∷ (part.came ++ line ∷ todo)
@@ -325,50 +401,68 @@ bad-found list done line todo a is full said part = found-as _ _ (behind done (l
     fewer : filled part.came < part.count
     fewer = omega (arith, part.counted, some-missing a.missing is)
 
-    cause : (o : Option LineFault) → cause_next list (Returns a.session (ShowsRows [])) ≡ o → part.count ≤ filled (part.came ++ line ∷ todo) → Found lines
+    cause : (o : Option LineFault) → cause_next list (Returns a.session (ShowsRows [])) ≡ o
+        → part.count ≤ filled (part.came ++ line ∷ todo) → Found lines
     cause None fits enough = (
       length part.before + 1 + (length part.came + 1),
       NotARow,
-      bad_row part.before part.line part.came line todo list a.session part.count part.tells part.says fits part.rows fewer full said enough,
+      bad_row part.before part.line part.came line todo list a.session part.count part.tells part.says fits part.rows
+          fewer full said enough,
     )
-    cause (Some fault) some enough =
-        (length part.before + 1, fault, unfit_rows part.before part.line (part.came ++ line ∷ todo) list a.session part.count fault part.tells part.says enough some)
+    cause (Some fault) some enough = (
+      length part.before + 1,
+      fault,
+      unfit_rows part.before part.line
+          (part.came ++ line ∷ todo) list a.session part.count fault part.tells part.says enough some,
+    )
 
     by : (b : Bool) → nat_le part.count (filled (part.came ++ line ∷ todo)) ≡ b → Found lines
     by true enough = cause (cause_next list (Returns a.session (ShowsRows []))) refl (grind (arith, nat_tests))
     by false short = (
       length part.before + 1,
       RowsMissing,
-      rows_missing part.before part.line (part.came ++ line ∷ todo) list a.session part.count part.tells part.says (grind (arith, nat_tests)),
+      rows_missing part.before part.line (part.came ++ line ∷ todo) list a.session part.count part.tells part.says
+          (grind (arith, nat_tests)),
     )
 
-row-next : (row : Option Xid) (list : List NumberedEvent) (presence : List Presence) (done : List (List ℕ)) (a : Awaited) (number : ℕ) (line : List ℕ) (todo : List (List ℕ))
-    → row_said (unblank line) ≡ row → (a.missing == 0) ≡ false → is_silent line ≡ false → Part done a list → Placed presence list
+row-next : (row : Option Xid) (list : List NumberedEvent) (presence : List Presence) (done : List (List ℕ))
+    (a : Awaited) (number : ℕ) (line : List ℕ) (todo : List (List ℕ))
+    → row_said (unblank line) ≡ row → (a.missing == 0) ≡ false → is_silent line ≡ false → Part done a list
+    → Placed presence list
     → Next done line todo (with_row (noted list presence) a number row)
 unfolding with_row
-row-next None list presence done a number line todo said is full part placed = inr (bad-found list done line todo a is full said part)
+row-next None list presence done a number line todo said is full part placed =
+    inr (bad-found list done line todo a is full said part)
 row-next (Some xid) list presence done a number line todo said is full part placed =
     let b : Awaited = record a { missing = a.missing - 1; rows = a.rows ++ xid ∷ [] } in
-    next-as done line todo _ (awaiting-next list presence (done ++ line ∷ []) todo b (part-row done line a list xid is full said part) placed)
+    next-as done line todo _ (awaiting-next list presence (done ++ line ∷ []) todo b
+    (part-row done line a list xid is full said part) placed)
 
-quiet-next : (silent : Bool) (list : List NumberedEvent) (presence : List Presence) (done : List (List ℕ)) (a : Awaited) (number : ℕ) (line : List ℕ) (todo : List (List ℕ))
+quiet-next : (silent : Bool) (list : List NumberedEvent) (presence : List Presence) (done : List (List ℕ)) (a : Awaited)
+    (number : ℕ) (line : List ℕ) (todo : List (List ℕ))
     → is_silent line ≡ silent → (a.missing == 0) ≡ false → Part done a list → Placed presence list
-    → Next done line todo (if silent then record { told = list; faults = []; presence = presence; awaited = Some a } else
+    → Next done line todo
+    (if silent then record { told = list; faults = []; presence = presence; awaited = Some a } else
     with_row (noted list presence) a number (row_said (unblank line)))
 quiet-next true list presence done a number line todo silent is part placed =
     inl (record { clean = refl; placed = placed; stands = (part-silent done line a list is silent part, is) })
 quiet-next false list presence done a number line todo full is part placed =
     row-next (row_said (unblank line)) list presence done a number line todo refl is full part placed
 
-line-next : (list : List NumberedEvent) (faults : List ℕ) (presence : List Presence) (awaited : Option Awaited) (done : List (List ℕ)) (number : ℕ) (line : List ℕ)
+line-next : (list : List NumberedEvent) (faults : List ℕ) (presence : List Presence) (awaited : Option Awaited)
+    (done : List (List ℕ)) (number : ℕ) (line : List ℕ)
     (todo : List (List ℕ)) → number ≡ length done + 1 → faults ≡ [] → Placed presence list → Stands done awaited list
-    → Next done line todo (noted_line (record { told = list; faults = faults; presence = presence; awaited = awaited }) number line)
+    → Next done line todo
+    (noted_line (record { told = list; faults = faults; presence = presence; awaited = awaited }) number line)
 unfolding noted_line noted_row
 line-next list faults presence None done number line todo at clean placed stands =
-    subst (λ (f : List ℕ). Next done line todo (noted_said (record { told = list; faults = f; presence = presence; awaited = None }) number (reading_of_line line)))
-    (sym clean) (said-next (reading_of_line line) list presence done number line todo refl at (line_within line) placed stands)
+    subst (λ (f : List ℕ). Next done line todo (noted_said
+    (record { told = list; faults = f; presence = presence; awaited = None }) number (reading_of_line line)))
+    (sym clean) (said-next (reading_of_line line) list presence done number line todo refl at
+    (line_within line) placed stands)
 line-next list faults presence (Some a) done number line todo at clean placed stands =
-    subst (λ (f : List ℕ). Next done line todo (noted_row (record { told = list; faults = f; presence = presence; awaited = Some a }) a number line)) (sym clean)
+    subst (λ (f : List ℕ). Next done line todo (noted_row
+    (record { told = list; faults = f; presence = presence; awaited = Some a }) a number line)) (sym clean)
     (quiet-next (is_silent line) list presence done a number line todo refl stands.1 stands.0 placed)
 
 length-line : (done : List (List ℕ)) (line : List ℕ) → length (done ++ line ∷ []) ≡ length done + 1
@@ -377,20 +471,25 @@ length-line done line = grind (arith, common_steps)
 lines-next : (todo done : List (List ℕ)) (notes : Notes) (number : ℕ) → number ≡ length done + 1 → Right done notes
     → Right (done ++ todo) (noted_lines notes number todo) ⊎ Found (done ++ todo)
 unfolding noted_lines
-lines-next [] done notes number at right = inl (subst (λ (l : List (List ℕ)). Right l notes) (sym (append-nil done)) right)
+lines-next [] done notes number at right =
+    inl (subst (λ (l : List (List ℕ)). Right l notes) (sym (append-nil done)) right)
 lines-next (line ∷ todo) done notes number at right =
-    by (line-next notes.told notes.faults notes.presence notes.awaited done number line todo at right.clean right.placed right.stands)
-    (λ here. lines-next todo (done ++ line ∷ []) (noted_line notes number line) (number + 1) (ap (λ (n : ℕ). n + 1) (at ∙ sym (length-line done line))) here)
+    by (line-next notes.told notes.faults notes.presence notes.awaited done number line todo at right.clean right.placed
+    right.stands)
+    (λ here. lines-next todo (done ++ line ∷ []) (noted_line notes number line) (number + 1)
+    (ap (λ (n : ℕ). n + 1) (at ∙ sym (length-line done line))) here)
   where
     new : Notes
     new = noted_line notes number line
 
     by : Next done line todo new
-        → (Right (done ++ line ∷ []) new → Right ((done ++ line ∷ []) ++ todo) (noted_lines new (number + 1) todo) ⊎ Found ((done ++ line ∷ []) ++ todo))
+        → (Right (done ++ line ∷ []) new → Right ((done ++ line ∷ []) ++ todo) (noted_lines new (number + 1) todo)
+        ⊎ Found ((done ++ line ∷ []) ++ todo))
         → Right (done ++ line ∷ todo) (noted_lines new (number + 1) todo) ⊎ Found (done ++ line ∷ todo)
     by (inr found) again = inr found
     by (inl here) again =
-        subst (λ (l : List (List ℕ)). Right l (noted_lines new (number + 1) todo) ⊎ Found l) (line-end done line todo) (again here)
+        subst (λ (l : List (List ℕ)). Right l (noted_lines new (number + 1) todo) ⊎ Found l) (line-end done line todo)
+        (again here)
 
 -- what is read of lines is what they tell, or one of them is the first faulty one
 pub record AllTold (lines : List (List ℕ)) (notes : Notes) : Type 0 where
@@ -398,17 +497,24 @@ pub record AllTold (lines : List (List ℕ)) (notes : Notes) : Type 0 where
   pub none : notes.awaited ≡ None
   pub tells : Tells lines notes.told
 
-ended-told : (lines : List (List ℕ)) (list : List NumberedEvent) (faults : List ℕ) (presence : List Presence) (awaited : Option Awaited) → faults ≡ []
-    → Stands lines awaited list → AllTold lines (record { told = list; faults = faults; presence = presence; awaited = awaited }) ⊎ Found lines
+ended-told : (lines : List (List ℕ)) (list : List NumberedEvent) (faults : List ℕ) (presence : List Presence)
+    (awaited : Option Awaited) → faults ≡ []
+    → Stands lines awaited list
+    → AllTold lines (record { told = list; faults = faults; presence = presence; awaited = awaited }) ⊎ Found lines
 ended-told lines list faults presence None clean tells = inl (record { clean = clean; none = refl; tells = tells })
 ended-told lines list faults presence (Some a) clean (part, is) =
     let short : filled (part.came ++ []) < part.count =
     omega (arith, part.counted, some-missing a.missing is, filled-append part.came [], filled-none) in
-    inr (found-as _ _ (behind lines [] a list part ∙ append-nil lines)
-    (length part.before + 1, RowsMissing, rows_missing part.before part.line (part.came ++ []) list a.session part.count part.tells part.says short))
+    inr (found-as _ _ (behind lines [] a list part ∙ append-nil lines) (
+      length part.before + 1,
+      RowsMissing,
+      rows_missing part.before part.line
+          (part.came ++ []) list a.session part.count part.tells part.says short,
+    ))
 
 pub lines-told : (lines : List (List ℕ)) → AllTold lines (noted_lines no_notes 1 lines) ⊎ Found lines
-lines-told lines = by (lines-next lines [] no_notes 1 refl (record { clean = refl; placed = placed-none; stands = no_line }))
+lines-told lines =
+    by (lines-next lines [] no_notes 1 refl (record { clean = refl; placed = placed-none; stands = no_line }))
   where
     notes : Notes
     notes = noted_lines no_notes 1 lines

@@ -1,5 +1,6 @@
 -- Lines tell nothing but what is read of them.
-use Rattle.std.proofs.Common.{◌≡◌, ℕ, suc, ◌+◌, ◌-◌, ◌==◌, ◌<◌, Bool, true, false, if◌then◌else◌, Option, Some, None, List, [], ◌∷◌, ◌++◌, length}
+use Rattle.std.proofs.Common.{◌≡◌, ℕ, suc, ◌+◌, ◌-◌, ◌==◌, ◌<◌, Bool, true, false, if◌then◌else◌, Option, Some, None}
+use Rattle.std.proofs.Common.{List, [], ◌∷◌, ◌++◌, length}
 use Rattle.std.proofs.Common.{slice_get, slice_set, refl, ap, sym, ◌∙◌, subst, arith, append_assoc, append-nil}
 use Rattle.std.specs.List.{insert}
 use Rattle.std.proofs.lemmas.Bool.Decides.{nat_tests}
@@ -8,19 +9,24 @@ use Rattle.xa_xid.specs.declared.xid.Xid.{Xid}
 use Rattle.xa_record.specs.declared.line_fault.LineFault.{LineFault}
 use Rattle.xa_record.specs.declared.presence.Presence.{Presence}
 use Rattle.xa_record.specs.declared.presence.Presence.TheVariants.{Idle, Lost}
-use Rattle.xa_record.specs.Lines.{ShowsRows, Told, Calls, Returns, ReturnsUnknown, Leaves, LineSaid, Nothing, Says, Awaits, Closed, is_silent, reading_of_line}
+use Rattle.xa_record.specs.Lines.{ShowsRows, Told, Calls, Returns, ReturnsUnknown, Leaves, LineSaid, Nothing, Says}
+use Rattle.xa_record.specs.Lines.{Awaits, Closed, is_silent, reading_of_line}
 use Rattle.xa_record.specs.Rows.{row_said}
-use Rattle.xa_record.specs.Reading.{NumberedEvent, Awaited, Notes, blamed_too, noted_if, closed_if, cause_of, session_of, presence_after}
-use Rattle.xa_record.specs.Reading.{up_to_return, returned, awaiting, with_row, noted_row, noted_said, noted_line, noted_lines, no_notes}
+use Rattle.xa_record.specs.Reading.{NumberedEvent, Awaited, Notes, blamed_too, noted_if, closed_if, cause_of}
+use Rattle.xa_record.specs.Reading.{session_of, presence_after}
+use Rattle.xa_record.specs.Reading.{up_to_return, returned, awaiting, with_row, noted_row, noted_said, noted_line}
+use Rattle.xa_record.specs.Reading.{noted_lines, no_notes}
 use Rattle.xa_record.specs.Records.{RowsOf, no_row, silent_row, one_row, EndsInReturn, HasNoReturn, Fits}
-use Rattle.xa_record.specs.Records.{Tells, no_line, silent_line, call_line, return_line, rows_lines, unknown_line, lost_line, gone_line}
+use Rattle.xa_record.specs.Records.{Tells, no_line, silent_line, call_line, return_line, rows_lines, unknown_line}
+use Rattle.xa_record.specs.Records.{lost_line, gone_line}
 use Rattle.xa_record.proofs.LastReturns.{inserted}
 use Rattle.xa_record.proofs.Presences.{Placed, placed-none, fits-here, placed-next, placed-closed}
 use Rattle.xa_record.proofs.RecordLines.{cause-shown}
 use Rattle.xa_record.proofs.SessionsWithin.{Within, line_within}
 
 pub noted_lines-append : (notes : Notes) (number : ℕ) (lines more : List (List ℕ))
-    → noted_lines notes number (lines ++ more) ≡ noted_lines (noted_lines notes number lines) (number + length lines) more
+    → noted_lines notes number (lines ++ more) ≡ noted_lines (noted_lines notes number lines)
+    (number + length lines) more
 unfolding noted_lines
 noted_lines-append notes number [] more = ap (λ (n : ℕ). noted_lines notes n more) (omega arith)
 noted_lines-append notes number (line ∷ lines) more =
@@ -40,14 +46,17 @@ pub record IsRead (lines : List (List ℕ)) (list : List NumberedEvent) : Type 0
   pub placed : Placed presence list
   pub is : noted_lines no_notes 1 lines ≡ noted list presence
 
-pub said-of : (said : LineSaid) (list : List NumberedEvent) (presence : List Presence) (line : List ℕ) (number : ℕ) → reading_of_line line ≡ said
+pub said-of : (said : LineSaid) (list : List NumberedEvent) (presence : List Presence) (line : List ℕ) (number : ℕ)
+    → reading_of_line line ≡ said
     → noted_line (noted list presence) number line ≡ noted_said (noted list presence) number said
 unfolding noted_line
 said-of said list presence line number is = ap (noted_said (noted list presence) number) is
 
 -- one line more
-pub lines-more : (lines : List (List ℕ)) (line : List ℕ) (more : List (List ℕ)) (list : List NumberedEvent) (read : IsRead lines list)
-    → noted_lines no_notes 1 (lines ++ line ∷ more) ≡ noted_lines (noted_line (noted list read.presence) (length lines + 1) line) (length lines + 1 + 1) more
+pub lines-more : (lines : List (List ℕ)) (line : List ℕ) (more : List (List ℕ)) (list : List NumberedEvent)
+    (read : IsRead lines list)
+    → noted_lines no_notes 1 (lines ++ line ∷ more) ≡ noted_lines
+    (noted_line (noted list read.presence) (length lines + 1) line) (length lines + 1 + 1) more
 unfolding noted_lines
 lines-more lines line more list read =
     noted_lines-append no_notes 1 lines (line ∷ more)
@@ -58,7 +67,8 @@ no-more : (notes : Notes) (number : ℕ) → noted_lines notes number [] ≡ not
 unfolding noted_lines
 no-more notes number = refl
 
-line-more : (lines : List (List ℕ)) (line : List ℕ) (list : List NumberedEvent) (read : IsRead lines list) (said : LineSaid) → reading_of_line line ≡ said
+line-more : (lines : List (List ℕ)) (line : List ℕ) (list : List NumberedEvent) (read : IsRead lines list)
+    (said : LineSaid) → reading_of_line line ≡ said
     → noted_lines no_notes 1 (lines ++ line ∷ []) ≡ noted_said (noted list read.presence) (length lines + 1) said
 line-more lines line list read said is =
     lines-more lines line [] list read ∙ no-more _ _ ∙ said-of said list read.presence line (length lines + 1) is
@@ -67,25 +77,32 @@ no-line-read : IsRead [] []
 unfolding noted_lines
 no-line-read = record { presence = no_notes.presence; placed = placed-none; is = refl }
 
-silent-read : (lines : List (List ℕ)) (line : List ℕ) (list : List NumberedEvent) → reading_of_line line ≡ Nothing → IsRead lines list → IsRead (lines ++ line ∷ []) list
+silent-read : (lines : List (List ℕ)) (line : List ℕ) (list : List NumberedEvent) → reading_of_line line ≡ Nothing
+    → IsRead lines list → IsRead (lines ++ line ∷ []) list
 unfolding noted_said
-silent-read lines line list is read = record { presence = read.presence; placed = read.placed; is = line-more lines line list read Nothing is }
+silent-read lines line list is read =
+    record { presence = read.presence; placed = read.placed; is = line-more lines line list read Nothing is }
 
-noted-so : (o : Option LineFault) (list : List NumberedEvent) (presence : List Presence) (number : ℕ) (told : Told) → o ≡ None
+noted-so : (o : Option LineFault) (list : List NumberedEvent) (presence : List Presence) (number : ℕ) (told : Told)
+    → o ≡ None
     → noted_if o (noted list presence) number told
-    ≡ noted (list ++ record { number = number; told = told } ∷ []) (slice_set presence (session_of told) (presence_after told))
+    ≡ noted (list ++ record { number = number; told = told } ∷ [])
+    (slice_set presence (session_of told) (presence_after told))
 unfolding noted_if
 noted-so None list presence number told none = refl
 noted-so (Some fault) list presence number told some = absurd (cc)
 
-closed-so : (o : Option LineFault) (list : List NumberedEvent) (presence : List Presence) (number session : ℕ) → o ≡ None
+closed-so : (o : Option LineFault) (list : List NumberedEvent) (presence : List Presence) (number session : ℕ)
+    → o ≡ None
     → closed_if o (noted list presence) number session
-    ≡ noted (insert list (up_to_return session list) (record { number = number; told = Leaves session })) (slice_set presence session Lost)
+    ≡ noted (insert list (up_to_return session list) (record { number = number; told = Leaves session }))
+    (slice_set presence session Lost)
 unfolding closed_if
 closed-so None list presence number session none = refl
 closed-so (Some fault) list presence number session some = absurd (cc)
 
-happens-read : (told : Told) (lines : List (List ℕ)) (line : List ℕ) (list : List NumberedEvent) → reading_of_line line ≡ Says told → Fits list told → IsRead lines list
+happens-read : (told : Told) (lines : List (List ℕ)) (line : List ℕ) (list : List NumberedEvent)
+    → reading_of_line line ≡ Says told → Fits list told → IsRead lines list
     → IsRead (lines ++ line ∷ []) (list ++ record { number = length lines + 1; told = told } ∷ [])
 unfolding noted_said
 happens-read told lines line list is fits read =
@@ -95,11 +112,14 @@ happens-read told lines line list is fits read =
       placed = placed-next read.presence list (length lines + 1) told within read.placed fits;
       is =
           line-more lines line list read (Says told) is
-          ∙ noted-so _ list read.presence (length lines + 1) told (fits-here read.presence list told within read.placed ∙ fits);
+          ∙ noted-so _ list read.presence (length lines + 1) told
+          (fits-here read.presence list told within read.placed ∙ fits);
     }
 
-closed-read : (session : ℕ) (lines : List (List ℕ)) (line : List ℕ) (before after : List NumberedEvent) → reading_of_line line ≡ Closed session
-    → EndsInReturn session before → HasNoReturn session after → Fits (before ++ after) (Leaves session) → IsRead lines (before ++ after)
+closed-read : (session : ℕ) (lines : List (List ℕ)) (line : List ℕ) (before after : List NumberedEvent)
+    → reading_of_line line ≡ Closed session
+    → EndsInReturn session before → HasNoReturn session after → Fits (before ++ after) (Leaves session)
+    → IsRead lines (before ++ after)
     → IsRead (lines ++ line ∷ []) (before ++ record { number = length lines + 1; told = Leaves session } ∷ after)
 unfolding noted_said
 closed-read session lines line before after is ends_so last fits read =
@@ -112,7 +132,8 @@ closed-read session lines line before after is ends_so last fits read =
           line-more lines line (before ++ after) read (Closed session) is
           ∙ closed-so _ (before ++ after) read.presence (length lines + 1) session
           (fits-here read.presence (before ++ after) (Leaves session) within read.placed ∙ fits)
-          ∙ ap (λ (l : List NumberedEvent). noted l (slice_set read.presence session Lost)) (inserted session before after one ends_so last);
+          ∙ ap (λ (l : List NumberedEvent). noted l (slice_set read.presence session Lost))
+          (inserted session before after one ends_so last);
     }
 
 -- rows are awaited, and come
@@ -122,26 +143,34 @@ zero-missing missing is = grind (arith, nat_tests)
 pub some-missing : (missing : ℕ) → 0 < missing → (missing == 0) ≡ false
 some-missing missing some = grind (arith, nat_tests)
 
-pub waits : (list : List NumberedEvent) (presence : List Presence) (a : Awaited) → 0 < a.missing → awaiting (noted list presence) a ≡ waiting list presence a
+pub waits : (list : List NumberedEvent) (presence : List Presence) (a : Awaited) → 0 < a.missing
+    → awaiting (noted list presence) a ≡ waiting list presence a
 waits list presence a some =
-    ap (λ (b : Bool). if b then returned (noted list presence) a else waiting list presence a) (some-missing a.missing some)
+    ap (λ (b : Bool). if b then returned (noted list presence) a else waiting list presence a)
+    (some-missing a.missing some)
 
 pub all-came : (list : List NumberedEvent) (presence : List Presence) (a : Awaited) → a.missing ≡ 0
     → awaiting (noted list presence) a ≡ returned (noted list presence) a
 all-came list presence a none =
-    ap (λ (b : Bool). if b then returned (noted list presence) a else waiting list presence a) (zero-missing a.missing none)
+    ap (λ (b : Bool). if b then returned (noted list presence) a else waiting list presence a)
+    (zero-missing a.missing none)
 
-pub come-silent : (list : List NumberedEvent) (presence : List Presence) (a : Awaited) (number : ℕ) (line : List ℕ) → is_silent line ≡ true
+pub come-silent : (list : List NumberedEvent) (presence : List Presence) (a : Awaited) (number : ℕ) (line : List ℕ)
+    → is_silent line ≡ true
     → noted_line (waiting list presence a) number line ≡ waiting list presence a
 unfolding noted_line noted_row
 come-silent list presence a number line silent =
-    ap (λ (b : Bool). if b then waiting list presence a else with_row (noted list presence) a number (row_said (unblank line))) silent
+    ap (λ (b : Bool). if b then waiting list presence a else with_row (noted list presence) a number
+    (row_said (unblank line))) silent
 
-pub come-row : (list : List NumberedEvent) (presence : List Presence) (a : Awaited) (number : ℕ) (line : List ℕ) (row : Option Xid) → is_silent line ≡ false
-    → row_said (unblank line) ≡ row → noted_line (waiting list presence a) number line ≡ with_row (noted list presence) a number row
+pub come-row : (list : List NumberedEvent) (presence : List Presence) (a : Awaited) (number : ℕ) (line : List ℕ)
+    (row : Option Xid) → is_silent line ≡ false
+    → row_said (unblank line) ≡ row → noted_line (waiting list presence a) number line
+    ≡ with_row (noted list presence) a number row
 unfolding noted_line noted_row
 come-row list presence a number line row full said =
-    ap (λ (b : Bool). if b then waiting list presence a else with_row (noted list presence) a number (row_said (unblank line))) full
+    ap (λ (b : Bool). if b then waiting list presence a else with_row (noted list presence) a number
+    (row_said (unblank line))) full
     ∙ ap (with_row (noted list presence) a number) said
 
 pub with-row-some : (list : List NumberedEvent) (presence : List Presence) (a : Awaited) (number : ℕ) (xid : Xid)
@@ -153,70 +182,97 @@ with-row-some list presence a number xid = refl
 returned-so : (list : List NumberedEvent) (presence : List Presence) (a : Awaited) → a.faults ≡ []
     → cause_of (slice_get presence a.session) (Returns a.session (ShowsRows [])) ≡ None
     → returned (noted list presence) a
-    ≡ noted (list ++ record { number = a.number; told = Returns a.session (ShowsRows a.rows) } ∷ []) (slice_set presence a.session Idle)
+    ≡ noted (list ++ record { number = a.number; told = Returns a.session (ShowsRows a.rows) } ∷ [])
+    (slice_set presence a.session Idle)
 returned-so list presence a clean fits =
     ap (λ (n : Notes). blamed_too n a.faults)
-    (noted-so _ list presence a.number (Returns a.session (ShowsRows a.rows)) (cause-shown (slice_get presence a.session) a.session (ShowsRows a.rows) (ShowsRows []) ∙ fits))
-    ∙ ap (λ (f : List ℕ). blamed_too (noted (list ++ record { number = a.number; told = Returns a.session (ShowsRows a.rows) } ∷ []) (slice_set presence a.session Idle)) f) clean
+    (noted-so _ list presence a.number (Returns a.session (ShowsRows a.rows))
+    (cause-shown (slice_get presence a.session) a.session (ShowsRows a.rows) (ShowsRows []) ∙ fits))
+    ∙ ap (λ (f : List ℕ). blamed_too (noted (list ++ record
+    { number = a.number; told = Returns a.session (ShowsRows a.rows) } ∷ [])
+    (slice_set presence a.session Idle)) f) clean
 
-rows-read : (count : ℕ) (lines : List (List ℕ)) (more : List Xid) → RowsOf count lines more → (list : List NumberedEvent) (presence : List Presence) (a : Awaited) (number : ℕ)
-    → a.missing ≡ count → a.faults ≡ [] → cause_of (slice_get presence a.session) (Returns a.session (ShowsRows [])) ≡ None
+rows-read : (count : ℕ) (lines : List (List ℕ)) (more : List Xid) → RowsOf count lines more
+    → (list : List NumberedEvent) (presence : List Presence) (a : Awaited) (number : ℕ)
+    → a.missing ≡ count → a.faults ≡ [] → cause_of (slice_get presence a.session) (Returns a.session (ShowsRows []))
+    ≡ None
     → noted_lines (awaiting (noted list presence) a) number lines
-    ≡ noted (list ++ record { number = a.number; told = Returns a.session (ShowsRows (a.rows ++ more)) } ∷ []) (slice_set presence a.session Idle)
+    ≡ noted (list ++ record { number = a.number; told = Returns a.session (ShowsRows (a.rows ++ more)) } ∷ [])
+    (slice_set presence a.session Idle)
 unfolding noted_lines
 rows-read count lines more no_row list presence a number is clean fits =
     all-came list presence a is ∙ returned-so list presence a clean fits
-    ∙ ap (λ (l : List Xid). noted (list ++ record { number = a.number; told = Returns a.session (ShowsRows l) } ∷ []) (slice_set presence a.session Idle)) (sym (append-nil a.rows))
-rows-read count lines more (silent_row {count = c} {line = line} {lines = rest} silent came) list presence a number is clean fits =
+    ∙ ap (λ (l : List Xid). noted (list ++ record { number = a.number; told = Returns a.session (ShowsRows l) } ∷ [])
+    (slice_set presence a.session Idle)) (sym (append-nil a.rows))
+rows-read count lines more (silent_row {count = c} {line = line}
+    {lines = rest} silent came) list presence a number is clean fits =
     let here = waits list presence a (omega (arith, is)) in
-    ap (λ (n : Notes). noted_lines n (number + 1) rest) (ap (λ (n : Notes). noted_line n number line) here ∙ come-silent list presence a number line silent ∙ sym here)
+    ap (λ (n : Notes). noted_lines n (number + 1) rest) (ap (λ (n : Notes). noted_line n number line) here
+    ∙ come-silent list presence a number line silent ∙ sym here)
     ∙ rows-read (suc c) rest more came list presence a (number + 1) is clean fits
-rows-read count lines more (one_row {count = c} {line = line} {lines = rest} {xid = xid} {rows = fewer} filled said came) list presence a number is clean fits =
+rows-read count lines more (one_row {count = c} {line = line} {lines = rest} {xid = xid}
+    {rows = fewer} filled said came) list presence a number is clean fits =
     let b : Awaited = record a { missing = a.missing - 1; rows = a.rows ++ xid ∷ [] } in
     let here = waits list presence a (omega (arith, is)) in
     ap (λ (n : Notes). noted_lines n (number + 1) rest)
-    (ap (λ (n : Notes). noted_line n number line) here ∙ come-row list presence a number line (Some xid) filled said ∙ with-row-some list presence a number xid)
+    (ap (λ (n : Notes). noted_line n number line) here ∙ come-row list presence a number line (Some xid) filled said
+    ∙ with-row-some list presence a number xid)
     ∙ rows-read c rest fewer came list presence b (number + 1) (omega (arith, is)) clean fits
-    ∙ ap (λ (l : List Xid). noted (list ++ record { number = a.number; told = Returns a.session (ShowsRows l) } ∷ []) (slice_set presence a.session Idle))
+    ∙ ap (λ (l : List Xid). noted (list ++ record { number = a.number; told = Returns a.session (ShowsRows l) } ∷ [])
+    (slice_set presence a.session Idle))
     (append_assoc a.rows (xid ∷ []) fewer)
 
 -- the rows that are awaited behind a line
 abbrev pub first-awaited : ℕ → ℕ → ℕ → Awaited
-first-awaited session number count = record { session = session; number = number; missing = count; rows = []; faults = [] }
+first-awaited session number count =
+    record { session = session; number = number; missing = count; rows = []; faults = [] }
 
-pub awaits-said : (lines : List (List ℕ)) (line : List ℕ) (more : List (List ℕ)) (list : List NumberedEvent) (read : IsRead lines list) (session count : ℕ)
+pub awaits-said : (lines : List (List ℕ)) (line : List ℕ) (more : List (List ℕ)) (list : List NumberedEvent)
+    (read : IsRead lines list) (session count : ℕ)
     → reading_of_line line ≡ Awaits session count
     → noted_lines no_notes 1 (lines ++ line ∷ more)
-    ≡ noted_lines (awaiting (noted list read.presence) (first-awaited session (length lines + 1) count)) (length lines + 1 + 1) more
+    ≡ noted_lines (awaiting (noted list read.presence) (first-awaited session (length lines + 1) count))
+    (length lines + 1 + 1) more
 unfolding noted_said
 awaits-said lines line more list read session count is =
     lines-more lines line more list read
-    ∙ ap (λ (n : Notes). noted_lines n (length lines + 1 + 1) more) (said-of (Awaits session count) list read.presence line (length lines + 1) is)
+    ∙ ap (λ (n : Notes). noted_lines n (length lines + 1 + 1) more)
+    (said-of (Awaits session count) list read.presence line (length lines + 1) is)
 
-rows-lines-read : (lines : List (List ℕ)) (line : List ℕ) (more : List (List ℕ)) (list : List NumberedEvent) (session count : ℕ) (rows : List Xid)
-    → reading_of_line line ≡ Awaits session count → RowsOf count more rows → Fits list (Returns session (ShowsRows rows)) → IsRead lines list
-    → IsRead (lines ++ line ∷ more) (list ++ record { number = length lines + 1; told = Returns session (ShowsRows rows) } ∷ [])
+rows-lines-read : (lines : List (List ℕ)) (line : List ℕ) (more : List (List ℕ)) (list : List NumberedEvent)
+    (session count : ℕ) (rows : List Xid)
+    → reading_of_line line ≡ Awaits session count → RowsOf count more rows
+    → Fits list (Returns session (ShowsRows rows)) → IsRead lines list
+    → IsRead (lines ++ line ∷ more)
+    (list ++ record { number = length lines + 1; told = Returns session (ShowsRows rows) } ∷ [])
 rows-lines-read lines line more list session count rows is came fits read =
     let told = Returns session (ShowsRows rows) in
     let within : session < 17 = subst Within is (line_within line) in
-    let here = cause-shown (slice_get read.presence session) session (ShowsRows []) (ShowsRows rows) ∙ fits-here read.presence list told within read.placed ∙ fits in
+    let here = cause-shown (slice_get read.presence session) session (ShowsRows []) (ShowsRows rows)
+    ∙ fits-here read.presence list told within read.placed ∙ fits in
     record {
       presence = slice_set read.presence session Idle;
       placed = placed-next read.presence list (length lines + 1) told within read.placed fits;
       is =
           awaits-said lines line more list read session count is
-          ∙ rows-read count more rows came list read.presence (first-awaited session (length lines + 1) count) (length lines + 1 + 1) refl refl here;
+          ∙ rows-read count more rows came list read.presence (first-awaited session (length lines + 1) count)
+          (length lines + 1 + 1) refl refl here;
     }
 
 -- what lines tell is what is read of them, and none is faulty
 pub lines-read : (lines : List (List ℕ)) (list : List NumberedEvent) → Tells lines list → IsRead lines list
 lines-read lines list no_line = no-line-read
-lines-read lines list (silent_line before line same tells is) = silent-read before line same is (lines-read before same tells)
-lines-read lines list (call_line before line old session text tells is fits) = happens-read (Calls session text) before line old is fits (lines-read before old tells)
-lines-read lines list (return_line before line old session shown tells is fits) = happens-read (Returns session shown) before line old is fits (lines-read before old tells)
+lines-read lines list (silent_line before line same tells is) =
+    silent-read before line same is (lines-read before same tells)
+lines-read lines list (call_line before line old session text tells is fits) =
+    happens-read (Calls session text) before line old is fits (lines-read before old tells)
+lines-read lines list (return_line before line old session shown tells is fits) =
+    happens-read (Returns session shown) before line old is fits (lines-read before old tells)
 lines-read lines list (rows_lines before line more old session count rows tells is came fits) =
     rows-lines-read before line more old session count rows is came fits (lines-read before old tells)
-lines-read lines list (unknown_line before line old session tells is fits) = happens-read (ReturnsUnknown session) before line old is fits (lines-read before old tells)
-lines-read lines list (lost_line before line old session tells is fits) = happens-read (Leaves session) before line old is fits (lines-read before old tells)
+lines-read lines list (unknown_line before line old session tells is fits) =
+    happens-read (ReturnsUnknown session) before line old is fits (lines-read before old tells)
+lines-read lines list (lost_line before line old session tells is fits) =
+    happens-read (Leaves session) before line old is fits (lines-read before old tells)
 lines-read lines list (gone_line before line front back session tells is ends_so last fits) =
     closed-read session before line front back is ends_so last fits (lines-read before (front ++ back) tells)

@@ -1,6 +1,7 @@
 -- The lines of an order along the moves that lead through the events.
 --     Kept         at each session's number, the text of what it has called for that may still take effect
-use Rattle.std.proofs.Common.{◌≡◌, ℕ, zero, suc, ◌<◌, Option, Some, None, List, [], ◌∷◌, ◌++◌, length, codes, decimal, set, slice_get, replicate, refl, ap, sym}
+use Rattle.std.proofs.Common.{◌≡◌, ℕ, zero, suc, ◌<◌, Option, Some, None, List, [], ◌∷◌, ◌++◌, length, codes, decimal}
+use Rattle.std.proofs.Common.{set, slice_get, replicate, refl, ap, sym}
 use Rattle.std.proofs.Common.{◌∙◌, subst, inl, inr, arith}
 use Rattle.std.proofs.lemmas.Option.{none-some, same_Some, slice_get_within, cond_some}
 use Rattle.xa_statement.specs.Canonical.{statement_text}
@@ -21,7 +22,8 @@ use Rattle.xa_judge.specs.declared.moves.Act.{Act}
 use Rattle.xa_judge.specs.declared.moves.Act.TheVariants.{Statement as ItsStatement, Disconnect as ItsDisconnect}
 use Rattle.xa_judge.specs.declared.moves.Move.{Move}
 use Rattle.xa_judge.specs.declared.moves.Move.TheVariants.{Event as Seeing, Effect}
-use Rattle.xa_judge.specs.Explained.{Config, opening_config, with_client, effect_of, carried_out, disconnected, observed, called, returned, lost}
+use Rattle.xa_judge.specs.Explained.{Config, opening_config, with_client, effect_of, carried_out, disconnected}
+use Rattle.xa_judge.specs.Explained.{observed, called, returned, lost}
 use Rattle.xa_judge.specs.Explained.{answered_unknown, shows_answer, IsSession}
 use Rattle.xa_judge.specs.Explained.{LeadsThrough}
 use Rattle.xa_judge.proofs.Places.{same_number, get_written, get_apart, get_within}
@@ -32,7 +34,8 @@ use Rattle.xa_record.specs.Reading.{NumberedEvent}
 use Rattle.xa_record.specs.Allowances.{no_kinds, kinds_after}
 use Rattle.xa_record.specs.Events.{request_read, request_called, IsEvent, AreEventsAfter, AreEvents}
 use Rattle.xa_record.specs.VerdictText.{call_text, text_of_call, with_call, no_calls}
-use Rattle.xa_record.specs.Replaying.{HasNoFeed, effect_line, order_lines, open_request, IsEffectLine, AreEffects, IsWellCalled, IsWellTold, AreWellCalled}
+use Rattle.xa_record.specs.Replaying.{HasNoFeed, effect_line, order_lines, open_request, IsEffectLine, AreEffects}
+use Rattle.xa_record.specs.Replaying.{IsWellCalled, IsWellTold, AreWellCalled}
 use Rattle.xa_record.proofs.LinesBack.{line_back, line_feed, call_bare, call_feed, call_back}
 
 -- the text of a request that may still take effect stands in the list
@@ -44,7 +47,8 @@ pub record KeepsText (calls : List (List ℕ)) (session : ℕ) (request : Reques
 
 pub record Kept (calls : List (List ℕ)) (clients : List ClientState) : Type 0 where
   pub long : length calls ≡ length clients
-  pub each : (session : ℕ) (request : Request) → open_request (slice_get clients session) ≡ Some request → KeepsText calls session request
+  pub each : (session : ℕ) (request : Request) → open_request (slice_get clients session) ≡ Some request
+      → KeepsText calls session request
 
 length-kept : {A : Type 0} (list : List A) (place : ℕ) (x : A) → length (set list place x) ≡ length list
 length-kept [] place x = refl
@@ -52,7 +56,8 @@ length-kept (y ∷ list) zero x = refl
 length-kept (y ∷ list) (suc place) x = ap suc (length-kept list place x)
 
 -- a client without an open request was written
-kept_without : (calls : List (List ℕ)) (clients : List ClientState) (session : ℕ) (before next : ClientState) → slice_get clients session ≡ Some before
+kept_without : (calls : List (List ℕ)) (clients : List ClientState) (session : ℕ) (before next : ClientState)
+    → slice_get clients session ≡ Some before
     → open_request (Some next) ≡ None → Kept calls clients → Kept calls (set clients session next)
 kept_without calls clients session before next found none kept = record {
   long = kept.long ∙ sym (length-kept clients session next);
@@ -65,7 +70,8 @@ kept_without calls clients session before next found none kept = record {
 }
 
 -- a client with the same open request was written
-kept_same : (calls : List (List ℕ)) (clients : List ClientState) (session : ℕ) (before next : ClientState) → slice_get clients session ≡ Some before
+kept_same : (calls : List (List ℕ)) (clients : List ClientState) (session : ℕ) (before next : ClientState)
+    → slice_get clients session ≡ Some before
     → open_request (Some next) ≡ open_request (Some before) → Kept calls clients
     → Kept calls (set clients session next)
 kept_same calls clients session before next found same_open kept = record {
@@ -80,8 +86,10 @@ kept_same calls clients session before next found same_open kept = record {
 }
 
 -- a session called for a text, which is its open request now
-kept_call : (calls : List (List ℕ)) (clients : List ClientState) (session : ℕ) (text : List ℕ) (before next : ClientState)
-    → slice_get clients session ≡ Some before → open_request (Some next) ≡ Some (request_called text) → IsWellCalled text → Kept calls clients
+kept_call : (calls : List (List ℕ)) (clients : List ClientState) (session : ℕ) (text : List ℕ)
+    (before next : ClientState)
+    → slice_get clients session ≡ Some before → open_request (Some next) ≡ Some (request_called text)
+    → IsWellCalled text → Kept calls clients
     → Kept (set calls session text) (set clients session next)
 kept_call calls clients session text before next found opens well kept = record {
   long = length-kept calls session text ∙ kept.long ∙ sym (length-kept clients session next);
@@ -98,7 +106,13 @@ kept_call calls clients session text before next found opens well kept = record 
     | inr apart ↦
         let old : KeepsText calls other request =
         kept.each other request (sym (ap open_request (get_apart clients session other next apart)) ∙ opened) in
-        record { text = old.text; found = get_apart calls session other text apart ∙ old.found; well = old.well; is = old.is }
+        record {
+          text = old.text;
+          found = get_apart calls session other text apart
+              ∙ old.found;
+          well = old.well;
+          is = old.is;
+        }
   ];
 }
   where
@@ -109,8 +123,10 @@ kept_call calls clients session text before next found opens well kept = record 
     first = get_within calls session within
 
 -- a session called for a text that it never asks for
-kept_unasked : (calls : List (List ℕ)) (clients : List ClientState) (session : ℕ) (text : List ℕ) (before next : ClientState)
-    → slice_get clients session ≡ Some before → open_request (Some next) ≡ None → Kept calls clients → Kept (set calls session text) (set clients session next)
+kept_unasked : (calls : List (List ℕ)) (clients : List ClientState) (session : ℕ) (text : List ℕ)
+    (before next : ClientState)
+    → slice_get clients session ≡ Some before → open_request (Some next) ≡ None → Kept calls clients
+    → Kept (set calls session text) (set clients session next)
 kept_unasked calls clients session text before next found none kept = record {
   long = length-kept calls session text ∙ kept.long ∙ sym (length-kept clients session next);
   each = λ other request opened. elim (same_number session other) [
@@ -120,12 +136,19 @@ kept_unasked calls clients session text before next found none kept = record {
     | inr apart ↦
         let old : KeepsText calls other request =
         kept.each other request (sym (ap open_request (get_apart clients session other next apart)) ∙ opened) in
-        record { text = old.text; found = get_apart calls session other text apart ∙ old.found; well = old.well; is = old.is }
+        record {
+          text = old.text;
+          found = get_apart calls session other text apart
+              ∙ old.found;
+          well = old.well;
+          is = old.is;
+        }
   ];
 }
 
 -- the line of a statement that takes effect
-statement_line : (calls : List (List ℕ)) (config : Config) (session : ℕ) (request : Request) → IsSession session → Kept calls config.clients
+statement_line : (calls : List (List ℕ)) (config : Config) (session : ℕ) (request : Request) → IsSession session
+    → Kept calls config.clients
     → open_request (slice_get config.clients session) ≡ Some request
     → IsEffectLine config session ItsStatement (effect_line calls session ItsStatement)
 statement_line calls config session request is kept opened =
@@ -140,7 +163,8 @@ statement_line calls config session request is kept opened =
         given = ap line_of line ∙ line_back session is (call_text keeps.text) (call_bare keeps.text keeps.well.bare);
         asks = keeps.is ∙ call_back keeps.text keeps.well;
       };
-      whole = subst HasNoFeed (sym line) (line_feed session is (call_text keeps.text) (call_feed keeps.text keeps.well));
+      whole = subst HasNoFeed (sym line) (line_feed session is (call_text keeps.text)
+          (call_feed keeps.text keeps.well));
     }
 
 disconnect_line : (calls : List (List ℕ)) (config : Config) (session : ℕ) → IsSession session
@@ -165,7 +189,8 @@ pub record HasLine (calls : List (List ℕ)) (config : Config) (session : ℕ) (
 standings_of : (first second : Config) → Some first ≡ Some second → first.clients ≡ second.clients
 standings_of first second same = ap (λ (c : Config). c.clients) (same_Some first second same)
 
-statement_by : (o : Option ClientState) (calls : List (List ℕ)) (config : Config) (session : ℕ) (mid : Config) → slice_get config.clients session ≡ o
+statement_by : (o : Option ClientState) (calls : List (List ℕ)) (config : Config) (session : ℕ) (mid : Config)
+    → slice_get config.clients session ≡ o
     → IsSession session → Kept calls config.clients → carried_out o config session ≡ Some mid
     → HasLine calls config session ItsStatement mid
 unfolding carried_out
@@ -173,17 +198,20 @@ statement_by None calls config session mid found is kept at = absurd (none-some 
 statement_by (Some Idle) calls config session mid found is kept at = absurd (none-some mid at)
 statement_by (Some (Called request)) calls config session mid found is kept at = record {
   line = statement_line calls config session request is kept (ap open_request found);
-  kept = subst (Kept calls) (standings_of _ mid at) (kept_without calls config.clients session (Called request) _ found refl kept);
+  kept = subst (Kept calls) (standings_of _ mid at) (kept_without calls config.clients session
+      (Called request) _ found refl kept);
 }
 statement_by (Some (Answered answer)) calls config session mid found is kept at = absurd (none-some mid at)
 statement_by (Some (Gone None)) calls config session mid found is kept at = absurd (none-some mid at)
 statement_by (Some (Gone (Some request))) calls config session mid found is kept at = record {
   line = statement_line calls config session request is kept (ap open_request found);
-  kept = subst (Kept calls) (standings_of _ mid at) (kept_without calls config.clients session (Gone (Some request)) _ found refl kept);
+  kept = subst (Kept calls) (standings_of _ mid at) (kept_without calls config.clients session
+      (Gone (Some request)) _ found refl kept);
 }
 statement_by (Some Left) calls config session mid found is kept at = absurd (none-some mid at)
 
-disconnect_by : (o : Option ClientState) (calls : List (List ℕ)) (config : Config) (session : ℕ) (mid : Config) → slice_get config.clients session ≡ o
+disconnect_by : (o : Option ClientState) (calls : List (List ℕ)) (config : Config) (session : ℕ) (mid : Config)
+    → slice_get config.clients session ≡ o
     → IsSession session → Kept calls config.clients → disconnected o config session ≡ Some mid
     → HasLine calls config session ItsDisconnect mid
 unfolding disconnected
@@ -193,18 +221,23 @@ disconnect_by (Some (Called request)) calls config session mid found is kept at 
 disconnect_by (Some (Answered answer)) calls config session mid found is kept at = absurd (none-some mid at)
 disconnect_by (Some (Gone request)) calls config session mid found is kept at = record {
   line = disconnect_line calls config session is;
-  kept = subst (Kept calls) (standings_of _ mid at) (kept_without calls config.clients session (Gone request) _ found refl kept);
+  kept = subst (Kept calls) (standings_of _ mid at) (kept_without calls config.clients session
+      (Gone request) _ found refl kept);
 }
 disconnect_by (Some Left) calls config session mid found is kept at = absurd (none-some mid at)
 
-has_line : (calls : List (List ℕ)) (config : Config) (session : ℕ) (act : Act) (mid : Config) → IsSession session → Kept calls config.clients
+has_line : (calls : List (List ℕ)) (config : Config) (session : ℕ) (act : Act) (mid : Config) → IsSession session
+    → Kept calls config.clients
     → effect_of config session act ≡ Some mid → HasLine calls config session act mid
 unfolding effect_of
-has_line calls config session ItsStatement mid is kept at = statement_by (slice_get config.clients session) calls config session mid refl is kept at
-has_line calls config session ItsDisconnect mid is kept at = disconnect_by (slice_get config.clients session) calls config session mid refl is kept at
+has_line calls config session ItsStatement mid is kept at =
+    statement_by (slice_get config.clients session) calls config session mid refl is kept at
+has_line calls config session ItsDisconnect mid is kept at =
+    disconnect_by (slice_get config.clients session) calls config session mid refl is kept at
 
 -- an event was seen
-call_by : (o : Option ClientState) (calls : List (List ℕ)) (config : Config) (session : ℕ) (text : List ℕ) (mid : Config) → slice_get config.clients session ≡ o
+call_by : (o : Option ClientState) (calls : List (List ℕ)) (config : Config) (session : ℕ) (text : List ℕ)
+    (mid : Config) → slice_get config.clients session ≡ o
     → IsWellCalled text → Kept calls config.clients
     → called o config session (request_called text) ≡ Some mid → Kept (set calls session text) mid.clients
 unfolding called
@@ -219,9 +252,11 @@ call_by (Some (Gone None)) calls config session text mid found well kept at =
     (kept_call calls config.clients session text (Gone None) (Gone (Some (request_called text))) found refl well kept)
 call_by (Some (Gone (Some other))) calls config session text mid found well kept at = absurd (none-some mid at)
 call_by (Some Left) calls config session text mid found well kept at =
-    subst (Kept (set calls session text)) (standings_of _ mid at) (kept_unasked calls config.clients session text Left Left found refl kept)
+    subst (Kept (set calls session text)) (standings_of _ mid at)
+    (kept_unasked calls config.clients session text Left Left found refl kept)
 
-return_by : (o : Option ClientState) (calls : List (List ℕ)) (config : Config) (session : ℕ) (seen : Seen) (mid : Config) → slice_get config.clients session ≡ o
+return_by : (o : Option ClientState) (calls : List (List ℕ)) (config : Config) (session : ℕ) (seen : Seen)
+    (mid : Config) → slice_get config.clients session ≡ o
     → Kept calls config.clients → returned o config session seen ≡ Some mid → Kept calls mid.clients
 unfolding returned
 return_by None calls config session seen mid found kept at = absurd (none-some mid at)
@@ -229,72 +264,90 @@ return_by (Some Idle) calls config session seen mid found kept at = absurd (none
 return_by (Some (Called request)) calls config session seen mid found kept at = absurd (none-some mid at)
 return_by (Some (Answered answer)) calls config session seen mid found kept at =
     let shown = cond_some (shows_answer seen answer) (with_client config session Idle) mid at in
-    subst (Kept calls) (ap (λ (c : Config). c.clients) shown.1) (kept_without calls config.clients session (Answered answer) Idle found refl kept)
+    subst (Kept calls) (ap (λ (c : Config). c.clients) shown.1)
+    (kept_without calls config.clients session (Answered answer) Idle found refl kept)
 return_by (Some (Gone request)) calls config session seen mid found kept at = absurd (none-some mid at)
 return_by (Some Left) calls config session seen mid found kept at = absurd (none-some mid at)
 
-lost_by : (o : Option ClientState) (calls : List (List ℕ)) (config : Config) (session : ℕ) (mid : Config) → slice_get config.clients session ≡ o
+lost_by : (o : Option ClientState) (calls : List (List ℕ)) (config : Config) (session : ℕ) (mid : Config)
+    → slice_get config.clients session ≡ o
     → Kept calls config.clients → lost o config session ≡ Some mid → Kept calls mid.clients
 unfolding lost
 lost_by None calls config session mid found kept at = absurd (none-some mid at)
 lost_by (Some Idle) calls config session mid found kept at =
     subst (Kept calls) (standings_of _ mid at) (kept_without calls config.clients session Idle _ found refl kept)
 lost_by (Some (Called request)) calls config session mid found kept at =
-    subst (Kept calls) (standings_of _ mid at) (kept_same calls config.clients session (Called request) _ found refl kept)
+    subst (Kept calls) (standings_of _ mid at) (kept_same calls config.clients session
+    (Called request) _ found refl kept)
 lost_by (Some (Answered answer)) calls config session mid found kept at =
-    subst (Kept calls) (standings_of _ mid at) (kept_without calls config.clients session (Answered answer) _ found refl kept)
+    subst (Kept calls) (standings_of _ mid at) (kept_without calls config.clients session
+    (Answered answer) _ found refl kept)
 lost_by (Some (Gone request)) calls config session mid found kept at = absurd (none-some mid at)
 lost_by (Some Left) calls config session mid found kept at = absurd (none-some mid at)
 
-unknown_by : (o : Option ClientState) (calls : List (List ℕ)) (config : Config) (session : ℕ) (mid : Config) → slice_get config.clients session ≡ o
+unknown_by : (o : Option ClientState) (calls : List (List ℕ)) (config : Config) (session : ℕ) (mid : Config)
+    → slice_get config.clients session ≡ o
     → Kept calls config.clients → answered_unknown o config session ≡ Some mid → Kept calls mid.clients
 unfolding answered_unknown
 unknown_by None calls config session mid found kept at = absurd (none-some mid at)
 unknown_by (Some Idle) calls config session mid found kept at = absurd (none-some mid at)
 unknown_by (Some (Called request)) calls config session mid found kept at =
-    subst (Kept calls) (standings_of _ mid at) (kept_without calls config.clients session (Called request) Idle found refl kept)
+    subst (Kept calls) (standings_of _ mid at) (kept_without calls config.clients session
+    (Called request) Idle found refl kept)
 unknown_by (Some (Answered answer)) calls config session mid found kept at =
-    subst (Kept calls) (standings_of _ mid at) (kept_without calls config.clients session (Answered answer) Idle found refl kept)
+    subst (Kept calls) (standings_of _ mid at) (kept_without calls config.clients session
+    (Answered answer) Idle found refl kept)
 unknown_by (Some (Gone request)) calls config session mid found kept at = absurd (none-some mid at)
 unknown_by (Some Left) calls config session mid found kept at = absurd (none-some mid at)
 
-seen_kept : (allowances : List Allowance) (kinds : List (Option StatementKind)) (calls : List (List ℕ)) (config : Config) (told : Told) (event : Event)
+seen_kept : (allowances : List Allowance) (kinds : List (Option StatementKind)) (calls : List (List ℕ))
+    (config : Config) (told : Told) (event : Event)
     (mid : Config) → IsWellTold told → IsEvent allowances kinds told event
     → Kept calls config.clients → observed config event ≡ Some mid → Kept (with_call told calls) mid.clients
 unfolding observed
 seen_kept allowances kinds calls config (Calls session text) event mid well is kept at =
-    call_by (slice_get config.clients session) calls config session text mid refl well kept (sym (ap (observed config) is) ∙ at)
+    call_by (slice_get config.clients session) calls config session text mid refl well kept
+    (sym (ap (observed config) is) ∙ at)
 seen_kept allowances kinds calls config (Returns session shown) (Call other request) mid well is kept at = absurd is
 seen_kept allowances kinds calls config (Returns session shown) (Return other seen) mid well is kept at =
     return_by (slice_get config.clients other) calls config other seen mid refl kept at
 seen_kept allowances kinds calls config (Returns session shown) (Lost other) mid well is kept at = absurd is
 seen_kept allowances kinds calls config (Returns session shown) (Unknown other) mid well is kept at = absurd is
 seen_kept allowances kinds calls config (ReturnsUnknown session) event mid well is kept at =
-    unknown_by (slice_get config.clients session) calls config session mid refl kept (sym (ap (observed config) is) ∙ at)
+    unknown_by (slice_get config.clients session) calls config session mid refl kept
+    (sym (ap (observed config) is) ∙ at)
 seen_kept allowances kinds calls config (Leaves session) event mid well is kept at =
     lost_by (slice_get config.clients session) calls config session mid refl kept (sym (ap (observed config) is) ∙ at)
 
-pub are_effects : (allowances : List Allowance) (kinds : List (Option StatementKind)) (calls : List (List ℕ)) (numbered : List NumberedEvent)
+pub are_effects : (allowances : List Allowance) (kinds : List (Option StatementKind)) (calls : List (List ℕ))
+    (numbered : List NumberedEvent)
     (events : List Event) (moves : List Move) (old new : Config) → AreWellCalled numbered
     → AreEventsAfter allowances kinds numbered events → Kept calls old.clients → LeadsThrough old events moves new
     → AreEffects old events moves (order_lines calls numbered moves)
 unfolding order_lines AreEventsAfter
 are_effects allowances kinds calls numbered events (Effect session act ∷ moves) old new well are kept runs =
-    let has : HasLine calls old session act runs.0 = has_line calls old session act runs.0 runs.1 kept runs.2 in
-    (runs.0, runs.2, has.line, are_effects allowances kinds calls numbered events moves runs.0 new well are has.kept runs.3)
+    let has : HasLine calls old session act runs.0 = has_line calls old session act runs.0 runs.1 kept runs.2 in (
+      runs.0,
+      runs.2,
+      has.line,
+      are_effects allowances kinds calls numbered events moves runs.0 new well are has.kept
+          runs.3,
+    )
 are_effects allowances kinds calls numbered [] (Seeing ∷ moves) old new well are kept runs = absurd runs
 are_effects allowances kinds calls [] (event ∷ events) (Seeing ∷ moves) old new well are kept runs = absurd are
 are_effects allowances kinds calls (one ∷ numbered) (event ∷ events) (Seeing ∷ moves) old new well are kept runs = (
   runs.0,
   runs.1,
-  are_effects allowances (kinds_after event kinds) (with_call one.told calls) numbered events moves runs.0 new well.1 are.1
+  are_effects allowances (kinds_after event kinds) (with_call one.told calls) numbered events moves runs.0 new well.1
+      are.1
       (seen_kept allowances kinds calls old one.told event runs.0 well.0 are.0 kept runs.1) runs.2,
 )
 are_effects allowances kinds calls numbered [] [] old new well are kept runs = tt
 are_effects allowances kinds calls numbered (event ∷ events) [] old new well are kept runs = absurd runs
 
 -- before all calls nothing is open
-idle_open : (count place : ℕ) (request : Request) → open_request (slice_get (replicate count Idle) place) ≡ Some request → ⊥
+idle_open : (count place : ℕ) (request : Request) → open_request (slice_get (replicate count Idle) place) ≡ Some request
+    → ⊥
 idle_open zero place request opened = absurd (none-some request opened)
 idle_open (suc count) zero request opened = absurd (none-some request opened)
 idle_open (suc count) (suc place) request opened = idle_open count place request opened
@@ -303,8 +356,11 @@ none_kept : (base : State) → Kept no_calls (opening_config base).clients
 unfolding opening_config
 none_kept base = record { long = refl; each = λ session request opened. absurd (idle_open 17 session request opened) }
 
-pub order_replayed : (base : State) (allowances : List Allowance) (numbered : List NumberedEvent) (events : List Event) (moves : List Move) (new : Config)
-    → AreWellCalled numbered → AreEvents allowances numbered events → LeadsThrough (opening_config base) events moves new
+pub order_replayed : (base : State) (allowances : List Allowance) (numbered : List NumberedEvent) (events : List Event)
+    (moves : List Move) (new : Config)
+    → AreWellCalled numbered → AreEvents allowances numbered events
+    → LeadsThrough (opening_config base) events moves new
     → AreEffects (opening_config base) events moves (order_lines no_calls numbered moves)
 order_replayed base allowances numbered events moves new well are runs =
-    are_effects allowances no_kinds no_calls numbered events moves (opening_config base) new well are (none_kept base) runs
+    are_effects allowances no_kinds no_calls numbered events moves (opening_config base) new well are
+    (none_kept base) runs

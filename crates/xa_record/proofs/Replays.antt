@@ -16,8 +16,10 @@ use Rattle.xa_judge.specs.declared.moves.Act.TheVariants.{Statement as ItsStatem
 use Rattle.xa_judge.specs.declared.moves.Move.{Move}
 use Rattle.xa_judge.specs.declared.moves.Move.TheVariants.{Event as Seeing, Effect}
 use Rattle.xa_judge.specs.declared.verdict.Verdict.{Verdict}
-use Rattle.xa_judge.specs.declared.verdict.Verdict.TheVariants.{Legal as LegalBy, Illegal as IllegalAt, Undecided as UndecidedAt}
-use Rattle.xa_judge.specs.Explained.{Config, opening_config, with_client, next_state, effect_of, carried_out, disconnected, observed, called, returned, lost, answered_unknown}
+use Rattle.xa_judge.specs.declared.verdict.Verdict.TheVariants.{Legal as LegalBy, Illegal as IllegalAt}
+use Rattle.xa_judge.specs.declared.verdict.Verdict.TheVariants.{Undecided as UndecidedAt}
+use Rattle.xa_judge.specs.Explained.{Config, opening_config, with_client, next_state, effect_of, carried_out}
+use Rattle.xa_judge.specs.Explained.{disconnected, observed, called, returned, lost, answered_unknown}
 use Rattle.xa_judge.specs.Explained.{shows_answer, LeadsThrough}
 use Rattle.xa_judge.specs.Verdicts.{IsVerdict}
 use Rattle.xa_record.specs.declared.allowance.Allowance.{Allowance}
@@ -27,7 +29,8 @@ use Rattle.xa_record.specs.Reading.{NumberedEvent}
 use Rattle.xa_record.specs.Allowances.{kinds_after, no_kinds}
 use Rattle.xa_record.specs.Events.{request_read, request_called, IsEvent, AreEventsAfter, AreEvents}
 use Rattle.xa_record.specs.VerdictText.{order_text, no_calls}
-use Rattle.xa_record.specs.Replaying.{HasNoFeed, order_lines, open_request, requested, AreEffects, IsWellCalled, IsWellTold, AreWellCalled}
+use Rattle.xa_record.specs.Replaying.{HasNoFeed, order_lines, open_request, requested, AreEffects, IsWellCalled}
+use Rattle.xa_record.specs.Replaying.{IsWellTold, AreWellCalled}
 use Rattle.xa_record.specs.Replaying.{IsBare, IsBareTold, AreBare, IsWrittenCall, AnswersAlong, IsReplayed}
 use Rattle.xa_record.proofs.Feeds.{cut_where_joined}
 use Rattle.xa_record.proofs.ReplayedEffects.{order_replayed}
@@ -37,7 +40,8 @@ state_of : (first second : Config) → Some first ≡ Some second → first.stat
 state_of first second same = ap (λ (c : Config). c.state) (same_Some first second same)
 
 -- the state once a statement has taken effect
-statement_state : (o : Option ClientState) (config : Config) (session : ℕ) (mid : Config) (request : Request) → carried_out o config session ≡ Some mid
+statement_state : (o : Option ClientState) (config : Config) (session : ℕ) (mid : Config) (request : Request)
+    → carried_out o config session ≡ Some mid
     → open_request o ≡ Some request → mid.state ≡ next_state config.state session request
 unfolding carried_out
 statement_state None config session mid request at is = absurd (none-some mid at)
@@ -51,7 +55,8 @@ statement_state (Some (Gone (Some asked))) config session mid request at is =
 statement_state (Some Left) config session mid request at is = absurd (none-some mid at)
 
 -- the state once a DISCONNECT has
-disconnect_state : (o : Option ClientState) (config : Config) (session : ℕ) (mid : Config) (request : Request) → disconnected o config session ≡ Some mid
+disconnect_state : (o : Option ClientState) (config : Config) (session : ℕ) (mid : Config) (request : Request)
+    → disconnected o config session ≡ Some mid
     → requested config session ItsDisconnect ≡ Some request → mid.state ≡ next_state config.state session request
 unfolding disconnected
 disconnect_state None config session mid request at is = absurd (none-some mid at)
@@ -62,14 +67,18 @@ disconnect_state (Some (Gone asked)) config session mid request at is =
     sym (state_of _ mid at) ∙ ap (next_state config.state session) (same_Some _ request is)
 disconnect_state (Some Left) config session mid request at is = absurd (none-some mid at)
 
-effect_state : (config : Config) (session : ℕ) (act : Act) (mid : Config) (request : Request) → effect_of config session act ≡ Some mid
+effect_state : (config : Config) (session : ℕ) (act : Act) (mid : Config) (request : Request)
+    → effect_of config session act ≡ Some mid
     → requested config session act ≡ Some request → mid.state ≡ next_state config.state session request
 unfolding effect_of
-effect_state config session ItsStatement mid request at is = statement_state (slice_get config.clients session) config session mid request at is
-effect_state config session ItsDisconnect mid request at is = disconnect_state (slice_get config.clients session) config session mid request at is
+effect_state config session ItsStatement mid request at is =
+    statement_state (slice_get config.clients session) config session mid request at is
+effect_state config session ItsDisconnect mid request at is =
+    disconnect_state (slice_get config.clients session) config session mid request at is
 
 -- what is seen changes no state
-call_state : (o : Option ClientState) (config : Config) (session : ℕ) (request : Request) (mid : Config) → called o config session request ≡ Some mid
+call_state : (o : Option ClientState) (config : Config) (session : ℕ) (request : Request) (mid : Config)
+    → called o config session request ≡ Some mid
     → config.state ≡ mid.state
 unfolding called
 call_state None config session request mid at = absurd (none-some mid at)
@@ -80,7 +89,8 @@ call_state (Some (Gone None)) config session request mid at = state_of _ mid at
 call_state (Some (Gone (Some asked))) config session request mid at = absurd (none-some mid at)
 call_state (Some Left) config session request mid at = state_of _ mid at
 
-return_state : (o : Option ClientState) (config : Config) (session : ℕ) (seen : Seen) (mid : Config) → returned o config session seen ≡ Some mid
+return_state : (o : Option ClientState) (config : Config) (session : ℕ) (seen : Seen) (mid : Config)
+    → returned o config session seen ≡ Some mid
     → config.state ≡ mid.state
 unfolding returned
 return_state None config session seen mid at = absurd (none-some mid at)
@@ -91,7 +101,8 @@ return_state (Some (Answered answer)) config session seen mid at =
 return_state (Some (Gone asked)) config session seen mid at = absurd (none-some mid at)
 return_state (Some Left) config session seen mid at = absurd (none-some mid at)
 
-lost_state : (o : Option ClientState) (config : Config) (session : ℕ) (mid : Config) → lost o config session ≡ Some mid → config.state ≡ mid.state
+lost_state : (o : Option ClientState) (config : Config) (session : ℕ) (mid : Config) → lost o config session ≡ Some mid
+    → config.state ≡ mid.state
 unfolding lost
 lost_state None config session mid at = absurd (none-some mid at)
 lost_state (Some Idle) config session mid at = state_of _ mid at
@@ -100,7 +111,8 @@ lost_state (Some (Answered answer)) config session mid at = state_of _ mid at
 lost_state (Some (Gone asked)) config session mid at = absurd (none-some mid at)
 lost_state (Some Left) config session mid at = absurd (none-some mid at)
 
-unknown_state : (o : Option ClientState) (config : Config) (session : ℕ) (mid : Config) → answered_unknown o config session ≡ Some mid
+unknown_state : (o : Option ClientState) (config : Config) (session : ℕ) (mid : Config)
+    → answered_unknown o config session ≡ Some mid
     → config.state ≡ mid.state
 unfolding answered_unknown
 unknown_state None config session mid at = absurd (none-some mid at)
@@ -110,17 +122,22 @@ unknown_state (Some (Answered answer)) config session mid at = state_of _ mid at
 unknown_state (Some (Gone asked)) config session mid at = absurd (none-some mid at)
 unknown_state (Some Left) config session mid at = absurd (none-some mid at)
 
-observed_state : (config : Config) (event : Event) (mid : Config) → observed config event ≡ Some mid → config.state ≡ mid.state
+observed_state : (config : Config) (event : Event) (mid : Config) → observed config event ≡ Some mid
+    → config.state ≡ mid.state
 unfolding observed
-observed_state config (Call session request) mid at = call_state (slice_get config.clients session) config session request mid at
-observed_state config (Return session seen) mid at = return_state (slice_get config.clients session) config session seen mid at
+observed_state config (Call session request) mid at =
+    call_state (slice_get config.clients session) config session request mid at
+observed_state config (Return session seen) mid at =
+    return_state (slice_get config.clients session) config session seen mid at
 observed_state config (Lost session) mid at = lost_state (slice_get config.clients session) config session mid at
 observed_state config (Unknown session) mid at = unknown_state (slice_get config.clients session) config session mid at
 
 -- the lines of an order are lines
-lines_whole : (old : Config) (events : List Event) (moves : List Move) (lines : List (List ℕ)) → AreEffects old events moves lines → All HasNoFeed lines
+lines_whole : (old : Config) (events : List Event) (moves : List Move) (lines : List (List ℕ))
+    → AreEffects old events moves lines → All HasNoFeed lines
 lines_whole old events (Effect session act ∷ moves) [] are = absurd are
-lines_whole old events (Effect session act ∷ moves) (line ∷ lines) are = (are.2.whole, lines_whole are.0 events moves lines are.3)
+lines_whole old events (Effect session act ∷ moves) (line ∷ lines) are =
+    (are.2.whole, lines_whole are.0 events moves lines are.3)
 lines_whole old [] (Seeing ∷ moves) lines are = absurd are
 lines_whole old (event ∷ events) (Seeing ∷ moves) lines are = lines_whole are.0 events moves lines are.2
 lines_whole old [] [] [] are = tt
@@ -128,19 +145,26 @@ lines_whole old [] [] (line ∷ lines) are = absurd are
 lines_whole old (event ∷ events) [] lines are = absurd are
 
 -- run one after another they are answered as what takes effect is
-answers_along : (old : Config) (events : List Event) (moves : List Move) (lines : List (List ℕ)) → AreEffects old events moves lines
+answers_along : (old : Config) (events : List Event) (moves : List Move) (lines : List (List ℕ))
+    → AreEffects old events moves lines
     → AnswersAlong old events moves (run_text old.state lines)
 unfolding run_text
 answers_along old events (Effect session act ∷ moves) [] are = absurd are
 answers_along old events (Effect session act ∷ moves) (line ∷ lines) are =
     let mid = are.0 in
     let gives = are.2.gives in
-    let followed = line_followed old.state line session are.2.request gives ∙ sym (effect_state old session act mid are.2.request are.1 are.2.is) in (
+    let followed = line_followed old.state line session are.2.request gives
+    ∙ sym (effect_state old session act mid are.2.request are.1 are.2.is) in (
       mid,
       answer_of old.state (line_of line),
       run_text mid.state lines,
       are.1,
-      record { request = are.2.request; is = are.2.is; answers = line_answered old.state line session are.2.request gives },
+      record {
+        request = are.2.request;
+        is = are.2.is;
+        answers = line_answered old.state line session are.2.request
+            gives;
+      },
       ap (λ (s : State). answer_of old.state (line_of line) ++ run_text s lines) followed,
       answers_along mid events moves lines are.3,
     )
@@ -156,7 +180,8 @@ answers_along old [] [] (line ∷ lines) are = absurd are
 answers_along old (event ∷ events) [] lines are = absurd are
 
 -- what sessions call for is as the law wants it
-well_called : (session : ℕ) (text : List ℕ) (event : Event) → IsBare text → event ≡ Call session (request_called text) → IsWrittenCall event → IsWellCalled text
+well_called : (session : ℕ) (text : List ℕ) (event : Event) → IsBare text → event ≡ Call session (request_called text)
+    → IsWrittenCall event → IsWellCalled text
 well_called session text event bare is written = record {
   bare = bare.bare;
   whole = bare.whole;
@@ -164,7 +189,8 @@ well_called session text event bare is written = record {
       subst IsWrittenCall (is ∙ ap (λ r. Call session (request_read r)) read) written other;
 }
 
-pub well_told : (allowances : List Allowance) (kinds : List (Option StatementKind)) (numbered : List NumberedEvent) (events : List Event) → AreBare numbered
+pub well_told : (allowances : List Allowance) (kinds : List (Option StatementKind)) (numbered : List NumberedEvent)
+    (events : List Event) → AreBare numbered
     → AreEventsAfter allowances kinds numbered events → All IsWrittenCall events → AreWellCalled numbered
 unfolding AreEventsAfter
 well_told allowances kinds [] events bare are written = tt

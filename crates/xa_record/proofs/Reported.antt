@@ -1,5 +1,6 @@
 -- What is told of a record of which no line is faulty.
-use Rattle.std.proofs.Common.{◌≡◌, ℕ, ◌==◌, true, false, Result, Ok, Err, IfOk, List, [], ◌∷◌, length, map, refl, sym, subst, arith}
+use Rattle.std.proofs.Common.{◌≡◌, ℕ, ◌==◌, true, false, Result, Ok, Err, IfOk, List, [], ◌∷◌, length, map, refl, sym}
+use Rattle.std.proofs.Common.{subst, arith}
 use Rattle.std.specs.List.{All}
 use Rattle.std.proofs.lemmas.List.Elements.{recursion_from_All}
 use Rattle.std.proofs.lemmas.Grind.{common_steps}
@@ -81,4 +82,5 @@ reported (Err fault) base allowances faults numbered asked none some is = tt
 
 pub no_fault : (faults : List ℕ) → (length faults == 0) ≡ true → faults ≡ []
 no_fault [] empty = refl
-no_fault (byte ∷ faults) empty = absurd (let none : length (byte ∷ faults) ≡ 0 = grind (arith, common_steps) in omega arith)
+no_fault (byte ∷ faults) empty =
+    absurd (let none : length (byte ∷ faults) ≡ 0 = grind (arith, common_steps) in omega arith)

@@ -14,21 +14,26 @@ use Rattle.xa_record.specs.Reading.{NumberedEvent}
 use Rattle.xa_record.specs.VerdictText.{with_call, effect_text, order_text}
 use Rattle.xa_record.specs.Replaying.{order_lines, joined, GivesRequest, AnswersSo}
 
-answered_by : (state : State) (session : ℕ) (read : Result Statement ℕ) → AnswersSo state session (request_read read) (written_for state session read)
+answered_by : (state : State) (session : ℕ) (read : Result Statement ℕ)
+    → AnswersSo state session (request_read read) (written_for state session read)
 answered_by state session (Ok statement) = refl
 answered_by state session (Err place) = (place, refl)
 
-answered_given : (state : State) (session : ℕ) (text : List ℕ) → AnswersSo state session (request_read (read_of text)) (answer_of state (Given session text))
+answered_given : (state : State) (session : ℕ) (text : List ℕ)
+    → AnswersSo state session (request_read (read_of text)) (answer_of state (Given session text))
 unfolding answer_of
 answered_given state session text = answered_by state session (read_of text)
 
-pub line_answered : (state : State) (line : List ℕ) (session : ℕ) (request : Request) → GivesRequest line session request
+pub line_answered : (state : State) (line : List ℕ) (session : ℕ) (request : Request)
+    → GivesRequest line session request
     → AnswersSo state session request (answer_of state (line_of line))
 line_answered state line session request gives =
     subst (λ (l : Line). AnswersSo state session request (answer_of state l)) (sym gives.given)
-    (subst (λ (r : Request). AnswersSo state session r (answer_of state (Given session gives.text))) (sym gives.asks) (answered_given state session gives.text))
+    (subst (λ (r : Request). AnswersSo state session r (answer_of state (Given session gives.text))) (sym gives.asks)
+    (answered_given state session gives.text))
 
-then_by : (state : State) (session : ℕ) (read : Result Statement ℕ) → state_then state session read ≡ next_state state session (request_read read)
+then_by : (state : State) (session : ℕ) (read : Result Statement ℕ)
+    → state_then state session read ≡ next_state state session (request_read read)
 then_by state session (Ok statement) = refl
 then_by state session (Err place) = refl
 
@@ -37,14 +42,18 @@ then_given : (state : State) (session : ℕ) (text : List ℕ)
 unfolding state_after_line
 then_given state session text = then_by state session (read_of text)
 
-pub line_followed : (state : State) (line : List ℕ) (session : ℕ) (request : Request) → GivesRequest line session request
+pub line_followed : (state : State) (line : List ℕ) (session : ℕ) (request : Request)
+    → GivesRequest line session request
     → state_after_line state (line_of line) ≡ next_state state session request
 line_followed state line session request gives =
-    ap (state_after_line state) gives.given ∙ then_given state session gives.text ∙ ap (next_state state session) (sym gives.asks)
+    ap (state_after_line state) gives.given ∙ then_given state session gives.text
+    ∙ ap (next_state state session) (sym gives.asks)
 
-pub order_joined : (calls : List (List ℕ)) (numbered : List NumberedEvent) (moves : List Move) → order_text calls numbered moves ≡ joined (order_lines calls numbered moves)
+pub order_joined : (calls : List (List ℕ)) (numbered : List NumberedEvent) (moves : List Move)
+    → order_text calls numbered moves ≡ joined (order_lines calls numbered moves)
 unfolding order_text order_lines joined
 order_joined calls numbered [] = refl
-order_joined calls numbered (Effect session act ∷ moves) = ap (λ (l : List ℕ). effect_text calls session act ++ l) (order_joined calls numbered moves)
+order_joined calls numbered (Effect session act ∷ moves) =
+    ap (λ (l : List ℕ). effect_text calls session act ++ l) (order_joined calls numbered moves)
 order_joined calls [] (Seeing ∷ moves) = order_joined calls [] moves
 order_joined calls (one ∷ more) (Seeing ∷ moves) = order_joined (with_call one.told calls) more moves

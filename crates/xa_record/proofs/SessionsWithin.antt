@@ -1,14 +1,18 @@
 -- A line names a session from 1 to 16.
-use Rattle.std.proofs.Common.{◌≡◌, ℕ, ◌+◌, ◌-◌, ◌<◌, nat_le, ◌&&◌, ◌==◌, Bool, true, false, cond, if◌then◌else◌, Option, Some, None, Ok, Err, List, [], ◌∷◌, codes, refl, arith}
+use Rattle.std.proofs.Common.{◌≡◌, ℕ, ◌+◌, ◌-◌, ◌<◌, nat_le, ◌&&◌, ◌==◌, Bool, true, false, cond, if◌then◌else◌, Option}
+use Rattle.std.proofs.Common.{Some, None, Ok, Err, List, [], ◌∷◌, codes, refl, arith}
 use Rattle.std.specs.Prelude.{bytes_eq, nat_lt}
 use Rattle.std.proofs.lemmas.Bool.Decides.{nat_tests}
 use Rattle.std.proofs.lemmas.Grind.{common_steps}
 use Rattle.xa_xid.specs.Bytes.{unblank}
 use Rattle.xa_xid.specs.Literal.{Reading, literal_ahead}
 use Rattle.xa_xid.specs.Xid.{Text}
-use Rattle.xa_lines.specs.Script.{Line, Blank, line_of, first_word, behind_word, is_empty_line, line_given, session_named, filled_line, number_of_word}
-use Rattle.xa_record.specs.Lines.{ShowsOk, ShowsValue, Returns, ReturnsUnknown, Leaves, LineSaid, Nothing, Bad, Says, Awaits, Closed, is_silent, alone}
-use Rattle.xa_record.specs.Lines.{value_said, rows_said, error_said, return_said, loss_said, session_said, filled_said, reading_of_line}
+use Rattle.xa_lines.specs.Script.{Line, Blank, line_of, first_word, behind_word, is_empty_line, line_given}
+use Rattle.xa_lines.specs.Script.{session_named, filled_line, number_of_word}
+use Rattle.xa_record.specs.Lines.{ShowsOk, ShowsValue, Returns, ReturnsUnknown, Leaves, LineSaid, Nothing, Bad, Says}
+use Rattle.xa_record.specs.Lines.{Awaits, Closed, is_silent, alone}
+use Rattle.xa_record.specs.Lines.{value_said, rows_said, error_said, return_said, loss_said, session_said, filled_said}
+use Rattle.xa_record.specs.Lines.{reading_of_line}
 use Rattle.xa_record.specs.Rows.{leading_number}
 use Rattle.xa_record.specs.Reading.{session_of}
 
@@ -28,7 +32,8 @@ alone_within said [] is = is
 alone_within said (byte ∷ text) is = tt
 
 value_within : (session : ℕ) (reading : Reading Text) → session < 17 → Within (value_said session reading)
-value_within session (Ok (value, rest)) is = alone_within (Says (Returns session (ShowsValue (Some value)))) (unblank rest) is
+value_within session (Ok (value, rest)) is =
+    alone_within (Says (Returns session (ShowsValue (Some value)))) (unblank rest) is
 value_within session (Err fault) is = tt
 
 rows_within : (session : ℕ) (count : Option ℕ) (rest : List ℕ) → session < 17 → Within (rows_said session count rest)
@@ -45,7 +50,8 @@ return_within session word text is =
     either (bytes_eq word (codes "OK")) _ _ (alone_within (Says (Returns session ShowsOk)) text is)
     (either (bytes_eq word (codes "NONE")) _ _ (alone_within (Says (Returns session (ShowsValue None))) text is)
     (either (bytes_eq word (codes "VALUE")) _ _ (value_within session (literal_ahead text) is)
-    (either (bytes_eq word (codes "ROWS")) _ _ (rows_within session (number_of_word (first_word text)) (behind_word text) is)
+    (either (bytes_eq word (codes "ROWS")) _ _ (rows_within session (number_of_word (first_word text))
+    (behind_word text) is)
     (either (bytes_eq word (codes "ERROR")) _ Bad (error_within session (leading_number text) is) tt))))
 
 loss_within : (session : ℕ) (word text : List ℕ) → session < 17 → Within (loss_said session word text)
@@ -54,14 +60,16 @@ loss_within session word text is =
     either (bytes_eq word (codes "LOST")) _ _ (alone_within (Says (Leaves session)) text is)
     (either (bytes_eq word (codes "GONE")) _ Bad (alone_within (Closed session) text is) tt)
 
-given_within : (session : ℕ) (text : List ℕ) → session < 17 → Within (session_said session (first_word text) (behind_word text))
+given_within : (session : ℕ) (text : List ℕ) → session < 17
+    → Within (session_said session (first_word text) (behind_word text))
 unfolding session_said
 given_within session text is =
     let sign = first_word text in
     let rest = behind_word text in
     either (bytes_eq sign (codes ">")) _ _ is
     (either (bytes_eq sign (codes "<")) _ _ (return_within session (first_word rest) (behind_word rest) is)
-    (either (bytes_eq sign (codes "?")) _ _ (either (bytes_eq (first_word rest) (codes "ERROR")) (Says (ReturnsUnknown session)) Bad is tt)
+    (either (bytes_eq sign (codes "?")) _ _ (either (bytes_eq (first_word rest) (codes "ERROR"))
+    (Says (ReturnsUnknown session)) Bad is tt)
     (either (bytes_eq sign (codes "!")) _ Bad (loss_within session (first_word rest) (behind_word rest) is) tt)))
 
 -- what a word names
@@ -82,14 +90,17 @@ two_digits ten one is = grind (arith, nat_tests, common_steps)
 named_within : (word : List ℕ) → NamesWithin (session_named word)
 named_within [] = tt
 named_within (one ∷ []) = chosen (nat_le 49 one && nat_le one 57) (one - 48) (one_digit one)
-named_within (ten ∷ one ∷ []) = chosen ((ten == 49) && (nat_le 48 one && nat_le one 54)) (10 + (one - 48)) (two_digits ten one)
+named_within (ten ∷ one ∷ []) =
+    chosen ((ten == 49) && (nat_le 48 one && nat_le one 54)) (10 + (one - 48)) (two_digits ten one)
 named_within (ten ∷ one ∷ more ∷ rest) = tt
 
-line_within_by : (session : Option ℕ) (text : List ℕ) → NamesWithin session → Within (filled_said (line_given session text))
+line_within_by : (session : Option ℕ) (text : List ℕ) → NamesWithin session
+    → Within (filled_said (line_given session text))
 line_within_by None text is = tt
 line_within_by (Some session) text is = given_within session text is
 
-said_within : (b : Bool) (one two : Line) → Within (filled_said one) → Within (filled_said two) → Within (filled_said (cond b one two))
+said_within : (b : Bool) (one two : Line) → Within (filled_said one) → Within (filled_said two)
+    → Within (filled_said (cond b one two))
 said_within true one two first second = first
 said_within false one two first second = second
 

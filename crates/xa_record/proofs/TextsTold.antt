@@ -2,7 +2,8 @@
 use Rattle.std.proofs.Common.{◌≡◌, ◌≢◌, ◌⊎◌, inl, inr, ℕ, Option, None, List, [], ◌∷◌, ◌++◌, refl, ap, sym, ◌∙◌, subst}
 use Rattle.xa_lines.specs.Script.{lines_of}
 use Rattle.xa_record.specs.declared.line_fault.LineFault.{LineFault}
-use Rattle.xa_record.specs.Reading.{NumberedEvent, Awaited, Notes, fault_text, no_notes, noted_lines, notes_of, ended_by}
+use Rattle.xa_record.specs.Reading.{NumberedEvent, Awaited, Notes, fault_text, no_notes, noted_lines, notes_of}
+use Rattle.xa_record.specs.Reading.{ended_by}
 use Rattle.xa_record.specs.Records.{Tells, HasFault, Begins}
 use Rattle.xa_record.proofs.RecordLines.{AllTold, Found, lines-told}
 use Rattle.xa_record.proofs.RecordReads.{lines-read}
@@ -16,7 +17,8 @@ nothing-before (x ∷ xs) ys none = absurd (cc)
 fault-something : (number : ℕ) (fault : LineFault) → fault_text number fault ≡ [] → ⊥
 fault-something number fault none = cc
 
-notes-so : (text : List ℕ) → notes_of text ≡ ended_by (noted_lines no_notes 1 (lines_of text)).awaited (noted_lines no_notes 1 (lines_of text))
+notes-so : (text : List ℕ) → notes_of text ≡ ended_by (noted_lines no_notes 1 (lines_of text)).awaited
+    (noted_lines no_notes 1 (lines_of text))
 unfolding notes_of
 notes-so text = refl
 
@@ -24,29 +26,40 @@ ended-none : (awaited : Option Awaited) (notes : Notes) → awaited ≡ None →
 ended-none awaited notes none = ap (λ (o : Option Awaited). ended_by o notes) none
 
 -- the first fault is written first
-pub text-begins : (text : List ℕ) (number : ℕ) (fault : LineFault) → HasFault (lines_of text) number fault → Begins (notes_of text).faults (fault_text number fault)
+pub text-begins : (text : List ℕ) (number : ℕ) (fault : LineFault) → HasFault (lines_of text) number fault
+    → Begins (notes_of text).faults (fault_text number fault)
 text-begins text number fault has =
-    subst (λ (n : Notes). Begins n.faults (fault_text number fault)) (sym (notes-so text)) (first-fault (lines_of text) number fault has)
+    subst (λ (n : Notes). Begins n.faults (fault_text number fault)) (sym (notes-so text))
+    (first-fault (lines_of text) number fault has)
 
-something : (faults text : List ℕ) (number : ℕ) (fault : LineFault) → faults ≡ [] → Begins faults (fault_text number fault) → ⊥
-something faults text number fault none begins = fault-something number fault (nothing-before (fault_text number fault) begins.0 (sym begins.1 ∙ none))
+something : (faults text : List ℕ) (number : ℕ) (fault : LineFault) → faults ≡ []
+    → Begins faults (fault_text number fault) → ⊥
+something faults text number fault none begins =
+    fault-something number fault (nothing-before (fault_text number fault) begins.0 (sym begins.1 ∙ none))
 
-told-by : (text : List ℕ) → AllTold (lines_of text) (noted_lines no_notes 1 (lines_of text)) → ((notes_of text).faults ≡ []) × Tells (lines_of text) (notes_of text).told
+told-by : (text : List ℕ) → AllTold (lines_of text) (noted_lines no_notes 1 (lines_of text))
+    → ((notes_of text).faults ≡ []) × Tells (lines_of text) (notes_of text).told
 told-by text all =
     let notes = noted_lines no_notes 1 (lines_of text) in
-    let same : notes_of text ≡ notes = notes-so text ∙ ended-none notes.awaited notes all.none in
-    (ap (λ (n : Notes). n.faults) same ∙ all.clean, subst (λ (n : Notes). Tells (lines_of text) n.told) (sym same) all.tells)
+    let same : notes_of text ≡ notes = notes-so text ∙ ended-none notes.awaited notes all.none in (
+      ap (λ (n : Notes). n.faults) same ∙ all.clean,
+      subst (λ (n : Notes). Tells (lines_of text) n.told)
+          (sym same) all.tells,
+    )
 
 -- where nothing is faulty the lines tell what is read
 pub text-tells : (text : List ℕ) → (notes_of text).faults ≡ [] → Tells (lines_of text) (notes_of text).told
 text-tells text clean = by (lines-told (lines_of text))
   where
-    by : AllTold (lines_of text) (noted_lines no_notes 1 (lines_of text)) ⊎ Found (lines_of text) → Tells (lines_of text) (notes_of text).told
+    by : AllTold (lines_of text) (noted_lines no_notes 1 (lines_of text)) ⊎ Found (lines_of text)
+        → Tells (lines_of text) (notes_of text).told
     by (inl all) = (told-by text all).1
-    by (inr (number, fault, has)) = absurd (something (notes_of text).faults text number fault clean (text-begins text number fault has))
+    by (inr (number, fault, has)) =
+        absurd (something (notes_of text).faults text number fault clean (text-begins text number fault has))
 
 -- and else one is the first faulty one
-pub text-found : (text : List ℕ) → (notes_of text).faults ≢ [] → (number : ℕ) × (fault : LineFault) × HasFault (lines_of text) number fault
+pub text-found : (text : List ℕ) → (notes_of text).faults ≢ []
+    → (number : ℕ) × (fault : LineFault) × HasFault (lines_of text) number fault
 text-found text some = by (lines-told (lines_of text))
   where
     by : AllTold (lines_of text) (noted_lines no_notes 1 (lines_of text)) ⊎ Found (lines_of text)
@@ -55,9 +68,11 @@ text-found text some = by (lines-told (lines_of text))
     by (inr found) = found
 
 -- what lines tell is what is read of them, and none is faulty
-pub text-told : (text : List ℕ) (list : List NumberedEvent) → Tells (lines_of text) list → ((notes_of text).faults ≡ []) × (list ≡ (notes_of text).told)
+pub text-told : (text : List ℕ) (list : List NumberedEvent) → Tells (lines_of text) list
+    → ((notes_of text).faults ≡ []) × (list ≡ (notes_of text).told)
 text-told text list tells =
     let notes = noted_lines no_notes 1 (lines_of text) in
     let read = lines-read (lines_of text) list tells in
-    let same : notes_of text ≡ notes = notes-so text ∙ ended-none notes.awaited notes (ap (λ (n : Notes). n.awaited) read.is) in
+    let same : notes_of text ≡ notes = notes-so text ∙ ended-none notes.awaited notes
+    (ap (λ (n : Notes). n.awaited) read.is) in
     (ap (λ (n : Notes). n.faults) (same ∙ read.is), sym (ap (λ (n : Notes). n.told) (same ∙ read.is)))

@@ -12,13 +12,16 @@ pub trimmed_none : trimmed [] ≡ []
 unfolding trimmed behind
 trimmed_none = refl
 
-pub trimmed_blank : (front : List ℕ) (last : ℕ) → belongs Blank last ≡ true → trimmed (front ++ last ∷ []) ≡ trimmed front
+pub trimmed_blank : (front : List ℕ) (last : ℕ) → belongs Blank last ≡ true
+    → trimmed (front ++ last ∷ []) ≡ trimmed front
 unfolding trimmed behind
 trimmed_blank front last blank = rw (reversed front last, blank) refl
 
-pub trimmed_full : (front : List ℕ) (last : ℕ) → belongs Blank last ≡ false → trimmed (front ++ last ∷ []) ≡ front ++ last ∷ []
+pub trimmed_full : (front : List ℕ) (last : ℕ) → belongs Blank last ≡ false
+    → trimmed (front ++ last ∷ []) ≡ front ++ last ∷ []
 unfolding trimmed behind
-trimmed_full front last full = rw (reversed front last, full) (ap reverse (sym (reversed front last)) ∙ reverse-reverse (front ++ last ∷ []))
+trimmed_full front last full =
+    rw (reversed front last, full) (ap reverse (sym (reversed front last)) ∙ reverse-reverse (front ++ last ∷ []))
 
 pub trimmed_over : (text rest : List ℕ) → trimmed text ≡ trimmed rest → length rest ≡ 0 → rest ≡ trimmed text
 trimmed_over text [] same none = sym (same ∙ trimmed_none)

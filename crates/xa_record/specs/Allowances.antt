@@ -7,17 +7,24 @@
 --     allowances_of     what the lines of a text allow, or the number of the first line that isn't an
 --                       allowance
 --     IsAllowFaultOf    why a text couldn't be read
-use Rattle.std.specs.Prelude.{◌≡◌, ℕ, ◌+◌, ◌==◌, nat_lt, Bool, ◌&&◌, bytes_eq, if◌then◌else◌, Option, Some, None, Result, Ok, Err, List, [], ◌∷◌, codes, replicate, slice_get, slice_set}
+use Rattle.std.specs.Prelude.{◌≡◌, ℕ, ◌+◌, ◌==◌, nat_lt, Bool, ◌&&◌, bytes_eq, if◌then◌else◌, Option, Some, None}
+use Rattle.std.specs.Prelude.{Result, Ok, Err, List, [], ◌∷◌, codes, replicate, slice_get, slice_set}
 use Rattle.xa_xid.specs.Bytes.{unblank}
 use Rattle.xa_xid.specs.declared.statement.Statement.{Statement}
-use Rattle.xa_xid.specs.declared.statement.Statement.TheVariants.{Start as ItsStart, End as ItsEnd, Prepare as ItsPrepare, Commit as ItsCommit, Rollback as ItsRollback, Recover as ItsRecover, Unsupported, Get as ItsGet, Put as ItsPut, Del as ItsDel, Disconnect as ItsDisconnect}
+use Rattle.xa_xid.specs.declared.statement.Statement.TheVariants.{Start as ItsStart, End as ItsEnd}
+use Rattle.xa_xid.specs.declared.statement.Statement.TheVariants.{Prepare as ItsPrepare, Commit as ItsCommit}
+use Rattle.xa_xid.specs.declared.statement.Statement.TheVariants.{Rollback as ItsRollback, Recover as ItsRecover}
+use Rattle.xa_xid.specs.declared.statement.Statement.TheVariants.{Unsupported, Get as ItsGet, Put as ItsPut}
+use Rattle.xa_xid.specs.declared.statement.Statement.TheVariants.{Del as ItsDel, Disconnect as ItsDisconnect}
 use Rattle.xa_lines.specs.Script.{lines_of, first_word, behind_word, number_of_word}
 use Rattle.xa_judge.specs.declared.request.Request.{Request}
 use Rattle.xa_judge.specs.declared.request.Request.TheVariants.{Statement as Given, Unread}
 use Rattle.xa_judge.specs.declared.event.Event.{Event}
 use Rattle.xa_judge.specs.declared.event.Event.TheVariants.{Call}
 use Rattle.xa_record.specs.declared.statement_kind.StatementKind.{StatementKind}
-use Rattle.xa_record.specs.declared.statement_kind.StatementKind.TheVariants.{Start, End, Prepare, Commit, CommitOnePhase, Rollback, Recover, Get, Put, Del, Disconnect}
+use Rattle.xa_record.specs.declared.statement_kind.StatementKind.TheVariants.{Start, End, Prepare, Commit}
+use Rattle.xa_record.specs.declared.statement_kind.StatementKind.TheVariants.{CommitOnePhase, Rollback, Recover, Get}
+use Rattle.xa_record.specs.declared.statement_kind.StatementKind.TheVariants.{Put, Del, Disconnect}
 use Rattle.xa_record.specs.declared.allowance.Allowance.{Allowance}
 use Rattle.xa_record.specs.declared.allow_fault.AllowFault.{AllowFault}
 use Rattle.xa_record.specs.declared.allow_fault.AllowFault.TheVariants.{Line as LineFault, NoMemory}
@@ -67,7 +74,8 @@ lets_stand one kind number = one.server == number && bytes_eq (words_of one.kind
 -- the rules' numbers for which the allowances let a number stand
 abbrev pub allowed_for : List Allowance → StatementKind → ℕ → List ℕ
 allowed_for [] kind number = []
-allowed_for (one ∷ more) kind number = if lets_stand one kind number then one.rules ∷ allowed_for more kind number else allowed_for more kind number
+allowed_for (one ∷ more) kind number =
+    if lets_stand one kind number then one.rules ∷ allowed_for more kind number else allowed_for more kind number
 
 -- the same for a request that has such a kind, or none
 abbrev pub others_for : List Allowance → Option StatementKind → ℕ → List ℕ
@@ -94,7 +102,8 @@ kind_asked kinds session = kind_at (slice_get kinds session)
 -- both numbers are those of refusals, 0 to 65,535
 abbrev pub allowance_within : ℕ → StatementKind → ℕ → Option Allowance
 allowance_within rules kind server =
-    if nat_lt rules 65536 && nat_lt server 65536 then Some (record { rules = rules; kind = kind; server = server }) else None
+    if nat_lt rules 65536 && nat_lt server 65536 then Some
+    (record { rules = rules; kind = kind; server = server }) else None
 
 abbrev pub allowance_by : ℕ → StatementKind → Option ℕ → List ℕ → Option Allowance
 allowance_by rules kind None rest = None
@@ -108,7 +117,8 @@ allowance_with rules kind text = allowance_by rules kind (number_of_word (first_
 -- after XA COMMIT comes ONE PHASE
 unfoldable pub one_phase_allowed : ℕ → List ℕ → List ℕ → Option Allowance
 one_phase_allowed rules word text =
-    if bytes_eq word (codes "ONE") && bytes_eq (first_word text) (codes "PHASE:") then allowance_with rules CommitOnePhase (behind_word text) else None
+    if bytes_eq word (codes "ONE") && bytes_eq (first_word text)
+    (codes "PHASE:") then allowance_with rules CommitOnePhase (behind_word text) else None
 
 -- after XA come a word and a text
 unfoldable pub xa_allowed : ℕ → List ℕ → List ℕ → Option Allowance

@@ -110,5 +110,6 @@ AfterJudgeFaultFrom base allowances asked GateShut input old new = ⊥
 AfterJudgeFaultFrom base allowances asked ThreadRefused input old new = ⊥
 AfterJudgeFaultFrom base allowances asked fault input old new = Keeps old new
 
-abbrev pub AfterJudgeFault : List Allowance → Asked → ScriptFault → Option (List ℕ) → Option (List ℕ) → Option (List ℕ) → Type 0
+abbrev pub AfterJudgeFault : List Allowance → Asked → ScriptFault → Option (List ℕ) → Option (List ℕ) → Option (List ℕ)
+    → Type 0
 AfterJudgeFault allowances asked fault input old new = AfterJudgeFaultFrom no_state allowances asked fault input old new

@@ -17,18 +17,23 @@ use Rattle.std.specs.Option.{option_map}
 use Rattle.xa_record.specs.declared.line_event.LineEvent.{LineEvent}
 use Rattle.xa_record.specs.declared.line_event.LineEvent.TheVariants.{Call, Return, Unknown, Lost}
 use Rattle.xa_record.specs.declared.shown.Shown.{Shown as ShownRead}
-use Rattle.xa_record.specs.declared.shown.Shown.TheVariants.{Ok as OkRead, None as NoneRead, Value as ValueRead, Rows as ManyRead, Error as ErrorRead}
+use Rattle.xa_record.specs.declared.shown.Shown.TheVariants.{Ok as OkRead, None as NoneRead, Value as ValueRead}
+use Rattle.xa_record.specs.declared.shown.Shown.TheVariants.{Rows as ManyRead, Error as ErrorRead}
 use Rattle.xa_record.specs.declared.line.RecordLine.{RecordLine}
-use Rattle.xa_record.specs.declared.line.RecordLine.TheVariants.{Nothing as NothingRead, Bad as BadRead, Happens, Value as OneRead, Rows as RowsRead, Closed as ClosedRead}
+use Rattle.xa_record.specs.declared.line.RecordLine.TheVariants.{Nothing as NothingRead, Bad as BadRead, Happens}
+use Rattle.xa_record.specs.declared.line.RecordLine.TheVariants.{Value as OneRead, Rows as RowsRead}
+use Rattle.xa_record.specs.declared.line.RecordLine.TheVariants.{Closed as ClosedRead}
 use Rattle.xa_record.specs.declared.line_event.NumberedEvent.{NumberedEvent as NumberedRead}
 use Rattle.xa_record.specs.declared.pending.Pending.{Pending}
 use Rattle.xa_record.specs.declared.notes.Notes.{Notes as NotesRead}
 use Rattle.xa_record.specs.declared.last_calls.LastCalls.{LastCalls}
-use Rattle.xa_record.specs.Lines.{Shown, ShowsOk, ShowsValue, ShowsRows, ShowsError, Told, Calls, Returns, ReturnsUnknown, Leaves, LineSaid, Nothing, Bad, Says, Awaits, Closed}
+use Rattle.xa_record.specs.Lines.{Shown, ShowsOk, ShowsValue, ShowsRows, ShowsError, Told, Calls, Returns}
+use Rattle.xa_record.specs.Lines.{ReturnsUnknown, Leaves, LineSaid, Nothing, Bad, Says, Awaits, Closed}
 use Rattle.xa_record.specs.Reading.{Awaited, NumberedEvent, Notes}
 use Rattle.xa_record.specs.declared.reason.Reason.{Reason as ReasonFound}
 use Rattle.xa_record.specs.declared.report.Report.{Report as ReportMade}
-use Rattle.xa_record.specs.declared.report.Report.TheVariants.{Faulty as FaultyMade, Empty as EmptyMade, Legal as LegalMade, Illegal as IllegalMade}
+use Rattle.xa_record.specs.declared.report.Report.TheVariants.{Faulty as FaultyMade, Empty as EmptyMade}
+use Rattle.xa_record.specs.declared.report.Report.TheVariants.{Legal as LegalMade, Illegal as IllegalMade}
 use Rattle.xa_record.specs.declared.report.Report.TheVariants.{Undecided as UndecidedMade}
 use Rattle.xa_record.specs.Reports.{Reason, Report, Faulty, Empty, Legal, Illegal, Undecided}
 
@@ -72,12 +77,24 @@ numbered_kept numbered = record { number = numbered.number; told = told_kept num
 -- rows that are still to come
 abbrev pub awaited_kept : Pending → Awaited
 awaited_kept pending =
-    record { session = pending.session; number = pending.number; missing = pending.missing; rows = rows_kept pending.rows.value.items; faults = pending.faults.items }
+    record {
+      session = pending.session;
+      number = pending.number;
+      missing = pending.missing;
+      rows = rows_kept
+          pending.rows.value.items;
+      faults = pending.faults.items;
+    }
 
 -- what was read so far
 abbrev pub notes_kept : NotesRead → Notes
 notes_kept notes =
-    record { told = map numbered_kept notes.numbered.items; faults = notes.faults.items; presence = notes.presence; awaited = option_map awaited_kept notes.pending }
+    record {
+      told = map numbered_kept notes.numbered.items;
+      faults = notes.faults.items;
+      presence = notes.presence;
+      awaited = option_map awaited_kept notes.pending;
+    }
 
 -- what explains an illegal verdict
 abbrev pub reason_kept : ReasonFound → Reason
@@ -88,7 +105,8 @@ abbrev pub report_kept : ReportMade → Report
 report_kept (FaultyMade faults) = Faulty faults.items
 report_kept EmptyMade = Empty
 report_kept (LegalMade order) = Legal order.items
-report_kept (IllegalMade number texts reason) = Illegal number (map (λ text. text.items) texts.keys) (option_map reason_kept reason)
+report_kept (IllegalMade number texts reason) =
+    Illegal number (map (λ text. text.items) texts.keys) (option_map reason_kept reason)
 report_kept (UndecidedMade number) = Undecided number
 
 -- the text of a call; empty if this is no call

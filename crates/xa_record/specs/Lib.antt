@@ -10,3 +10,4 @@ pub mod Reports
 pub mod Forms
 pub mod Kept
 pub mod Judged
+pub mod States

@@ -6,12 +6,14 @@
 --     is_silent        a line is blank, or a comment
 --     trimmed          a text without the blanks at its end
 --     reading_of_line  what a line says
-use Rattle.std.specs.Prelude.{ℕ, nat_lt, Bool, ◌||◌, bytes_eq, if◌then◌else◌, Option, Some, None, Ok, Err, List, [], ◌∷◌, codes, reverse}
+use Rattle.std.specs.Prelude.{ℕ, nat_lt, Bool, ◌||◌, bytes_eq, if◌then◌else◌, Option, Some, None, Ok, Err, List, []}
+use Rattle.std.specs.Prelude.{◌∷◌, codes, reverse}
 use Rattle.xa_xid.specs.Bytes.{unblank}
 use Rattle.xa_xid.specs.Literal.{Reading, literal_ahead}
 use Rattle.xa_xid.specs.Xid.{Text}
 use Rattle.xa_xid.specs.declared.xid.Xid.{Xid}
-use Rattle.xa_lines.specs.Script.{Line, Blank, Bad as BadLine, Given, line_of, first_word, behind_word, is_empty_line, is_comment_line, number_of_word}
+use Rattle.xa_lines.specs.Script.{Line, Blank, Bad as BadLine, Given, line_of, first_word, behind_word, is_empty_line}
+use Rattle.xa_lines.specs.Script.{is_comment_line, number_of_word}
 use Rattle.xa_record.specs.Rows.{leading_number}
 
 -- what a return shows

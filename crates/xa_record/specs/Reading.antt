@@ -9,16 +9,19 @@
 --     note_closed         the notes after a connection was found closed
 --     noted_line          the notes after a line
 --     notes_of            the notes after the lines of a text
-use Rattle.std.specs.Prelude.{ℕ, zero, suc, ◌+◌, ◌-◌, ◌==◌, Bool, true, false, if◌then◌else◌, Option, Some, None, List, [], ◌∷◌, ◌++◌, codes, decimal, slice_get, slice_set, replicate}
+use Rattle.std.specs.Prelude.{ℕ, zero, suc, ◌+◌, ◌-◌, ◌==◌, Bool, true, false, if◌then◌else◌, Option, Some, None, List}
+use Rattle.std.specs.Prelude.{[], ◌∷◌, ◌++◌, codes, decimal, slice_get, slice_set, replicate}
 use Rattle.std.specs.List.{insert}
 use Rattle.xa_xid.specs.Bytes.{unblank}
 use Rattle.xa_xid.specs.declared.xid.Xid.{Xid}
 use Rattle.xa_lines.specs.Script.{lines_of}
 use Rattle.xa_record.specs.declared.line_fault.LineFault.{LineFault}
-use Rattle.xa_record.specs.declared.line_fault.LineFault.TheVariants.{NotALine, NotARow, RowsMissing, OpenCall, NoOpenCall, Lost as WasLost}
+use Rattle.xa_record.specs.declared.line_fault.LineFault.TheVariants.{NotALine, NotARow, RowsMissing, OpenCall}
+use Rattle.xa_record.specs.declared.line_fault.LineFault.TheVariants.{NoOpenCall, Lost as WasLost}
 use Rattle.xa_record.specs.declared.presence.Presence.{Presence}
 use Rattle.xa_record.specs.declared.presence.Presence.TheVariants.{Idle, Open, Lost}
-use Rattle.xa_record.specs.Lines.{ShowsRows, Told, Calls, Returns, ReturnsUnknown, Leaves, LineSaid, Nothing, Bad, Says, Awaits, Closed, reading_of_line, is_silent}
+use Rattle.xa_record.specs.Lines.{ShowsRows, Told, Calls, Returns, ReturnsUnknown, Leaves, LineSaid, Nothing, Bad, Says}
+use Rattle.xa_record.specs.Lines.{Awaits, Closed, reading_of_line, is_silent}
 use Rattle.xa_record.specs.Rows.{row_said}
 
 -- the session to which this happens
@@ -129,25 +132,31 @@ closed_if (Some fault) notes number session = blamed notes number fault
 -- the connection was closed at any time since the session's last return: its client is gone from there on, or
 -- the line is faulty
 abbrev pub note_closed : Notes → ℕ → ℕ → Notes
-note_closed notes number session = closed_if (cause_of (slice_get notes.presence session) (Leaves session)) notes number session
+note_closed notes number session =
+    closed_if (cause_of (slice_get notes.presence session) (Leaves session)) notes number session
 
 -- all rows have come: the call returns them, and after its line come the faulty lines among its rows
 abbrev pub returned : Notes → Awaited → Notes
-returned notes awaited = blamed_too (note_of notes awaited.number (Returns awaited.session (ShowsRows awaited.rows))) awaited.faults
+returned notes awaited =
+    blamed_too (note_of notes awaited.number (Returns awaited.session (ShowsRows awaited.rows))) awaited.faults
 
 -- if all rows have come, the call returns them; else the others are still to come
 abbrev pub awaiting : Notes → Awaited → Notes
-awaiting notes awaited = if awaited.missing == 0 then returned notes awaited else record notes { awaited = Some awaited }
+awaiting notes awaited =
+    if awaited.missing == 0 then returned notes awaited else record notes { awaited = Some awaited }
 
 -- one row has come, or a line that isn't one
 unfoldable pub with_row : Notes → Awaited → ℕ → Option Xid → Notes
-with_row notes awaited number None = awaiting notes (record awaited { missing = awaited.missing - 1; faults = awaited.faults ++ fault_text number NotARow })
-with_row notes awaited number (Some xid) = awaiting notes (record awaited { missing = awaited.missing - 1; rows = awaited.rows ++ xid ∷ [] })
+with_row notes awaited number None = awaiting notes (record awaited
+    { missing = awaited.missing - 1; faults = awaited.faults ++ fault_text number NotARow })
+with_row notes awaited number (Some xid) =
+    awaiting notes (record awaited { missing = awaited.missing - 1; rows = awaited.rows ++ xid ∷ [] })
 
 -- a line in the place of a row
 unfoldable pub noted_row : Notes → Awaited → ℕ → List ℕ → Notes
 noted_row notes awaited number line =
-    if is_silent line then notes else with_row (record notes { awaited = None }) awaited number (row_said (unblank line))
+    if is_silent line then notes else with_row (record notes { awaited = None }) awaited number
+    (row_said (unblank line))
 
 -- a line that isn't in the place of a row
 unfoldable pub noted_said : Notes → ℕ → LineSaid → Notes
@@ -155,7 +164,8 @@ noted_said notes number Nothing = notes
 noted_said notes number Bad = blamed notes number NotALine
 noted_said notes number (Says told) = note_of notes number told
 noted_said notes number (Closed session) = note_closed notes number session
-noted_said notes number (Awaits session count) = awaiting notes (record { session = session; number = number; missing = count; rows = []; faults = [] })
+noted_said notes number (Awaits session count) =
+    awaiting notes (record { session = session; number = number; missing = count; rows = []; faults = [] })
 
 abbrev pub noted_by : Option Awaited → Notes → ℕ → List ℕ → Notes
 noted_by None notes number line = noted_said notes number (reading_of_line line)

@@ -9,7 +9,8 @@
 --     filled, AreRows     how many of the lines aren't silent;  each of these is a row
 --     HasFault            the first faulty line has this number, for this cause
 --     Begins              a text begins with this one
-use Rattle.std.specs.Prelude.{◌≡◌, ◌⊎◌, ℕ, suc, ◌+◌, ◌==◌, ◌<◌, ◌≤◌, true, false, if◌then◌else◌, Option, Some, None, List, [], ◌∷◌, ◌++◌, length}
+use Rattle.std.specs.Prelude.{◌≡◌, ◌⊎◌, ℕ, suc, ◌+◌, ◌==◌, ◌<◌, ◌≤◌, true, false, if◌then◌else◌, Option, Some, None}
+use Rattle.std.specs.Prelude.{List, [], ◌∷◌, ◌++◌, length}
 use Rattle.std.specs.List.{AllByRecursion}
 use Rattle.xa_xid.specs.Bytes.{unblank}
 use Rattle.xa_xid.specs.declared.xid.Xid.{Xid}
@@ -17,16 +18,19 @@ use Rattle.xa_record.specs.declared.line_fault.LineFault.{LineFault}
 use Rattle.xa_record.specs.declared.line_fault.LineFault.TheVariants.{NotALine, NotARow, RowsMissing}
 use Rattle.xa_record.specs.declared.presence.Presence.{Presence}
 use Rattle.xa_record.specs.declared.presence.Presence.TheVariants.{Idle, Open, Lost}
-use Rattle.xa_record.specs.Lines.{Shown, ShowsRows, Told, Calls, Returns, ReturnsUnknown, Leaves, Nothing, Bad, Says, Awaits, Closed, is_silent, reading_of_line}
+use Rattle.xa_record.specs.Lines.{Shown, ShowsRows, Told, Calls, Returns, ReturnsUnknown, Leaves, Nothing, Bad, Says}
+use Rattle.xa_record.specs.Lines.{Awaits, Closed, is_silent, reading_of_line}
 use Rattle.xa_record.specs.Rows.{row_said}
 use Rattle.xa_record.specs.Reading.{NumberedEvent, is_return_of, session_of, presence_after, cause_of}
 
 -- so many rows are on these lines, with blank lines and comments before each of them
 pub data RowsOf : ℕ → List (List ℕ) → List Xid → Type 0 where
   no_row : RowsOf 0 [] []
-  silent_row : {count : ℕ} {line : List ℕ} {lines : List (List ℕ)} {rows : List Xid} → is_silent line ≡ true → RowsOf (suc count) lines rows
+  silent_row : {count : ℕ} {line : List ℕ} {lines : List (List ℕ)} {rows : List Xid} → is_silent line ≡ true
+      → RowsOf (suc count) lines rows
       → RowsOf (suc count) (line ∷ lines) rows
-  one_row : {count : ℕ} {line : List ℕ} {lines : List (List ℕ)} {xid : Xid} {rows : List Xid} → is_silent line ≡ false → row_said (unblank line) ≡ Some xid
+  one_row : {count : ℕ} {line : List ℕ} {lines : List (List ℕ)} {xid : Xid} {rows : List Xid} → is_silent line ≡ false
+      → row_said (unblank line) ≡ Some xid
       → RowsOf count lines rows → RowsOf (suc count) (line ∷ lines) (xid ∷ rows)
 
 -- this happens on the line after these
@@ -35,7 +39,8 @@ on_next_line lines told = record { number = length lines + 1; told = told }
 
 -- the last event is a return to the session, or there is no event
 abbrev pub EndsInReturn : ℕ → List NumberedEvent → Type 0
-EndsInReturn session list = (list ≡ []) ⊎ ((front : List NumberedEvent) × (one : NumberedEvent) × (list ≡ front ++ one ∷ []) × (is_return_of session one.told ≡ true))
+EndsInReturn session list = (list ≡ []) ⊎ ((front : List NumberedEvent) × (one : NumberedEvent)
+    × (list ≡ front ++ one ∷ []) × (is_return_of session one.told ≡ true))
 
 -- none of the events is a return to the session
 abbrev pub HasNoReturn : ℕ → List NumberedEvent → Type 0
@@ -70,27 +75,38 @@ pub data Tells : List (List ℕ) → List NumberedEvent → Type 0 where
   -- no line tells nothing
   no_line : Tells [] []
   -- nor does a blank line or a comment
-  silent_line : (lines : List (List ℕ)) (line : List ℕ) (list : List NumberedEvent) → Tells lines list → reading_of_line line ≡ Nothing
+  silent_line : (lines : List (List ℕ)) (line : List ℕ) (list : List NumberedEvent) → Tells lines list
+      → reading_of_line line ≡ Nothing
       → Tells (lines ++ line ∷ []) list
   -- a call
-  call_line : (lines : List (List ℕ)) (line : List ℕ) (list : List NumberedEvent) (session : ℕ) (text : List ℕ) → Tells lines list
-      → reading_of_line line ≡ Says (Calls session text) → Fits list (Calls session text) → Tells (lines ++ line ∷ []) (list ++ on_next_line lines (Calls session text) ∷ [])
+  call_line : (lines : List (List ℕ)) (line : List ℕ) (list : List NumberedEvent) (session : ℕ) (text : List ℕ)
+      → Tells lines list
+      → reading_of_line line ≡ Says (Calls session text) → Fits list (Calls session text)
+      → Tells (lines ++ line ∷ []) (list ++ on_next_line lines (Calls session text) ∷ [])
   -- a return on a line of its own
-  return_line : (lines : List (List ℕ)) (line : List ℕ) (list : List NumberedEvent) (session : ℕ) (shown : Shown) → Tells lines list
-      → reading_of_line line ≡ Says (Returns session shown) → Fits list (Returns session shown) → Tells (lines ++ line ∷ []) (list ++ on_next_line lines (Returns session shown) ∷ [])
+  return_line : (lines : List (List ℕ)) (line : List ℕ) (list : List NumberedEvent) (session : ℕ) (shown : Shown)
+      → Tells lines list
+      → reading_of_line line ≡ Says (Returns session shown) → Fits list (Returns session shown)
+      → Tells (lines ++ line ∷ []) (list ++ on_next_line lines (Returns session shown) ∷ [])
   -- a return with its rows below it
-  rows_lines : (lines : List (List ℕ)) (line : List ℕ) (more : List (List ℕ)) (list : List NumberedEvent) (session count : ℕ) (rows : List Xid) → Tells lines list
-      → reading_of_line line ≡ Awaits session count → RowsOf count more rows → Fits list (Returns session (ShowsRows rows))
+  rows_lines : (lines : List (List ℕ)) (line : List ℕ) (more : List (List ℕ)) (list : List NumberedEvent)
+      (session count : ℕ) (rows : List Xid) → Tells lines list
+      → reading_of_line line ≡ Awaits session count → RowsOf count more rows
+      → Fits list (Returns session (ShowsRows rows))
       → Tells (lines ++ line ∷ more) (list ++ on_next_line lines (Returns session (ShowsRows rows)) ∷ [])
   -- a return of which no more is known
   unknown_line : (lines : List (List ℕ)) (line : List ℕ) (list : List NumberedEvent) (session : ℕ) → Tells lines list
-      → reading_of_line line ≡ Says (ReturnsUnknown session) → Fits list (ReturnsUnknown session) → Tells (lines ++ line ∷ []) (list ++ on_next_line lines (ReturnsUnknown session) ∷ [])
+      → reading_of_line line ≡ Says (ReturnsUnknown session) → Fits list (ReturnsUnknown session)
+      → Tells (lines ++ line ∷ []) (list ++ on_next_line lines (ReturnsUnknown session) ∷ [])
   -- a client that is lost
   lost_line : (lines : List (List ℕ)) (line : List ℕ) (list : List NumberedEvent) (session : ℕ) → Tells lines list
-      → reading_of_line line ≡ Says (Leaves session) → Fits list (Leaves session) → Tells (lines ++ line ∷ []) (list ++ on_next_line lines (Leaves session) ∷ [])
+      → reading_of_line line ≡ Says (Leaves session) → Fits list (Leaves session)
+      → Tells (lines ++ line ∷ []) (list ++ on_next_line lines (Leaves session) ∷ [])
   -- a connection that was found closed: its client may be gone since the last return to it
-  gone_line : (lines : List (List ℕ)) (line : List ℕ) (before after : List NumberedEvent) (session : ℕ) → Tells lines (before ++ after)
-      → reading_of_line line ≡ Closed session → EndsInReturn session before → HasNoReturn session after → Fits (before ++ after) (Leaves session)
+  gone_line : (lines : List (List ℕ)) (line : List ℕ) (before after : List NumberedEvent) (session : ℕ)
+      → Tells lines (before ++ after)
+      → reading_of_line line ≡ Closed session → EndsInReturn session before → HasNoReturn session after
+      → Fits (before ++ after) (Leaves session)
       → Tells (lines ++ line ∷ []) (before ++ on_next_line lines (Leaves session) ∷ after)
 
 -- how many of the lines aren't silent
@@ -100,29 +116,41 @@ filled (line ∷ lines) = if is_silent line then filled lines else suc (filled l
 
 -- each of the lines is silent, or a row
 abbrev pub AreRows : List (List ℕ) → Type 0
-AreRows lines = AllByRecursion (λ line. (is_silent line ≡ true) ⊎ ((xid : Xid) × (row_said (unblank line) ≡ Some xid))) lines
+AreRows lines =
+    AllByRecursion (λ line. (is_silent line ≡ true) ⊎ ((xid : Xid) × (row_said (unblank line) ≡ Some xid))) lines
 
 -- the first faulty line of these has this number, for this cause
 pub data HasFault : List (List ℕ) → ℕ → LineFault → Type 0 where
   -- a line that isn't written as one
-  bad_line : (lines : List (List ℕ)) (line : List ℕ) (more : List (List ℕ)) (list : List NumberedEvent) → Tells lines list → reading_of_line line ≡ Bad
+  bad_line : (lines : List (List ℕ)) (line : List ℕ) (more : List (List ℕ)) (list : List NumberedEvent)
+      → Tells lines list → reading_of_line line ≡ Bad
       → HasFault (lines ++ line ∷ more) (length lines + 1) NotALine
   -- what it says can't happen there
-  unfit_line : (lines : List (List ℕ)) (line : List ℕ) (more : List (List ℕ)) (list : List NumberedEvent) (told : Told) (fault : LineFault) → Tells lines list
-      → reading_of_line line ≡ Says told → cause_next list told ≡ Some fault → HasFault (lines ++ line ∷ more) (length lines + 1) fault
+  unfit_line : (lines : List (List ℕ)) (line : List ℕ) (more : List (List ℕ)) (list : List NumberedEvent) (told : Told)
+      (fault : LineFault) → Tells lines list
+      → reading_of_line line ≡ Says told → cause_next list told ≡ Some fault
+      → HasFault (lines ++ line ∷ more) (length lines + 1) fault
   -- a connection was found closed whose client was lost
-  unfit_gone : (lines : List (List ℕ)) (line : List ℕ) (more : List (List ℕ)) (list : List NumberedEvent) (session : ℕ) (fault : LineFault) → Tells lines list
-      → reading_of_line line ≡ Closed session → cause_next list (Leaves session) ≡ Some fault → HasFault (lines ++ line ∷ more) (length lines + 1) fault
+  unfit_gone : (lines : List (List ℕ)) (line : List ℕ) (more : List (List ℕ)) (list : List NumberedEvent) (session : ℕ)
+      (fault : LineFault) → Tells lines list
+      → reading_of_line line ≡ Closed session → cause_next list (Leaves session) ≡ Some fault
+      → HasFault (lines ++ line ∷ more) (length lines + 1) fault
   -- the record ends before all rows have come
-  rows_missing : (lines : List (List ℕ)) (line : List ℕ) (more : List (List ℕ)) (list : List NumberedEvent) (session count : ℕ) → Tells lines list
-      → reading_of_line line ≡ Awaits session count → filled more < count → HasFault (lines ++ line ∷ more) (length lines + 1) RowsMissing
+  rows_missing : (lines : List (List ℕ)) (line : List ℕ) (more : List (List ℕ)) (list : List NumberedEvent)
+      (session count : ℕ) → Tells lines list
+      → reading_of_line line ≡ Awaits session count → filled more < count
+      → HasFault (lines ++ line ∷ more) (length lines + 1) RowsMissing
   -- they have come, or other lines in their place, and the return can't happen there
-  unfit_rows : (lines : List (List ℕ)) (line : List ℕ) (more : List (List ℕ)) (list : List NumberedEvent) (session count : ℕ) (fault : LineFault) → Tells lines list
-      → reading_of_line line ≡ Awaits session count → count ≤ filled more → cause_next list (Returns session (ShowsRows [])) ≡ Some fault
+  unfit_rows : (lines : List (List ℕ)) (line : List ℕ) (more : List (List ℕ)) (list : List NumberedEvent)
+      (session count : ℕ) (fault : LineFault) → Tells lines list
+      → reading_of_line line ≡ Awaits session count → count ≤ filled more
+      → cause_next list (Returns session (ShowsRows [])) ≡ Some fault
       → HasFault (lines ++ line ∷ more) (length lines + 1) fault
   -- it can, and the first line in the place of a row is this
-  bad_row : (lines : List (List ℕ)) (line : List ℕ) (rows : List (List ℕ)) (row : List ℕ) (more : List (List ℕ)) (list : List NumberedEvent) (session count : ℕ)
-      → Tells lines list → reading_of_line line ≡ Awaits session count → Fits list (Returns session (ShowsRows [])) → AreRows rows → filled rows < count
+  bad_row : (lines : List (List ℕ)) (line : List ℕ) (rows : List (List ℕ)) (row : List ℕ) (more : List (List ℕ))
+      (list : List NumberedEvent) (session count : ℕ)
+      → Tells lines list → reading_of_line line ≡ Awaits session count → Fits list (Returns session (ShowsRows []))
+      → AreRows rows → filled rows < count
       → is_silent row ≡ false → row_said (unblank row) ≡ None → count ≤ filled (rows ++ row ∷ more)
       → HasFault (lines ++ line ∷ (rows ++ row ∷ more)) (length lines + 1 + (length rows + 1)) NotARow
 

@@ -13,11 +13,13 @@
 --     AnswersAlong                 the same for each effect, in order, along moves that lead through the
 --                                  events
 --     IsReplayed                   the same for the order of a legal verdict
-use Rattle.std.specs.Prelude.{◌≡◌, ◌≢◌, ℕ, ◌==◌, true, not, Option, Some, None, Ok, List, [], ◌∷◌, ◌++◌, codes, decimal, slice_get}
+use Rattle.std.specs.Prelude.{◌≡◌, ◌≢◌, ℕ, ◌==◌, true, not, Option, Some, None, Ok, List, [], ◌∷◌, ◌++◌, codes, decimal}
+use Rattle.std.specs.Prelude.{slice_get}
 use Rattle.std.specs.List.{AllByRecursion, list_all}
 use Rattle.xa_xid.specs.Bytes.{unblank}
 use Rattle.xa_xid.specs.declared.statement.Statement.{Statement}
-use Rattle.xa_xid.specs.declared.statement.Statement.TheVariants.{Start, End, Prepare, Commit, Rollback, Recover, Unsupported, Get, Put, Del, Disconnect}
+use Rattle.xa_xid.specs.declared.statement.Statement.TheVariants.{Start, End, Prepare, Commit, Rollback, Recover}
+use Rattle.xa_xid.specs.declared.statement.Statement.TheVariants.{Unsupported, Get, Put, Del, Disconnect}
 use Rattle.xa_xid.specs.XidText.{IsWritable}
 use Rattle.xa_statement.specs.Canonical.{statement_text}
 use Rattle.xa_statement.specs.Grammar.{Spells}
@@ -52,7 +54,8 @@ effect_line calls session act = decimal session ++ codes " " ++ act_text act (sl
 -- the lines of an order
 unfoldable pub order_lines : List (List ℕ) → List NumberedEvent → List Move → List (List ℕ)
 order_lines calls numbered [] = []
-order_lines calls numbered (Effect session act ∷ moves) = effect_line calls session act ∷ order_lines calls numbered moves
+order_lines calls numbered (Effect session act ∷ moves) =
+    effect_line calls session act ∷ order_lines calls numbered moves
 order_lines calls [] (Seeing ∷ moves) = order_lines calls [] moves
 order_lines calls (numbered ∷ more) (Seeing ∷ moves) = order_lines (with_call numbered.told calls) more moves
 
@@ -73,7 +76,8 @@ pub record GivesRequest (line : List ℕ) (session : ℕ) (request : Request) : 
 
 -- what `run` writes for the request: the reply, or that the text isn't a statement
 abbrev pub AnswersSo : State → ℕ → Request → List ℕ → Type 0
-AnswersSo state session (Asked statement) written = written ≡ answer_text (decimal session) (reply_text (converts statement) (reply_to state session statement))
+AnswersSo state session (Asked statement) written =
+    written ≡ answer_text (decimal session) (reply_text (converts statement) (reply_to state session statement))
 AnswersSo state session Unread written = (place : ℕ) × (written ≡ answer_text (decimal session) (syntax_text place))
 
 -- what a session has called for that may still take effect
@@ -101,9 +105,11 @@ pub record IsEffectLine (config : Config) (session : ℕ) (act : Act) (line : Li
 abbrev pub AreEffects : Config → List Event → List Move → List (List ℕ) → Type 0
 AreEffects old events (Effect session act ∷ moves) [] = ⊥
 AreEffects old events (Effect session act ∷ moves) (line ∷ lines) =
-    (mid : Config) × (effect_of old session act ≡ Some mid) × IsEffectLine old session act line × AreEffects mid events moves lines
+    (mid : Config) × (effect_of old session act ≡ Some mid) × IsEffectLine old session act line
+    × AreEffects mid events moves lines
 AreEffects old [] (Seeing ∷ moves) lines = ⊥
-AreEffects old (event ∷ events) (Seeing ∷ moves) lines = (mid : Config) × (observed old event ≡ Some mid) × AreEffects mid events moves lines
+AreEffects old (event ∷ events) (Seeing ∷ moves) lines =
+    (mid : Config) × (observed old event ≡ Some mid) × AreEffects mid events moves lines
 AreEffects old [] [] [] = Unit {0}
 AreEffects old [] [] (line ∷ lines) = ⊥
 AreEffects old (event ∷ events) [] lines = ⊥
@@ -147,7 +153,8 @@ AreBare numbered = AllByRecursion (λ one. IsBareTold one.told) numbered
 pub record IsWellCalled (text : List ℕ) : Type 0 where
   pub bare : unblank text ≡ text
   pub whole : HasNoFeed text
-  pub canonical : (statement : Statement) → read_of text ≡ Ok statement → statement ≢ Unsupported → IsWrittenBack statement
+  pub canonical : (statement : Statement) → read_of text ≡ Ok statement → statement ≢ Unsupported
+      → IsWrittenBack statement
 
 abbrev pub IsWellTold : Told → Type 0
 IsWellTold (Calls session text) = IsWellCalled text
@@ -175,10 +182,12 @@ pub record IsAnswered (config : Config) (session : ℕ) (act : Act) (written : L
 -- that its session has there
 abbrev pub AnswersAlong : Config → List Event → List Move → List ℕ → Type 0
 AnswersAlong old events (Effect session act ∷ moves) written =
-    (mid : Config) × (answer rest : List ℕ) × (effect_of old session act ≡ Some mid) × IsAnswered old session act answer × (written ≡ answer ++ rest)
+    (mid : Config) × (answer rest : List ℕ) × (effect_of old session act ≡ Some mid) × IsAnswered old session act answer
+    × (written ≡ answer ++ rest)
     × AnswersAlong mid events moves rest
 AnswersAlong old [] (Seeing ∷ moves) written = ⊥
-AnswersAlong old (event ∷ events) (Seeing ∷ moves) written = (mid : Config) × (observed old event ≡ Some mid) × AnswersAlong mid events moves written
+AnswersAlong old (event ∷ events) (Seeing ∷ moves) written =
+    (mid : Config) × (observed old event ≡ Some mid) × AnswersAlong mid events moves written
 AnswersAlong old [] [] written = written ≡ []
 AnswersAlong old (event ∷ events) [] written = ⊥
 

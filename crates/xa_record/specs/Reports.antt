@@ -20,12 +20,15 @@ use Rattle.xa_judge.specs.declared.event.Event.{Event}
 use Rattle.xa_judge.specs.declared.event.Event.TheVariants.{Call}
 use Rattle.xa_judge.specs.declared.moves.Move.{Move}
 use Rattle.xa_judge.specs.declared.verdict.Verdict.{Verdict}
-use Rattle.xa_judge.specs.declared.verdict.Verdict.TheVariants.{Legal as LegalBy, Illegal as IllegalAt, Undecided as UndecidedAt}
+use Rattle.xa_judge.specs.declared.verdict.Verdict.TheVariants.{Legal as LegalBy, Illegal as IllegalAt}
+use Rattle.xa_judge.specs.declared.verdict.Verdict.TheVariants.{Undecided as UndecidedAt}
 use Rattle.xa_judge.specs.Explained.{Config, opening_config, LeadsThrough}
 use Rattle.xa_judge.specs.Verdicts.{IsWide}
 use Rattle.xa_record.specs.declared.asked.Asked.{Asked}
 use Rattle.xa_record.specs.declared.outcome.Outcome.{Outcome}
-use Rattle.xa_record.specs.declared.outcome.Outcome.TheVariants.{Legal as IsLegal, Illegal as IsIllegal, Undecided as IsUndecided, Faulty as IsFaulty, Empty as IsEmpty}
+use Rattle.xa_record.specs.declared.outcome.Outcome.TheVariants.{Legal as IsLegal, Illegal as IsIllegal}
+use Rattle.xa_record.specs.declared.outcome.Outcome.TheVariants.{Undecided as IsUndecided, Faulty as IsFaulty}
+use Rattle.xa_record.specs.declared.outcome.Outcome.TheVariants.{Empty as IsEmpty}
 use Rattle.xa_record.specs.Reading.{NumberedEvent}
 use Rattle.xa_record.specs.VerdictText.{order_text, no_calls, texts_of, line_number_at}
 

@@ -2,7 +2,8 @@
 -- the bytes of both together.
 --     leading_number     the number of a text's first digits
 --     row_said           the identifier that a line is
-use Rattle.std.specs.Prelude.{ℕ, ◌+◌, ◌==◌, ◌&&◌, nat_le, if◌then◌else◌, Option, Some, None, Result, Ok, Err, List, ◌∷◌, take, drop}
+use Rattle.std.specs.Prelude.{ℕ, ◌+◌, ◌==◌, ◌&&◌, nat_le, if◌then◌else◌, Option, Some, None, Result, Ok, Err, List, ◌∷◌}
+use Rattle.std.specs.Prelude.{take, drop}
 use Rattle.hex.specs.Hex.{decode_sized}
 use Rattle.hex.specs.declared.error.FromHexError.{FromHexError}
 use Rattle.xa_xid.specs.Bytes.{belongs, front}
@@ -23,13 +24,19 @@ digits_named word = None
 -- the identifier with these bytes, first those of its gtrid
 abbrev pub xid_of : ℕ → ℕ → Result (List ℕ) FromHexError → Option Xid
 xid_of format_id gtrid (Ok bytes) =
-    Some (record { format_id = format_id; gtrid = record { items = take gtrid bytes }; bqual = record { items = drop gtrid bytes } })
+    Some (record {
+      format_id = format_id;
+      gtrid = record { items = take gtrid bytes };
+      bqual = record
+          { items = drop gtrid bytes };
+    })
 xid_of format_id gtrid (Err fault) = None
 
 -- the identifier with this formatID, these lengths of gtrid and bqual, and these digits for both
 unfoldable pub xid_written : ℕ → ℕ → ℕ → List ℕ → Option Xid
 xid_written format_id gtrid bqual digits =
-    if nat_le gtrid text_bytes && nat_le bqual text_bytes then xid_of format_id gtrid (decode_sized digits (gtrid + bqual)) else None
+    if nat_le gtrid text_bytes && nat_le bqual text_bytes then xid_of format_id gtrid
+    (decode_sized digits (gtrid + bqual)) else None
 
 abbrev pub xid_with : Option ℕ → Option ℕ → Option ℕ → Option (List ℕ) → Option Xid
 xid_with (Some format_id) (Some gtrid) (Some bqual) (Some digits) = xid_written format_id gtrid bqual digits
@@ -38,9 +45,11 @@ xid_with format_id gtrid bqual digits = None
 -- the identifier of four words, if no text follows them
 unfoldable pub row_of : List ℕ → List ℕ → List ℕ → List ℕ → Option Xid
 row_of first second third fourth =
-    if is_empty_line (behind_word fourth) then xid_with (number_of_word (first_word first)) (number_of_word (first_word second)) (number_of_word (first_word third))
+    if is_empty_line (behind_word fourth) then xid_with (number_of_word (first_word first))
+    (number_of_word (first_word second)) (number_of_word (first_word third))
     (digits_named (first_word fourth)) else None
 
 -- the identifier that a line is, from its first byte on that isn't a blank
 unfoldable pub row_said : List ℕ → Option Xid
-row_said text = row_of text (behind_word text) (behind_word (behind_word text)) (behind_word (behind_word (behind_word text)))
+row_said text =
+    row_of text (behind_word text) (behind_word (behind_word text)) (behind_word (behind_word (behind_word text)))

@@ -4,7 +4,8 @@
 --     answer_text        an answer that was possible
 --     texts_of           the texts of answers, each once, ascending by their bytes
 --     line_number_at     the number of the line on which the event at a place happens
-use Rattle.std.specs.Prelude.{ℕ, true, Option, Some, None, Result, Ok, Err, List, [], ◌∷◌, ◌++◌, codes, decimal, slice_get, slice_set, replicate}
+use Rattle.std.specs.Prelude.{ℕ, true, Option, Some, None, Result, Ok, Err, List, [], ◌∷◌, ◌++◌, codes, decimal}
+use Rattle.std.specs.Prelude.{slice_get, slice_set, replicate}
 use Rattle.std.specs.BTreeSet.{insert_key}
 use Rattle.xa_xid.specs.Xid.{bytes_cmp}
 use Rattle.xa_xid.specs.declared.statement.Statement.{Statement}
@@ -55,7 +56,8 @@ effect_text calls session act = decimal session ++ codes " " ++ act_text act (sl
 -- the effects of an order, if these events happen and the sessions called for these texts before
 unfoldable pub order_text : List (List ℕ) → List NumberedEvent → List Move → List ℕ
 order_text calls numbered [] = []
-order_text calls numbered (Effect session act ∷ moves) = effect_text calls session act ++ order_text calls numbered moves
+order_text calls numbered (Effect session act ∷ moves) =
+    effect_text calls session act ++ order_text calls numbered moves
 order_text calls [] (Seeing ∷ moves) = order_text calls [] moves
 order_text calls (numbered ∷ more) (Seeing ∷ moves) = order_text (with_call numbered.told calls) more moves
 

@@ -1,7 +1,8 @@
 //! Reads known differences between a server and the rules.
 ghost use Rattle.std.specs.Prelude.{◌≡◌, ◌++◌, IfOk, OnOk, IfErr, Ok, option_to_list};
 ghost use Rattle.xa_lines.specs.Script.{first_word, behind_word as behind_word_of, number_of_word};
-ghost use Rattle.xa_record.specs.Allowances.{allowance_with, one_phase_allowed, xa_allowed, allowed as allowed_by, allowance_of, line_allows, allowances_of, IsAllowFaultOf};
+ghost use Rattle.xa_record.specs.Allowances.{allowance_with, one_phase_allowed, xa_allowed, allowed as allowed_by};
+ghost use Rattle.xa_record.specs.Allowances.{allowance_of, line_allows, allowances_of, IsAllowFaultOf};
 
 use crate::allow_fault::AllowFault;
 use crate::allowance::Allowance;

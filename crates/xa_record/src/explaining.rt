@@ -27,7 +27,8 @@ fn store_after(
     moves: &[Move],
 ) -> Result<Server, NoMemory>
     requires { (config : Config) × LeadsThrough (opening_config base.now) events.now moves.now config }
-    ensures { IfOk result (λ store. (config : Config) × LeadsThrough (opening_config base.now) events.now moves.now config × (config.state ≡ store)) }
+    ensures { IfOk result (λ store. (config : Config) × LeadsThrough
+        (opening_config base.now) events.now moves.now config × (config.state ≡ store)) }
 {
     match server_after(alloc, base, events, moves)? {
         Some(store) => Ok(store),

@@ -44,7 +44,8 @@ fn write_texts(
     writer: &mut Writer,
     texts: &BTreeSet<Vec<u8>>,
 ) -> Result<(), NoMemory>
-    ensures tokens { OnOk result (writer.new.tokens ≡ writer.old.tokens ++ json_tokens (texts_value (map (λ text. text.items) texts.now.keys))) }
+    ensures tokens { OnOk result (writer.new.tokens ≡ writer.old.tokens
+        ++ json_tokens (texts_value (map (λ text. text.items) texts.now.keys))) }
     ensures before { writer.new.before ≡ writer.old.before }
 {
     writer.begin_array()?;
@@ -56,7 +57,8 @@ fn write_texts(
 
 /// Writes lines as an array of strings.
 fn write_lines(alloc: Global, writer: &mut Writer, text: &[u8]) -> Result<(), NoMemory>
-    ensures tokens { OnOk result (writer.new.tokens ≡ writer.old.tokens ++ json_tokens (texts_value (lines_of text.now))) }
+    ensures tokens { OnOk result (writer.new.tokens ≡ writer.old.tokens
+        ++ json_tokens (texts_value (lines_of text.now))) }
     ensures before { writer.new.before ≡ writer.old.before }
 {
     writer.begin_array()?;
@@ -71,7 +73,8 @@ fn write_lines(alloc: Global, writer: &mut Writer, text: &[u8]) -> Result<(), No
 
 /// Writes the key of the verdict and its value.
 fn write_verdict(writer: &mut Writer, word: &str) -> Result<(), NoMemory>
-    ensures tokens { OnOk result (writer.new.tokens ≡ writer.old.tokens ++ key (codes "verdict") ∷ string word.now ∷ []) }
+    ensures tokens { OnOk result (writer.new.tokens ≡ writer.old.tokens
+        ++ key (codes "verdict") ∷ string word.now ∷ []) }
     ensures before { writer.new.before ≡ writer.old.before }
 {
     writer.key("verdict")?;
@@ -80,7 +83,8 @@ fn write_verdict(writer: &mut Writer, word: &str) -> Result<(), NoMemory>
 
 /// Writes the key of the line's number and its value.
 fn write_line(writer: &mut Writer, line: u64) -> Result<(), NoMemory>
-    ensures tokens { OnOk result (writer.new.tokens ≡ writer.old.tokens ++ key (codes "line") ∷ number (decimal line) ∷ []) }
+    ensures tokens { OnOk result (writer.new.tokens ≡ writer.old.tokens
+        ++ key (codes "line") ∷ number (decimal line) ∷ []) }
     ensures before { writer.new.before ≡ writer.old.before }
 {
     writer.key("line")?;
@@ -94,7 +98,8 @@ fn write_could_be(
     texts: &BTreeSet<Vec<u8>>,
 ) -> Result<(), NoMemory>
     ensures tokens { OnOk result
-        (writer.new.tokens ≡ writer.old.tokens ++ key (codes "could_be") ∷ json_tokens (texts_value (map (λ text. text.items) texts.now.keys))) }
+        (writer.new.tokens ≡ writer.old.tokens ++ key (codes "could_be") ∷ json_tokens
+        (texts_value (map (λ text. text.items) texts.now.keys))) }
     ensures before { writer.new.before ≡ writer.old.before }
 {
     writer.key("could_be")?;
@@ -108,7 +113,8 @@ fn write_lines_of(
     name: &str,
     lines: &[u8],
 ) -> Result<(), NoMemory>
-    ensures tokens { OnOk result (writer.new.tokens ≡ writer.old.tokens ++ key name.now ∷ json_tokens (texts_value (lines_of lines.now))) }
+    ensures tokens { OnOk result (writer.new.tokens ≡ writer.old.tokens
+        ++ key name.now ∷ json_tokens (texts_value (lines_of lines.now))) }
     ensures before { writer.new.before ≡ writer.old.before }
 {
     writer.key(name)?;
@@ -122,7 +128,8 @@ fn end_with_reason(
     writer: &mut Writer,
     reason: &Option<Reason>,
 ) -> Result<(), NoMemory>
-    ensures tokens { OnOk result (writer.new.tokens ≡ writer.old.tokens ++ members_tokens (with_reason (option_map reason_kept reason.now) no_members)) }
+    ensures tokens { OnOk result (writer.new.tokens ≡ writer.old.tokens
+        ++ members_tokens (with_reason (option_map reason_kept reason.now) no_members)) }
     ensures before { writer.new.before ≡ writer.old.before }
 {
     match reason {
@@ -137,7 +144,8 @@ fn end_with_reason(
 
 /// Writes the keys of a report, and the end of the object.
 fn write_members(alloc: Global, writer: &mut Writer, report: &Report) -> Result<(), NoMemory>
-    ensures tokens { OnOk result (writer.new.tokens ≡ writer.old.tokens ++ members_tokens (report_members (report_kept report.now))) }
+    ensures tokens { OnOk result (writer.new.tokens ≡ writer.old.tokens
+        ++ members_tokens (report_members (report_kept report.now))) }
     ensures before { writer.new.before ≡ writer.old.before }
 {
     match report {

@@ -56,7 +56,8 @@ fn verdict_on<P: Progress>(
 ) -> Result<Report, NoMemory>
     requires calls { AreCalls (notes_of text.now).told events.now }
     requires bare { AreBare (notes_of text.now).told }
-    ensures { IfOk result (λ report. (allowances : List Allowance) → AreEvents allowances (notes_of text.now).told events.now
+    ensures { IfOk result (λ report. (allowances : List Allowance)
+        → AreEvents allowances (notes_of text.now).told events.now
         → IsJudgement base.now allowances (notes_of text.now).told asked (report_kept report)) }
 {
     are_written_calls(events);

@@ -25,7 +25,8 @@ pub fn lines_tell_what_is_read()
     //   is what is read.
     ensures told { (text : List ℕ) → (notes_of text).faults ≡ [] → Tells (lines_of text) (notes_of text).told }
     // Proved (records, lines-tell)
-    ensures only { (text : List ℕ) (list : List NumberedEvent) → Tells (lines_of text) list → ((notes_of text).faults ≡ []) × (list ≡ (notes_of text).told) }
+    ensures only { (text : List ℕ) (list : List NumberedEvent) → Tells (lines_of text) list
+        → ((notes_of text).faults ≡ []) × (list ≡ (notes_of text).told) }
 {}
 
 /// States that one line of a record with faulty lines is the first faulty one by the rules, for one cause,
@@ -35,7 +36,8 @@ pub fn lines_tell_what_is_read()
 pub fn first_fault_is_written_first()
     // Proved (records, first-fault): If a record has faulty lines, one is the first by rules, one for each
     //   kind of fault. What is written begins with its number and its cause.
-    ensures found { (text : List ℕ) → (notes_of text).faults ≢ [] → (number : ℕ) × (fault : LineFault) × HasFault (lines_of text) number fault }
+    ensures found { (text : List ℕ) → (notes_of text).faults ≢ []
+        → (number : ℕ) × (fault : LineFault) × HasFault (lines_of text) number fault }
     // Proved (records, first-fault)
     ensures first { (text : List ℕ) (number : ℕ) (fault : LineFault) → HasFault (lines_of text) number fault
         → Begins (notes_of text).faults (fault_text number fault) }
@@ -49,9 +51,11 @@ pub fn first_fault_is_written_first()
 /// Takes no memory. Doesn't wait. Own rule: docs/HISTORIES.md#verdicts.
 pub fn order_is_replayed()
     // Proved (records, order-replayed)
-    ensures written { (calls : List (List ℕ)) (numbered : List NumberedEvent) (moves : List Move) → order_text calls numbered moves ≡ joined (order_lines calls numbered moves) }
+    ensures written { (calls : List (List ℕ)) (numbered : List NumberedEvent) (moves : List Move)
+        → order_text calls numbered moves ≡ joined (order_lines calls numbered moves) }
     // Proved (records, order-replayed)
-    ensures effects { (base : State) (allowances : List Allowance) (numbered : List NumberedEvent) (events : List Event) (moves : List Move) (new : Config)
+    ensures effects { (base : State) (allowances : List Allowance) (numbered : List NumberedEvent) (events : List Event)
+        (moves : List Move) (new : Config)
         → AreWellCalled numbered
         → AreEvents allowances numbered events
         → LeadsThrough (opening_config base) events moves new

@@ -4,6 +4,12 @@
 //! reads known differences between a server and the rules. Read docs/HISTORIES.md#records, then
 //! `specs/Judged.antt`, `specs/Reading.antt` and `src/judging.rt`. `specs/Records.antt` has the rules of
 //! reading without its order.
+//!
+//! `read_state` reads the state that a record begins with: a listing as `show` prints it, with every row that has a
+//! value. Each line of the listing becomes statements, which a server that holds nothing carries out: rows first, then
+//! prepared branches, then the branches of sessions. What that server then lists is compared with the text, byte for
+//! byte. So no line has to be trusted to be read right. Read docs/HISTORIES.md#records-in-pieces, then
+//! `specs/States.antt` and `src/state_reading.rt`.
 #![tactic(auto)]
 
 mod allow_fault;
@@ -24,6 +30,7 @@ mod line_fault;
 mod lines_again;
 mod named_rows;
 mod notes;
+mod open_branch;
 mod order;
 mod outcome;
 mod pending;
@@ -36,6 +43,13 @@ mod report_of;
 mod rows;
 mod run;
 mod shown;
+mod state_branches;
+mod state_carrying;
+mod state_comparing;
+mod state_fault;
+mod state_line;
+mod state_reading;
+mod state_rows;
 mod statement_kind;
 mod written_calls;
 
@@ -47,4 +61,6 @@ pub use form::Form;
 pub use judging::{Judged, judge_text, judge_text_from};
 pub use outcome::Outcome;
 pub use run::{judge_record, judge_record_from};
+pub use state_fault::StateFault;
+pub use state_reading::read_state;
 pub use statement_kind::StatementKind;

@@ -69,7 +69,8 @@ fn order_up_to(
 ) -> Result<Vec<u8>, NoMemory>
     requires are { AreCalls (map numbered_kept numbered.now) events.now }
     requires within { place ≤ length events.now }
-    ensures { IfOk result (λ order. order.items ≡ order_text no_calls (take place (map numbered_kept numbered.now)) moves.now) }
+    ensures { IfOk result (λ order. order.items ≡ order_text no_calls
+        (take place (map numbered_kept numbered.now)) moves.now) }
 {
     order_lines(alloc, &numbered[..place], &events[..place], moves)
 }

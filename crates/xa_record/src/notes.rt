@@ -1,7 +1,9 @@
 //! What was read of a record so far.
 ghost use Rattle.std.specs.Prelude.{◌≡◌, ◌≤◌, OnOk, length, map, slice_get, option_copied};
 ghost use Rattle.std.specs.Option.{option_map};
-ghost use Rattle.xa_record.specs.Reading.{no_notes, blamed, blamed_too, note_of, up_to_return as up_to_return_of, note_closed, returned, awaiting, with_row, noted_row, noted_said, noted_line, ended_by};
+ghost use Rattle.xa_record.specs.Reading.{no_notes, blamed, blamed_too, note_of, up_to_return as up_to_return_of};
+ghost use Rattle.xa_record.specs.Reading.{note_closed, returned, awaiting, with_row, noted_row, noted_said, noted_line};
+ghost use Rattle.xa_record.specs.Reading.{ended_by};
 ghost use Rattle.xa_record.specs.Rows.{row_said};
 ghost use Rattle.xa_record.specs.Kept.{told_kept, numbered_kept, awaited_kept, line_kept, notes_kept};
 
@@ -84,7 +86,8 @@ impl<'a> Notes<'a> {
     /// Notes that this happens on the line of this number, or that the line is faulty.
     #[tactic(auto, unfolding(crate::specs::Reading::noted_if))]
     fn note(&mut self, number: u64, line_event: LineEvent<'a>) -> Result<(), NoMemory>
-        ensures { OnOk result (notes_kept self.new ≡ note_of (notes_kept self.old) number (told_kept line_event.entry)) }
+        ensures { OnOk result (notes_kept self.new ≡ note_of (notes_kept self.old) number
+            (told_kept line_event.entry)) }
     {
         let session = line_event.session();
         match line_event.fault(self.presence_of(session)) {
@@ -152,7 +155,8 @@ impl<'a> Notes<'a> {
         number: u64,
         text: &'a [u8],
     ) -> Result<(), NoMemory>
-        ensures { OnOk result (notes_kept self.new ≡ with_row (notes_kept self.old) (awaited_kept pending.entry) number (row_said text.now)) }
+        ensures { OnOk result (notes_kept self.new ≡ with_row (notes_kept self.old) (awaited_kept pending.entry) number
+            (row_said text.now)) }
     {
         pending.missing = pending.missing.saturating_sub(1);
         match read_row(text) {
@@ -218,7 +222,8 @@ impl<'a> Notes<'a> {
     /// May return `NoMemory`.
     #[tactic(auto, unfolding(crate::specs::Reading::blamed))]
     pub fn end(&mut self) -> Result<(), NoMemory>
-        ensures { OnOk result (notes_kept self.new ≡ ended_by (option_map awaited_kept self.old.pending) (notes_kept self.old)) }
+        ensures { OnOk result (notes_kept self.new ≡ ended_by (option_map awaited_kept self.old.pending)
+            (notes_kept self.old)) }
     {
         match &self.pending {
             None => Ok(()),

@@ -88,7 +88,8 @@ fn push_called_at(
     place: Option<usize>,
 ) -> Result<(), NoMemory>
     requires { AreCalls (map numbered_kept numbered.now) events.now }
-    ensures { OnOk result (out.new.items ≡ out.old.items ++ call_text (text_at (map numbered_kept numbered.now) place)) }
+    ensures { OnOk result (out.new.items ≡ out.old.items ++ call_text
+        (text_at (map numbered_kept numbered.now) place)) }
 {
     match place {
         None => Ok(()),
@@ -114,7 +115,8 @@ fn push_act(
     act: Act,
 ) -> Result<(), NoMemory>
     requires { AreCalls (map numbered_kept numbered.now) events.now }
-    ensures { OnOk result (out.new.items ≡ out.old.items ++ act_text act (slice_get (calls_kept (map numbered_kept numbered.now) calls.now) session)) }
+    ensures { OnOk result (out.new.items ≡ out.old.items ++ act_text act
+        (slice_get (calls_kept (map numbered_kept numbered.now) calls.now) session)) }
 {
     match act {
         Act::Statement => push_called_at(alloc, out, numbered, events, calls.place_of(session)),
@@ -133,7 +135,8 @@ fn push_effect(
     act: Act,
 ) -> Result<(), NoMemory>
     requires { AreCalls (map numbered_kept numbered.now) events.now }
-    ensures { OnOk result (out.new.items ≡ out.old.items ++ effect_text (calls_kept (map numbered_kept numbered.now) calls.now) session act) }
+    ensures { OnOk result (out.new.items ≡ out.old.items ++ effect_text
+        (calls_kept (map numbered_kept numbered.now) calls.now) session act) }
 {
     push_number(out, session.get())?;
     out.extend_from_slice(b" ")?;
@@ -182,7 +185,8 @@ fn push_order(
     moves: &[Move],
 ) -> Result<(), NoMemory>
     requires { AreCalls (map numbered_kept numbered.now) events.now }
-    ensures { OnOk result (out.new.items ≡ out.old.items ++ order_text no_calls (map numbered_kept numbered.now) moves.now) }
+    ensures { OnOk result (out.new.items ≡ out.old.items ++ order_text no_calls
+        (map numbered_kept numbered.now) moves.now) }
 {
     let mut calls = LastCalls::none();
     let mut place = 0;

@@ -3,7 +3,8 @@ ghost use Rattle.std.specs.Prelude.{◌≡◌, ◌≤◌, ◌+◌, length, take,
 ghost use Rattle.hex.specs.Hex.{decode_sized};
 ghost use Rattle.xa_xid.specs.Limits.{text_bytes};
 ghost use Rattle.xa_lines.specs.Script.{first_word, behind_word as behind_word_of};
-ghost use Rattle.xa_record.specs.Rows.{leading_number as leading_number_of, digits_named, xid_of, xid_written, xid_with, row_of, row_said};
+ghost use Rattle.xa_record.specs.Rows.{leading_number as leading_number_of, digits_named, xid_of, xid_written};
+ghost use Rattle.xa_record.specs.Rows.{xid_with, row_of, row_said};
 
 use arrayvec::ArrayVec;
 use xa_lines::{number_in, split_word};

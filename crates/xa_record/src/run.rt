@@ -3,7 +3,8 @@ ghost use Rattle.std.specs.Prelude.{◌≡◌, ◌≤◌, length, IfOk, IfErr, O
 ghost use Rattle.std.specs.Io.KnownBytes.{Appends, IsAtEnd};
 ghost use Rattle.xa_lines.specs.Calls.{HasWritten, StopsWriting, Completes, Stops};
 ghost use Rattle.xa_lines.specs.Transcript.{AppendsPrefix, ConsumesMoreThan};
-ghost use Rattle.xa_record.specs.Judged.{record_bytes, record_reads, AppendsJudged, AfterJudgeFault, IsJudgedText, IsFaultOfJudging};
+ghost use Rattle.xa_record.specs.Judged.{record_bytes, record_reads, AppendsJudged, AfterJudgeFault, IsJudgedText};
+ghost use Rattle.xa_record.specs.Judged.{IsFaultOfJudging};
 ghost use Rattle.xa_record.specs.Judged.{AppendsJudgedFrom, AfterJudgeFaultFrom, IsJudgedTextFrom};
 
 use crate::allowance::Allowance;
@@ -27,7 +28,8 @@ fn write_judged<W: PieceWriter>(writer: &mut W, judged: &Judged) -> Result<Outco
     ensures outcome { IfOk result (λ outcome. outcome ≡ judged.now.outcome) }
     ensures all { OnOk result (Appends (W.contents writer.old) (W.contents writer.new) judged.now.text.items) }
     ensures fault { IfErr result (λ fault. fault ≡ ScriptFault.Write) }
-    ensures prefix { OnErr result (AppendsPrefix (W.contents writer.old) (W.contents writer.new) judged.now.text.items) }
+    ensures prefix { OnErr result (AppendsPrefix (W.contents writer.old)
+        (W.contents writer.new) judged.now.text.items) }
     ensures calls { MatchResult result
         (λ _. HasWritten W.takes writer.old judged.now.text.items writer.new)
         (λ _. StopsWriting W.takes W.refuses writer.old judged.now.text.items writer.new) }
@@ -114,25 +116,30 @@ pub fn judge_record<R: PieceReader, W: PieceWriter, P: Progress>(
     //   record that was read: its verdict, its faulty lines, or `EMPTY`. The end that is returned belongs to
     //   this text.
     ensures written { IfOk result
-        (λ outcome. IfSome (R.remaining reader.old) (λ text. AppendsJudged allowances.now asked outcome text (W.contents writer.old) (W.contents writer.new))) }
+        (λ outcome. IfSome (R.remaining reader.old) (λ text. AppendsJudged allowances.now asked outcome text
+        (W.contents writer.old) (W.contents writer.new))) }
     // Proved (records, record-length): A record that was judged has at most 16,777,216 bytes.
     ensures short { OnOk result (IfSome (R.remaining reader.old) (λ text. length text ≤ record_bytes)) }
 
     // Proved (records, record-fault): After `Write` a prefix of such a text was written, after any other
     //   fault of judging nothing. The fault is `Read`, `TooLong`, `Write` or `NoMemory`.
-    ensures fault { IfErr result (λ fault. AfterJudgeFault allowances.now asked fault (R.remaining reader.old) (W.contents writer.old) (W.contents writer.new)) }
+    ensures fault { IfErr result (λ fault. AfterJudgeFault allowances.now asked fault (R.remaining reader.old)
+        (W.contents writer.old) (W.contents writer.new)) }
     // Proved (records, record-too-long): Judging returns `TooLong` only if more than 16,777,216 bytes were
     //   read.
-    ensures too_long { result ≡ Err ScriptFault.TooLong → ConsumesMoreThan record_bytes (R.remaining reader.old) (R.remaining reader.new) }
+    ensures too_long { result ≡ Err ScriptFault.TooLong → ConsumesMoreThan record_bytes (R.remaining reader.old)
+        (R.remaining reader.new) }
 
     // Proved (records, record-stream-faults): `Read`, `TooLong` and `Write` have only their causes when a
     //   record is judged: the last call on that stream failed, or too much was read. A stream that failed
     //   isn't called again. After Ok all calls on both streams succeeded. This holds for every reader and
     //   writer.
-    ensures calls { OnOk result (Completes R.gives W.takes record_reads (IsJudgedText allowances.now asked) reader.old reader.new writer.old writer.new) }
+    ensures calls { OnOk result (Completes R.gives W.takes record_reads
+        (IsJudgedText allowances.now asked) reader.old reader.new writer.old writer.new) }
     // Proved (records, record-stream-faults)
     ensures cause { IfErr result
-        (λ fault. Stops R.gives R.fails W.takes W.refuses record_reads record_bytes (IsJudgedText allowances.now asked) IsFaultOfJudging fault reader.old reader.new writer.old
+        (λ fault. Stops R.gives R.fails W.takes W.refuses record_reads record_bytes
+        (IsJudgedText allowances.now asked) IsFaultOfJudging fault reader.old reader.new writer.old
         writer.new) }
 {
     let base = Server::new(alloc);

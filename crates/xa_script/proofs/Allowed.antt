@@ -3,7 +3,9 @@ use Rattle.std.proofs.Common.{◌++◌, ◌∙◌, ℕ, Option, Some, None, List
 use Rattle.std.specs.Io.KnownBytes.{Consumes, IsAtEnd}
 
 -- what holds of the bytes that were read up to the end holds of all that the reader had
-pub read_whole : (P : List ℕ → Type 0) (input rest : Option (List ℕ)) (given : List ℕ) → Consumes input rest given → IsAtEnd rest → P given → IfSome input P
+pub read_whole : (P : List ℕ → Type 0) (input rest : Option (List ℕ)) (given : List ℕ) → Consumes input rest given
+    → IsAtEnd rest → P given → IfSome input P
 read_whole P None rest given read end p = tt
 read_whole P (Some all) None given read end p = absurd read
-read_whole P (Some all) (Some more) given read end p = subst P (sym (read ∙ ap (λ bytes. given ++ bytes) end ∙ append-nil given)) p
+read_whole P (Some all) (Some more) given read end p =
+    subst P (sym (read ∙ ap (λ bytes. given ++ bytes) end ∙ append-nil given)) p

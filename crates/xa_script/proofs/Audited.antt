@@ -4,14 +4,16 @@ use Rattle.std.specs.Prelude.{IfSome}
 use Rattle.std.specs.Io.KnownBytes.{Keeps}
 use Rattle.std.proofs.lemmas.List.{map_push, map-id}
 use Rattle.xa_lines.specs.declared.script_fault.ScriptFault.{ScriptFault}
-use Rattle.xa_lines.specs.declared.script_fault.ScriptFault.TheVariants.{Read, TooLong, Write, NoMemory, Full, GateShut, ThreadRefused}
+use Rattle.xa_lines.specs.declared.script_fault.ScriptFault.TheVariants.{Read, TooLong, Write, NoMemory, Full, GateShut}
+use Rattle.xa_lines.specs.declared.script_fault.ScriptFault.TheVariants.{ThreadRefused}
 use Rattle.xa_lines.specs.Transcript.{IsOfReading}
 use Rattle.xa_audit.specs.Audits.{AfterAuditFault}
 use Rattle.xa_audit.specs.declared.form.Form.{Form}
 use Rattle.xa_script.specs.Status.{AfterAuditing}
 
 -- the last of texts that are all known, and those before it
-pub last_known : {A : Type 0} (all : List (Option A)) (last : Option A) (texts : List A) → all ++ last ∷ [] ≡ map Some texts
+pub last_known : {A : Type 0} (all : List (Option A)) (last : Option A) (texts : List A)
+    → all ++ last ∷ [] ≡ map Some texts
     → (front : List A) × (text : A) × (texts ≡ front ++ text ∷ []) × (all ≡ map Some front) × (last ≡ Some text)
 last_known [] last [] e = cc
 last_known [] last (text ∷ []) e = ([], text, refl, refl, cc)
@@ -29,17 +31,20 @@ none_known P [] holds e = holds
 none_known P (text ∷ texts) holds e = cc
 
 -- what holds of the texts of some sources holds of those with one more
-pub taken_more : {S : Type 0} (sources : List S) (source : S) (remaining : S → Option (List ℕ)) (P Q : List (List ℕ) → Type 0)
+pub taken_more : {S : Type 0} (sources : List S) (source : S) (remaining : S → Option (List ℕ))
+    (P Q : List (List ℕ) → Type 0)
     → ((texts : List (List ℕ)) → map remaining sources ≡ map Some texts → P texts)
     → IfSome (remaining source) (λ text. (texts : List (List ℕ)) → P texts → Q (texts ++ text ∷ []))
     → (texts : List (List ℕ)) → map remaining (sources ++ source ∷ []) ≡ map Some texts → Q texts
 taken_more sources source remaining P Q before next texts e =
     let k = last_known (map remaining sources) (remaining source) texts (sym (map_push remaining sources source) ∙ e) in
-    let at : Option (List ℕ) → Type 0 = λ o. IfSome o (λ text. (front : List (List ℕ)) → P front → Q (front ++ text ∷ [])) in
+    let at : Option (List ℕ) → Type 0 = λ o. IfSome o (λ text. (front : List (List ℕ)) → P front
+    → Q (front ++ text ∷ [])) in
     subst Q (sym k.2) (subst at k.4 next k.0 (before k.0 k.3))
 
 -- the sources that were taken are all of them
-pub taken_all : {S : Type 0} (taken all : List S) (remaining : S → Option (List ℕ)) (P : List (List ℕ) → Type 0) → map (λ source. source) taken ≡ all
+pub taken_all : {S : Type 0} (taken all : List S) (remaining : S → Option (List ℕ)) (P : List (List ℕ) → Type 0)
+    → map (λ source. source) taken ≡ all
     → ((texts : List (List ℕ)) → map remaining taken ≡ map Some texts → P texts)
     → (texts : List (List ℕ)) → map remaining all ≡ map Some texts → P texts
 taken_all taken all remaining P same holds texts e = holds texts (ap (map remaining) (sym (map-id taken) ∙ same) ∙ e)
@@ -49,7 +54,8 @@ kept_all None = tt
 kept_all (Some xs) = refl
 
 -- a fault of reading leaves the writer as it was
-pub after_reading : (histories : List (List ℕ)) (form : Form) (fault : ScriptFault) (contents : Option (List ℕ)) → IsOfReading fault
+pub after_reading : (histories : List (List ℕ)) (form : Form) (fault : ScriptFault) (contents : Option (List ℕ))
+    → IsOfReading fault
     → AfterAuditing histories form fault contents contents
 after_reading histories form Read contents of = kept_all contents
 after_reading histories form TooLong contents of = kept_all contents

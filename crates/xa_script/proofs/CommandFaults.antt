@@ -1,6 +1,7 @@
 -- Which faults a command line has.
 use Rattle.std.proofs.Common.{◌≡◌, ◌∙◌, true, [], refl, sym, ap, subst, inl, List, Option, Result, Err}
-use Rattle.clap.specs.Words.{App, Text, HasKind, HasMatchesOf, Row, fault_of, is_simple, is_simple_and_free, subcommand_of, subcommand_rows_of}
+use Rattle.clap.specs.Words.{App, Text, HasKind, HasMatchesOf, Row, fault_of, is_simple, is_simple_and_free}
+use Rattle.clap.specs.Words.{subcommand_of, subcommand_rows_of}
 use Rattle.clap.specs.declared.error.Error.{Error}
 use Rattle.clap.proofs.OnLiterals.{clap_on_literals}
 use Rattle.std.specs.Option.{IsSomeAnd}
@@ -23,24 +24,32 @@ found_as_named app words m is has = (has (ap is_simple is ∙ simple)).1 ∙ ap 
 
 pub named : (words : List Text) (m : ArgMatches) (job : Job) → subcommand_rows_of m ≡ subcommand_of script_app words
     → IsSomeAnd (subcommand_rows_of m) (IsJob job) → Names words job
-named words m job is found = let P : Option (Text × List Row) → Type 0 = λ s. IsSomeAnd s (IsJob job) in subst P is found
+named words m job is found = let P : Option (Text × List Row) → Type 0 = λ s. IsSomeAnd s (IsJob job) in
+    subst P is found
 
-pub found : (words : List Text) (m : ArgMatches) (job : Job) → subcommand_rows_of m ≡ subcommand_of script_app words → Names words job
+pub found : (words : List Text) (m : ArgMatches) (job : Job) → subcommand_rows_of m ≡ subcommand_of script_app words
+    → Names words job
     → IsSomeAnd (subcommand_rows_of m) (IsJob job)
-found words m job is names = let P : Option (Text × List Row) → Type 0 = λ s. IsSomeAnd s (IsJob job) in subst P (sym is) names
+found words m job is names = let P : Option (Text × List Row) → Type 0 = λ s. IsSomeAnd s (IsJob job) in
+    subst P (sym is) names
 
 -- the kinds of the faults are those of the program's own command
-pub kind_of_script : (app : App) (words : List Text) (error : Error) → app ≡ script_app → (is_simple_and_free app ≡ true → HasKind (fault_of app words) error)
+pub kind_of_script : (app : App) (words : List Text) (error : Error) → app ≡ script_app
+    → (is_simple_and_free app ≡ true → HasKind (fault_of app words) error)
     → HasKind (fault_of script_app words) error
 kind_of_script app words error is kinds =
-    let P : App → Type 0 = λ a. HasKind (fault_of a words) error in subst P is (kinds (ap is_simple_and_free is ∙ simple_and_free))
+    let P : App → Type 0 = λ a. HasKind (fault_of a words) error in
+    subst P is (kinds (ap is_simple_and_free is ∙ simple_and_free))
 
-pub no_fault_of_script : (app : App) (words : List Text) → app ≡ script_app → (is_simple_and_free app ≡ true → fault_of app words ≡ [])
+pub no_fault_of_script : (app : App) (words : List Text) → app ≡ script_app
+    → (is_simple_and_free app ≡ true → fault_of app words ≡ [])
     → fault_of script_app words ≡ []
-no_fault_of_script app words is none = let P : App → Type 0 = λ a. fault_of a words ≡ [] in subst P is (none (ap is_simple_and_free is ∙ simple_and_free))
+no_fault_of_script app words is none = let P : App → Type 0 = λ a. fault_of a words ≡ [] in
+    subst P is (none (ap is_simple_and_free is ∙ simple_and_free))
 
 -- an error that is passed on
-pub refused_as : (words : List Text) (answer : Result Job Error) (passed error : Error) → answer ≡ Err passed → passed ≡ error
+pub refused_as : (words : List Text) (answer : Result Job Error) (passed error : Error) → answer ≡ Err passed
+    → passed ≡ error
     → HasKind (fault_of script_app words) error → ReadsCommand words answer
 refused_as words answer passed error is same kinds =
     let P : Result Job Error → Type 0 = λ r. ReadsCommand words r in subst P (sym (is ∙ ap Err same)) (inl kinds)

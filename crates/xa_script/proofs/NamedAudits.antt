@@ -2,17 +2,20 @@
 use Rattle.std.proofs.Common.{◌≡◌, ◌∙◌, sym, ap, subst, map, List, [], Option, Some, codes}
 use Rattle.std.specs.Prelude.{option_map, unwrap_or}
 use Rattle.std.specs.Option.{IsSomeAnd}
-use Rattle.clap.specs.Words.{Text, Row, all_of, found_of, matched_of, one_text, raw_values, rows_of, subcommand_of, subcommand_rows_of}
+use Rattle.clap.specs.Words.{Text, Row, all_of, found_of, matched_of, one_text, raw_values, rows_of, subcommand_of}
+use Rattle.clap.specs.Words.{subcommand_rows_of}
 use Rattle.clap.specs.declared.parser.matches.ArgMatches.{ArgMatches}
 use Rattle.clap.proofs.WalkLemmas.{one_text-rows, raw_values-rows}
 use Rattle.xa_script.specs.CommandLine.{IsAuditOf, IsJob, script_app}
 use Rattle.xa_script.specs.Manner.{HasHistories}
 use Rattle.xa_script.specs.declared.command.Job.{Job}
-use Rattle.xa_script.specs.declared.command.Job.TheVariants.{Run, Race, Coordinate, Serve, Show, Judge, Explore, Stops, Audit}
+use Rattle.xa_script.specs.declared.command.Job.TheVariants.{Run, Race, Coordinate, Serve, Show, Judge, Explore, Stops}
+use Rattle.xa_script.specs.declared.command.Job.TheVariants.{Audit}
 use Rattle.xa_script.specs.declared.histories.Histories.{Histories}
 
 -- auditing as a value says
-pub audits : (m found : ArgMatches) (name : Text) (job : Job) → subcommand_rows_of m ≡ Some (name, rows_of (found_of found)) → name ≡ codes "audit"
+pub audits : (m found : ArgMatches) (name : Text) (job : Job)
+    → subcommand_rows_of m ≡ Some (name, rows_of (found_of found)) → name ≡ codes "audit"
     → IsAuditOf (one_text (found_of found) (codes "json")) job → IsSomeAnd (subcommand_rows_of m) (IsJob job)
 audits m found name Run is named of = absurd of
 audits m found name Serve is named of = absurd of
@@ -30,9 +33,12 @@ audits m found name (Audit json) is named of =
 -- the histories that were found are those of the rows, which the words give
 pub histories_by_words : (words : List Text) (found : ArgMatches) (name : Text) (histories : Histories)
     → subcommand_of script_app words ≡ Some (name, rows_of (found_of found))
-    → map (λ named. named.now) histories.names.items ≡ unwrap_or (option_map raw_values (matched_of (found_of found) (codes "history"))) []
+    → map (λ named. named.now) histories.names.items ≡ unwrap_or
+    (option_map raw_values (matched_of (found_of found) (codes "history"))) []
     → HasHistories words histories
 histories_by_words words found name histories is of =
     let P : Option (Text × List Row) → Type 0 =
-    λ s. IsSomeAnd s (λ pair. map (λ named. named.now) histories.names.items ≡ unwrap_or (all_of (codes "history") pair.1) []) in
-    subst P (sym is) (of ∙ ap (λ (values : Option (List Text)). unwrap_or values []) (raw_values-rows (found_of found) (codes "history")))
+    λ s. IsSomeAnd s (λ pair. map (λ named. named.now) histories.names.items
+    ≡ unwrap_or (all_of (codes "history") pair.1) []) in
+    subst P (sym is) (of ∙ ap (λ (values : Option (List Text)). unwrap_or values [])
+    (raw_values-rows (found_of found) (codes "history")))

@@ -13,7 +13,8 @@ map_first : {S A B : Type 0} (f : S → A) (g : S → B) (s : Option S)
 map_first f g None = refl
 map_first f g (Some b) = refl
 
-both_parts : {A B : Type 0} (s : Option (A × B)) (n : A) (r : B) → Some n ≡ option_map (λ p. p.0) s → Some r ≡ option_map (λ p. p.1) s → s ≡ Some (n, r)
+both_parts : {A B : Type 0} (s : Option (A × B)) (n : A) (r : B) → Some n ≡ option_map (λ p. p.0) s
+    → Some r ≡ option_map (λ p. p.1) s → s ≡ Some (n, r)
 both_parts None n r e f = cc
 both_parts (Some p) n r e f =
     let one : n ≡ p.0 = cc in
@@ -21,11 +22,13 @@ both_parts (Some p) n r e f =
     rw (one, two) refl
 
 -- the subcommand that was found, with its rows
-pub rows_are : (m : ArgMatches) (name : Text) (rows : List Row) → Some name ≡ subcommand_name_of m → Some rows ≡ option_map (λ p. p.1) (subcommand_rows_of m)
+pub rows_are : (m : ArgMatches) (name : Text) (rows : List Row) → Some name ≡ subcommand_name_of m
+    → Some rows ≡ option_map (λ p. p.1) (subcommand_rows_of m)
     → subcommand_rows_of m ≡ Some (name, rows)
 rows_are m name rows e f =
     both_parts (subcommand_rows_of m) name rows
-    (e ∙ map_first (λ b. (out-SubCommand (box_value b)).name.now) (λ b. rows_of (found_of (out-SubCommand (box_value b)).matches))
+    (e ∙ map_first (λ b. (out-SubCommand (box_value b)).name.now)
+    (λ b. rows_of (found_of (out-SubCommand (box_value b)).matches))
     (out-ArgMatches m).subcommand) f
 
 pub at_found : (m : ArgMatches) (name : Text) (rows : List Row) (job : Job) → subcommand_rows_of m ≡ Some (name, rows)
@@ -33,5 +36,7 @@ pub at_found : (m : ArgMatches) (name : Text) (rows : List Row) (job : Job) → 
 at_found m name rows job is h = let P : Option (Text × List Row) → Type 0 = λ s. IsSomeAnd s (IsJob job) in subst P is h
 
 -- equal texts have the same byte at a place
-pub same_byte : (place : ℕ) (text other : Text) (a b : ℕ) → text ≡ other → slice_index text place ≡ a → slice_index other place ≡ b → a ≡ b
-same_byte place text other a b e at_text at_other = sym at_text ∙ ap (λ (bytes : List ℕ). slice_index bytes place) e ∙ at_other
+pub same_byte : (place : ℕ) (text other : Text) (a b : ℕ) → text ≡ other → slice_index text place ≡ a
+    → slice_index other place ≡ b → a ≡ b
+same_byte place text other a b e at_text at_other =
+    sym at_text ∙ ap (λ (bytes : List ℕ). slice_index bytes place) e ∙ at_other

@@ -1,5 +1,6 @@
 -- Texts in quotes are literals of their bytes.
-use Rattle.std.proofs.Common.{◌≡◌, ◌∙◌, ℕ, ◌≤◌, Bool, true, false, ◌==◌, ◌||◌, if◌then◌else◌, List, [], ◌∷◌, ◌++◌, length, Ok, refl, sym, ap, subst, append-nil}
+use Rattle.std.proofs.Common.{◌≡◌, ◌∙◌, ℕ, ◌≤◌, Bool, true, false, ◌==◌, ◌||◌, if◌then◌else◌, List, [], ◌∷◌, ◌++◌}
+use Rattle.std.proofs.Common.{length, Ok, refl, sym, ap, subst, append-nil}
 use Rattle.std.proofs.lemmas.Bool.{eqb-true, eqb-false}
 use Rattle.xa_xid.specs.Bytes.{StartsNo}
 use Rattle.xa_xid.specs.Literal.{Reading, LiteralAt, text_literal, literal_ahead, kept, sized}
@@ -14,14 +15,18 @@ unfolding escaped
 two_backslashes form = escape 92 form
 
 -- one byte in front, by whether it is a quote or a backslash
-form_more : (byte : ℕ) (is_quote is_backslash : Bool) (front bytes : List ℕ) → (byte == 39) ≡ is_quote → (byte == 92) ≡ is_backslash
+form_more : (byte : ℕ) (is_quote is_backslash : Bool) (front bytes : List ℕ) → (byte == 39) ≡ is_quote
+    → (byte == 92) ≡ is_backslash
     → Quoted 39 (front ++ 39 ∷ []) bytes
     → Quoted 39 ((if is_quote || is_backslash then byte ∷ byte ∷ front else byte ∷ front) ++ 39 ∷ []) (byte ∷ bytes)
 form_more byte true is_backslash front bytes quote other form =
-    let P : ℕ → Type 0 = λ b. Quoted 39 (b ∷ b ∷ (front ++ 39 ∷ [])) (b ∷ bytes) in subst P (sym (eqb-true byte 39 quote)) (doubled form)
+    let P : ℕ → Type 0 = λ b. Quoted 39 (b ∷ b ∷ (front ++ 39 ∷ [])) (b ∷ bytes) in
+    subst P (sym (eqb-true byte 39 quote)) (doubled form)
 form_more byte false true front bytes quote other form =
-    let P : ℕ → Type 0 = λ b. Quoted 39 (b ∷ b ∷ (front ++ 39 ∷ [])) (b ∷ bytes) in subst P (sym (eqb-true byte 92 other)) (two_backslashes form)
-form_more byte false false front bytes quote other form = plain byte (eqb-false byte 39 quote) (eqb-false byte 92 other) form
+    let P : ℕ → Type 0 = λ b. Quoted 39 (b ∷ b ∷ (front ++ 39 ∷ [])) (b ∷ bytes) in
+    subst P (sym (eqb-true byte 92 other)) (two_backslashes form)
+form_more byte false false front bytes quote other form =
+    plain byte (eqb-false byte 39 quote) (eqb-false byte 92 other) form
 
 -- what stands between quotes, with the closing one, stands for the bytes
 form_of : (bytes : List ℕ) → Quoted 39 (between_quotes bytes ++ 39 ∷ []) bytes
@@ -30,7 +35,8 @@ form_of (byte ∷ bytes) = form_more byte (byte == 39) (byte == 92) (between_quo
 
 -- a text in quotes, behind which no quote stands
 pub quoted_at : (bytes rest : List ℕ) → StartsNo (λ byte. byte == 39) rest → LiteralAt (quoted bytes ++ rest) bytes rest
-quoted_at bytes rest last = text_literal 39 refl (record { written = between_quotes bytes ++ 39 ∷ []; form = form_of bytes; cut = refl; last = last })
+quoted_at bytes rest last = text_literal 39 refl (record
+    { written = between_quotes bytes ++ 39 ∷ []; form = form_of bytes; cut = refl; last = last })
 
 -- it is read as its bytes
 read_quoted : (text : Text) → length text.items ≤ 64
@@ -41,7 +47,8 @@ read_quoted text fits complete =
     ∙ complete (quoted text.items ++ []) text.items [] (quoted_at text.items [] tt)
     ∙ ap (λ found. sized found []) (kept-fits text.items fits)
 
-chosen : (word : List ℕ) (text : Text) (is_plain : Bool) → literal_ahead word ≡ Ok (text, []) → literal_ahead (quoted text.items) ≡ Ok (text, [])
+chosen : (word : List ℕ) (text : Text) (is_plain : Bool) → literal_ahead word ≡ Ok (text, [])
+    → literal_ahead (quoted text.items) ≡ Ok (text, [])
     → literal_ahead (if is_plain then quoted text.items else word) ≡ Ok (text, [])
 chosen word text true is read = read
 chosen word text false is read = is

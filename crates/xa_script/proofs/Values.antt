@@ -1,5 +1,6 @@
 -- What the values of `--shuffle`, `--runs` and of options without a value say.
-use Rattle.std.proofs.Common.{◌≡◌, ◌∙◌, ◌<◌, ◌^◌, ℕ, Bool, true, false, refl, sym, ap, subst, List, length, Option, Some, None, codes, arith}
+use Rattle.std.proofs.Common.{◌≡◌, ◌∙◌, ◌<◌, ◌^◌, ℕ, Bool, true, false, refl, sym, ap, subst, List, length, Option}
+use Rattle.std.proofs.Common.{Some, None, codes, arith}
 use Rattle.std.specs.Prelude.{◌≢◌, IfSome, Result, Ok, Err, unwrap_or}
 use Rattle.std.specs.Option.{IsSomeAnd}
 use Rattle.std.specs.Str.Parse.{ParsesUnsigned, ParsesBool, true_text, false_text}
@@ -10,9 +11,11 @@ some_is : {text other : Text} → Some text ≡ Some other → text ≡ other
 some_is e = cc
 
 -- a number is read only where it is given
-pub seed_read : {E : Type 0} (gives : List ℕ → Result ℕ E → Type 0) → ((text : Text) (r : Result ℕ E) → gives text r → ParsesUnsigned 64 10 text r)
+pub seed_read : {E : Type 0} (gives : List ℕ → Result ℕ E → Type 0)
+    → ((text : Text) (r : Result ℕ E) → gives text r → ParsesUnsigned 64 10 text r)
     → (given : Option Text) (read : Option ℕ) → (given ≡ None → read ≡ None)
-    → ((text : List ℕ) → given ≡ Some text → ReadsOne gives text read) → IfSome read (λ seed. IsSomeAnd given (IsSeedText seed))
+    → ((text : List ℕ) → given ≡ Some text → ReadsOne gives text read)
+    → IfSome read (λ seed. IsSomeAnd given (IsSeedText seed))
 seed_read gives parses given None none value = tt
 seed_read gives parses None (Some seed) none value = let e : Some seed ≡ None = none refl in cc
 seed_read gives parses (Some text) (Some seed) none value =
@@ -20,7 +23,8 @@ seed_read gives parses (Some text) (Some seed) none value =
     (p.0.0, p.1, subst (λ n. n < 2 ^ 64) (sym p.1) p.0.1)
 
 -- no number is read only where none is given
-pub none_read : {E : Type 0} (gives : List ℕ → Result ℕ E → Type 0) → ((text : Text) (r : Result ℕ E) → gives text r → ParsesUnsigned 64 10 text r)
+pub none_read : {E : Type 0} (gives : List ℕ → Result ℕ E → Type 0)
+    → ((text : Text) (r : Result ℕ E) → gives text r → ParsesUnsigned 64 10 text r)
     → (given : Option Text) (read : Option ℕ) → (given ≡ None → read ≡ None)
     → ((text : List ℕ) → given ≡ Some text → ReadsOne gives text read) → read ≡ None → HasNoSeed given
 none_read gives parses None read none value is seed named = named
@@ -30,18 +34,22 @@ none_read gives parses (Some text) None none value is seed named =
     parses text (Err failed.0) failed.1 (named.0, subst (λ n. n < 2 ^ 64) named.1 named.2)
 
 -- the flag is read as given only where it is
-pub flag_read : {E : Type 0} (gives : List ℕ → Result Bool E → Type 0) → ((text : Text) (r : Result Bool E) → gives text r → ParsesBool text r)
+pub flag_read : {E : Type 0} (gives : List ℕ → Result Bool E → Type 0)
+    → ((text : Text) (r : Result Bool E) → gives text r → ParsesBool text r)
     → (given : Option Text) (read : Option Bool) → (given ≡ None → read ≡ None)
-    → ((text : List ℕ) → given ≡ Some text → ReadsOne gives text read) → unwrap_or read false ≡ true → given ≡ Some (codes "true")
+    → ((text : List ℕ) → given ≡ Some text → ReadsOne gives text read) → unwrap_or read false ≡ true
+    → given ≡ Some (codes "true")
 flag_read gives parses given None none value is = cc
 flag_read gives parses None (Some flag) none value is = let e : Some flag ≡ None = none refl in cc
 flag_read gives parses (Some text) (Some false) none value is = cc
 flag_read gives parses (Some text) (Some true) none value is = ap Some (parses text (Ok true) (value text refl))
 
 -- and as not given only where it isn't
-pub no_flag_read : {E : Type 0} (gives : List ℕ → Result Bool E → Type 0) → ((text : Text) (r : Result Bool E) → gives text r → ParsesBool text r)
+pub no_flag_read : {E : Type 0} (gives : List ℕ → Result Bool E → Type 0)
+    → ((text : Text) (r : Result Bool E) → gives text r → ParsesBool text r)
     → (given : Option Text) (read : Option Bool) → (given ≡ None → read ≡ None)
-    → ((text : List ℕ) → given ≡ Some text → ReadsOne gives text read) → unwrap_or read false ≡ false → given ≢ Some (codes "true")
+    → ((text : List ℕ) → given ≡ Some text → ReadsOne gives text read) → unwrap_or read false ≡ false
+    → given ≢ Some (codes "true")
 no_flag_read gives parses None read none value is same = cc
 no_flag_read gives parses (Some text) (Some true) none value is same = cc
 no_flag_read gives parses (Some text) (Some false) none value is same =
@@ -52,7 +60,8 @@ no_flag_read gives parses (Some text) None none value is same =
     absurd ((parses text (Err failed.0) failed.1).0 (some_is same))
 
 -- the flag is as the option says
-pub flag_of : (given : Option Text) (flag : Bool) → (flag ≡ true → given ≡ Some (codes "true")) → (flag ≡ false → given ≢ Some (codes "true"))
+pub flag_of : (given : Option Text) (flag : Bool) → (flag ≡ true → given ≡ Some (codes "true"))
+    → (flag ≡ false → given ≢ Some (codes "true"))
     → IsFlagOf given flag
 flag_of given true is absent = is refl
 flag_of given false is absent = absent refl

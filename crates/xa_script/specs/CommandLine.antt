@@ -4,10 +4,12 @@
 --     IsJob           the job of a subcommand
 --     Names           the job that the words of a command line name
 --     ReadsCommand    when a command line is read, and why not
-use Rattle.std.specs.Prelude.{◌≡◌, ◌≢◌, ◌<◌, ◌≤◌, ◌^◌, ◌⊎◌, ℕ, Bool, true, false, Option, Some, None, Result, MatchResult, IfSome, List, [], ◌∷◌, codes}
+use Rattle.std.specs.Prelude.{◌≡◌, ◌≢◌, ◌<◌, ◌≤◌, ◌^◌, ◌⊎◌, ℕ, Bool, true, false, Option, Some, None, Result}
+use Rattle.std.specs.Prelude.{MatchResult, IfSome, List, [], ◌∷◌, codes}
 use Rattle.std.specs.Option.{IsSomeAnd}
 use Rattle.std.specs.Str.Parse.{IsNumeral, digits_value, without_leading_plus}
-use Rattle.clap.specs.Words.{App, Text, Row, Rule, new_app, new_rule, one_of, subcommand_of, with_rule, with_subcommand, fault_of, HasKind}
+use Rattle.clap.specs.Words.{App, Text, Row, Rule, new_app, new_rule, one_of, subcommand_of, with_rule, with_subcommand}
+use Rattle.clap.specs.Words.{fault_of, HasKind}
 use Rattle.clap.specs.Simple.{on_top}
 use Rattle.clap.specs.Lexer.{usize_max}
 use Rattle.clap.specs.declared.builder.value_parser.ValueParser.{ValueParser}
@@ -20,11 +22,13 @@ use Rattle.decision_log.specs.Opens.{IsCapacity}
 use Rattle.xa_script.specs.declared.schedule.Schedule.{Schedule}
 use Rattle.xa_script.specs.declared.schedule.Schedule.TheVariants.{Freely, Together, Shuffled}
 use Rattle.xa_script.specs.declared.command.Job.{Job}
-use Rattle.xa_script.specs.declared.command.Job.TheVariants.{Run, Race, Coordinate, Serve, Show, Judge, Explore, Stops, Audit}
+use Rattle.xa_script.specs.declared.command.Job.TheVariants.{Run, Race, Coordinate, Serve, Show, Judge, Explore, Stops}
+use Rattle.xa_script.specs.declared.command.Job.TheVariants.{Audit}
 
 -- `--NAME N`, which this parser reads, with a default
 abbrev pub number_rule : Text → ValueParser → Text → Rule
-number_rule name reads default = record (new_rule name) { long = Some name; value_names = 1; parser = Some reads; defaults = default ∷ [] }
+number_rule name reads default =
+    record (new_rule name) { long = Some name; value_names = 1; parser = Some reads; defaults = default ∷ [] }
 
 -- `--NAME`, which has no value
 abbrev pub flag_rule : Text → Rule
@@ -52,7 +56,8 @@ json_rule = flag_rule (codes "json")
 
 -- `[--file FILE] [--verbose] [--strict] [--text]`, behind a subcommand's own options
 abbrev pub common_app : App → App
-common_app app = with_rule (with_rule (with_rule (with_rule app file_rule) verbose_rule) (flag_rule (codes "strict"))) text_rule
+common_app app =
+    with_rule (with_rule (with_rule (with_rule app file_rule) verbose_rule) (flag_rule (codes "strict"))) text_rule
 
 -- a subcommand that has these alone
 abbrev pub plain_app : Text → App
@@ -68,7 +73,9 @@ together_rule = flag_rule (codes "together")
 
 -- `--shuffle SEED`, a number from 0 to 2^64 - 1
 abbrev pub shuffle_rule : Rule
-shuffle_rule = record (new_rule (codes "shuffle")) { long = Some (codes "shuffle"); value_names = 1; parser = Some (parser.Unsigned 0 18446744073709551615) }
+shuffle_rule =
+    record (new_rule (codes "shuffle"))
+    { long = Some (codes "shuffle"); value_names = 1; parser = Some (parser.Unsigned 0 18446744073709551615) }
 
 -- `--renew`, which has no value
 abbrev pub renew_rule : Rule
@@ -76,12 +83,15 @@ renew_rule = flag_rule (codes "renew")
 
 -- `--runs N`, a number from 1 to 1,000,000
 abbrev pub runs_rule : Rule
-runs_rule = record (new_rule (codes "runs")) { long = Some (codes "runs"); value_names = 1; parser = Some (parser.Unsigned 1 1000000) }
+runs_rule = record (new_rule (codes "runs"))
+    { long = Some (codes "runs"); value_names = 1; parser = Some (parser.Unsigned 1 1000000) }
 
 -- `race [--capacity N] [--together] [--shuffle SEED] [--renew] [--runs N] [--json]`
 abbrev pub race_app : App
 race_app =
-    with_rule (with_rule (with_rule (with_rule (with_rule (with_rule (new_app (codes "race")) capacity_rule) together_rule) shuffle_rule) renew_rule) runs_rule)
+    with_rule (with_rule
+    (with_rule (with_rule (with_rule (with_rule (new_app (codes "race")) capacity_rule) together_rule) shuffle_rule)
+    renew_rule) runs_rule)
     json_rule
 
 -- `--stores N`, a number from 1 to 16, and 3 where it isn't given
@@ -119,12 +129,15 @@ explore_app = with_rule (with_rule (new_app (codes "explore")) limit_rule) json_
 
 -- `HISTORY..`, one text or more
 abbrev pub history_rule : Rule
-history_rule = record (new_rule (codes "history")) { value_names = 1; range = Some (record { start_inclusive = 1; end_inclusive = usize_max }); required = true }
+history_rule =
+    record (new_rule (codes "history"))
+    { value_names = 1; range = Some (record { start_inclusive = 1; end_inclusive = usize_max }); required = true }
 
 -- `audit HISTORY.. [--json] [--quiet] [--verbose] [--text]`
 abbrev pub audit_app : App
 audit_app =
-    with_rule (with_rule (with_rule (with_rule (with_rule (new_app (codes "audit")) history_rule) (flag_rule (codes "json"))) (flag_rule (codes "quiet")))
+    with_rule (with_rule (with_rule (with_rule (with_rule (new_app (codes "audit")) history_rule)
+    (flag_rule (codes "json"))) (flag_rule (codes "quiet")))
     verbose_rule) text_rule
 
 -- no option of the command is one of its subcommands too
@@ -133,20 +146,24 @@ IsLocal command = (out-Command command).has_globals ≡ false
 
 -- a subcommand is required, or `--version`
 abbrev pub bare_app : App
-bare_app = on_top (λ shape. record shape { subcommand_required = true; has_version = true }) (new_app (codes "xa_script"))
+bare_app = on_top (λ shape. record shape { subcommand_required = true; has_version = true })
+    (new_app (codes "xa_script"))
 
 -- `xa_script run`, `race`, `coordinate`, `stops`, `serve`, `show`, `judge`, `explore` and `audit`
 abbrev pub script_app : App
 script_app =
     with_subcommand (with_subcommand (with_subcommand (with_subcommand
     (with_subcommand (with_subcommand (with_subcommand
-    (with_subcommand (with_subcommand bare_app (plain_app (codes "run")).top) (common_app race_app).top) (common_app coordinate_app).top)
-    (common_app stops_app).top) (plain_app (codes "serve")).top) (plain_app (codes "show")).top) (common_app judge_app).top) (common_app explore_app).top)
+    (with_subcommand (with_subcommand bare_app (plain_app (codes "run")).top) (common_app race_app).top)
+    (common_app coordinate_app).top)
+    (common_app stops_app).top) (plain_app (codes "serve")).top) (plain_app (codes "show")).top)
+    (common_app judge_app).top) (common_app explore_app).top)
     audit_app.top
 
 -- the text of a value is this number, which a log can have as its capacity
 abbrev pub IsCapacityText : ℕ → Text → Type 0
-IsCapacityText capacity text = IsNumeral 10 (without_leading_plus text) × (capacity ≡ digits_value 10 (without_leading_plus text)) × IsCapacity capacity
+IsCapacityText capacity text = IsNumeral 10 (without_leading_plus text)
+    × (capacity ≡ digits_value 10 (without_leading_plus text)) × IsCapacity capacity
 
 -- from 1 to 16 stores (own rule)
 abbrev pub IsStoreCount : ℕ → Type 0
@@ -154,7 +171,8 @@ IsStoreCount stores = (1 ≤ stores) × (stores ≤ 16)
 
 -- the text of a value is this number, from 1 to 16
 abbrev pub IsStoresText : ℕ → Text → Type 0
-IsStoresText stores text = IsNumeral 10 (without_leading_plus text) × (stores ≡ digits_value 10 (without_leading_plus text)) × IsStoreCount stores
+IsStoresText stores text = IsNumeral 10 (without_leading_plus text)
+    × (stores ≡ digits_value 10 (without_leading_plus text)) × IsStoreCount stores
 
 -- from 1 to 1,000,000 configurations, ways or runs (own rule)
 abbrev pub IsLimit : ℕ → Type 0
@@ -162,11 +180,13 @@ IsLimit limit = (1 ≤ limit) × (limit ≤ 1000000)
 
 -- the text of a value is this number, from 1 to 1,000,000
 abbrev pub IsLimitText : ℕ → Text → Type 0
-IsLimitText limit text = IsNumeral 10 (without_leading_plus text) × (limit ≡ digits_value 10 (without_leading_plus text)) × IsLimit limit
+IsLimitText limit text =
+    IsNumeral 10 (without_leading_plus text) × (limit ≡ digits_value 10 (without_leading_plus text)) × IsLimit limit
 
 -- the text of a value is this number, which has 64 bits
 abbrev pub IsSeedText : ℕ → Text → Type 0
-IsSeedText seed text = IsNumeral 10 (without_leading_plus text) × (seed ≡ digits_value 10 (without_leading_plus text)) × (seed < 2 ^ 64)
+IsSeedText seed text =
+    IsNumeral 10 (without_leading_plus text) × (seed ≡ digits_value 10 (without_leading_plus text)) × (seed < 2 ^ 64)
 
 -- no number is given as a seed
 abbrev pub HasNoSeed : Option Text → Type 0
@@ -188,11 +208,13 @@ abbrev pub IsRunsOf : (runs : Option Text) → Option ℕ → Type 0
 IsRunsOf runs None = (count : ℕ) → IsSomeAnd runs (IsLimitText count) → ⊥
 IsRunsOf runs (Some count) = IsSomeAnd runs (IsLimitText count)
 
--- the job is a race of the capacity that a value's text is, in the schedule that two others give, over a store without an end where a fourth says so, and as often as a fifth says
+-- the job is a race of the capacity that a value's text is, in the schedule that two others give, over a store without
+-- an end where a fourth says so, and as often as a fifth says
 abbrev pub IsRaceOf : (capacity together shuffle renew runs : Option Text) → Job → Type 0
 IsRaceOf capacity together shuffle renew runs Run = ⊥
 IsRaceOf capacity together shuffle renew runs (Race room schedule renews count) =
-    IsSomeAnd capacity (IsCapacityText room) × IsScheduleOf together shuffle schedule × IsFlagOf renew renews × IsRunsOf runs count
+    IsSomeAnd capacity (IsCapacityText room) × IsScheduleOf together shuffle schedule × IsFlagOf renew renews
+    × IsRunsOf runs count
 IsRaceOf capacity together shuffle renew runs (Coordinate stores room fixed) = ⊥
 IsRaceOf capacity together shuffle renew runs Serve = ⊥
 IsRaceOf capacity together shuffle renew runs Show = ⊥
@@ -201,7 +223,8 @@ IsRaceOf capacity together shuffle renew runs (Explore limit) = ⊥
 IsRaceOf capacity together shuffle renew runs (Stops stores room) = ⊥
 IsRaceOf capacity together shuffle renew runs (Audit json) = ⊥
 
--- the job is of calls over as many stores, with as much room in each, as two values' texts are, and with histories that end there where a third says so
+-- the job is of calls over as many stores, with as much room in each, as two values' texts are, and with histories that
+-- end there where a third says so
 abbrev pub IsCoordinateOf : (stores capacity fixed : Option Text) → Job → Type 0
 IsCoordinateOf stores capacity fixed Run = ⊥
 IsCoordinateOf stores capacity fixed Serve = ⊥
@@ -224,16 +247,19 @@ IsStopsOf stores capacity (Judge limit explain json) = ⊥
 IsStopsOf stores capacity (Explore limit) = ⊥
 IsStopsOf stores capacity (Audit json) = ⊥
 IsStopsOf stores capacity (Coordinate count room ends) = ⊥
-IsStopsOf stores capacity (Stops count room) = IsSomeAnd stores (IsStoresText count) × IsSomeAnd capacity (IsCapacityText room)
+IsStopsOf stores capacity (Stops count room) =
+    IsSomeAnd stores (IsStoresText count) × IsSomeAnd capacity (IsCapacityText room)
 
--- the job is to judge, with the limit that a value's text is, with reasons where a second says so, and as an object of JSON where a third does
+-- the job is to judge, with the limit that a value's text is, with reasons where a second says so, and as an object of
+-- JSON where a third does
 abbrev pub IsJudgeOf : (limit explain json : Option Text) → Job → Type 0
 IsJudgeOf limit explain json Run = ⊥
 IsJudgeOf limit explain json Serve = ⊥
 IsJudgeOf limit explain json Show = ⊥
 IsJudgeOf limit explain json (Race room schedule renews count) = ⊥
 IsJudgeOf limit explain json (Coordinate count room fixed) = ⊥
-IsJudgeOf limit explain json (Judge kept explains writes) = IsSomeAnd limit (IsLimitText kept) × IsFlagOf explain explains × IsFlagOf json writes
+IsJudgeOf limit explain json (Judge kept explains writes) =
+    IsSomeAnd limit (IsLimitText kept) × IsFlagOf explain explains × IsFlagOf json writes
 IsJudgeOf limit explain json (Explore kept) = ⊥
 IsJudgeOf limit explain json (Stops count room) = ⊥
 IsJudgeOf limit explain json (Audit object) = ⊥
@@ -269,28 +295,33 @@ IsJob Serve found = found.0 ≡ codes "serve"
 IsJob Show found = found.0 ≡ codes "show"
 IsJob (Race capacity schedule renews runs) found =
     (found.0 ≡ codes "race")
-    × IsRaceOf (one_of (codes "capacity") found.1) (one_of (codes "together") found.1) (one_of (codes "shuffle") found.1) (one_of (codes "renew") found.1)
+    × IsRaceOf (one_of (codes "capacity") found.1) (one_of (codes "together") found.1)
+    (one_of (codes "shuffle") found.1) (one_of (codes "renew") found.1)
     (one_of (codes "runs") found.1) (Race capacity schedule renews runs)
 IsJob (Coordinate stores capacity fixed) found =
     (found.0 ≡ codes "coordinate")
-    × IsCoordinateOf (one_of (codes "stores") found.1) (one_of (codes "capacity") found.1) (one_of (codes "fixed") found.1) (Coordinate stores capacity fixed)
+    × IsCoordinateOf (one_of (codes "stores") found.1) (one_of (codes "capacity") found.1)
+    (one_of (codes "fixed") found.1) (Coordinate stores capacity fixed)
 IsJob (Judge limit explain json) found =
     (found.0 ≡ codes "judge")
-    × IsJudgeOf (one_of (codes "limit") found.1) (one_of (codes "explain") found.1) (one_of (codes "json") found.1) (Judge limit explain json)
+    × IsJudgeOf (one_of (codes "limit") found.1) (one_of (codes "explain") found.1) (one_of (codes "json") found.1)
+    (Judge limit explain json)
 IsJob (Explore limit) found = (found.0 ≡ codes "explore") × IsExploreOf (one_of (codes "limit") found.1) (Explore limit)
 IsJob (Stops stores capacity) found =
-    (found.0 ≡ codes "stops") × IsStopsOf (one_of (codes "stores") found.1) (one_of (codes "capacity") found.1) (Stops stores capacity)
+    (found.0 ≡ codes "stops") × IsStopsOf (one_of (codes "stores") found.1) (one_of (codes "capacity") found.1)
+    (Stops stores capacity)
 IsJob (Audit json) found = (found.0 ≡ codes "audit") × IsAuditOf (one_of (codes "json") found.1) (Audit json)
 
 -- the words name this job, as `clap` matches them
 abbrev pub Names : List Text → Job → Type 0
 Names words job = IsSomeAnd (subcommand_of script_app words) (IsJob job)
 
--- a command line is read only where `clap` finds no fault in it; else the error has the kind of its fault, or memory ran
--- out, or the words name no job
+-- a command line is read only where `clap` finds no fault in it; else the error has the kind of its fault, or memory
+-- ran out, or the words name no job
 abbrev pub ReadsCommand : List Text → Result Job Error → Type 0
 ReadsCommand words answer =
-    MatchResult answer (λ job. fault_of script_app words ≡ []) (λ error. HasKind (fault_of script_app words) error ⊎ ((job : Job) → Names words job → ⊥))
+    MatchResult answer (λ job. fault_of script_app words ≡ [])
+    (λ error. HasKind (fault_of script_app words) error ⊎ ((job : Job) → Names words job → ⊥))
 
 -- a log can have the capacity, there are 1 to 16 stores, and a limit and a number of runs are at most 1,000,000
 abbrev pub CanBeDone : Job → Type 0

@@ -26,7 +26,9 @@ HasManner words manner =
     (one_of (codes "text") found.1) (one_of (codes "quiet") found.1)
     (one_of (codes "json") found.1) manner)
 
--- the names are all values of `HISTORY..`, in their order, as `clap` matches the words; none, for a job that has no such argument
+-- the names are all values of `HISTORY..`, in their order, as `clap` matches the words; none, for a job that has no
+-- such argument
 abbrev pub HasHistories : List Text → Histories → Type 0
 HasHistories words histories =
-    IsSomeAnd (subcommand_of script_app words) (λ found. map (λ name. name.now) histories.names.items ≡ unwrap_or (all_of (codes "history") found.1) [])
+    IsSomeAnd (subcommand_of script_app words) (λ found. map (λ name. name.now) histories.names.items
+    ≡ unwrap_or (all_of (codes "history") found.1) [])

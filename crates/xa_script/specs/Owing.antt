@@ -21,11 +21,13 @@ abbrev pub IsWrittenAs : (line text : List ℕ) → Type 0
 IsWrittenAs line text = (text ≡ line) ⊎ (text ≡ with_texts line)
 
 -- the bytes end a line, and what is written for it is due
-pub record Ends {W : Type 0} (contents : W → Option (List ℕ)) (old : Texts W) (bytes : List ℕ) (new : Texts W) : Type 0 where
+pub record Ends {W : Type 0} (contents : W → Option (List ℕ)) (old : Texts W) (bytes : List ℕ)
+    (new : Texts W) : Type 0 where
   pub text : List ℕ
   pub written : IsWrittenAs (old.held.items ++ bytes) text
   pub sent : Appends (sent_of contents old) (known_of contents new) text
 
 -- the bytes that are taken come behind those that are known, or end a line
 abbrev pub Takes : {W : Type 0} → (W → Option (List ℕ)) → Texts W → List ℕ → Texts W → Type 0
-Takes contents old bytes new = Appends (known_of contents old) (known_of contents new) bytes ⊎ Ends contents old bytes new
+Takes contents old bytes new =
+    Appends (known_of contents old) (known_of contents new) bytes ⊎ Ends contents old bytes new

@@ -3,7 +3,8 @@
 --     status_for       the exit status for how judging a record ended
 --     AppendsVerdict   the writer got what is written for a record, and the status is for how judging it ended
 --     status_of_end    the exit status for how exploring a script ended
---     AppendsOutcomes  the writer got what is written for a script that is explored, and the status is for how that ended
+--     AppendsOutcomes  the writer got what is written for a script that is explored, and the status is for how that
+--                      ended
 --     AppendsRaceBy    the writer got what is written for a race
 --     AppendsCame      the writer got which outcomes of a script came, and the status is for how its races ended
 --     status_of_stops  the exit status for how stopping a coordinator ended
@@ -23,7 +24,8 @@ use Rattle.xa_audit.specs.declared.form.Form.{Form as AuditForm}
 use Rattle.xa_audit.specs.declared.form.Form.TheVariants.{Lines, LastLine, Json as AuditJson}
 use Rattle.xa_races.specs.Outcome.{AppendsRace}
 use Rattle.xa_lines.specs.declared.script_fault.ScriptFault.{ScriptFault}
-use Rattle.xa_lines.specs.declared.script_fault.ScriptFault.TheVariants.{Read, TooLong, Write, NoMemory, Full, GateShut, ThreadRefused}
+use Rattle.xa_lines.specs.declared.script_fault.ScriptFault.TheVariants.{Read, TooLong, Write, NoMemory, Full, GateShut}
+use Rattle.xa_lines.specs.declared.script_fault.ScriptFault.TheVariants.{ThreadRefused}
 use Rattle.xa_orders.specs.Scripts.{AppendsExplored}
 use Rattle.xa_orders.specs.declared.ended.Ended.{Ended}
 use Rattle.xa_orders.specs.declared.ended.Ended.TheVariants.{Done, Undecided as TooMany, Faulty as FaultyLines}
@@ -35,13 +37,14 @@ use Rattle.xa_record.specs.declared.form.Form.{Form}
 use Rattle.xa_record.specs.declared.form.Form.TheVariants.{Plain, Json}
 use Rattle.xa_record.specs.declared.outcome.Outcome.{Outcome}
 use Rattle.xa_record.specs.declared.outcome.Outcome.TheVariants.{Legal, Illegal, Undecided, Faulty, Empty}
-use Rattle.xa_runs.specs.Came.{AppendsRuns}
+use Rattle.xa_races.specs.Came.{AppendsRuns}
 use Rattle.xa_server.specs.State.{State}
-use Rattle.xa_stops.specs.Scripts.{AppendsStops}
-use Rattle.xa_stops.specs.declared.ended.Ended.{Ended as StopsEnded}
-use Rattle.xa_stops.specs.declared.ended.Ended.TheVariants.{Done as AllStops, Faulty as FaultyCalls}
+use Rattle.xa_manager.specs.Scripts.{AppendsStops}
+use Rattle.xa_manager.specs.declared.stop_ended.Ended.{Ended as StopsEnded}
+use Rattle.xa_manager.specs.declared.stop_ended.Ended.TheVariants.{Done as AllStops, Faulty as FaultyCalls}
 
--- 1 where the script can't be read or its answers can't be written, 3 where memory, the log, the gate or a thread gave out (own rule)
+-- 1 where the script can't be read or its answers can't be written, 3 where memory, the log, the gate or a thread gave
+-- out (own rule)
 abbrev pub status_after : ScriptFault → ℕ
 status_after Read = 1
 status_after TooLong = 1
@@ -51,7 +54,8 @@ status_after Full = 3
 status_after GateShut = 3
 status_after ThreadRefused = 3
 
--- 0 where an order explains the record, 4 where none does, 5 where the limit was passed, 6 where lines are faulty, 7 where nothing happens (own rule)
+-- 0 where an order explains the record, 4 where none does, 5 where the limit was passed, 6 where lines are faulty, 7
+-- where nothing happens (own rule)
 abbrev pub status_for : Outcome → ℕ
 status_for Legal = 0
 status_for Illegal = 4
@@ -86,16 +90,19 @@ status_of_end FaultyLines = 6
 -- the writer got what is written for a script whose exploring ends so, and the status is for that end
 abbrev pub AppendsOutcomes : (limit status : ℕ) → Option (List ℕ) → Option (List ℕ) → Option (List ℕ) → Type 0
 AppendsOutcomes limit status input old new =
-    (ended : Ended) × (status ≡ status_of_end ended) × IfSome input (λ script. AppendsExplored limit ended script old new)
+    (ended : Ended) × (status ≡ status_of_end ended) × IfSome input
+    (λ script. AppendsExplored limit ended script old new)
 
--- the writer got what a race of the script writes: over a store without an end where it renews, else in one history of at most this capacity
+-- the writer got what a race of the script writes: over a store without an end where it renews, else in one history of
+-- at most this capacity
 abbrev pub AppendsRaceBy : Bool → (capacity : ℕ) → List ℕ → Option (List ℕ) → Option (List ℕ) → Type 0
 AppendsRaceBy true capacity script old new = AppendsRace None script old new
 AppendsRaceBy false capacity script old new = AppendsRace (Some capacity) script old new
 
 -- the writer got which outcomes of the script came in so many races, and the status is for how that ended
 abbrev pub AppendsCame : (runs status : ℕ) → Option (List ℕ) → Option (List ℕ) → Option (List ℕ) → Type 0
-AppendsCame runs status input old new = (ended : Ended) × (status ≡ status_of_end ended) × IfSome input (λ script. AppendsRuns runs ended script old new)
+AppendsCame runs status input old new =
+    (ended : Ended) × (status ≡ status_of_end ended) × IfSome input (λ script. AppendsRuns runs ended script old new)
 
 -- 0 where all stops were listed, 6 where faulty lines were (own rule)
 abbrev pub status_of_stops : StopsEnded → ℕ
@@ -105,7 +112,8 @@ status_of_stops FaultyCalls = 6
 -- the writer got what is written for each stop of the script's coordinator, and the status is for how that ended
 abbrev pub AppendsStopped : (stores status : ℕ) → Option (List ℕ) → Option (List ℕ) → Option (List ℕ) → Type 0
 AppendsStopped stores status input old new =
-    (ended : StopsEnded) × (status ≡ status_of_stops ended) × IfSome input (λ script. AppendsStops stores ended script old new)
+    (ended : StopsEnded) × (status ≡ status_of_stops ended)
+    × IfSome input (λ script. AppendsStops stores ended script old new)
 
 -- 0 where each global transaction is ATOMIC, 9 where some is not, 6 where a line isn't read (own rule)
 abbrev pub status_of_audit : AuditEnded → ℕ
@@ -115,7 +123,8 @@ status_of_audit Unread = 6
 
 -- the writer got what is written for these histories, and the status is for how their audit ended
 abbrev pub AppendsAuditBy : List (List ℕ) → AuditForm → (status : ℕ) → Option (List ℕ) → Option (List ℕ) → Type 0
-AppendsAuditBy histories form status old new = (ended : AuditEnded) × (status ≡ status_of_audit ended) × AppendsAudit histories form ended old new
+AppendsAuditBy histories form status old new =
+    (ended : AuditEnded) × (status ≡ status_of_audit ended) × AppendsAudit histories form ended old new
 
 -- a prefix of that where a write failed, and nothing after another fault
 abbrev pub AfterAuditing : List (List ℕ) → AuditForm → ScriptFault → Option (List ℕ) → Option (List ℕ) → Type 0

@@ -46,7 +46,8 @@ is_between byte = byte == 32 || byte == 44 || byte == 10
 -- the text from here on, where these bytes of a word have come
 abbrev pub texts_from : (word text : List ℕ) → List ℕ
 texts_from word [] = word_text word
-texts_from word (byte ∷ text) = if is_between byte then word_text word ++ byte ∷ texts_from [] text else texts_from (word ++ byte ∷ []) text
+texts_from word (byte ∷ text) =
+    if is_between byte then word_text word ++ byte ∷ texts_from [] text else texts_from (word ++ byte ∷ []) text
 
 -- each word as it is written
 abbrev pub with_texts : List ℕ → List ℕ

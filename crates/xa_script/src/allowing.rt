@@ -41,7 +41,8 @@ fn allowances_in<I: Read, R: Eprint + Alloc<A = Global>>(
 ) -> Result<Option<Vec<Allowance>>, ScriptFault>
     // Proved (scripts, allowances): The allowances that a record is judged with are those of the file's text,
     //   or some line of that isn't an allowance.
-    ensures { IfOk result (λ allowed. IfSome (I.remaining input.old) (IsAllowedBy (option_map (λ list. list.items) allowed))) }
+    ensures { IfOk result (λ allowed. IfSome (I.remaining input.old)
+        (IsAllowedBy (option_map (λ list. list.items) allowed))) }
 {
     let text = read_all(rt.alloc(), input)?;
     let allowed = allowances_of(rt, text.as_slice())?;

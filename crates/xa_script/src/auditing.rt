@@ -1,5 +1,6 @@
 //! Audits histories, and returns the exit status for how that ended.
-ghost use Rattle.std.specs.Prelude.{◌≡◌, ◌≤◌, ◌<◌, ◌+◌, ◌++◌, ◌∷◌, [], ℕ, List, Some, IfOk, IfErr, OnOk, IfSome, map, length};
+ghost use Rattle.std.specs.Prelude.{◌≡◌, ◌≤◌, ◌<◌, ◌+◌, ◌++◌, ◌∷◌, [], ℕ, List, Some, IfOk, IfErr, OnOk, IfSome, map};
+ghost use Rattle.std.specs.Prelude.{length};
 ghost use Rattle.xa_lines.specs.Transcript.{IsOfReading};
 ghost use Rattle.xa_audit.specs.Audits.{IsAuditOf};
 ghost use Rattle.xa_script.specs.Status.{audit_form, status_of_audit, AppendsAuditBy, AfterAuditing};
@@ -52,7 +53,8 @@ fn take_next<I: Read + Drop, R: Eprint + Alloc<A = Global>>(
 ) -> Result<(), ScriptFault>
     requires { audit.old.stores < 64 }
     ensures taken { OnOk result (IfSome (I.remaining input.entry.inner)
-        (λ history. (histories : List (List ℕ)) → IsAuditOf histories audit.old → IsAuditOf (histories ++ history ∷ []) audit.new)) }
+        (λ history. (histories : List (List ℕ)) → IsAuditOf histories audit.old
+        → IsAuditOf (histories ++ history ∷ []) audit.new)) }
     ensures stores { OnOk result (audit.new.stores ≡ audit.old.stores + 1) }
     ensures fault { IfErr result IsOfReading }
 {
@@ -72,7 +74,8 @@ fn take_each<I: Read + Drop, R: Eprint + Alloc<A = Global>>(
 ) -> Result<Audit, ScriptFault>
     requires { length inputs.items ≤ 64 }
     ensures taken { IfOk result
-        (λ audit. (histories : List (List ℕ)) → map (λ input. I.remaining input.inner) inputs.entry.items ≡ map Some histories → IsAuditOf histories audit) }
+        (λ audit. (histories : List (List ℕ)) → map (λ input. I.remaining input.inner) inputs.entry.items
+        ≡ map Some histories → IsAuditOf histories audit) }
     ensures fault { IfErr result IsOfReading }
 {
     let mut audit = Audit::new(rt.alloc());

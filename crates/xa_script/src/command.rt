@@ -2,8 +2,10 @@
 ghost use Rattle.std.specs.Prelude.{◌≡◌, ◌≢◌, ℕ, Some, None, IfOk, IfSome, true, false, map, codes};
 ghost use Rattle.std.specs.Option.{IsSomeAnd};
 ghost use Rattle.clap.specs.Words.{app_of, found_of, one_text, subcommand_rows_of};
-ghost use Rattle.xa_script.specs.CommandLine.{IsCapacityText, IsSeedText, IsStoresText, IsLimitText, HasNoSeed, IsScheduleOf, IsRunsOf, IsRaceOf};
-ghost use Rattle.xa_script.specs.CommandLine.{IsCoordinateOf, IsStopsOf, IsJudgeOf, IsExploreOf, IsAuditOf, IsJob, Names, CanBeDone, ReadsCommand, script_app};
+ghost use Rattle.xa_script.specs.CommandLine.{IsCapacityText, IsSeedText, IsStoresText, IsLimitText, HasNoSeed};
+ghost use Rattle.xa_script.specs.CommandLine.{IsScheduleOf, IsRunsOf, IsRaceOf};
+ghost use Rattle.xa_script.specs.CommandLine.{IsCoordinateOf, IsStopsOf, IsJudgeOf, IsExploreOf, IsAuditOf, IsJob};
+ghost use Rattle.xa_script.specs.CommandLine.{Names, CanBeDone, ReadsCommand, script_app};
 
 use crate::Schedule;
 use crate::manner::flag_in;
@@ -72,8 +74,10 @@ pub enum Job {
 
 /// The capacity that was found for a race.
 fn capacity_in(found: &ArgMatches<'_>) -> Option<u64>
-    ensures some { IfSome result (λ capacity. IsSomeAnd (one_text (found_of found.now) (codes "capacity")) (IsCapacityText capacity)) }
-    ensures none { result ≡ None → (capacity : ℕ) → IsSomeAnd (one_text (found_of found.now) (codes "capacity")) (IsCapacityText capacity) → ⊥ }
+    ensures some { IfSome result (λ capacity. IsSomeAnd (one_text (found_of found.now) (codes "capacity"))
+        (IsCapacityText capacity)) }
+    ensures none { result ≡ None → (capacity : ℕ) → IsSomeAnd (one_text (found_of found.now) (codes "capacity"))
+        (IsCapacityText capacity) → ⊥ }
 {
     match found.get_one::<u64>("capacity") {
         Some(capacity) if 1 <= capacity && capacity <= 1024 => Some(capacity),
@@ -83,7 +87,8 @@ fn capacity_in(found: &ArgMatches<'_>) -> Option<u64>
 
 /// The seed that was found.
 fn seed_in(found: &ArgMatches<'_>) -> Option<u64>
-    ensures some { IfSome result (λ seed. IsSomeAnd (one_text (found_of found.now) (codes "shuffle")) (IsSeedText seed)) }
+    ensures some { IfSome result (λ seed. IsSomeAnd (one_text (found_of found.now) (codes "shuffle"))
+        (IsSeedText seed)) }
     ensures none { result ≡ None → HasNoSeed (one_text (found_of found.now) (codes "shuffle")) }
 {
     found.get_one::<u64>("shuffle")
@@ -99,7 +104,8 @@ fn begins_together(found: &ArgMatches<'_>) -> bool
 
 /// Returns how the sessions come to their lines.
 fn schedule_in(found: &ArgMatches<'_>) -> Schedule
-    ensures { IsScheduleOf (one_text (found_of found.now) (codes "together")) (one_text (found_of found.now) (codes "shuffle")) result }
+    ensures { IsScheduleOf (one_text (found_of found.now) (codes "together"))
+        (one_text (found_of found.now) (codes "shuffle")) result }
 {
     match seed_in(found) {
         Some(seed) => Schedule::Shuffled(seed),
@@ -116,7 +122,8 @@ fn schedule_in(found: &ArgMatches<'_>) -> Schedule
 /// Returns the number of an option that takes one from 1 to 1,000,000, if it was found.
 fn limit_in(found: &ArgMatches<'_>, name: &str) -> Option<u64>
     ensures some { IfSome result (λ limit. IsSomeAnd (one_text (found_of found.now) name.now) (IsLimitText limit)) }
-    ensures none { result ≡ None → (limit : ℕ) → IsSomeAnd (one_text (found_of found.now) name.now) (IsLimitText limit) → ⊥ }
+    ensures none { result ≡ None → (limit : ℕ) → IsSomeAnd (one_text (found_of found.now) name.now) (IsLimitText limit)
+        → ⊥ }
 {
     match found.get_one::<u64>(name) {
         Some(limit) if 1 <= limit && limit <= 1_000_000 => Some(limit),
@@ -135,8 +142,10 @@ fn runs_in(found: &ArgMatches<'_>) -> Option<u64>
 fn race_in(found: &ArgMatches<'_>) -> Option<Job>
     ensures some { IfSome result
         (IsRaceOf (one_text (found_of found.now) (codes "capacity")) (one_text (found_of found.now) (codes "together"))
-        (one_text (found_of found.now) (codes "shuffle")) (one_text (found_of found.now) (codes "renew")) (one_text (found_of found.now) (codes "runs"))) }
-    ensures none { result ≡ None → (capacity : ℕ) → IsSomeAnd (one_text (found_of found.now) (codes "capacity")) (IsCapacityText capacity) → ⊥ }
+        (one_text (found_of found.now) (codes "shuffle")) (one_text (found_of found.now) (codes "renew"))
+        (one_text (found_of found.now) (codes "runs"))) }
+    ensures none { result ≡ None → (capacity : ℕ) → IsSomeAnd (one_text (found_of found.now) (codes "capacity"))
+        (IsCapacityText capacity) → ⊥ }
 {
     match capacity_in(found) {
         Some(capacity) => Some(Job::Race {
@@ -151,8 +160,10 @@ fn race_in(found: &ArgMatches<'_>) -> Option<Job>
 
 /// The number of stores that was found.
 fn stores_in(found: &ArgMatches<'_>) -> Option<u64>
-    ensures some { IfSome result (λ stores. IsSomeAnd (one_text (found_of found.now) (codes "stores")) (IsStoresText stores)) }
-    ensures none { result ≡ None → (stores : ℕ) → IsSomeAnd (one_text (found_of found.now) (codes "stores")) (IsStoresText stores) → ⊥ }
+    ensures some { IfSome result (λ stores. IsSomeAnd (one_text (found_of found.now) (codes "stores"))
+        (IsStoresText stores)) }
+    ensures none { result ≡ None → (stores : ℕ) → IsSomeAnd (one_text (found_of found.now) (codes "stores"))
+        (IsStoresText stores) → ⊥ }
 {
     match found.get_one::<u64>("stores") {
         Some(stores) if 1 <= stores && stores <= 16 => Some(stores),
@@ -163,11 +174,13 @@ fn stores_in(found: &ArgMatches<'_>) -> Option<u64>
 /// The calls over so many stores that were found.
 fn coordinate_in(found: &ArgMatches<'_>) -> Option<Job>
     ensures some { IfSome result
-        (λ job. IsCoordinateOf (one_text (found_of found.now) (codes "stores")) (one_text (found_of found.now) (codes "capacity"))
+        (λ job. IsCoordinateOf (one_text (found_of found.now) (codes "stores"))
+        (one_text (found_of found.now) (codes "capacity"))
         (one_text (found_of found.now) (codes "fixed")) job) }
     ensures none { result ≡ None
         → (job : Job)
-        → IsCoordinateOf (one_text (found_of found.now) (codes "stores")) (one_text (found_of found.now) (codes "capacity"))
+        → IsCoordinateOf (one_text (found_of found.now) (codes "stores"))
+        (one_text (found_of found.now) (codes "capacity"))
         (one_text (found_of found.now) (codes "fixed")) job
         → ⊥ }
 {
@@ -184,10 +197,12 @@ fn coordinate_in(found: &ArgMatches<'_>) -> Option<Job>
 /// The stops over so many stores that were found.
 fn stops_in(found: &ArgMatches<'_>) -> Option<Job>
     ensures some { IfSome result
-        (IsStopsOf (one_text (found_of found.now) (codes "stores")) (one_text (found_of found.now) (codes "capacity"))) }
+        (IsStopsOf (one_text (found_of found.now) (codes "stores"))
+        (one_text (found_of found.now) (codes "capacity"))) }
     ensures none { result ≡ None
         → (job : Job)
-        → IsStopsOf (one_text (found_of found.now) (codes "stores")) (one_text (found_of found.now) (codes "capacity")) job
+        → IsStopsOf (one_text (found_of found.now) (codes "stores"))
+        (one_text (found_of found.now) (codes "capacity")) job
         → ⊥ }
 {
     match (stores_in(found), capacity_in(found)) {
@@ -201,7 +216,8 @@ fn judge_in(found: &ArgMatches<'_>) -> Option<Job>
     ensures some { IfSome result
         (IsJudgeOf (one_text (found_of found.now) (codes "limit")) (one_text (found_of found.now) (codes "explain"))
         (one_text (found_of found.now) (codes "json"))) }
-    ensures none { result ≡ None → (limit : ℕ) → IsSomeAnd (one_text (found_of found.now) (codes "limit")) (IsLimitText limit) → ⊥ }
+    ensures none { result ≡ None → (limit : ℕ) → IsSomeAnd (one_text (found_of found.now) (codes "limit"))
+        (IsLimitText limit) → ⊥ }
 {
     match limit_in(found, "limit") {
         Some(limit) => Some(Job::Judge {

@@ -2,13 +2,12 @@
 ghost use Rattle.std.specs.Prelude.{◌≡◌, ℕ, IfOk, IfErr};
 ghost use Rattle.xa_orders.specs.Scripts.{AfterExploreFault};
 ghost use Rattle.xa_script.specs.CommandLine.{IsLimit};
-ghost use Rattle.xa_json.specs.Writing.{AppendsObjects, AfterObjects};
+ghost use Rattle.xa_lines.specs.Writing.{AppendsObjects, AfterObjects};
 ghost use Rattle.xa_script.specs.Status.{status_of_end as status_of, AppendsOutcomes};
 
 use std::alloc::Global;
 use std::io::{Read, Write};
-use xa_json::{in_memory, write_objects};
-use xa_lines::ScriptFault;
+use xa_lines::{ScriptFault, in_memory, write_objects};
 use xa_orders::{Ended, explore_script};
 
 /// The status if all outcomes were listed.
@@ -46,8 +45,10 @@ pub fn explore_within<R: Read, W: Write>(
 ) -> Result<u8, ScriptFault>
     requires { IsLimit limit }
     // Proved (scripts, status-of-an-end)
-    ensures explored { IfOk result (λ status. AppendsOutcomes limit status (R.remaining reader.old) (W.contents writer.old) (W.contents writer.new)) }
-    ensures fault { IfErr result (λ fault. AfterExploreFault limit fault (R.remaining reader.old) (W.contents writer.old) (W.contents writer.new)) }
+    ensures explored { IfOk result (λ status. AppendsOutcomes limit status (R.remaining reader.old)
+        (W.contents writer.old) (W.contents writer.new)) }
+    ensures fault { IfErr result (λ fault. AfterExploreFault limit fault (R.remaining reader.old)
+        (W.contents writer.old) (W.contents writer.new)) }
 {
     let ended = explore_script(alloc, reader, writer, limit as usize)?;
     Ok(status_of_end(ended))
@@ -75,7 +76,8 @@ pub fn explore_objects<R: Read, W: Write>(
         (W.contents writer.new)) }
     // Proved (scripts, output-as-json)
     ensures fault { IfErr result (λ fault.
-        AfterObjects (λ before after. (status : ℕ) × AppendsOutcomes limit status (R.remaining reader.old) before after) fault
+        AfterObjects (λ before after. (status : ℕ) × AppendsOutcomes limit status
+        (R.remaining reader.old) before after) fault
         (W.contents writer.old) (W.contents writer.new)) }
 {
     let mut text = Vec::new(alloc);

@@ -23,7 +23,8 @@ pub struct Histories<'a> {
 
 /// The histories that were found.
 fn histories_in<'a>(alloc: Global, found: &ArgMatches<'a>) -> Result<Histories<'a>, AllocError>
-    ensures { IfOk result (λ histories. map (λ name. name.now) histories.names.items ≡ unwrap_or (option_map raw_values (matched_of (found_of found.now) (codes "history"))) []) }
+    ensures { IfOk result (λ histories. map (λ name. name.now) histories.names.items
+        ≡ unwrap_or (option_map raw_values (matched_of (found_of found.now) (codes "history"))) []) }
 {
     let names = match found.get_strs("history") {
         Some(names) => Vec::from_slice(alloc, names)?,

@@ -14,9 +14,11 @@ use xa_xid::laws::literals_are_read_as_spelled;
 /// Own rule: docs/COMMANDS.md#options-of-every-job.
 pub fn texts_are_read_back()
     // Proved (scripts, texts-are-read-back): A text that `--text` writes is read back as the same bytes.
-    ensures spelled { (bytes rest : List ℕ) → StartsNo (λ byte. byte == 39) rest → LiteralAt (quoted bytes ++ rest) bytes rest }
+    ensures spelled { (bytes rest : List ℕ) → StartsNo (λ byte. byte == 39) rest
+        → LiteralAt (quoted bytes ++ rest) bytes rest }
     // Proved (scripts, texts-are-read-back)
-    ensures word { (word : List ℕ) (text : Text) → literal_ahead word ≡ Ok (text, []) → literal_ahead (word_text word) ≡ Ok (text, []) }
+    ensures word { (word : List ℕ) (text : Text) → literal_ahead word ≡ Ok (text, [])
+        → literal_ahead (word_text word) ≡ Ok (text, []) }
 {
     literals_are_read_as_spelled();
 }

@@ -1,7 +1,7 @@
 //! The program: its command line, the standard streams, the exit status, and what it writes to the standard
 //! error. docs/COMMANDS.md describes each job. Libraries do the work: `xa_lines` runs, serves and shows,
-//! `xa_races` and `xa_runs` race, `xa_manager` coordinates, `xa_stops` stops, `xa_orders` explores,
-//! `xa_record` judges, and `xa_audit` audits.
+//! `xa_races` races, `xa_manager` coordinates and shows stops, `xa_orders` explores, `xa_record` judges, and
+//! `xa_audit` audits.
 //!
 //! Functions that use the process or its streams promise nothing, since no contract can name these; tests of
 //! the built program show what they do. Read `src/jobs.rt` next, then `src/command.rt`, `src/subcommands.rt`

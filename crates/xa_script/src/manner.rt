@@ -40,7 +40,8 @@ pub fn flag_in(found: &ArgMatches<'_>, name: &str) -> bool
 
 /// The manner that was found.
 fn manner_in<'a>(found: &ArgMatches<'a>) -> Manner<'a>
-    ensures { IsManner (first_value (found_of found.now) (codes "file")) (first_value (found_of found.now) (codes "allow"))
+    ensures { IsManner (first_value (found_of found.now) (codes "file"))
+        (first_value (found_of found.now) (codes "allow"))
         (first_value (found_of found.now) (codes "from"))
         (one_text (found_of found.now) (codes "verbose")) (one_text (found_of found.now) (codes "strict"))
         (one_text (found_of found.now) (codes "text")) (one_text (found_of found.now) (codes "quiet"))

@@ -1,18 +1,16 @@
 //! Races of the script of the standard input.
 ghost use Rattle.std.specs.Prelude.{OnOk, IfSome};
 ghost use Rattle.decision_log.specs.Opens.{IsCapacity};
-ghost use Rattle.xa_json.specs.Writing.{AppendsObjects};
+ghost use Rattle.xa_lines.specs.Writing.{AppendsObjects};
 ghost use Rattle.xa_script.specs.Status.{AppendsRaceBy};
-ghost use Rattle.xa_comments.specs.Uncommented.{uncommented as uncommented_text};
+ghost use Rattle.xa_lines.specs.Uncommented.{uncommented as uncommented_text};
 
 use crate::Schedule;
 use std::alloc::{Alloc, Global};
 use std::io::{Read, Write};
 use std::sync::Wait;
 use std::thread::Threads;
-use xa_comments::uncommented;
-use xa_json::{in_memory, write_objects};
-use xa_lines::{ScriptFault, read_all};
+use xa_lines::{ScriptFault, in_memory, read_all, uncommented, write_objects};
 use xa_races::{race_script, race_script_in_rounds};
 use xa_store::{Gate, OpenGate, ShuffledGate, TogetherGate};
 
@@ -26,7 +24,8 @@ fn race_behind<I: Read, O: Write, G: Gate + Sync, R: Alloc<A = Global> + Threads
     renews: bool,
 ) -> Result<(), ScriptFault>
     requires { IsCapacity capacity }
-    ensures { OnOk result (IfSome (I.remaining input.old) (λ script. AppendsRaceBy renews capacity script (O.contents output.old) (O.contents output.new))) }
+    ensures { OnOk result (IfSome (I.remaining input.old)
+        (λ script. AppendsRaceBy renews capacity script (O.contents output.old) (O.contents output.new))) }
 {
     if renews {
         race_script_in_rounds(rt, rt.alloc(), input, output, capacity, gate)
@@ -48,7 +47,8 @@ pub fn race_by<I: Read, O: Write, R: Alloc<A = Global> + Threads + Wait + Sync>(
     renews: bool,
 ) -> Result<(), ScriptFault>
     requires { IsCapacity capacity }
-    ensures { OnOk result (IfSome (I.remaining input.old) (λ script. AppendsRaceBy renews capacity script (O.contents output.old) (O.contents output.new))) }
+    ensures { OnOk result (IfSome (I.remaining input.old)
+        (λ script. AppendsRaceBy renews capacity script (O.contents output.old) (O.contents output.new))) }
 {
     match schedule {
         Schedule::Freely => race_behind(rt, input, output, capacity, &OpenGate, renews),

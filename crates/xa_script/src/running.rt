@@ -1,9 +1,9 @@
 //! Races a script again and again, and returns the exit status for how that ended.
 ghost use Rattle.std.specs.Prelude.{ℕ, IfOk, IfErr};
 ghost use Rattle.decision_log.specs.Opens.{IsCapacity};
-ghost use Rattle.xa_runs.specs.Came.{AfterRunsFault};
+ghost use Rattle.xa_races.specs.Came.{AfterRunsFault};
 ghost use Rattle.xa_script.specs.CommandLine.{IsLimit};
-ghost use Rattle.xa_json.specs.Writing.{AppendsObjects, AfterObjects};
+ghost use Rattle.xa_lines.specs.Writing.{AppendsObjects, AfterObjects};
 ghost use Rattle.xa_script.specs.Status.{AppendsCame};
 
 use crate::Schedule;
@@ -12,9 +12,8 @@ use std::alloc::{Alloc, Global};
 use std::io::{Read, Write};
 use std::sync::Wait;
 use std::thread::Threads;
-use xa_json::{in_memory, write_objects};
-use xa_lines::ScriptFault;
-use xa_runs::{ReshuffledGate, runs_script};
+use xa_lines::{ScriptFault, in_memory, write_objects};
+use xa_races::{ReshuffledGate, runs_script};
 use xa_store::{Gate, OpenGate, TogetherGate};
 
 /// Races a script `runs` times at a gate, with no limit on its entries if `renews`.
@@ -29,8 +28,10 @@ fn run_behind<I: Read, O: Write, G: Gate + Sync, R: Alloc<A = Global> + Threads 
 ) -> Result<u8, ScriptFault>
     requires capacity { IsCapacity capacity }
     requires runs { IsLimit runs }
-    ensures came { IfOk result (λ status. AppendsCame runs status (I.remaining input.old) (O.contents output.old) (O.contents output.new)) }
-    ensures fault { IfErr result (λ fault. AfterRunsFault renews runs fault (I.remaining input.old) (O.contents output.old) (O.contents output.new)) }
+    ensures came { IfOk result (λ status. AppendsCame runs status (I.remaining input.old) (O.contents output.old)
+        (O.contents output.new)) }
+    ensures fault { IfErr result (λ fault. AfterRunsFault renews runs fault (I.remaining input.old)
+        (O.contents output.old) (O.contents output.new)) }
 {
     let ended = runs_script(rt, rt.alloc(), input, output, capacity, renews, runs, gate)?;
     Ok(status_of_end(ended))
@@ -56,8 +57,10 @@ pub fn run_by<I: Read, O: Write, R: Alloc<A = Global> + Threads + Wait + Sync>(
     requires capacity { IsCapacity capacity }
     requires runs { IsLimit runs }
     // Proved (scripts, status-of-an-end)
-    ensures came { IfOk result (λ status. AppendsCame runs status (I.remaining input.old) (O.contents output.old) (O.contents output.new)) }
-    ensures fault { IfErr result (λ fault. AfterRunsFault renews runs fault (I.remaining input.old) (O.contents output.old) (O.contents output.new)) }
+    ensures came { IfOk result (λ status. AppendsCame runs status (I.remaining input.old) (O.contents output.old)
+        (O.contents output.new)) }
+    ensures fault { IfErr result (λ fault. AfterRunsFault renews runs fault (I.remaining input.old)
+        (O.contents output.old) (O.contents output.new)) }
 {
     match schedule {
         Schedule::Freely => run_behind(rt, input, output, capacity, &OpenGate, renews, runs),

@@ -1,7 +1,7 @@
 //! Reads the file of `--from`.
 ghost use Rattle.std.specs.Prelude.{◌≡◌, IfOk, IfSome};
 ghost use Rattle.xa_server.specs.State.{no_state};
-ghost use Rattle.xa_state.specs.States.{IsStateOf};
+ghost use Rattle.xa_record.specs.States.{IsStateOf};
 
 use crate::files::opened;
 use crate::manner::Manner;
@@ -9,8 +9,8 @@ use std::alloc::{AllocError, Global};
 use std::io::Read;
 use std::rt::Files;
 use xa_lines::{ScriptFault, read_within};
+use xa_record::{StateFault, read_state};
 use xa_server::Server;
-use xa_state::{StateFault, read_state};
 use xa_xid::NoMemory;
 
 /// The greatest length of a state, in bytes: 16 MiB, as of a record.

@@ -1,16 +1,15 @@
 //! Stops the coordinator of a script of calls, and returns the exit status for how that ended.
 ghost use Rattle.std.specs.Prelude.{◌≡◌, ℕ, IfOk, IfErr};
-ghost use Rattle.xa_stops.specs.Scripts.{AfterStopsFault};
+ghost use Rattle.xa_manager.specs.Scripts.{AfterStopsFault};
 ghost use Rattle.xa_script.specs.CommandLine.{IsStoreCount};
-ghost use Rattle.xa_json.specs.Writing.{AppendsObjects, AfterObjects};
+ghost use Rattle.xa_lines.specs.Writing.{AppendsObjects, AfterObjects};
 ghost use Rattle.xa_script.specs.Status.{status_of_stops as status_of, AppendsStopped};
 
 use std::alloc::Global;
 use std::io::{Read, Write};
 use std::sync::Wait;
-use xa_json::{in_memory, write_objects};
-use xa_lines::ScriptFault;
-use xa_stops::{Ended, stops_script};
+use xa_lines::{ScriptFault, in_memory, write_objects};
+use xa_manager::{Ended, stops_script};
 
 /// The status if all stops were listed.
 const LISTED: u8 = 0;
@@ -44,8 +43,10 @@ pub fn stop_each<H: Wait, R: Read, W: Write>(
 ) -> Result<u8, ScriptFault>
     requires { IsStoreCount stores }
     // Proved (scripts, status-of-an-end)
-    ensures stopped { IfOk result (λ status. AppendsStopped stores status (R.remaining reader.old) (W.contents writer.old) (W.contents writer.new)) }
-    ensures fault { IfErr result (λ fault. AfterStopsFault stores fault (R.remaining reader.old) (W.contents writer.old) (W.contents writer.new)) }
+    ensures stopped { IfOk result (λ status. AppendsStopped stores status (R.remaining reader.old)
+        (W.contents writer.old) (W.contents writer.new)) }
+    ensures fault { IfErr result (λ fault. AfterStopsFault stores fault (R.remaining reader.old) (W.contents writer.old)
+        (W.contents writer.new)) }
 {
     let ended = stops_script(rt, alloc, reader, writer, stores)?;
     Ok(status_of_stops(ended))
@@ -72,7 +73,8 @@ pub fn stop_objects<H: Wait, R: Read, W: Write>(
         (W.contents writer.new)) }
     // Proved (scripts, output-as-json)
     ensures fault { IfErr result (λ fault.
-        AfterObjects (λ before after. (status : ℕ) × AppendsStopped stores status (R.remaining reader.old) before after) fault
+        AfterObjects (λ before after. (status : ℕ) × AppendsStopped stores status
+        (R.remaining reader.old) before after) fault
         (W.contents writer.old) (W.contents writer.new)) }
 {
     let mut text = Vec::new(alloc);

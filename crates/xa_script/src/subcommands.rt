@@ -1,7 +1,8 @@
 //! The command and its subcommands, as `clap` sees them.
 ghost use Rattle.std.specs.Prelude.{◌≡◌, IfOk, codes};
 ghost use Rattle.clap.specs.Words.{app_of, new_app, with_subcommand};
-ghost use Rattle.xa_script.specs.CommandLine.{bare_app, plain_app, race_app, coordinate_app, stops_app, judge_app, explore_app, audit_app, IsLocal, common_app, script_app};
+ghost use Rattle.xa_script.specs.CommandLine.{bare_app, plain_app, race_app, coordinate_app, stops_app, judge_app};
+ghost use Rattle.xa_script.specs.CommandLine.{explore_app, audit_app, IsLocal, common_app, script_app};
 
 use crate::help::{
     AUDITED, CALLS, EXPLORED, LINES, RACED, RECORDS, SERVED, SHOWN, START, STOPPED, VERSION,
@@ -147,7 +148,8 @@ fn with_plain<'a>(
     about: &'a str,
     help: &'a str,
 ) -> Result<Command<'a>, AllocError>
-    ensures { IfOk result (λ more. app_of more ≡ with_subcommand (app_of command.entry) (plain_app name.entry.now).top) }
+    ensures { IfOk result (λ more. app_of more ≡ with_subcommand (app_of command.entry)
+        (plain_app name.entry.now).top) }
 {
     command.subcommand(with_common(alloc, plain_command(alloc, name, about, help))?)
 }
@@ -169,7 +171,8 @@ fn with_race<'a>(alloc: Global, command: Command<'a>) -> Result<Command<'a>, All
 
 /// Adds the subcommand that carries out calls.
 fn with_coordinate<'a>(alloc: Global, command: Command<'a>) -> Result<Command<'a>, AllocError>
-    ensures { IfOk result (λ more. app_of more ≡ with_subcommand (app_of command.entry) (common_app coordinate_app).top) }
+    ensures { IfOk result (λ more. app_of more ≡ with_subcommand (app_of command.entry)
+        (common_app coordinate_app).top) }
 {
     command.subcommand(with_common(alloc, coordinate_command(alloc)?)?)
 }
@@ -183,7 +186,8 @@ fn with_stops<'a>(alloc: Global, command: Command<'a>) -> Result<Command<'a>, Al
 
 /// Adds the subcommand that serves a client.
 fn with_serve<'a>(alloc: Global, command: Command<'a>) -> Result<Command<'a>, AllocError>
-    ensures { IfOk result (λ more. app_of more ≡ with_subcommand (app_of command.entry) (plain_app (codes "serve")).top) }
+    ensures { IfOk result (λ more. app_of more ≡ with_subcommand (app_of command.entry)
+        (plain_app (codes "serve")).top) }
 {
     let about = "Answers each line before it reads more";
     with_plain(command, alloc, "serve", about, SERVED)
@@ -191,7 +195,8 @@ fn with_serve<'a>(alloc: Global, command: Command<'a>) -> Result<Command<'a>, Al
 
 /// Adds the subcommand that shows the store too.
 fn with_show<'a>(alloc: Global, command: Command<'a>) -> Result<Command<'a>, AllocError>
-    ensures { IfOk result (λ more. app_of more ≡ with_subcommand (app_of command.entry) (plain_app (codes "show")).top) }
+    ensures { IfOk result (λ more. app_of more ≡ with_subcommand (app_of command.entry)
+        (plain_app (codes "show")).top) }
 {
     let about = "Answers each line as serve does, and prints the store after each answer";
     with_plain(command, alloc, "show", about, SHOWN)

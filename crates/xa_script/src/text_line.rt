@@ -1,6 +1,7 @@
 //! A line whose literals are written as texts in quotes.
 ghost use Rattle.std.specs.Prelude.{◌≡◌, ◌++◌, ◌∷◌, [], ℕ, List, IsTrue, IfSome};
-ghost use Rattle.xa_script.specs.Texts.{is_printable, are_printable, between_quotes, quoted, word_text, is_between, texts_from, with_texts};
+ghost use Rattle.xa_script.specs.Texts.{is_printable, are_printable, between_quotes, quoted, word_text, is_between};
+ghost use Rattle.xa_script.specs.Texts.{texts_from, with_texts};
 
 use arrayvec::ArrayVec;
 use xa_xid::literal_of;
@@ -106,7 +107,8 @@ impl TextLine {
     /// Takes a byte of the line, if there is room.
     fn take(&mut self, byte: u8) -> Option<()>
         ensures { IfSome result (λ _. (rest : List ℕ)
-            → self.new.text.items ++ texts_from self.new.word.items rest ≡ self.old.text.items ++ texts_from self.old.word.items (byte ∷ rest)) }
+            → self.new.text.items ++ texts_from self.new.word.items rest ≡ self.old.text.items
+            ++ texts_from self.old.word.items (byte ∷ rest)) }
     {
         if !divides(byte) {
             return put(&mut self.word, byte);

@@ -145,7 +145,8 @@ impl<W: Write + Drop> Texts<W> {
     fn make_room(&mut self) -> io::Result<()>
         ensures kept { Keeps (known_of W.contents self.old) (known_of W.contents self.new) }
         ensures due { OnOk result (drop self.new.given self.new.due.items ≡ []) }
-        ensures sent { OnOk result (self.new.passes ≡ false → Keeps (sent_of W.contents self.old) (sent_of W.contents self.new)) }
+        ensures sent { OnOk result (self.new.passes ≡ false
+            → Keeps (sent_of W.contents self.old) (sent_of W.contents self.new)) }
         ensures held { OnOk result (self.new.passes ≡ false → self.new.held ≡ self.old.held) }
     {
         self.give()?;

@@ -10,7 +10,8 @@ use Rattle.xa_xid.proofs.Orders.{xids_total, exact_xids}
 use Rattle.xa_xid.specs.declared.statement.Statement.{Statement}
 use Rattle.xa_xid.specs.declared.statement.Statement.TheVariants.{Start, End, Commit, Rollback, Get, Put, Del}
 use Rattle.xa_server.specs.declared.branch.Phase.{Phase}
-use Rattle.xa_server.specs.declared.branch.Phase.TheVariants.{Active as PhaseActive, Idle as PhaseIdle, Prepared as PhasePrepared}
+use Rattle.xa_server.specs.declared.branch.Phase.TheVariants.{Active as PhaseActive, Idle as PhaseIdle}
+use Rattle.xa_server.specs.declared.branch.Phase.TheVariants.{Prepared as PhasePrepared}
 use Rattle.xa_server.specs.declared.reply.Reply.{Reply}
 use Rattle.xa_server.specs.declared.reply.Reply.TheVariants.{Ok as Accepted, Value, Recovered, Refused}
 use Rattle.xa_server.specs.declared.xa_error.XaError.{XaError}
@@ -18,10 +19,12 @@ use Rattle.xa_server.specs.declared.xa_error.XaError.TheVariants.{Nota, Rmfail}
 use Rattle.xa_server.specs.declared.xa_error.BranchState.TheVariants.{Prepared as StatePrepared}
 use Rattle.xa_server.specs.declared.association.Association.{Association}
 use Rattle.xa_server.specs.declared.association.Association.TheVariants.{Free, Active, Idle}
-use Rattle.xa_server.specs.State.{Shared, Branch, State, is_known, phase_at, is_prepared, is_prepared_phase, own_xid, association_in, association_of, IsOpen}
+use Rattle.xa_server.specs.State.{Shared, Branch, State, is_known, phase_at, is_prepared, is_prepared_phase, own_xid}
+use Rattle.xa_server.specs.State.{association_in, association_of, IsOpen}
 use Rattle.xa_server.specs.Locks.{holds, is_held_against, is_locked_against}
 use Rattle.xa_server.specs.Replies.{ok_if, refused_if, table, reply_to}
-use Rattle.xa_server.specs.Step.{after, effect, enters, may_enter, makes_record, may_take_memory, is_recover, is_refused, unless_refused, with_branch}
+use Rattle.xa_server.specs.Step.{after, effect, enters, may_enter, makes_record, may_take_memory, is_recover}
+use Rattle.xa_server.specs.Step.{is_refused, unless_refused, with_branch}
 use Rattle.xa_server.specs.Step.{with_changed, with_lock}
 use Rattle.xa_server.proofs.Maps.{same_is, same_or_apart, get_inserted, get_inserted_apart}
 use Rattle.xa_server.proofs.Index.{not_none}
@@ -29,7 +32,8 @@ use Rattle.xa_server.proofs.Steps.{same_state, same_branches}
 
 -- ---- what a session has associated
 
-in_phase : (state : State) (phase : Option Phase) (xid : Xid) → phase_at state xid ≡ phase → IsOpen state (association_in phase xid)
+in_phase : (state : State) (phase : Option Phase) (xid : Xid) → phase_at state xid ≡ phase
+    → IsOpen state (association_in phase xid)
 in_phase state None xid e = tt
 in_phase state (Some PhaseActive) xid e = e
 in_phase state (Some PhaseIdle) xid e = e
@@ -44,10 +48,12 @@ open_association state session = by (own_xid state session)
     by None = tt
     by (Some xid) = in_phase state (phase_at state xid) xid refl
 
-pub open_as : (state : State) (session : ℕ) (association : Association) → association ≡ association_of state session → IsOpen state association
+pub open_as : (state : State) (session : ℕ) (association : Association) → association ≡ association_of state session
+    → IsOpen state association
 open_as state session association is = subst (IsOpen state) (sym is) (open_association state session)
 
-known_found : (found : Option Branch) (phase : Phase) → option_map (λ (b : Branch). b.phase) found ≡ Some phase → is_some found ≡ true
+known_found : (found : Option Branch) (phase : Phase) → option_map (λ (b : Branch). b.phase) found ≡ Some phase
+    → is_some found ≡ true
 known_found None phase e = not_none phase e
 known_found (Some branch) phase e = refl
 
@@ -59,16 +65,21 @@ known_in state xid phase e = known_found (map.get state.branches xid) phase e
 pub known_prepared : (state : State) (xid : Xid) → is_prepared state xid ≡ true → is_known state xid ≡ true
 known_prepared state xid e = by (map.get state.branches xid) e
   where
-    by : (found : Option Branch) → option_map_or is_prepared_phase (option_map (λ (b : Branch). b.phase) found) false ≡ true → is_some found ≡ true
+    by : (found : Option Branch) → option_map_or is_prepared_phase (option_map (λ (b : Branch). b.phase) found) false
+        ≡ true → is_some found ≡ true
     by None e = absurd (true≢false (sym e))
     by (Some branch) e = refl
 
 -- the branch that a session has open is known
-pub known_active : (state : State) (session : ℕ) (own : Xid) → association_of state session ≡ Active own → is_known state own ≡ true
-known_active state session own is = known_in state own PhaseActive (subst (IsOpen state) is (open_association state session))
+pub known_active : (state : State) (session : ℕ) (own : Xid) → association_of state session ≡ Active own
+    → is_known state own ≡ true
+known_active state session own is =
+    known_in state own PhaseActive (subst (IsOpen state) is (open_association state session))
 
-pub known_idle : (state : State) (session : ℕ) (own : Xid) → association_of state session ≡ Idle own → is_known state own ≡ true
-known_idle state session own is = known_in state own PhaseIdle (subst (IsOpen state) is (open_association state session))
+pub known_idle : (state : State) (session : ℕ) (own : Xid) → association_of state session ≡ Idle own
+    → is_known state own ≡ true
+known_idle state session own is =
+    known_in state own PhaseIdle (subst (IsOpen state) is (open_association state session))
 
 unprepared : (state : State) (xid : Xid) → phase_at state xid ≡ Some PhaseActive → is_prepared state xid ≡ false
 unprepared state xid e = ap (λ phase. option_map_or is_prepared_phase phase false) e
@@ -88,21 +99,25 @@ own_is xid own error e = same_is xids_total exact_xids xid own (passes (same_xid
 
 -- ---- accepted statements
 
-pub accepted_start : (state : State) (association : Association) (xid : Xid) → is_refused (table state association (Start xid)) ≡ false
+pub accepted_start : (state : State) (association : Association) (xid : Xid)
+    → is_refused (table state association (Start xid)) ≡ false
     → (association ≡ Free) × (is_known state xid ≡ false)
 unfolding table
 accepted_start state Free xid e = (refl, let_through (is_known state xid) _ _ e)
 accepted_start state (Active own) xid e = absurd (true≢false e)
 accepted_start state (Idle own) xid e = absurd (true≢false e)
 
-pub accepted_end : (state : State) (association : Association) (xid : Xid) → IsOpen state association → is_refused (table state association (End xid)) ≡ false
+pub accepted_end : (state : State) (association : Association) (xid : Xid) → IsOpen state association
+    → is_refused (table state association (End xid)) ≡ false
     → is_prepared state xid ≡ false
 unfolding table
 accepted_end state Free xid associated e = absurd (true≢false e)
-accepted_end state (Active own) xid associated e = ap (is_prepared state) (own_is xid own _ e) ∙ unprepared state own associated
+accepted_end state (Active own) xid associated e =
+    ap (is_prepared state) (own_is xid own _ e) ∙ unprepared state own associated
 accepted_end state (Idle own) xid associated e = absurd (true≢false e)
 
-pub accepted_commit : (state : State) (association : Association) (xid : Xid) (one_phase : Bool) → IsOpen state association
+pub accepted_commit : (state : State) (association : Association) (xid : Xid) (one_phase : Bool)
+    → IsOpen state association
     → is_refused (table state association (Commit xid one_phase)) ≡ false → is_known state xid ≡ true
 unfolding table
 accepted_commit state Free xid false associated e = known_prepared state xid (passes (is_prepared state xid) _ e)
@@ -114,7 +129,8 @@ accepted_commit state Free xid true associated e = absurd (never (is_prepared st
 accepted_commit state (Active own) xid false associated e = absurd (true≢false e)
 accepted_commit state (Active own) xid true associated e = absurd (true≢false e)
 accepted_commit state (Idle own) xid false associated e = absurd (true≢false e)
-accepted_commit state (Idle own) xid true associated e = ap (is_known state) (own_is xid own _ e) ∙ known_in state own PhaseIdle associated
+accepted_commit state (Idle own) xid true associated e =
+    ap (is_known state) (own_is xid own _ e) ∙ known_in state own PhaseIdle associated
 
 pub accepted_rollback : (state : State) (association : Association) (xid : Xid) → IsOpen state association
     → is_refused (table state association (Rollback xid)) ≡ false
@@ -122,19 +138,22 @@ pub accepted_rollback : (state : State) (association : Association) (xid : Xid) 
 unfolding table
 accepted_rollback state Free xid associated e = known_prepared state xid (passes (is_prepared state xid) _ e)
 accepted_rollback state (Active own) xid associated e = absurd (true≢false e)
-accepted_rollback state (Idle own) xid associated e = ap (is_known state) (own_is xid own _ e) ∙ known_in state own PhaseIdle associated
+accepted_rollback state (Idle own) xid associated e =
+    ap (is_known state) (own_is xid own _ e) ∙ known_in state own PhaseIdle associated
 
 pub accepted_get : (state : State) (own : Xid) (key : List ℕ) → is_refused (table state (Active own) (Get key)) ≡ false
     → is_locked_against state (Active own) key ≡ false
 unfolding table
 accepted_get state own key e = let_through (is_locked_against state (Active own) key) _ _ e
 
-pub accepted_put : (state : State) (own : Xid) (key : List ℕ) (value : Text) → is_refused (table state (Active own) (Put key value)) ≡ false
+pub accepted_put : (state : State) (own : Xid) (key : List ℕ) (value : Text)
+    → is_refused (table state (Active own) (Put key value)) ≡ false
     → is_held_against state (Active own) key ≡ false
 unfolding table
 accepted_put state own key value e = let_through (is_held_against state (Active own) key) _ _ e
 
-pub accepted_put_free : (state : State) (key : List ℕ) (value : Text) → is_refused (table state Free (Put key value)) ≡ false
+pub accepted_put_free : (state : State) (key : List ℕ) (value : Text)
+    → is_refused (table state Free (Put key value)) ≡ false
     → is_held_against state Free key ≡ false
 unfolding table
 accepted_put_free state key value e = let_through (is_held_against state Free key) _ _ e
@@ -144,79 +163,99 @@ pub accepted_del : (state : State) (own : Xid) (key : List ℕ) → is_refused (
 unfolding table
 accepted_del state own key e = let_through (is_held_against state (Active own) key) _ _ e
 
-pub accepted_del_free : (state : State) (key : List ℕ) → is_refused (table state Free (Del key)) ≡ false → is_held_against state Free key ≡ false
+pub accepted_del_free : (state : State) (key : List ℕ) → is_refused (table state Free (Del key)) ≡ false
+    → is_held_against state Free key ≡ false
 unfolding table
 accepted_del_free state key e = let_through (is_held_against state Free key) _ _ e
 
 -- ---- a row that the branch holds already
 
 -- to lock it again changes nothing
-pub locked_again : (state : State) (own : Xid) (key : List ℕ) → holds state own key ≡ true → with_changed state own (with_lock key) ≡ state
+pub locked_again : (state : State) (own : Xid) (key : List ℕ) → holds state own key ≡ true
+    → with_changed state own (with_lock key) ≡ state
 locked_again state own key held = by (map.get state.branches own) refl held
   where
     locks : (branch : Branch) → map.contains_key branch.locks key ≡ true → with_lock key branch ≡ branch
     locks branch e =
-        λ i. record { phase = branch.phase; owner = branch.owner; writes = branch.writes; locks = cond (e i) branch.locks (map.insert branch.locks key Shared) }
+        λ i. record {
+          phase = branch.phase;
+          owner = branch.owner;
+          writes = branch.writes;
+          locks = cond
+              (e i) branch.locks (map.insert branch.locks key Shared);
+        }
 
-    by : (found : Option Branch) → map.get state.branches own ≡ found → is_some (option_and_then (λ (branch : Branch). map.get branch.locks key) found) ≡ true →
+    by : (found : Option Branch) → map.get state.branches own ≡ found
+        → is_some (option_and_then (λ (branch : Branch). map.get branch.locks key) found) ≡ true →
         option_map_or (λ branch. with_branch state own (with_lock key branch)) found state ≡ state
     by None is e = absurd (true≢false (sym e))
-    by (Some branch) is e = same_state _ _ (same_branches _ _ (λ other. elim (same_or_apart xids_total exact_xids other own) [
-      | inl o ↦ rw o (get_inserted xids_total exact_xids state.branches own (with_lock key branch) ∙ ap Some (locks branch e) ∙ sym is)
-      | inr apart ↦ get_inserted_apart xids_total exact_xids state.branches own (with_lock key branch) other apart
-    ])) refl
+    by (Some branch) is e =
+        same_state _ _ (same_branches _ _ (λ other. elim (same_or_apart xids_total exact_xids other own) [
+          | inl o ↦ rw o (get_inserted xids_total exact_xids state.branches own (with_lock key branch)
+              ∙ ap Some (locks branch e) ∙ sym is)
+          | inr apart ↦ get_inserted_apart xids_total exact_xids state.branches own (with_lock key branch) other apart
+        ])) refl
 
 -- ---- statements and their steps
 
 -- the association's own test, as the answers to the session's statements have it
-pub accepted_there : (state : State) (session : ℕ) (statement : Statement) → is_refused (reply_to state session statement) ≡ false
+pub accepted_there : (state : State) (session : ℕ) (statement : Statement)
+    → is_refused (reply_to state session statement) ≡ false
     → is_refused (table state (association_of state session) statement) ≡ false
 unfolding reply_to
 accepted_there state session statement e = e
 
-pub accepted_as : (state : State) (session : ℕ) (statement : Statement) (association : Association) → association_of state session ≡ association
+pub accepted_as : (state : State) (session : ℕ) (statement : Statement) (association : Association)
+    → association_of state session ≡ association
     → is_refused (reply_to state session statement) ≡ false → is_refused (table state association statement) ≡ false
 unfolding reply_to
 accepted_as state session statement association is e = ap (λ s. is_refused (table state s statement)) (sym is) ∙ e
 
 -- an accepted statement leaves its effect
-pub after_accepted : (state : State) (session : ℕ) (statement : Statement) → is_refused (reply_to state session statement) ≡ false
+pub after_accepted : (state : State) (session : ℕ) (statement : Statement)
+    → is_refused (reply_to state session statement) ≡ false
     → effect state session (association_of state session) statement ≡ after state session statement
 unfolding after
 after_accepted state session statement accepted = sym (by (reply_to state session statement) accepted)
   where
     by : (r : Reply) → is_refused r ≡ false
-        → unless_refused r state (effect state session (association_of state session) statement) ≡ effect state session (association_of state session) statement
+        → unless_refused r state (effect state session (association_of state session) statement)
+        ≡ effect state session (association_of state session) statement
     by Accepted e = refl
     by (Value value) e = refl
     by (Recovered xids) e = refl
     by (Refused error) e = absurd (true≢false e)
 
 -- a refused statement leaves the state
-pub after_refused : (state : State) (session : ℕ) (statement : Statement) → is_refused (reply_to state session statement) ≡ true
+pub after_refused : (state : State) (session : ℕ) (statement : Statement)
+    → is_refused (reply_to state session statement) ≡ true
     → state ≡ after state session statement
 unfolding after
 after_refused state session statement refused = sym (by (reply_to state session statement) refused)
   where
-    by : (r : Reply) → is_refused r ≡ true → unless_refused r state (effect state session (association_of state session) statement) ≡ state
+    by : (r : Reply) → is_refused r ≡ true → unless_refused r state
+        (effect state session (association_of state session) statement) ≡ state
     by Accepted e = absurd (true≢false (sym e))
     by (Value value) e = absurd (true≢false (sym e))
     by (Recovered xids) e = absurd (true≢false (sym e))
     by (Refused error) e = refl
 
 -- the reply that the association has in the table is the reply to the session
-pub replied : (state : State) (session : ℕ) (association : Association) (statement : Statement) (reply : Reply) → association ≡ association_of state session
+pub replied : (state : State) (session : ℕ) (association : Association) (statement : Statement) (reply : Reply)
+    → association ≡ association_of state session
     → reply ≡ table state association statement → reply ≡ reply_to state session statement
 unfolding reply_to
 replied state session association statement reply is answered = answered ∙ ap (λ s. table state s statement) is
 
 -- an allocation fails only where the statement enters and makes a record
 pub may_run_out : (old : State) (session : ℕ) (statement : Statement) →
-    is_refused (reply_to old session statement) ≡ false → may_enter old (association_of old session) statement ≡ true → makes_record statement ≡ true
+    is_refused (reply_to old session statement) ≡ false → may_enter old (association_of old session) statement ≡ true
+    → makes_record statement ≡ true
     → may_take_memory old session statement ≡ true
 unfolding enters
 may_run_out old session statement accepted enters_it makes =
-    ap (λ b. is_recover statement || (not b && may_enter old (association_of old session) statement && makes_record statement)) accepted
+    ap (λ b. is_recover statement || (not b && may_enter old (association_of old session) statement
+    && makes_record statement)) accepted
     ∙ ap (λ b. is_recover statement || (b && makes_record statement)) enters_it
     ∙ ap (λ b. is_recover statement || b) makes ∙ or_true (is_recover statement)
   where
@@ -225,8 +264,10 @@ may_run_out old session statement accepted enters_it makes =
     or_true false = refl
 
 pub may_run_out_at : {T E : Type 0} (result : Result T E) (old : State) (session : ℕ) (statement : Statement) →
-    is_refused (reply_to old session statement) ≡ false → OnErr result (may_enter old (association_of old session) statement ≡ true)
+    is_refused (reply_to old session statement) ≡ false → OnErr result
+    (may_enter old (association_of old session) statement ≡ true)
     → OnErr result (makes_record statement ≡ true)
     → OnErr result (may_take_memory old session statement ≡ true)
 may_run_out_at (Ok value) old session statement accepted enters_it makes = enters_it
-may_run_out_at (Err error) old session statement accepted enters_it makes = may_run_out old session statement accepted enters_it makes
+may_run_out_at (Err error) old session statement accepted enters_it makes =
+    may_run_out old session statement accepted enters_it makes

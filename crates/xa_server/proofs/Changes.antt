@@ -9,7 +9,8 @@ use Rattle.xa_xid.specs.declared.xid.Xid.{Xid}
 use Rattle.xa_xid.specs.Xid.{same_xid}
 use Rattle.xa_xid.proofs.Orders.{xids_total, exact_xids}
 use Rattle.xa_xid.specs.declared.statement.Statement.{Statement}
-use Rattle.xa_xid.specs.declared.statement.Statement.TheVariants.{Start, End, Prepare, Commit, Rollback, Recover, Unsupported, Get, Put, Del, Disconnect}
+use Rattle.xa_xid.specs.declared.statement.Statement.TheVariants.{Start, End, Prepare, Commit, Rollback, Recover}
+use Rattle.xa_xid.specs.declared.statement.Statement.TheVariants.{Unsupported, Get, Put, Del, Disconnect}
 use Rattle.xa_server.specs.declared.branch.Phase.TheVariants.{Idle as PhaseIdle, Prepared as PhasePrepared}
 use Rattle.xa_server.specs.declared.reply.Reply.{Reply}
 use Rattle.xa_server.specs.declared.reply.Reply.TheVariants.{Ok as Accepted, Value, Recovered, Refused}
@@ -17,7 +18,8 @@ use Rattle.xa_server.specs.declared.association.Association.{Association}
 use Rattle.xa_server.specs.declared.association.Association.TheVariants.{Free, Active, Idle}
 use Rattle.xa_server.specs.State.{Branch, State, association_of}
 use Rattle.xa_server.specs.Replies.{table, reply_to}
-use Rattle.xa_server.specs.Step.{started_by, with_branch, with_changed, with_writes, without_branch, committed, with_lock, with_own_write, effect, is_refused}
+use Rattle.xa_server.specs.Step.{started_by, with_branch, with_changed, with_writes, without_branch, committed}
+use Rattle.xa_server.specs.Step.{with_lock, with_own_write, effect, is_refused}
 use Rattle.xa_server.specs.Step.{unless_refused, after}
 use Rattle.xa_server.proofs.Maps.{same_or_apart}
 
@@ -40,10 +42,12 @@ branch_after session Free (Get key) at found = found
 branch_after session (Active own) (Get key) at found = cond (same_xid at own) (option_map (with_lock key) found) found
 branch_after session (Idle own) (Get key) at found = found
 branch_after session Free (Put key value) at found = found
-branch_after session (Active own) (Put key value) at found = cond (same_xid at own) (option_map (with_own_write key (Some value)) found) found
+branch_after session (Active own) (Put key value) at found =
+    cond (same_xid at own) (option_map (with_own_write key (Some value)) found) found
 branch_after session (Idle own) (Put key value) at found = found
 branch_after session Free (Del key) at found = found
-branch_after session (Active own) (Del key) at found = cond (same_xid at own) (option_map (with_own_write key None) found) found
+branch_after session (Active own) (Del key) at found =
+    cond (same_xid at own) (option_map (with_own_write key None) found) found
 branch_after session (Idle own) (Del key) at found = found
 branch_after session Free Disconnect at found = found
 branch_after session (Active own) Disconnect at found = cond (same_xid at own) None found
@@ -52,14 +56,17 @@ branch_after session (Idle own) Disconnect at found = cond (same_xid at own) Non
 -- ---- the parts of a step
 
 put_in : (state : State) (xid : Xid) (branch : Branch) (at : Xid)
-    → map.get (with_branch state xid branch).branches at ≡ cond (same_xid at xid) (Some branch) (map.get state.branches at)
+    → map.get (with_branch state xid branch).branches at ≡ cond (same_xid at xid) (Some branch)
+    (map.get state.branches at)
 put_in state xid branch at = get-insert xids_total state.branches xid branch at
 
-taken_out : (state : State) (xid at : Xid) → map.get (without_branch state xid).branches at ≡ cond (same_xid at xid) None (map.get state.branches at)
+taken_out : (state : State) (xid at : Xid) → map.get (without_branch state xid).branches at
+    ≡ cond (same_xid at xid) None (map.get state.branches at)
 taken_out state xid at = get-remove xids_total state.branches xid at
 
 changed : (state : State) (xid : Xid) (change : Branch → Branch) (at : Xid) →
-    map.get (with_changed state xid change).branches at ≡ cond (same_xid at xid) (option_map change (map.get state.branches at)) (map.get state.branches at)
+    map.get (with_changed state xid change).branches at ≡ cond (same_xid at xid)
+    (option_map change (map.get state.branches at)) (map.get state.branches at)
 changed state xid change at = by (map.get state.branches xid) refl
   where
     nothing : (b : Bool) (found : Option Branch) → found ≡ None → found ≡ cond b (option_map change found) found
@@ -71,15 +78,18 @@ changed state xid change at = by (map.get state.branches xid) refl
         ≡ cond (same_xid at xid) (option_map change (map.get state.branches at)) (map.get state.branches at)
     by None e = elim (same_or_apart xids_total exact_xids at xid) [
       | inl is ↦ nothing (same_xid at xid) (map.get state.branches at) (ap (map.get state.branches) is ∙ e)
-      | inr apart ↦ sym (ap (λ b. cond b (option_map change (map.get state.branches at)) (map.get state.branches at)) apart)
+      | inr apart ↦ sym (ap (λ b. cond b (option_map change (map.get state.branches at))
+          (map.get state.branches at)) apart)
     ]
     by (Some branch) e = put_in state xid (change branch) at ∙ (elim (same_or_apart xids_total exact_xids at xid) [
-      | inl is ↦ ap (λ found. cond (same_xid at xid) found (map.get state.branches at)) (sym (ap (option_map change) (ap (map.get state.branches) is ∙ e)))
+      | inl is ↦ ap (λ found. cond (same_xid at xid) found (map.get state.branches at))
+          (sym (ap (option_map change) (ap (map.get state.branches) is ∙ e)))
       | inr apart ↦ ap (λ b. cond b (Some (change branch)) (map.get state.branches at)) apart
           ∙ sym (ap (λ b. cond b (option_map change (map.get state.branches at)) (map.get state.branches at)) apart)
     ])
 
-ended : (state : State) (xid at : Xid) → map.get (committed state xid).branches at ≡ cond (same_xid at xid) None (map.get state.branches at)
+ended : (state : State) (xid at : Xid) → map.get (committed state xid).branches at
+    ≡ cond (same_xid at xid) None (map.get state.branches at)
 unfolding committed
 ended state xid at = by (map.get state.branches xid) refl
   where
@@ -88,7 +98,8 @@ ended state xid at = by (map.get state.branches xid) refl
     nothing false found e = refl
 
     by : (found : Option Branch) → map.get state.branches xid ≡ found →
-        map.get (option_map_or (λ (branch : Branch). record (without_branch state xid) { rows = with_writes (map.entries branch.writes) state.rows }) found
+        map.get (option_map_or (λ (branch : Branch). record (without_branch state xid)
+        { rows = with_writes (map.entries branch.writes) state.rows }) found
         state).branches at ≡ cond (same_xid at xid) None (map.get state.branches at)
     by None e = elim (same_or_apart xids_total exact_xids at xid) [
       | inl is ↦ nothing (same_xid at xid) (map.get state.branches at) (ap (map.get state.branches) is ∙ e)
@@ -98,7 +109,8 @@ ended state xid at = by (map.get state.branches xid) refl
 
 -- an accepted statement, carried out, leaves this branch
 pub effect-branch : (state : State) (session : ℕ) (association : Association) (statement : Statement) (at : Xid) →
-    map.get (effect state session association statement).branches at ≡ branch_after session association statement at (map.get state.branches at)
+    map.get (effect state session association statement).branches at
+    ≡ branch_after session association statement at (map.get state.branches at)
 unfolding effect branch_after idle detached
 effect-branch state session association (Start xid) at = put_in state xid (started_by session) at
 effect-branch state session association (End xid) at = changed state xid idle at
@@ -123,19 +135,22 @@ effect-branch state session (Idle own) Disconnect at = taken_out state own at
 -- ---- refused or accepted
 
 -- a statement that is refused leaves the state
-pub refused_leaves : (state : State) (session : ℕ) (statement : Statement) → is_refused (reply_to state session statement) ≡ true
+pub refused_leaves : (state : State) (session : ℕ) (statement : Statement)
+    → is_refused (reply_to state session statement) ≡ true
     → after state session statement ≡ state
 unfolding after
 refused_leaves state session statement e = by (reply_to state session statement) e
   where
-    by : (reply : Reply) → is_refused reply ≡ true → unless_refused reply state (effect state session (association_of state session) statement) ≡ state
+    by : (reply : Reply) → is_refused reply ≡ true → unless_refused reply state
+        (effect state session (association_of state session) statement) ≡ state
     by Accepted e = absurd (true≢false (sym e))
     by (Value value) e = absurd (true≢false (sym e))
     by (Recovered xids) e = absurd (true≢false (sym e))
     by (Refused error) e = refl
 
 -- one that isn't is carried out
-pub accepted_done : (state : State) (session : ℕ) (statement : Statement) → is_refused (reply_to state session statement) ≡ false
+pub accepted_done : (state : State) (session : ℕ) (statement : Statement)
+    → is_refused (reply_to state session statement) ≡ false
     → after state session statement ≡ effect state session (association_of state session) statement
 unfolding after
 accepted_done state session statement e = by (reply_to state session statement) e

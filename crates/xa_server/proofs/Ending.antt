@@ -16,9 +16,11 @@ use Rattle.xa_server.specs.declared.association.Association.TheVariants.{Free}
 use Rattle.xa_server.specs.State.{Write, Branch}
 use Rattle.xa_server.specs.Step.{without_branch, with_write, with_writes, committed}
 use Rattle.xa_server.specs.Tables.{BranchMap}
-use Rattle.xa_server.specs.Rows.{RowMap, committed_of, write_by, lock_by, held_beside, freed_row, is_needed, kept, freed, Frees}
+use Rattle.xa_server.specs.Rows.{RowMap, committed_of, write_by, lock_by, held_beside, freed_row, is_needed, kept}
+use Rattle.xa_server.specs.Rows.{freed, Frees}
 use Rattle.xa_server.specs.View.{gather, branch_seen, state_of}
-use Rattle.xa_server.proofs.Maps.{same_or_apart, same_itself, get_inserted, get_inserted_apart, get_removed, get_removed_apart}
+use Rattle.xa_server.proofs.Maps.{same_or_apart, same_itself, get_inserted, get_inserted_apart, get_removed}
+use Rattle.xa_server.proofs.Maps.{get_removed_apart}
 use Rattle.xa_server.proofs.Gathered.{get-gather}
 use Rattle.xa_server.proofs.Holders.{mode_of, none_of, beside_there, unwritten, freed_own, freed_beside, freed_writes}
 use Rattle.xa_server.proofs.Seen.{get-branches}
@@ -31,7 +33,8 @@ get-with_writes [] rows key = refl
 get-with_writes (write ∷ writes) rows key =
     let rest = get-with_writes writes rows key in
     elim (same_or_apart bytes_total exact_texts key write.0) [
-      | inl is ↦ ap (map.get (with_write write.0 write.1 (with_writes writes rows))) is ∙ here write.0 write.1 (with_writes writes rows)
+      | inl is ↦ ap (map.get (with_write write.0 write.1 (with_writes writes rows))) is
+          ∙ here write.0 write.1 (with_writes writes rows)
           ∙ ap (λ b. unwrap_or (cond b (Some write.1) (find bytes_cmp key writes)) (map.get rows key))
           (sym (ap (eq_by_cmp bytes_cmp key) (sym is) ∙ same_itself bytes_total exact_texts key))
       | inr apart ↦ beside write.0 write.1 (with_writes writes rows) apart ∙ rest
@@ -51,7 +54,8 @@ get-with_writes (write ∷ writes) rows key =
 unneeded : (row : RowRecord) → is_needed row ≡ false → (row.committed ≡ None) × (held_beside Free row.lock ≡ false)
 unneeded row e = by row.committed e
   where
-    by : (value : Option Text) → (is_some value || held_beside Free row.lock) ≡ false → (value ≡ None) × (held_beside Free row.lock ≡ false)
+    by : (value : Option Text) → (is_some value || held_beside Free row.lock) ≡ false
+        → (value ≡ None) × (held_beside Free row.lock ≡ false)
     by None e = (refl, e)
     by (Some value) e = absurd (true≢false e)
 
@@ -75,16 +79,19 @@ kept_says says row nothing = by (is_needed row) refl
     by false e = sym (nothing e)
 
 -- what a freed record says of another branch is what the record said
-freed_says : {W : Type 0} (says : RowRecord → Option W) → ((row : RowRecord) → is_needed row ≡ false → says row ≡ None) → (commits : Bool) (xid : Xid) →
+freed_says : {W : Type 0} (says : RowRecord → Option W) → ((row : RowRecord) → is_needed row ≡ false → says row ≡ None)
+    → (commits : Bool) (xid : Xid) →
     ((row : RowRecord) → says (freed_row commits xid row) ≡ says row) → (found : Option RowRecord)
     → option_and_then says (freed commits xid found) ≡ option_and_then says found
 freed_says says nothing commits xid same None = refl
-freed_says says nothing commits xid same (Some row) = kept_says says (freed_row commits xid row) (nothing (freed_row commits xid row)) ∙ same row
+freed_says says nothing commits xid same (Some row) =
+    kept_says says (freed_row commits xid row) (nothing (freed_row commits xid row)) ∙ same row
 
 -- of the branch that ended it says nothing
 freed_mode : (commits : Bool) (xid : Xid) (found : Option RowRecord) → mode_of xid (freed commits xid found) ≡ None
 freed_mode commits xid None = refl
-freed_mode commits xid (Some row) = kept_says (lock_by xid) (freed_row commits xid row) (unneeded_mode xid (freed_row commits xid row)) ∙ freed_own xid row.lock
+freed_mode commits xid (Some row) = kept_says (lock_by xid) (freed_row commits xid row)
+    (unneeded_mode xid (freed_row commits xid row)) ∙ freed_own xid row.lock
 
 -- the committed value of a record that was freed
 value_after : Bool → Option Write → Option Text → Option Text
@@ -96,17 +103,20 @@ never false = refl
 
 -- of a row, where there is one
 freed_value : (commits : Bool) (xid : Xid) (found : Option RowRecord)
-    → committed_of (freed commits xid found) ≡ value_after commits (option_and_then (write_by xid) found) (committed_of found)
+    → committed_of (freed commits xid found) ≡ value_after commits (option_and_then (write_by xid) found)
+    (committed_of found)
 unfolding value_after
 freed_value commits xid None = never commits
-freed_value commits xid (Some row) = kept_says (λ row. row.committed) (freed_row commits xid row) (λ e. (unneeded (freed_row commits xid row) e).0)
+freed_value commits xid (Some row) =
+    kept_says (λ row. row.committed) (freed_row commits xid row) (λ e. (unneeded (freed_row commits xid row) e).0)
 
 -- a row that the branch doesn't hold keeps its value
 unheld_value : (commits : Bool) (xid : Xid) (found : Option RowRecord) → is_some (mode_of xid found) ≡ false
     → value_after commits (option_and_then (write_by xid) found) (committed_of found) ≡ committed_of found
 unfolding value_after
 unheld_value commits xid found none =
-    ap (λ write. cond commits (unwrap_or write (committed_of found)) (committed_of found)) (unwritten xid found none) ∙ same commits
+    ap (λ write. cond commits (unwrap_or write (committed_of found)) (committed_of found)) (unwritten xid found none)
+    ∙ same commits
   where
     same : (b : Bool) → cond b (committed_of found) (committed_of found) ≡ committed_of found
     same true = refl
@@ -114,31 +124,40 @@ unheld_value commits xid found none =
 
 -- the branch's rows stand in the list
 abbrev pub IsListedIn : Xid → List (List ℕ) → RowMap → Type 0
-IsListedIn xid keys rows = (key : List ℕ) → is_some (mode_of xid (map.get rows key)) ≡ true → list_any (eq_by_cmp bytes_cmp key) keys ≡ true
+IsListedIn xid keys rows = (key : List ℕ) → is_some (mode_of xid (map.get rows key)) ≡ true
+    → list_any (eq_by_cmp bytes_cmp key) keys ≡ true
 
 -- how another branch holds each row
-pub beside_mode : (commits : Bool) (xid : Xid) (keys : List (List ℕ)) (old new : RowMap) → Frees commits xid keys old new → (other : Xid)
+pub beside_mode : (commits : Bool) (xid : Xid) (keys : List (List ℕ)) (old new : RowMap)
+    → Frees commits xid keys old new → (other : Xid)
     → same_xid other xid ≡ false → (key : List ℕ) →
     mode_of other (map.get new key) ≡ mode_of other (map.get old key)
-beside_mode commits xid keys old new frees other apart key = ap (mode_of other) (frees key) ∙ at (list_any (eq_by_cmp bytes_cmp key) keys)
+beside_mode commits xid keys old new frees other apart key =
+    ap (mode_of other) (frees key) ∙ at (list_any (eq_by_cmp bytes_cmp key) keys)
   where
-    at : (b : Bool) → mode_of other (cond b (freed commits xid (map.get old key)) (map.get old key)) ≡ mode_of other (map.get old key)
-    at true = freed_says (lock_by other) (unneeded_mode other) commits xid (λ row. freed_beside xid other row.lock apart) (map.get old key)
+    at : (b : Bool) → mode_of other (cond b (freed commits xid (map.get old key)) (map.get old key))
+        ≡ mode_of other (map.get old key)
+    at true = freed_says (lock_by other) (unneeded_mode other) commits xid
+        (λ row. freed_beside xid other row.lock apart) (map.get old key)
     at false = refl
 
 -- what it writes
-beside_write : (commits : Bool) (xid : Xid) (keys : List (List ℕ)) (old new : RowMap) → Frees commits xid keys old new → (other : Xid)
+beside_write : (commits : Bool) (xid : Xid) (keys : List (List ℕ)) (old new : RowMap) → Frees commits xid keys old new
+    → (other : Xid)
     → same_xid other xid ≡ false → (key : List ℕ) →
     option_and_then (write_by other) (map.get new key) ≡ option_and_then (write_by other) (map.get old key)
-beside_write commits xid keys old new frees other apart key = ap (option_and_then (write_by other)) (frees key) ∙ at (list_any (eq_by_cmp bytes_cmp key) keys)
+beside_write commits xid keys old new frees other apart key =
+    ap (option_and_then (write_by other)) (frees key) ∙ at (list_any (eq_by_cmp bytes_cmp key) keys)
   where
     at : (b : Bool) → option_and_then (write_by other) (cond b (freed commits xid (map.get old key)) (map.get old key))
         ≡ option_and_then (write_by other) (map.get old key)
-    at true = freed_says (write_by other) (unneeded_write other) commits xid (λ row. freed_writes xid other row.lock apart) (map.get old key)
+    at true = freed_says (write_by other) (unneeded_write other) commits xid
+        (λ row. freed_writes xid other row.lock apart) (map.get old key)
     at false = refl
 
 -- a row that isn't listed isn't the branch's
-unlisted : (xid : Xid) (keys : List (List ℕ)) (rows : RowMap) → IsListedIn xid keys rows → (key : List ℕ) → list_any (eq_by_cmp bytes_cmp key) keys ≡ false
+unlisted : (xid : Xid) (keys : List (List ℕ)) (rows : RowMap) → IsListedIn xid keys rows → (key : List ℕ)
+    → list_any (eq_by_cmp bytes_cmp key) keys ≡ false
     → is_some (mode_of xid (map.get rows key)) ≡ false
 unlisted xid keys rows listed key none = by (is_some (mode_of xid (map.get rows key))) refl
   where
@@ -147,9 +166,11 @@ unlisted xid keys rows listed key none = by (is_some (mode_of xid (map.get rows 
     by false e = refl
 
 -- the branch that ended holds no row
-pub own_mode : (commits : Bool) (xid : Xid) (keys : List (List ℕ)) (old new : RowMap) → Frees commits xid keys old new → IsListedIn xid keys old
+pub own_mode : (commits : Bool) (xid : Xid) (keys : List (List ℕ)) (old new : RowMap) → Frees commits xid keys old new
+    → IsListedIn xid keys old
     → (key : List ℕ) → is_some (mode_of xid (map.get new key)) ≡ false
-own_mode commits xid keys old new frees listed key = ap (λ found. is_some (mode_of xid found)) (frees key) ∙ at (list_any (eq_by_cmp bytes_cmp key) keys) refl
+own_mode commits xid keys old new frees listed key =
+    ap (λ found. is_some (mode_of xid found)) (frees key) ∙ at (list_any (eq_by_cmp bytes_cmp key) keys) refl
   where
     at : (b : Bool) → list_any (eq_by_cmp bytes_cmp key) keys ≡ b
         → is_some (mode_of xid (cond b (freed commits xid (map.get old key)) (map.get old key))) ≡ false
@@ -157,9 +178,11 @@ own_mode commits xid keys old new frees listed key = ap (λ found. is_some (mode
     at false e = unlisted xid keys old listed key e
 
 -- what the rows say of another branch
-ended_beside : (commits : Bool) (xid : Xid) (keys : List (List ℕ)) (old new : RowMap) → Frees commits xid keys old new → (other : Xid)
+ended_beside : (commits : Bool) (xid : Xid) (keys : List (List ℕ)) (old new : RowMap) → Frees commits xid keys old new
+    → (other : Xid)
     → same_xid other xid ≡ false → branch_seen new other ≡ branch_seen old other
-ended_beside commits xid keys old new frees other apart = λ i branch. record { phase = branch.phase; owner = branch.owner; writes = writes i; locks = locks i }
+ended_beside commits xid keys old new frees other apart =
+    λ i branch. record { phase = branch.phase; owner = branch.owner; writes = writes i; locks = locks i }
   where
     writes : gather (write_by other) new ≡ gather (write_by other) old
     writes = gather_same (write_by other) old new (beside_write commits xid keys old new frees other apart)
@@ -168,10 +191,13 @@ ended_beside commits xid keys old new frees other apart = λ i branch. record { 
     locks = gather_same (lock_by other) old new (beside_mode commits xid keys old new frees other apart)
 
 -- the committed value of each row
-ended_value : (commits : Bool) (xid : Xid) (keys : List (List ℕ)) (old new : RowMap) → Frees commits xid keys old new → IsListedIn xid keys old
+ended_value : (commits : Bool) (xid : Xid) (keys : List (List ℕ)) (old new : RowMap) → Frees commits xid keys old new
+    → IsListedIn xid keys old
     → (key : List ℕ) →
-    committed_of (map.get new key) ≡ value_after commits (option_and_then (write_by xid) (map.get old key)) (committed_of (map.get old key))
-ended_value commits xid keys old new frees listed key = ap committed_of (frees key) ∙ at (list_any (eq_by_cmp bytes_cmp key) keys) refl
+    committed_of (map.get new key) ≡ value_after commits (option_and_then (write_by xid) (map.get old key))
+    (committed_of (map.get old key))
+ended_value commits xid keys old new frees listed key =
+    ap committed_of (frees key) ∙ at (list_any (eq_by_cmp bytes_cmp key) keys) refl
   where
     at : (b : Bool) → list_any (eq_by_cmp bytes_cmp key) keys ≡ b
         → committed_of (cond b (freed commits xid (map.get old key)) (map.get old key))
@@ -180,19 +206,25 @@ ended_value commits xid keys old new frees listed key = ap committed_of (frees k
     at false e = sym (unheld_value commits xid (map.get old key) (unlisted xid keys old listed key e))
 
 -- the branches without the one that ended
-ended_branches : (branches : BranchMap) (commits : Bool) (xid : Xid) (keys : List (List ℕ)) (old new : RowMap) → Frees commits xid keys old new →
+ended_branches : (branches : BranchMap) (commits : Bool) (xid : Xid) (keys : List (List ℕ)) (old new : RowMap)
+    → Frees commits xid keys old new →
     (state_of (map.remove branches xid) new).branches ≡ map.remove (state_of branches old).branches xid
 ended_branches branches commits xid keys old new frees =
-    same_branches _ _ (λ other. get-branches (map.remove branches xid) new other ∙ (elim (same_or_apart xids_total exact_xids other xid) [
+    same_branches _ _ (λ other. get-branches (map.remove branches xid) new other
+    ∙ (elim (same_or_apart xids_total exact_xids other xid) [
       | inl is ↦ rw is (ap (option_map (branch_seen new xid)) (get_removed xids_total exact_xids branches xid)
           ∙ sym (get_removed xids_total exact_xids (state_of branches old).branches xid))
-      | inr apart ↦ ap (option_map (branch_seen new other)) (get_removed_apart xids_total exact_xids branches xid other apart)
-          ∙ ap (λ (f : BranchRecord → Branch). option_map f (map.get branches other)) (ended_beside commits xid keys old new frees other apart)
-          ∙ sym (get_removed_apart xids_total exact_xids (state_of branches old).branches xid other apart ∙ get-branches branches old other)
+      | inr apart ↦ ap (option_map (branch_seen new other))
+          (get_removed_apart xids_total exact_xids branches xid other apart)
+          ∙ ap (λ (f : BranchRecord → Branch). option_map f (map.get branches other))
+          (ended_beside commits xid keys old new frees other apart)
+          ∙ sym (get_removed_apart xids_total exact_xids (state_of branches old).branches xid other apart
+          ∙ get-branches branches old other)
     ]))
 
 -- a rollback
-pub seen_rolled_back : (branches : BranchMap) (xid : Xid) (keys : List (List ℕ)) (old new : RowMap) → Frees false xid keys old new → IsListedIn xid keys old →
+pub seen_rolled_back : (branches : BranchMap) (xid : Xid) (keys : List (List ℕ)) (old new : RowMap)
+    → Frees false xid keys old new → IsListedIn xid keys old →
     state_of (map.remove branches xid) new ≡ without_branch (state_of branches old) xid
 unfolding state_of value_after
 seen_rolled_back branches xid keys old new frees listed = same_state _ _
@@ -200,7 +232,8 @@ seen_rolled_back branches xid keys old new frees listed = same_state _ _
     (gather_same (λ row. row.committed) old new (ended_value false xid keys old new frees listed))
 
 -- a commit
-pub seen_committed : (branches : BranchMap) (xid : Xid) (branch : BranchRecord) (keys : List (List ℕ)) (old new : RowMap) → map.get branches xid ≡ Some branch
+pub seen_committed : (branches : BranchMap) (xid : Xid) (branch : BranchRecord) (keys : List (List ℕ))
+    (old new : RowMap) → map.get branches xid ≡ Some branch
     → Frees true xid keys old new → IsListedIn xid keys old →
     state_of (map.remove branches xid) new ≡ committed (state_of branches old) xid
 unfolding state_of committed value_after
@@ -208,12 +241,15 @@ seen_committed branches xid branch keys old new is frees listed =
     same_state _ _
     (ended_branches branches true xid keys old new frees)
     (same_map bytes_total exact_texts _ _ (λ key.
-    get-gather bytes_total exact_texts (λ row. row.committed) new key ∙ ended_value true xid keys old new frees listed key
+    get-gather bytes_total exact_texts (λ row. row.committed) new key
+    ∙ ended_value true xid keys old new frees listed key
     ∙ (λ i. unwrap_or (sym (get-gather bytes_total exact_texts (write_by xid) old key) i)
     (sym (get-gather bytes_total exact_texts (λ row. row.committed) old key) i))
-    ∙ ap (λ write. unwrap_or write (map.get (gather (λ row. row.committed) old) key)) (get-entries (gather (write_by xid) old) key)
+    ∙ ap (λ write. unwrap_or write (map.get (gather (λ row. row.committed) old) key))
+    (get-entries (gather (write_by xid) old) key)
     ∙ sym (get-with_writes (map.entries (gather (write_by xid) old)) (gather (λ row. row.committed) old) key)))
     ∙ ap (λ found. option_map_or
-    (λ (b : Branch). record (without_branch (state_of branches old) xid) { rows = with_writes (map.entries b.writes) (state_of branches old).rows }) found
+    (λ (b : Branch). record (without_branch (state_of branches old) xid)
+    { rows = with_writes (map.entries b.writes) (state_of branches old).rows }) found
     (state_of branches old))
     (sym (get-branches branches old xid ∙ ap (option_map (branch_seen old xid)) is))

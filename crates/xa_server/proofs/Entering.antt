@@ -3,7 +3,8 @@ use Rattle.std.proofs.Common.{◌≡◌, ℕ, refl, ap, sym, ◌∙◌, Bool, tr
 use Rattle.std.specs.Prelude.{not, ◌&&◌}
 use mathlib.Core.Bool.{true≢false}
 use Rattle.xa_xid.specs.declared.statement.Statement.{Statement}
-use Rattle.xa_xid.specs.declared.statement.Statement.TheVariants.{Start, End, Prepare, Commit, Rollback, Recover, Unsupported, Get, Put, Del, Disconnect}
+use Rattle.xa_xid.specs.declared.statement.Statement.TheVariants.{Start, End, Prepare, Commit, Rollback, Recover}
+use Rattle.xa_xid.specs.declared.statement.Statement.TheVariants.{Unsupported, Get, Put, Del, Disconnect}
 use Rattle.xa_server.specs.declared.association.Association.{Association}
 use Rattle.xa_server.specs.declared.association.Association.TheVariants.{Free, Active, Idle}
 use Rattle.xa_server.specs.State.{State, association_of}
@@ -18,7 +19,8 @@ refuted true e = refl
 refuted false e = absurd (true≢false e)
 
 -- what has no place in the history does nothing
-idles : (state : State) (session : ℕ) (association : Association) (statement : Statement) → may_enter state association statement ≡ false
+idles : (state : State) (session : ℕ) (association : Association) (statement : Statement)
+    → may_enter state association statement ≡ false
     → effect state session association statement ≡ state
 unfolding effect may_enter
 idles state session association (Start xid) e = absurd (true≢false e)
@@ -37,7 +39,8 @@ idles state session Free Disconnect e = refl
 idles state session (Active own) Disconnect e = absurd (true≢false e)
 idles state session (Idle own) Disconnect e = absurd (true≢false e)
 
-pub unentered_leaves : (state : State) (session : ℕ) (statement : Statement) → enters state session statement ≡ false → after state session statement ≡ state
+pub unentered_leaves : (state : State) (session : ℕ) (statement : Statement) → enters state session statement ≡ false
+    → after state session statement ≡ state
 unfolding enters
 unentered_leaves state session statement e = by (is_refused (reply_to state session statement)) refl
   where

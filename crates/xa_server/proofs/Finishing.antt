@@ -1,5 +1,6 @@
 -- Between two finishes of a prepared branch in one history stands an accepted XA PREPARE of it.
-use Rattle.std.proofs.Common.{◌≡◌, ℕ, zero, suc, ◌<◌, List, [], ◌∷◌, refl, ap, sym, ◌∙◌, Bool, true, false, inl, inr, take, arith}
+use Rattle.std.proofs.Common.{◌≡◌, ℕ, zero, suc, ◌<◌, List, [], ◌∷◌, refl, ap, sym, ◌∙◌, Bool, true, false, inl, inr}
+use Rattle.std.proofs.Common.{take, arith}
 use Rattle.std.specs.Prelude.{Option, Some, None, cond}
 use Rattle.std.specs.Option.{option_map, option_map_or}
 use Rattle.std.specs.FinMap as map
@@ -8,7 +9,8 @@ use Rattle.xa_xid.specs.declared.xid.Xid.{Xid}
 use Rattle.xa_xid.specs.Xid.{same_xid}
 use Rattle.xa_xid.proofs.Orders.{xids_total, exact_xids}
 use Rattle.xa_xid.specs.declared.statement.Statement.{Statement}
-use Rattle.xa_xid.specs.declared.statement.Statement.TheVariants.{Start, End, Prepare, Commit, Rollback, Recover, Unsupported, Get, Put, Del, Disconnect}
+use Rattle.xa_xid.specs.declared.statement.Statement.TheVariants.{Start, End, Prepare, Commit, Rollback, Recover}
+use Rattle.xa_xid.specs.declared.statement.Statement.TheVariants.{Unsupported, Get, Put, Del, Disconnect}
 use Rattle.xa_server.specs.declared.reply.Reply.TheVariants.{Ok as Accepted}
 use Rattle.xa_server.specs.declared.xa_error.XaError.{XaError}
 use Rattle.xa_server.specs.declared.association.Association.{Association}
@@ -28,7 +30,8 @@ is_ready found = option_map_or is_prepared_phase (option_map (λ (b : Branch). b
 
 -- ---- what makes a branch PREPARED
 
-stays : (b : Bool) (new found : Option Branch) → is_ready found ≡ false → is_ready new ≡ false → is_ready (cond b new found) ≡ false
+stays : (b : Bool) (new found : Option Branch) → is_ready found ≡ false → is_ready new ≡ false
+    → is_ready (cond b new found) ≡ false
 stays true new found e n = n
 stays false new found e n = e
 
@@ -42,7 +45,8 @@ unfolding is_ready
 locked key None = refl
 locked key (Some branch) = refl
 
-written : (key : List ℕ) (write : Write) (found : Option Branch) → is_ready (option_map (with_own_write key write) found) ≡ is_ready found
+written : (key : List ℕ) (write : Write) (found : Option Branch)
+    → is_ready (option_map (with_own_write key write) found) ≡ is_ready found
 unfolding is_ready
 written key write None = refl
 written key write (Some branch) = refl
@@ -52,10 +56,13 @@ never b e f = absurd (true≢false (sym f ∙ e))
 
 -- only an XA PREPARE of a branch makes it PREPARED
 turns : (session : ℕ) (association : Association) (statement : Statement) (at : Xid) (found : Option Branch) →
-    is_ready found ≡ false → is_ready (branch_after session association statement at found) ≡ true → statement ≡ Prepare at
+    is_ready found ≡ false → is_ready (branch_after session association statement at found) ≡ true
+    → statement ≡ Prepare at
 unfolding branch_after is_ready
-turns session association (Start xid) at found e f = never _ (stays (same_xid at xid) (Some (started_by session)) found e refl) f
-turns session association (End xid) at found e f = never _ (stays (same_xid at xid) (option_map idle found) found e (idle_isn't found)) f
+turns session association (Start xid) at found e f =
+    never _ (stays (same_xid at xid) (Some (started_by session)) found e refl) f
+turns session association (End xid) at found e f =
+    never _ (stays (same_xid at xid) (option_map idle found) found e (idle_isn't found)) f
 turns session association (Prepare xid) at found e f = elim (same_or_apart xids_total exact_xids at xid) [
   | inl is ↦ ap Prepare (sym is)
   | inr apart ↦ never (is_ready found) e (ap (λ b. is_ready (cond b (option_map detached found) found)) (sym apart) ∙ f)
@@ -65,15 +72,18 @@ turns session association (Rollback xid) at found e f = never _ (stays (same_xid
 turns session association (Recover convert) at found e f = never _ e f
 turns session association Unsupported at found e f = never _ e f
 turns session Free (Get key) at found e f = never _ e f
-turns session (Active own) (Get key) at found e f = never _ (stays (same_xid at own) (option_map (with_lock key) found) found e (locked key found ∙ e)) f
+turns session (Active own) (Get key) at found e f =
+    never _ (stays (same_xid at own) (option_map (with_lock key) found) found e (locked key found ∙ e)) f
 turns session (Idle own) (Get key) at found e f = never _ e f
 turns session Free (Put key value) at found e f = never _ e f
 turns session (Active own) (Put key value) at found e f =
-    never _ (stays (same_xid at own) (option_map (with_own_write key (Some value)) found) found e (written key (Some value) found ∙ e)) f
+    never _ (stays (same_xid at own) (option_map (with_own_write key (Some value)) found) found e
+    (written key (Some value) found ∙ e)) f
 turns session (Idle own) (Put key value) at found e f = never _ e f
 turns session Free (Del key) at found e f = never _ e f
 turns session (Active own) (Del key) at found e f =
-    never _ (stays (same_xid at own) (option_map (with_own_write key None) found) found e (written key None found ∙ e)) f
+    never _ (stays (same_xid at own) (option_map (with_own_write key None) found) found e
+    (written key None found ∙ e)) f
 turns session (Idle own) (Del key) at found e f = never _ e f
 turns session Free Disconnect at found e f = never _ e f
 turns session (Active own) Disconnect at found e f = never _ (stays (same_xid at own) None found e refl) f
@@ -83,7 +93,8 @@ passed : (b : Bool) (error : XaError) → is_refused (ok_if b error) ≡ false �
 passed true error e = refl
 passed false error e = absurd (true≢false e)
 
-prepare_answer : (state : State) (association : Association) (xid : Xid) → is_refused (table state association (Prepare xid)) ≡ false
+prepare_answer : (state : State) (association : Association) (xid : Xid)
+    → is_refused (table state association (Prepare xid)) ≡ false
     → table state association (Prepare xid) ≡ Accepted
 unfolding table
 prepare_answer state Free xid e = absurd (true≢false e)
@@ -98,9 +109,14 @@ unfolding is_ready reply_to
 becomes_prepared state session statement xid e f = elim (outcome state session statement) [
   | inl (refused, same) ↦ never (is_prepared state xid) e (sym (ap (λ s. is_prepared s xid) same) ∙ f)
   | inr (accepted, done) ↦
-      let is : statement ≡ Prepare xid = turns session (association_of state session) statement xid (map.get state.branches xid) e
-      (ap is_ready (sym (effect-branch state session (association_of state session) statement xid)) ∙ sym (ap (λ s. is_prepared s xid) done) ∙ f) in
-      (is, prepare_answer state (association_of state session) xid (sym (ap (λ s. is_refused (table state (association_of state session) s)) is) ∙ accepted))
+      let is : statement ≡ Prepare xid = turns session (association_of state session) statement xid
+      (map.get state.branches xid) e
+      (ap is_ready (sym (effect-branch state session (association_of state session) statement xid))
+      ∙ sym (ap (λ s. is_prepared s xid) done) ∙ f) in (
+        is,
+        prepare_answer state (association_of state session) xid
+            (sym (ap (λ s. is_refused (table state (association_of state session) s)) is) ∙ accepted),
+      )
 ]
 
 -- ---- what finishes a branch
@@ -114,13 +130,16 @@ gone state session statement xid accepted none =
     ∙ ap is_ready (effect-branch state session (association_of state session) statement xid ∙ none)
 
 -- a branch that is finished isn't PREPARED any more
-finished : (state : State) (session : ℕ) (statement : Statement) (xid : Xid) → Finishes statement xid → reply_to state session statement ≡ Accepted
+finished : (state : State) (session : ℕ) (statement : Statement) (xid : Xid) → Finishes statement xid
+    → reply_to state session statement ≡ Accepted
     → is_prepared (after state session statement) xid ≡ false
 unfolding branch_after
 finished state session statement xid (commits x) accepted =
-    gone state session (Commit x false) x accepted (ap (λ b. cond b None (map.get state.branches x)) (same_itself xids_total exact_xids x))
+    gone state session (Commit x false) x accepted (ap (λ b. cond b None (map.get state.branches x))
+    (same_itself xids_total exact_xids x))
 finished state session statement xid (rolls_back x) accepted =
-    gone state session (Rollback x) x accepted (ap (λ b. cond b None (map.get state.branches x)) (same_itself xids_total exact_xids x))
+    gone state session (Rollback x) x accepted (ap (λ b. cond b None (map.get state.branches x))
+    (same_itself xids_total exact_xids x))
 
 -- ---- along a history
 
@@ -132,19 +151,23 @@ record IsPreparedBefore (base : State) (history : List (ℕ × Statement)) (end_
 
 later_prepare : (base : State) (entry : ℕ × Statement) (entries : List (ℕ × Statement)) (place : ℕ) (xid : Xid)
     → PreparesAt (after base entry.0 entry.1) entries place xid → PreparesAt base (entry ∷ entries) (suc place) xid
-later_prepare base entry entries place xid is = record { session = is.session; entry = is.entry; accepted = is.accepted }
+later_prepare base entry entries place xid is =
+    record { session = is.session; entry = is.entry; accepted = is.accepted }
 
 -- by whether the first statement makes the branch PREPARED
-by_first : (base : State) (entry : ℕ × Statement) (entries : List (ℕ × Statement)) (end_at : ℕ) (xid : Xid) → is_prepared base xid ≡ false →
+by_first : (base : State) (entry : ℕ × Statement) (entries : List (ℕ × Statement)) (end_at : ℕ) (xid : Xid)
+    → is_prepared base xid ≡ false →
     (b : Bool) → is_prepared (after base entry.0 entry.1) xid ≡ b
-    → (is_prepared (after base entry.0 entry.1) xid ≡ false → IsPreparedBefore (after base entry.0 entry.1) entries end_at xid) →
+    → (is_prepared (after base entry.0 entry.1) xid ≡ false
+    → IsPreparedBefore (after base entry.0 entry.1) entries end_at xid) →
     IsPreparedBefore base (entry ∷ entries) (suc end_at) xid
 by_first base entry entries end_at xid e true now rest =
     let made = becomes_prepared base entry.0 entry.1 xid e now in
     record {
       place = zero;
       before = omega arith;
-      prepares = record { session = entry.0; entry = ap (λ statement. Some (entry.0, statement)) made.0; accepted = made.1 };
+      prepares = record
+          { session = entry.0; entry = ap (λ statement. Some (entry.0, statement)) made.0; accepted = made.1 };
     }
 by_first base entry entries end_at xid e false now rest =
     let found : IsPreparedBefore (after base entry.0 entry.1) entries end_at xid = rest now in
@@ -155,7 +178,8 @@ by_first base entry entries end_at xid e false now rest =
     }
 
 -- a branch that becomes PREPARED in a history is prepared in it
-prepared_before : (base : State) (history : List (ℕ × Statement)) (end_at : ℕ) (xid : Xid) → is_prepared base xid ≡ false
+prepared_before : (base : State) (history : List (ℕ × Statement)) (end_at : ℕ) (xid : Xid)
+    → is_prepared base xid ≡ false
     → is_prepared (after_all base (take end_at history)) xid ≡ true → IsPreparedBefore base history end_at xid
 prepared_before base [] zero xid e f = never _ e f
 prepared_before base [] (suc end_at) xid e f = never _ e f
@@ -167,20 +191,31 @@ prepared_before base (entry ∷ entries) (suc end_at) xid e f =
 later_finish : (base : State) (entry : ℕ × Statement) (entries : List (ℕ × Statement)) (place : ℕ) (xid : Xid)
     → FinishesAt base (entry ∷ entries) (suc place) xid → FinishesAt (after base entry.0 entry.1) entries place xid
 later_finish base entry entries place xid is =
-    record { session = is.session; statement = is.statement; entry = is.entry; finishes = is.finishes; prepared = is.prepared; accepted = is.accepted }
+    record {
+      session = is.session;
+      statement = is.statement;
+      entry = is.entry;
+      finishes = is.finishes;
+      prepared = is.prepared;
+      accepted = is.accepted;
+    }
 
-first_finish : (base : State) (entry : ℕ × Statement) (entries : List (ℕ × Statement)) (xid : Xid) → FinishesAt base (entry ∷ entries) zero xid
+first_finish : (base : State) (entry : ℕ × Statement) (entries : List (ℕ × Statement)) (xid : Xid)
+    → FinishesAt base (entry ∷ entries) zero xid
     → is_prepared (after base entry.0 entry.1) xid ≡ false
 first_finish base entry entries xid is =
-    ap (λ (e : ℕ × Statement). is_prepared (after base e.0 e.1) xid) (same_value entry (is.session, is.statement) is.entry)
+    ap (λ (e : ℕ × Statement). is_prepared (after base e.0 e.1) xid)
+    (same_value entry (is.session, is.statement) is.entry)
     ∙ finished base is.session is.statement xid is.finishes is.accepted
 
-pub prepared_between : (base : State) (history : List (ℕ × Statement)) (first second : ℕ) (xid : Xid) → first < second → FinishesAt base history first xid
+pub prepared_between : (base : State) (history : List (ℕ × Statement)) (first second : ℕ) (xid : Xid) → first < second
+    → FinishesAt base history first xid
     → FinishesAt base history second xid → IsPreparedBetween base history first second xid
 prepared_between base [] first second xid less f g = not_none _ f.entry
 prepared_between base (entry ∷ entries) first zero xid less f g = absurd (omega arith)
 prepared_between base (entry ∷ entries) zero (suc second) xid less f g =
-    let rest = prepared_before (after base entry.0 entry.1) entries second xid (first_finish base entry entries xid f) g.prepared in
+    let rest = prepared_before (after base entry.0 entry.1) entries second xid
+    (first_finish base entry entries xid f) g.prepared in
     record {
       place = suc rest.place;
       after_first = omega arith;
@@ -189,7 +224,8 @@ prepared_between base (entry ∷ entries) zero (suc second) xid less f g =
     }
 prepared_between base (entry ∷ entries) (suc first) (suc second) xid less f g =
     let rest =
-    prepared_between (after base entry.0 entry.1) entries first second xid (omega arith) (later_finish base entry entries first xid f)
+    prepared_between (after base entry.0 entry.1) entries first second xid (omega arith)
+    (later_finish base entry entries first xid f)
     (later_finish base entry entries second xid g) in
     record {
       place = suc rest.place;

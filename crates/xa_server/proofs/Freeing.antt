@@ -17,8 +17,10 @@ use Rattle.xa_server.specs.declared.lock.Change.{Change}
 use Rattle.xa_server.specs.declared.lock.Lock.{Lock}
 use Rattle.xa_server.specs.declared.lock.Lock.TheVariants.{Exclusive as HeldBy, Shared as SharedBy}
 use Rattle.xa_server.specs.declared.row.RowRecord.{RowRecord}
-use Rattle.xa_server.specs.Rows.{RowMap, Sharing, write_of, write_in, held_row, with_sharer, shared_row, freed_lock, freed_row, is_needed, kept, freed, Frees}
-use Rattle.xa_server.proofs.Maps.{get_view, same_or_apart, same_itself, get_inserted, get_inserted_apart, get_removed, get_removed_apart}
+use Rattle.xa_server.specs.Rows.{RowMap, Sharing, write_of, write_in, held_row, with_sharer, shared_row, freed_lock}
+use Rattle.xa_server.specs.Rows.{freed_row, is_needed, kept, freed, Frees}
+use Rattle.xa_server.proofs.Maps.{get_view, same_or_apart, same_itself, get_inserted, get_inserted_apart, get_removed}
+use Rattle.xa_server.proofs.Maps.{get_removed_apart}
 use Rattle.xa_server.proofs.RowRecords.{rows_in, row_set, row_gone}
 use Rattle.xa_server.proofs.Index.{same_value, not_none}
 use Rattle.xa_server.proofs.Holders.{none_of, itself}
@@ -28,7 +30,8 @@ use Rattle.std.proofs.lemmas.List.Folds.{list_any-append}
 -- a branch that doesn't share a row isn't taken out
 not_there : (sharers : Sharing) (xid : Xid) → set.contains sharers xid ≡ false → set.remove sharers xid ≡ sharers
 not_there sharers xid none =
-    same_set xids_total exact_xids _ _ (λ other. contains-remove xids_total sharers xid other ∙ (elim (same_or_apart xids_total exact_xids other xid) [
+    same_set xids_total exact_xids _ _ (λ other. contains-remove xids_total sharers xid other
+    ∙ (elim (same_or_apart xids_total exact_xids other xid) [
       | inl is ↦ by (same_xid other xid) (set.contains sharers other) (ap (set.contains sharers) is ∙ none)
       | inr apart ↦ ap (λ b. not b && set.contains sharers other) apart
     ]))
@@ -42,11 +45,13 @@ freed_lock_twice : (xid : Xid) (lock : Lock) → freed_lock xid (freed_lock xid 
 freed_lock_twice xid (HeldBy holder change) = by (same_xid holder xid) refl
   where
     by : (b : Bool) → same_xid holder xid ≡ b
-        → freed_lock xid (cond b (SharedBy set.empty) (HeldBy holder change)) ≡ cond b (SharedBy set.empty) (HeldBy holder change)
+        → freed_lock xid (cond b (SharedBy set.empty) (HeldBy holder change))
+        ≡ cond b (SharedBy set.empty) (HeldBy holder change)
     by true e = ap SharedBy (not_there set.empty xid (contains-empty xid_cmp xid))
     by false e = ap (λ b. cond b (SharedBy set.empty) (HeldBy holder change)) e
 freed_lock_twice xid (SharedBy sharers) =
-    ap SharedBy (not_there (set.remove sharers xid) xid (contains-remove xids_total sharers xid xid ∙ ap (λ b. not b && set.contains sharers xid) (itself xid)))
+    ap SharedBy (not_there (set.remove sharers xid) xid (contains-remove xids_total sharers xid xid
+    ∙ ap (λ b. not b && set.contains sharers xid) (itself xid)))
 
 -- and has no write of the branch
 freed_unwritten : (xid : Xid) (lock : Lock) → write_in xid (freed_lock xid lock) ≡ None
@@ -58,25 +63,31 @@ freed_unwritten xid (HeldBy holder change) = by (same_xid holder xid) refl
 freed_unwritten xid (SharedBy sharers) = refl
 
 -- a record that a branch let go is let go
-freed_row_twice : (commits : Bool) (xid : Xid) (row : RowRecord) → freed_row commits xid (freed_row commits xid row) ≡ freed_row commits xid row
+freed_row_twice : (commits : Bool) (xid : Xid) (row : RowRecord)
+    → freed_row commits xid (freed_row commits xid row) ≡ freed_row commits xid row
 freed_row_twice commits xid row = λ i. record { committed = again i; lock = freed_lock_twice xid row.lock i }
   where
     same : (b : Bool) (value : Option Text) → cond b value value ≡ value
     same true value = refl
     same false value = refl
 
-    again : cond commits (unwrap_or (write_in xid (freed_lock xid row.lock)) (freed_row commits xid row).committed) (freed_row commits xid row).committed
+    again : cond commits (unwrap_or (write_in xid (freed_lock xid row.lock)) (freed_row commits xid row).committed)
+        (freed_row commits xid row).committed
         ≡ (freed_row commits xid row).committed
     again =
-        ap (λ write. cond commits (unwrap_or write (freed_row commits xid row).committed) (freed_row commits xid row).committed) (freed_unwritten xid row.lock)
+        ap (λ write. cond commits (unwrap_or write (freed_row commits xid row).committed)
+        (freed_row commits xid row).committed) (freed_unwritten xid row.lock)
         ∙ same commits (freed_row commits xid row).committed
 
 -- and so is none
-pub freed_twice : (commits : Bool) (xid : Xid) (found : Option RowRecord) → freed commits xid (freed commits xid found) ≡ freed commits xid found
+pub freed_twice : (commits : Bool) (xid : Xid) (found : Option RowRecord)
+    → freed commits xid (freed commits xid found) ≡ freed commits xid found
 freed_twice commits xid None = refl
-freed_twice commits xid (Some row) = by (freed_row commits xid row) (freed_row_twice commits xid row) (is_needed (freed_row commits xid row)) refl
+freed_twice commits xid (Some row) =
+    by (freed_row commits xid row) (freed_row_twice commits xid row) (is_needed (freed_row commits xid row)) refl
   where
-    by : (ended : RowRecord) → freed_row commits xid ended ≡ ended → (needed : Bool) → is_needed ended ≡ needed → freed commits xid (kept ended) ≡ kept ended
+    by : (ended : RowRecord) → freed_row commits xid ended ≡ ended → (needed : Bool) → is_needed ended ≡ needed
+        → freed commits xid (kept ended) ≡ kept ended
     by ended twice true e = rw e (ap kept twice ∙ rw e refl)
     by ended twice false e = rw e refl
 
@@ -94,7 +105,8 @@ pub frees_one :
 frees_one commits xid key old new at apart other = elim (same_or_apart bytes_total exact_texts other key) [
   | inl is ↦ rw is (at ∙ sym
       (any_one (eq_by_cmp bytes_cmp key key) (freed commits xid (map.get old key)) (map.get old key)
-      ∙ ap (λ b. cond b (freed commits xid (map.get old key)) (map.get old key)) (same_itself bytes_total exact_texts key)))
+      ∙ ap (λ b. cond b (freed commits xid (map.get old key)) (map.get old key))
+      (same_itself bytes_total exact_texts key)))
   | inr is ↦ apart other is
       ∙ sym (any_one (eq_by_cmp bytes_cmp other key) (freed commits xid (map.get old other)) (map.get old other)
       ∙ ap (λ b. cond b (freed commits xid (map.get old other)) (map.get old other)) is)
@@ -102,14 +114,17 @@ frees_one commits xid key old new at apart other = elim (same_or_apart bytes_tot
 
 -- what `free_in` leaves: the record changed in place
 abbrev pub Changes : Bool → Xid → List ℕ → BTreeMap (List ℕ) RowRecord → BTreeMap (List ℕ) RowRecord → Type 0
-Changes commits xid key old new = MatchOption (tree.get bytes_cmp old key) (new ≡ old) (λ row. Updates bytes_cmp old new key (Some (freed_row commits xid row)))
+Changes commits xid key old new = MatchOption (tree.get bytes_cmp old key) (new ≡ old)
+    (λ row. Updates bytes_cmp old new key (Some (freed_row commits xid row)))
 
 abbrev pub Tells : Bool → Xid → List ℕ → BTreeMap (List ℕ) RowRecord → Bool → Type 0
-Tells commits xid key old needed = MatchOption (tree.get bytes_cmp old key) (needed ≡ true) (λ row. needed ≡ is_needed (freed_row commits xid row))
+Tells commits xid key old needed =
+    MatchOption (tree.get bytes_cmp old key) (needed ≡ true) (λ row. needed ≡ is_needed (freed_row commits xid row))
 
 -- the record stays
 pub frees_kept : (commits : Bool) (xid : Xid) (key : List ℕ) (old new : BTreeMap (List ℕ) RowRecord) (needed : Bool) →
-    Changes commits xid key old new → Tells commits xid key old needed → needed ≡ true → Frees commits xid (key ∷ []) (rows_in old) (rows_in new)
+    Changes commits xid key old new → Tells commits xid key old needed → needed ≡ true
+    → Frees commits xid (key ∷ []) (rows_in old) (rows_in new)
 frees_kept commits xid key old new needed changes tells is = by (tree.get bytes_cmp old key) refl changes tells
   where
     by : (found : Option RowRecord) → tree.get bytes_cmp old key ≡ found →
@@ -118,7 +133,8 @@ frees_kept commits xid key old new needed changes tells is = by (tree.get bytes_
         Frees commits xid (key ∷ []) (rows_in old) (rows_in new)
     by None e same told =
         let none : map.get (rows_in old) key ≡ None = get_view bytes_total exact_texts old key ∙ e in
-        rw same (frees_one commits xid key (rows_in old) (rows_in old) (none ∙ sym (ap (freed commits xid) none)) (λ other apart. refl))
+        rw same (frees_one commits xid key (rows_in old) (rows_in old) (none ∙ sym (ap (freed commits xid) none))
+        (λ other apart. refl))
     by (Some row) e updates told =
         let found : map.get (rows_in old) key ≡ Some row = get_view bytes_total exact_texts old key ∙ e in
         let stays : is_needed (freed_row commits xid row) ≡ true = sym told ∙ is in
@@ -129,10 +145,13 @@ frees_kept commits xid key old new needed changes tells is = by (tree.get bytes_
         (λ other apart. get_inserted_apart bytes_total exact_texts (rows_in old) key _ other apart))
 
 -- the record goes
-pub frees_dropped : (commits : Bool) (xid : Xid) (key : List ℕ) (old mid new : BTreeMap (List ℕ) RowRecord) (needed : Bool) →
-    Changes commits xid key old mid → Tells commits xid key old needed → needed ≡ false → Updates bytes_cmp mid new key None
+pub frees_dropped : (commits : Bool) (xid : Xid) (key : List ℕ) (old mid new : BTreeMap (List ℕ) RowRecord)
+    (needed : Bool) →
+    Changes commits xid key old mid → Tells commits xid key old needed → needed ≡ false
+    → Updates bytes_cmp mid new key None
     → Frees commits xid (key ∷ []) (rows_in old) (rows_in new)
-frees_dropped commits xid key old mid new needed changes tells is gone = by (tree.get bytes_cmp old key) refl changes tells
+frees_dropped commits xid key old mid new needed changes tells is gone =
+    by (tree.get bytes_cmp old key) refl changes tells
   where
     by : (found : Option RowRecord) → tree.get bytes_cmp old key ≡ found →
         MatchOption found (mid ≡ old) (λ row. Updates bytes_cmp old mid key (Some (freed_row commits xid row))) →
@@ -143,8 +162,10 @@ frees_dropped commits xid key old mid new needed changes tells is gone = by (tre
         let found : map.get (rows_in old) key ≡ Some row = get_view bytes_total exact_texts old key ∙ e in
         let goes : is_needed (freed_row commits xid row) ≡ false = sym told ∙ is in
         rw (row_gone mid new key gone, row_set old mid key (freed_row commits xid row) updates)
-        (frees_one commits xid key (rows_in old) (map.remove (map.insert (rows_in old) key (freed_row commits xid row)) key)
-        (get_removed bytes_total exact_texts _ key ∙ sym (ap (freed commits xid) found ∙ ap (λ b. cond b (Some (freed_row commits xid row)) None) goes))
+        (frees_one commits xid key (rows_in old) (map.remove
+        (map.insert (rows_in old) key (freed_row commits xid row)) key)
+        (get_removed bytes_total exact_texts _ key ∙ sym (ap (freed commits xid) found
+        ∙ ap (λ b. cond b (Some (freed_row commits xid row)) None) goes))
         (λ other apart. get_removed_apart bytes_total exact_texts _ key other apart
         ∙ get_inserted_apart bytes_total exact_texts (rows_in old) key _ other apart))
 
@@ -162,42 +183,53 @@ any_more false true f x twice = refl
 any_more false false f x twice = refl
 
 pub freed_one_more : (commits : Bool) (xid : Xid) (all rest : List (List ℕ)) (key : List ℕ) (old now next : RowMap) →
-    IsFreed commits xid all (rest ++ key ∷ []) old now → Frees commits xid (key ∷ []) now next → IsFreed commits xid all rest old next
+    IsFreed commits xid all (rest ++ key ∷ []) old now → Frees commits xid (key ∷ []) now next
+    → IsFreed commits xid all rest old next
 freed_one_more commits xid all rest key old now next is frees = record {
   left = λ other.
       ap (λ found. cond (list_any (eq_by_cmp bytes_cmp other) rest) (freed commits xid found) found) (frees other)
-      ∙ any_more (list_any (eq_by_cmp bytes_cmp other) rest) (eq_by_cmp bytes_cmp other key) (freed commits xid) (map.get now other)
+      ∙ any_more (list_any (eq_by_cmp bytes_cmp other) rest) (eq_by_cmp bytes_cmp other key) (freed commits xid)
+      (map.get now other)
       (freed_twice commits xid (map.get now other))
-      ∙ sym (ap (λ b. cond b (freed commits xid (map.get now other)) (map.get now other)) (list_any-append (eq_by_cmp bytes_cmp other) rest (key ∷ [])))
+      ∙ sym (ap (λ b. cond b (freed commits xid (map.get now other)) (map.get now other))
+      (list_any-append (eq_by_cmp bytes_cmp other) rest (key ∷ [])))
       ∙ is.left other;
 }
 
 -- a branch comes to hold a row that has a record
-pub holds_known : (key : List ℕ) (xid : Xid) (change : Change) (old new : BTreeMap (List ℕ) RowRecord) (back : Option Lock) →
-    MatchOption (tree.get bytes_cmp old key) (new ≡ old) (λ row. Updates bytes_cmp old new key (Some (record row { lock = HeldBy xid change }))) →
+pub holds_known : (key : List ℕ) (xid : Xid) (change : Change) (old new : BTreeMap (List ℕ) RowRecord)
+    (back : Option Lock) →
+    MatchOption (tree.get bytes_cmp old key) (new ≡ old) (λ row. Updates bytes_cmp old new key
+    (Some (record row { lock = HeldBy xid change }))) →
     MatchOption (tree.get bytes_cmp old key) (back ≡ Some (HeldBy xid change)) (λ row. back ≡ None) →
     back ≡ None → rows_in new ≡ map.insert (rows_in old) key (held_row xid change (map.get (rows_in old) key))
 holds_known key xid change old new back changes told is = by (tree.get bytes_cmp old key) refl changes told
   where
     by : (found : Option RowRecord) → tree.get bytes_cmp old key ≡ found →
-        MatchOption found (new ≡ old) (λ row. Updates bytes_cmp old new key (Some (record row { lock = HeldBy xid change }))) →
+        MatchOption found (new ≡ old) (λ row. Updates bytes_cmp old new key
+        (Some (record row { lock = HeldBy xid change }))) →
         MatchOption found (back ≡ Some (HeldBy xid change)) (λ row. back ≡ None) →
         rows_in new ≡ map.insert (rows_in old) key (held_row xid change (map.get (rows_in old) key))
     by None e same given = not_none (HeldBy xid change) (sym is ∙ given)
     by (Some row) e updates given =
         row_set old new key _ updates
-        ∙ ap (λ found. map.insert (rows_in old) key (held_row xid change found)) (sym (get_view bytes_total exact_texts old key ∙ e))
+        ∙ ap (λ found. map.insert (rows_in old) key (held_row xid change found))
+        (sym (get_view bytes_total exact_texts old key ∙ e))
 
 -- a branch comes to hold a row that had no record
-pub holds_new : (key : List ℕ) (xid : Xid) (change : Change) (old mid new : BTreeMap (List ℕ) RowRecord) (back : Option Lock) (lock : Lock) →
-    MatchOption (tree.get bytes_cmp old key) (mid ≡ old) (λ row. Updates bytes_cmp old mid key (Some (record row { lock = HeldBy xid change }))) →
+pub holds_new : (key : List ℕ) (xid : Xid) (change : Change) (old mid new : BTreeMap (List ℕ) RowRecord)
+    (back : Option Lock) (lock : Lock) →
+    MatchOption (tree.get bytes_cmp old key) (mid ≡ old) (λ row. Updates bytes_cmp old mid key
+    (Some (record row { lock = HeldBy xid change }))) →
     MatchOption (tree.get bytes_cmp old key) (back ≡ Some (HeldBy xid change)) (λ row. back ≡ None) →
     back ≡ Some lock → Updates bytes_cmp mid new key (Some (record { committed = None; lock = lock })) →
     rows_in new ≡ map.insert (rows_in old) key (held_row xid change (map.get (rows_in old) key))
-holds_new key xid change old mid new back lock changes told is updates = by (tree.get bytes_cmp old key) refl changes told
+holds_new key xid change old mid new back lock changes told is updates =
+    by (tree.get bytes_cmp old key) refl changes told
   where
     by : (found : Option RowRecord) → tree.get bytes_cmp old key ≡ found →
-        MatchOption found (mid ≡ old) (λ row. Updates bytes_cmp old mid key (Some (record row { lock = HeldBy xid change }))) →
+        MatchOption found (mid ≡ old) (λ row. Updates bytes_cmp old mid key
+        (Some (record row { lock = HeldBy xid change }))) →
         MatchOption found (back ≡ Some (HeldBy xid change)) (λ row. back ≡ None) →
         rows_in new ≡ map.insert (rows_in old) key (held_row xid change (map.get (rows_in old) key))
     by None e same given =
@@ -205,58 +237,72 @@ holds_new key xid change old mid new back lock changes told is updates = by (tre
         row_set mid new key _ updates
         ∙ ap (λ table. map.insert (rows_in table) key (record { committed = None; lock = lock })) same
         ∙ ap (λ l. map.insert (rows_in old) key (record { committed = None; lock = l })) lock_is
-        ∙ ap (λ found. map.insert (rows_in old) key (held_row xid change found)) (sym (get_view bytes_total exact_texts old key ∙ e))
+        ∙ ap (λ found. map.insert (rows_in old) key (held_row xid change found))
+        (sym (get_view bytes_total exact_texts old key ∙ e))
     by (Some row) e updated given = not_none lock (sym given ∙ is)
 
 -- a row's record that is put back as it was changes nothing
 pub put_back : (key : List ℕ) (old new : BTreeMap (List ℕ) RowRecord)
-    → MatchOption (tree.get bytes_cmp old key) (new ≡ old) (λ row. Updates bytes_cmp old new key (Some row)) → rows_in new ≡ rows_in old
+    → MatchOption (tree.get bytes_cmp old key) (new ≡ old) (λ row. Updates bytes_cmp old new key (Some row))
+    → rows_in new ≡ rows_in old
 put_back key old new = by (tree.get bytes_cmp old key) refl
   where
-    by : (found : Option RowRecord) → tree.get bytes_cmp old key ≡ found → MatchOption found (new ≡ old) (λ row. Updates bytes_cmp old new key (Some row))
+    by : (found : Option RowRecord) → tree.get bytes_cmp old key ≡ found
+        → MatchOption found (new ≡ old) (λ row. Updates bytes_cmp old new key (Some row))
         → rows_in new ≡ rows_in old
     by None e same = ap rows_in same
     by (Some row) e updates =
-        row_set old new key row updates ∙ same_map bytes_total exact_texts _ _ (λ other. elim (same_or_apart bytes_total exact_texts other key) [
-          | inl is ↦ rw is (get_inserted bytes_total exact_texts (rows_in old) key row ∙ sym (get_view bytes_total exact_texts old key ∙ e))
+        row_set old new key row updates ∙ same_map bytes_total exact_texts _ _
+        (λ other. elim (same_or_apart bytes_total exact_texts other key) [
+          | inl is ↦ rw is (get_inserted bytes_total exact_texts (rows_in old) key row
+              ∙ sym (get_view bytes_total exact_texts old key ∙ e))
           | inr apart ↦ get_inserted_apart bytes_total exact_texts (rows_in old) key row other apart
         ])
 
 -- what `share_in` leaves: the record changed in place
 abbrev pub Shares : Xid → List ℕ → BTreeMap (List ℕ) RowRecord → BTreeMap (List ℕ) RowRecord → Type 0
 Shares xid key old new =
-    MatchOption (tree.get bytes_cmp old key) (new ≡ old) (λ row. Updates bytes_cmp old new key (Some (record row { lock = with_sharer xid row.lock })))
+    MatchOption (tree.get bytes_cmp old key) (new ≡ old) (λ row. Updates bytes_cmp old new key
+    (Some (record row { lock = with_sharer xid row.lock })))
 
 -- a row without a record has none after it
-pub nothing_shared : (xid : Xid) (key : List ℕ) (old new : BTreeMap (List ℕ) RowRecord) → Shares xid key old new → is_some (tree.get bytes_cmp old key) ≡ false
+pub nothing_shared : (xid : Xid) (key : List ℕ) (old new : BTreeMap (List ℕ) RowRecord) → Shares xid key old new
+    → is_some (tree.get bytes_cmp old key) ≡ false
     → new ≡ old
 nothing_shared xid key old new shares none = by (tree.get bytes_cmp old key) none shares
   where
     by : (found : Option RowRecord) → is_some found ≡ false
-        → MatchOption found (new ≡ old) (λ row. Updates bytes_cmp old new key (Some (record row { lock = with_sharer xid row.lock }))) → new ≡ old
+        → MatchOption found (new ≡ old) (λ row. Updates bytes_cmp old new key
+        (Some (record row { lock = with_sharer xid row.lock }))) → new ≡ old
     by None e same = same
     by (Some row) e updates = absurd (true≢false e)
 
 -- a branch comes to share a row that has a record
-pub shares_known : (xid : Xid) (key : List ℕ) (old new : BTreeMap (List ℕ) RowRecord) → Shares xid key old new → is_some (tree.get bytes_cmp old key) ≡ true →
+pub shares_known : (xid : Xid) (key : List ℕ) (old new : BTreeMap (List ℕ) RowRecord) → Shares xid key old new
+    → is_some (tree.get bytes_cmp old key) ≡ true →
     rows_in new ≡ map.insert (rows_in old) key (shared_row xid (map.get (rows_in old) key))
 shares_known xid key old new shares there = by (tree.get bytes_cmp old key) refl there shares
   where
     by : (found : Option RowRecord) → tree.get bytes_cmp old key ≡ found → is_some found ≡ true →
-        MatchOption found (new ≡ old) (λ row. Updates bytes_cmp old new key (Some (record row { lock = with_sharer xid row.lock }))) →
+        MatchOption found (new ≡ old) (λ row. Updates bytes_cmp old new key
+        (Some (record row { lock = with_sharer xid row.lock }))) →
         rows_in new ≡ map.insert (rows_in old) key (shared_row xid (map.get (rows_in old) key))
     by None e there same = absurd (true≢false (sym there))
     by (Some row) e there updates =
-        row_set old new key _ updates ∙ ap (λ found. map.insert (rows_in old) key (shared_row xid found)) (sym (get_view bytes_total exact_texts old key ∙ e))
+        row_set old new key _ updates ∙ ap (λ found. map.insert (rows_in old) key (shared_row xid found))
+        (sym (get_view bytes_total exact_texts old key ∙ e))
 
 -- a branch comes to share a row that had no record
-pub shares_new : (xid : Xid) (key : List ℕ) (old mid new : BTreeMap (List ℕ) RowRecord) (lock : Lock) → Shares xid key old mid
+pub shares_new : (xid : Xid) (key : List ℕ) (old mid new : BTreeMap (List ℕ) RowRecord) (lock : Lock)
+    → Shares xid key old mid
     → is_some (tree.get bytes_cmp old key) ≡ false →
-    lock ≡ with_sharer xid (SharedBy set.empty) → Updates bytes_cmp mid new key (Some (record { committed = None; lock = lock })) →
+    lock ≡ with_sharer xid (SharedBy set.empty) → Updates bytes_cmp mid new key
+    (Some (record { committed = None; lock = lock })) →
     rows_in new ≡ map.insert (rows_in old) key (shared_row xid (map.get (rows_in old) key))
 shares_new xid key old mid new lock shares none lock_is updates =
     row_set mid new key _ updates
-    ∙ ap (λ table. map.insert (rows_in table) key (record { committed = None; lock = lock })) (nothing_shared xid key old mid shares none)
+    ∙ ap (λ table. map.insert (rows_in table) key (record { committed = None; lock = lock }))
+    (nothing_shared xid key old mid shares none)
     ∙ ap (λ l. map.insert (rows_in old) key (record { committed = None; lock = l })) lock_is
     ∙ ap (λ found. map.insert (rows_in old) key (shared_row xid found))
     (sym (get_view bytes_total exact_texts old key ∙ none_of (tree.get bytes_cmp old key) none))

@@ -28,38 +28,46 @@ use Rattle.xa_server.proofs.Seen.{get-branches, writes-seen, known_record}
 
 -- ---- branches
 
-entries-seen : (rows : RowMap) (es : List (Xid × BranchRecord)) → map entry_of (map_values (branch_seen rows) es) ≡ map recorded_entry es
+entries-seen : (rows : RowMap) (es : List (Xid × BranchRecord))
+    → map entry_of (map_values (branch_seen rows) es) ≡ map recorded_entry es
 entries-seen rows [] = refl
 entries-seen rows (e ∷ es) = ap (λ rest. recorded_entry e ∷ rest) (entries-seen rows es)
 
-pub branches-seen : (branches : BranchMap) (rows : RowMap) → branches_of (state_of branches rows) ≡ recorded_entries branches
+pub branches-seen : (branches : BranchMap) (rows : RowMap)
+    → branches_of (state_of branches rows) ≡ recorded_entries branches
 unfolding branches_of state_of
-branches-seen branches rows = ap (map entry_of) (entries-mapped xids_total exact_xids (branch_seen rows) branches) ∙ entries-seen rows (fin.entries branches)
+branches-seen branches rows = ap (map entry_of) (entries-mapped xids_total exact_xids (branch_seen rows) branches)
+    ∙ entries-seen rows (fin.entries branches)
 
 -- ---- rows
 
 -- a branch holds a row exclusively that it wrote, and shares another that it holds
-hold-modes : (xid : Xid) (lock : Lock) → hold_in xid lock ≡ option_map (λ (mode : LockMode). hold_of (write_in xid lock)) (mode_in xid lock)
+hold-modes : (xid : Xid) (lock : Lock) → hold_in xid lock
+    ≡ option_map (λ (mode : LockMode). hold_of (write_in xid lock)) (mode_in xid lock)
 hold-modes xid (HeldBy holder change) = by (same_xid holder xid)
   where
     by : (b : Bool) → cond b (Some (hold_of (Some (write_of change)))) None
-        ≡ option_map (λ (mode : LockMode). hold_of (cond b (Some (write_of change)) None)) (cond b (Some Exclusive) None)
+        ≡ option_map (λ (mode : LockMode). hold_of (cond b (Some (write_of change)) None))
+        (cond b (Some Exclusive) None)
     by true = refl
     by false = refl
 hold-modes xid (SharedBy sharers) = by (set.contains sharers xid)
   where
-    by : (b : Bool) → cond b (Some Shares) None ≡ option_map (λ (mode : LockMode). hold_of None) (cond b (Some Shared) None)
+    by : (b : Bool) → cond b (Some Shares) None ≡ option_map (λ (mode : LockMode). hold_of None)
+        (cond b (Some Shared) None)
     by true = refl
     by false = refl
 
 -- a row before others
-held-more : (branch : Branch) (xid : Xid) (e : List ℕ × RowRecord) (es : List (List ℕ × RowRecord)) → fin.get branch.writes e.0 ≡ write_by xid e.1 →
+held-more : (branch : Branch) (xid : Xid) (e : List ℕ × RowRecord) (es : List (List ℕ × RowRecord))
+    → fin.get branch.writes e.0 ≡ write_by xid e.1 →
     held_among xid es ≡ map (held_row branch) (kept (lock_by xid) es) → (mode : Option LockMode) →
     with_held e.0 (option_map (λ (mode : LockMode). hold_of (write_in xid e.1.lock)) mode) (held_among xid es)
     ≡ map (held_row branch) (with_kept e.0 mode (kept (lock_by xid) es))
 held-more branch xid e es wrote rest None = rest
 held-more branch xid e es wrote rest (Some mode) =
-    ap (λ (write : Option Write). let row : HeldRow = record { key = e.0; hold = hold_of write } in row ∷ held_among xid es) (sym wrote)
+    ap (λ (write : Option Write). let row : HeldRow = record { key = e.0; hold = hold_of write } in
+    row ∷ held_among xid es) (sym wrote)
     ∙ ap (λ rows. held_row branch (e.0, mode) ∷ rows) rest
 
 held-kept : (branch : Branch) (xid : Xid) (es : List (List ℕ × RowRecord))
@@ -75,12 +83,18 @@ wrote-each : (rows : RowMap) (xid : Xid) (es : List (List ℕ × RowRecord))
     → AllByRecursion (λ (e : List ℕ × RowRecord). find bytes_cmp e.0 (fin.entries rows) ≡ Some e.1) es →
     AllByRecursion (λ (e : List ℕ × RowRecord). fin.get (gather (write_by xid) rows) e.0 ≡ write_by xid e.1) es
 wrote-each rows xid [] h = tt
-wrote-each rows xid (e ∷ es) h = (writes-seen rows xid e.0 ∙ ap (option_and_then (write_by xid)) (get-entries rows e.0 ∙ h.0), wrote-each rows xid es h.1)
+wrote-each rows xid (e ∷ es) h = (
+  writes-seen rows xid e.0 ∙ ap (option_and_then (write_by xid))
+      (get-entries rows e.0 ∙ h.0),
+  wrote-each rows xid es h.1,
+)
 
-rows-seen : (rows : RowMap) (xid : Xid) (branch : BranchRecord) → rows_held (branch_seen rows xid branch) ≡ held_among xid (fin.entries rows)
+rows-seen : (rows : RowMap) (xid : Xid) (branch : BranchRecord)
+    → rows_held (branch_seen rows xid branch) ≡ held_among xid (fin.entries rows)
 rows-seen rows xid branch =
     ap (map (held_row (branch_seen rows xid branch))) (entries-gather bytes_total exact_texts (lock_by xid) rows)
-    ∙ sym (held-kept (branch_seen rows xid branch) xid (fin.entries rows) (wrote-each rows xid (fin.entries rows) (found_entries bytes_total exact_texts rows)))
+    ∙ sym (held-kept (branch_seen rows xid branch) xid (fin.entries rows)
+    (wrote-each rows xid (fin.entries rows) (found_entries bytes_total exact_texts rows)))
 
 rows-known : (rows : RowMap) (xid : Xid) (found : Option BranchRecord) → is_some found ≡ true →
     option_map_or rows_held (option_map (branch_seen rows xid) found) [] ≡ held_among xid (fin.entries rows)

@@ -16,7 +16,8 @@ use Rattle.xa_server.specs.declared.association.Association.{Association}
 use Rattle.xa_server.specs.declared.association.Association.TheVariants.{Active}
 use Rattle.xa_server.specs.State.{Write, LockMode, Shared, Exclusive}
 use Rattle.xa_server.specs.Locks.{is_another, is_exclusive}
-use Rattle.xa_server.specs.Rows.{lock_of, write_of, write_in, write_by, mode_in, lock_by, held_beside, locked_beside, held_against, locked_against, with_sharer}
+use Rattle.xa_server.specs.Rows.{lock_of, write_of, write_in, write_by, mode_in, lock_by, held_beside, locked_beside}
+use Rattle.xa_server.specs.Rows.{held_against, locked_against, with_sharer}
 use Rattle.xa_server.specs.Rows.{freed_lock}
 use Rattle.xa_server.proofs.Maps.{same_or_apart, same_itself, same_is}
 
@@ -78,31 +79,38 @@ later true c e = refl
 later false c e = e
 
 -- one that passes
-pub any_witness : (p : Xid → Bool) (xs : List Xid) → list_any p xs ≡ true → (x : Xid) × (list_any (same_xid x) xs ≡ true) × (p x ≡ true)
+pub any_witness : (p : Xid → Bool) (xs : List Xid) → list_any p xs ≡ true
+    → (x : Xid) × (list_any (same_xid x) xs ≡ true) × (p x ≡ true)
 any_witness p [] e = absurd (true≢false (sym e))
 any_witness p (x ∷ xs) e = by (p x) refl e (any_witness p xs)
   where
-    by : (b : Bool) → p x ≡ b → (b || list_any p xs) ≡ true → (list_any p xs ≡ true → (y : Xid) × (list_any (same_xid y) xs ≡ true) × (p y ≡ true)) →
+    by : (b : Bool) → p x ≡ b → (b || list_any p xs) ≡ true
+        → (list_any p xs ≡ true → (y : Xid) × (list_any (same_xid y) xs ≡ true) × (p y ≡ true)) →
         (y : Xid) × (list_any (same_xid y) (x ∷ xs) ≡ true) × (p y ≡ true)
     by true is e rest = (x, ap (λ b. b || list_any (same_xid x) xs) (itself x), is)
-    by false is e rest = let found = rest e in (found.0, later (same_xid found.0 x) (list_any (same_xid found.0) xs) found.1, found.2)
+    by false is e rest =
+        let found = rest e in (found.0, later (same_xid found.0 x) (list_any (same_xid found.0) xs) found.1, found.2)
 
-pub any_some : (p : Xid → Bool) (xs : List Xid) (xid : Xid) → list_any (same_xid xid) xs ≡ true → p xid ≡ true → list_any p xs ≡ true
+pub any_some : (p : Xid → Bool) (xs : List Xid) (xid : Xid) → list_any (same_xid xid) xs ≡ true → p xid ≡ true
+    → list_any p xs ≡ true
 any_some p [] xid there here = there
 any_some p (x ∷ xs) xid there here = elim (same_or_apart xids_total exact_xids xid x) [
   | inl is ↦ ap (λ b. b || list_any p xs) (ap p (sym is) ∙ here)
-  | inr apart ↦ later (p x) (list_any p xs) (any_some p xs xid (sym (ap (λ b. b || list_any (same_xid xid) xs) apart) ∙ there) here)
+  | inr apart ↦ later (p x) (list_any p xs) (any_some p xs xid
+      (sym (ap (λ b. b || list_any (same_xid xid) xs) apart) ∙ there) here)
 ]
 
 -- lists with the same members pass the same tests
-pub same_any : (p : Xid → Bool) (xs ys : List Xid) → ((x : Xid) → list_any (same_xid x) xs ≡ list_any (same_xid x) ys) → list_any p xs ≡ list_any p ys
+pub same_any : (p : Xid → Bool) (xs ys : List Xid) → ((x : Xid) → list_any (same_xid x) xs ≡ list_any (same_xid x) ys)
+    → list_any p xs ≡ list_any p ys
 same_any p xs ys same = same_truth (list_any p xs) (list_any p ys)
     (λ e. let found = any_witness p xs e in any_some p ys found.0 (sym (same found.0) ∙ found.1) found.2)
     (λ e. let found = any_witness p ys e in any_some p xs found.0 (same found.0 ∙ found.1) found.2)
 
 -- a set with no members passes no test
 none_passes : (p : Xid → Bool) → list_any p (set.items (set.empty {R = xid_cmp})) ≡ false
-none_passes p = same_any p (set.items (set.empty {R = xid_cmp})) [] (λ x. sym (contains-items (set.empty {R = xid_cmp}) x) ∙ contains-empty xid_cmp x)
+none_passes p = same_any p (set.items (set.empty {R = xid_cmp})) []
+    (λ x. sym (contains-items (set.empty {R = xid_cmp}) x) ∙ contains-empty xid_cmp x)
 
 -- ---- one row's record
 
@@ -115,18 +123,22 @@ pub mode_of-lock : (xid : Xid) (found : Option RowRecord) → mode_of xid found 
 mode_of-lock xid None = sym (ap (λ b. cond b (Some Shared) None) (contains-empty xid_cmp xid))
 mode_of-lock xid (Some row) = refl
 
-pub held_against-lock : (association : Association) (found : Option RowRecord) → held_against association found ≡ held_beside association (lock_of found)
+pub held_against-lock : (association : Association) (found : Option RowRecord)
+    → held_against association found ≡ held_beside association (lock_of found)
 held_against-lock association None = sym (none_passes (is_another association))
 held_against-lock association (Some row) = refl
 
-pub locked_against-lock : (association : Association) (found : Option RowRecord) → locked_against association found ≡ locked_beside association (lock_of found)
+pub locked_against-lock : (association : Association) (found : Option RowRecord)
+    → locked_against association found ≡ locked_beside association (lock_of found)
 locked_against-lock association None = refl
 locked_against-lock association (Some row) = refl
 
 -- who holds a row exclusively holds it alone
-pub alone_in : (xid other : Xid) (lock : Lock) → is_exclusive (mode_in xid lock) ≡ true → is_some (mode_in other lock) ≡ true → xid ≡ other
+pub alone_in : (xid other : Xid) (lock : Lock) → is_exclusive (mode_in xid lock) ≡ true
+    → is_some (mode_in other lock) ≡ true → xid ≡ other
 alone_in xid other (HeldBy holder change) e f =
-    sym (one_xid holder xid (sym (exclusive_if (same_xid holder xid)) ∙ e)) ∙ one_xid holder other (sym (some_if (same_xid holder other) Exclusive) ∙ f)
+    sym (one_xid holder xid (sym (exclusive_if (same_xid holder xid)) ∙ e))
+    ∙ one_xid holder other (sym (some_if (same_xid holder other) Exclusive) ∙ f)
 alone_in xid other (SharedBy sharers) e f = absurd (true≢false (sym e ∙ share_only (set.contains sharers xid)))
 
 -- who writes a row holds it exclusively
@@ -139,24 +151,30 @@ writes_in xid (HeldBy holder change) e = exclusive_if (same_xid holder xid) ∙ 
 writes_in xid (SharedBy sharers) e = absurd (true≢false (sym e))
 
 -- a holder that isn't the session's own is among those beside it
-pub beside_there : (association : Association) (lock : Lock) (xid : Xid) → is_some (mode_in xid lock) ≡ true → is_another association xid ≡ true
+pub beside_there : (association : Association) (lock : Lock) (xid : Xid) → is_some (mode_in xid lock) ≡ true
+    → is_another association xid ≡ true
     → held_beside association lock ≡ true
 beside_there association (HeldBy holder change) xid e f =
     ap (is_another association) (one_xid holder xid (sym (some_if (same_xid holder xid) Exclusive) ∙ e)) ∙ f
 beside_there association (SharedBy sharers) xid e f =
-    any_some (is_another association) (set.items sharers) xid (sym (contains-items sharers xid) ∙ sym (some_if (set.contains sharers xid) Shared) ∙ e) f
+    any_some (is_another association) (set.items sharers) xid
+    (sym (contains-items sharers xid) ∙ sym (some_if (set.contains sharers xid) Shared) ∙ e) f
 
 pub beside_witness : (association : Association) (lock : Lock) → held_beside association lock ≡ true
     → (xid : Xid) × (is_some (mode_in xid lock) ≡ true) × (is_another association xid ≡ true)
-beside_witness association (HeldBy holder change) e = (holder, some_if (same_xid holder holder) Exclusive ∙ itself holder, e)
+beside_witness association (HeldBy holder change) e =
+    (holder, some_if (same_xid holder holder) Exclusive ∙ itself holder, e)
 beside_witness association (SharedBy sharers) e =
     let found = any_witness (is_another association) (set.items sharers) e in
     (found.0, some_if (set.contains sharers found.0) Shared ∙ contains-items sharers found.0 ∙ found.1, found.2)
 
-pub locked_there : (association : Association) (lock : Lock) (xid : Xid) → is_exclusive (mode_in xid lock) ≡ true → is_another association xid ≡ true
+pub locked_there : (association : Association) (lock : Lock) (xid : Xid) → is_exclusive (mode_in xid lock) ≡ true
+    → is_another association xid ≡ true
     → locked_beside association lock ≡ true
-locked_there association (HeldBy holder change) xid e f = ap (is_another association) (one_xid holder xid (sym (exclusive_if (same_xid holder xid)) ∙ e)) ∙ f
-locked_there association (SharedBy sharers) xid e f = absurd (true≢false (sym e ∙ share_only (set.contains sharers xid)))
+locked_there association (HeldBy holder change) xid e f =
+    ap (is_another association) (one_xid holder xid (sym (exclusive_if (same_xid holder xid)) ∙ e)) ∙ f
+locked_there association (SharedBy sharers) xid e f =
+    absurd (true≢false (sym e ∙ share_only (set.contains sharers xid)))
 
 pub locked_witness : (association : Association) (lock : Lock) → locked_beside association lock ≡ true
     → (xid : Xid) × (is_exclusive (mode_in xid lock) ≡ true) × (is_another association xid ≡ true)
@@ -164,28 +182,35 @@ locked_witness association (HeldBy holder change) e = (holder, exclusive_if (sam
 locked_witness association (SharedBy sharers) e = absurd (true≢false (sym e))
 
 -- what doesn't hold a row doesn't write it
-pub unwritten : (xid : Xid) (found : Option RowRecord) → is_some (mode_of xid found) ≡ false → option_and_then (write_by xid) found ≡ None
+pub unwritten : (xid : Xid) (found : Option RowRecord) → is_some (mode_of xid found) ≡ false
+    → option_and_then (write_by xid) found ≡ None
 unwritten xid None e = refl
 unwritten xid (Some row) e = by (write_in xid row.lock) refl
   where
     by : (write : Option Write) → write_in xid row.lock ≡ write → write ≡ None
     by None is = refl
-    by (Some write) is = absurd (true≢false (sym (exclusive_some (mode_in xid row.lock) (writes_in xid row.lock (ap is_some is))) ∙ e))
+    by (Some write) is =
+        absurd (true≢false (sym (exclusive_some (mode_in xid row.lock) (writes_in xid row.lock (ap is_some is))) ∙ e))
 
 -- ---- a row that comes to be shared
 
 -- the branch that comes to share it
-pub sharer_there : (xid : Xid) (lock : Lock) → is_exclusive (mode_in xid lock) ≡ false → locked_beside (Active xid) lock ≡ false
+pub sharer_there : (xid : Xid) (lock : Lock) → is_exclusive (mode_in xid lock) ≡ false
+    → locked_beside (Active xid) lock ≡ false
     → mode_in xid (with_sharer xid lock) ≡ Some Shared
-sharer_there xid (HeldBy holder change) unheld free = absurd (true≢false (sym (ap not (sym (exclusive_if (same_xid holder xid)) ∙ unheld)) ∙ free))
+sharer_there xid (HeldBy holder change) unheld free =
+    absurd (true≢false (sym (ap not (sym (exclusive_if (same_xid holder xid)) ∙ unheld)) ∙ free))
 sharer_there xid (SharedBy sharers) unheld free =
-    ap (λ b. cond b (Some Shared) None) (contains-insert xids_total sharers xid xid ∙ ap (λ b. b || set.contains sharers xid) (itself xid))
+    ap (λ b. cond b (Some Shared) None) (contains-insert xids_total sharers xid xid
+    ∙ ap (λ b. b || set.contains sharers xid) (itself xid))
 
 -- the others
-pub sharer_beside : (xid other : Xid) (lock : Lock) → same_xid other xid ≡ false → mode_in other (with_sharer xid lock) ≡ mode_in other lock
+pub sharer_beside : (xid other : Xid) (lock : Lock) → same_xid other xid ≡ false
+    → mode_in other (with_sharer xid lock) ≡ mode_in other lock
 sharer_beside xid other (HeldBy holder change) apart = refl
 sharer_beside xid other (SharedBy sharers) apart =
-    ap (λ b. cond b (Some Shared) None) (contains-insert xids_total sharers xid other ∙ ap (λ b. b || set.contains sharers other) apart)
+    ap (λ b. cond b (Some Shared) None) (contains-insert xids_total sharers xid other
+    ∙ ap (λ b. b || set.contains sharers other) apart)
 
 -- nobody's write
 pub sharer_writes : (xid other : Xid) (lock : Lock) → write_in other (with_sharer xid lock) ≡ write_in other lock
@@ -202,26 +227,34 @@ freed_own xid (HeldBy holder change) = by (same_xid holder xid) refl
     by true e = ap (λ b. cond b (Some Shared) None) (contains-empty xid_cmp xid)
     by false e = ap (λ b. cond b (Some Exclusive) None) e
 freed_own xid (SharedBy sharers) =
-    ap (λ b. cond b (Some Shared) None) (contains-remove xids_total sharers xid xid ∙ ap (λ b. not b && set.contains sharers xid) (itself xid))
+    ap (λ b. cond b (Some Shared) None) (contains-remove xids_total sharers xid xid
+    ∙ ap (λ b. not b && set.contains sharers xid) (itself xid))
 
 -- the others
-pub freed_beside : (xid other : Xid) (lock : Lock) → same_xid other xid ≡ false → mode_in other (freed_lock xid lock) ≡ mode_in other lock
+pub freed_beside : (xid other : Xid) (lock : Lock) → same_xid other xid ≡ false
+    → mode_in other (freed_lock xid lock) ≡ mode_in other lock
 freed_beside xid other (HeldBy holder change) apart = by (same_xid holder xid) refl
   where
     by : (b : Bool) → same_xid holder xid ≡ b
-        → mode_in other (cond b (SharedBy set.empty) (HeldBy holder change)) ≡ cond (same_xid holder other) (Some Exclusive) None
+        → mode_in other (cond b (SharedBy set.empty) (HeldBy holder change))
+        ≡ cond (same_xid holder other) (Some Exclusive) None
     by true e = ap (λ b. cond b (Some Shared) None) (contains-empty xid_cmp other)
-        ∙ sym (ap (λ b. cond b (Some Exclusive) None) (ap (λ x. same_xid x other) (one_xid holder xid e) ∙ turned_apart xid other apart))
+        ∙ sym (ap (λ b. cond b (Some Exclusive) None) (ap (λ x. same_xid x other) (one_xid holder xid e)
+        ∙ turned_apart xid other apart))
     by false e = refl
 freed_beside xid other (SharedBy sharers) apart =
-    ap (λ b. cond b (Some Shared) None) (contains-remove xids_total sharers xid other ∙ ap (λ b. not b && set.contains sharers other) apart)
+    ap (λ b. cond b (Some Shared) None) (contains-remove xids_total sharers xid other
+    ∙ ap (λ b. not b && set.contains sharers other) apart)
 
 -- their writes
-pub freed_writes : (xid other : Xid) (lock : Lock) → same_xid other xid ≡ false → write_in other (freed_lock xid lock) ≡ write_in other lock
+pub freed_writes : (xid other : Xid) (lock : Lock) → same_xid other xid ≡ false
+    → write_in other (freed_lock xid lock) ≡ write_in other lock
 freed_writes xid other (HeldBy holder change) apart = by (same_xid holder xid) refl
   where
     by : (b : Bool) → same_xid holder xid ≡ b
-        → write_in other (cond b (SharedBy set.empty) (HeldBy holder change)) ≡ cond (same_xid holder other) (Some (write_of change)) None
-    by true e = sym (ap (λ b. cond b (Some (write_of change)) None) (ap (λ x. same_xid x other) (one_xid holder xid e) ∙ turned_apart xid other apart))
+        → write_in other (cond b (SharedBy set.empty) (HeldBy holder change))
+        ≡ cond (same_xid holder other) (Some (write_of change)) None
+    by true e = sym (ap (λ b. cond b (Some (write_of change)) None)
+        (ap (λ x. same_xid x other) (one_xid holder xid e) ∙ turned_apart xid other apart))
     by false e = refl
 freed_writes xid other (SharedBy sharers) apart = refl

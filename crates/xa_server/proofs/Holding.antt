@@ -21,11 +21,13 @@ use Rattle.xa_server.specs.View.{state_of, IsWhole}
 use Rattle.xa_server.proofs.Maps.{same_or_apart, get_inserted, get_inserted_apart}
 use Rattle.xa_server.proofs.Holders.{mode_of, itself, turned_apart, some_if}
 use Rattle.xa_server.proofs.Seen.{holds-seen, free_row, known_record, locked_against-seen}
-use Rattle.xa_server.proofs.Steps.{same_state, same_branches, seen_changed, seen_held, seen_shared, IsShareable, share_there, share_others}
+use Rattle.xa_server.proofs.Steps.{same_state, same_branches, seen_changed, seen_held, seen_shared, IsShareable}
+use Rattle.xa_server.proofs.Steps.{share_there, share_others}
 unfoldable pub use Rattle.xa_server.proofs.Whole.{longer}
 use Rattle.xa_server.proofs.Whole.{whole_more, whole_row, changed_at}
 
-pub longer-is : (key : List ℕ) (branch : BranchRecord) → longer key branch ≡ record branch { held = branch.held ++ key ∷ [] }
+pub longer-is : (key : List ℕ) (branch : BranchRecord)
+    → longer key branch ≡ record branch { held = branch.held ++ key ∷ [] }
 unfolding longer
 longer-is key branch = refl
 
@@ -38,7 +40,8 @@ unfolding shorter
 shorter-is branch = refl
 
 front_of : (keys : List (List ℕ)) (key : List ℕ) → without_last (keys ++ key ∷ []) ≡ keys
-front_of keys key = rw (length-append) (let n : (length keys + 1) - 1 ≡ length keys = omega arith in rw n (take-append_seam keys (key ∷ [])))
+front_of keys key = rw (length-append) (let n : (length keys + 1) - 1 ≡ length keys = omega arith in
+    rw n (take-append_seam keys (key ∷ [])))
 
 -- the branches, one of which was changed by its name
 pub changed_as : (branches new : BranchMap) (own named : Xid) (change : BranchRecord → BranchRecord) → named ≡ own
@@ -49,34 +52,41 @@ changed_as branches new own named change same is = is ∙ ap (λ xid. with_recor
 with_same : (state : State) (xid : Xid) → with_changed state xid (λ branch. branch) ≡ state
 with_same state xid = by (map.get state.branches xid) refl
   where
-    by : (found : Option Branch) → map.get state.branches xid ≡ found → option_map_or (λ branch. with_branch state xid branch) found state ≡ state
+    by : (found : Option Branch) → map.get state.branches xid ≡ found
+        → option_map_or (λ branch. with_branch state xid branch) found state ≡ state
     by None e = refl
-    by (Some branch) e = same_state _ _ (same_branches _ _ (λ other. elim (same_or_apart xids_total exact_xids other xid) [
-      | inl is ↦ rw is (get_inserted xids_total exact_xids state.branches xid branch ∙ sym e)
-      | inr apart ↦ get_inserted_apart xids_total exact_xids state.branches xid branch other apart
-    ])) refl
+    by (Some branch) e =
+        same_state _ _ (same_branches _ _ (λ other. elim (same_or_apart xids_total exact_xids other xid) [
+          | inl is ↦ rw is (get_inserted xids_total exact_xids state.branches xid branch ∙ sym e)
+          | inr apart ↦ get_inserted_apart xids_total exact_xids state.branches xid branch other apart
+        ])) refl
 
 pub seen_listed : (branches : BranchMap) (rows : RowMap) (xid : Xid) (key : List ℕ)
     → state_of (with_record branches xid (longer key)) rows ≡ state_of branches rows
 unfolding longer
-seen_listed branches rows xid key = seen_changed branches rows xid (longer key) (λ branch. branch) (λ branch. refl) ∙ with_same (state_of branches rows) xid
+seen_listed branches rows xid key = seen_changed branches rows xid (longer key) (λ branch. branch) (λ branch. refl)
+    ∙ with_same (state_of branches rows) xid
 
 back : (key : List ℕ) (branch : BranchRecord) → shorter (longer key branch) ≡ branch
 unfolding longer shorter
 back key branch = λ i. record { phase = branch.phase; owner = branch.owner; held = front_of branch.held key i }
 
 -- to take the key out again leaves the records as they were
-pub unlisted : (branches : BranchMap) (xid : Xid) (key : List ℕ) → with_record (with_record branches xid (longer key)) xid shorter ≡ branches
+pub unlisted : (branches : BranchMap) (xid : Xid) (key : List ℕ)
+    → with_record (with_record branches xid (longer key)) xid shorter ≡ branches
 unlisted branches xid key = by (map.get branches xid) refl
   where
     by : (found : Option BranchRecord) → map.get branches xid ≡ found
-        → with_record (option_map_or (λ branch. map.insert branches xid (longer key branch)) found branches) xid shorter ≡ branches
+        → with_record (option_map_or (λ branch. map.insert branches xid (longer key branch)) found branches) xid shorter
+        ≡ branches
     by None e = ap (λ found. option_map_or (λ branch. map.insert branches xid (shorter branch)) found branches) e
     by (Some branch) e =
         ap (λ found. option_map_or (λ b. map.insert (map.insert branches xid (longer key branch)) xid (shorter b)) found
-        (map.insert branches xid (longer key branch))) (get_inserted xids_total exact_xids branches xid (longer key branch))
+        (map.insert branches xid (longer key branch))) (get_inserted xids_total exact_xids branches xid
+        (longer key branch))
         ∙ same_map xids_total exact_xids _ _ (λ other. elim (same_or_apart xids_total exact_xids other xid) [
-          | inl is ↦ rw is (get_inserted xids_total exact_xids _ xid (shorter (longer key branch)) ∙ ap Some (back key branch) ∙ sym e)
+          | inl is ↦ rw is (get_inserted xids_total exact_xids _ xid (shorter (longer key branch))
+              ∙ ap Some (back key branch) ∙ sym e)
           | inr apart ↦ get_inserted_apart xids_total exact_xids _ xid (shorter (longer key branch)) other apart
               ∙ get_inserted_apart xids_total exact_xids branches xid (longer key branch) other apart
         ])
@@ -91,45 +101,55 @@ holder_beside own other apart = ap (λ b. cond b (Some Exclusive) None) (turned_
 -- the branch has a record still
 known_longer : (branches : BranchMap) (xid : Xid) (key : List ℕ) → is_some (map.get branches xid) ≡ true
     → is_some (map.get (with_record branches xid (longer key)) xid) ≡ true
-known_longer branches xid key known = ap is_some (changed_at branches xid (longer key)) ∙ by (map.get branches xid) known
+known_longer branches xid key known =
+    ap is_some (changed_at branches xid (longer key)) ∙ by (map.get branches xid) known
   where
     by : (found : Option BranchRecord) → is_some found ≡ true → is_some (option_map (longer key) found) ≡ true
     by None e = e
     by (Some branch) e = refl
 
 -- what holding a row that the branch didn't hold leaves, where no other holds it
-pub held_anew : (branches : BranchMap) (rows : RowMap) (own : Xid) (key : List ℕ) (change : Change) → IsWhole branches rows
+pub held_anew : (branches : BranchMap) (rows : RowMap) (own : Xid) (key : List ℕ) (change : Change)
+    → IsWhole branches rows
     → is_known (state_of branches rows) own ≡ true →
-    is_held_against (state_of branches rows) (Active own) key ≡ false → is_some (mode_of own (map.get rows key)) ≡ false →
+    is_held_against (state_of branches rows) (Active own) key ≡ false → is_some (mode_of own (map.get rows key)) ≡ false
+    →
     IsWhole (with_record branches own (longer key)) (map.insert rows key (held_row own change (map.get rows key)))
     × (state_of (with_record branches own (longer key)) (map.insert rows key (held_row own change (map.get rows key)))
     ≡ with_changed (state_of branches rows) own (with_change key change))
 held_anew branches rows own key change whole known unheld none =
     let free = free_row branches rows own key whole unheld in (
-      whole_more branches rows own key (held_row own change (map.get rows key)) (known_record branches rows own known) none (holder_there own)
+      whole_more branches rows own key (held_row own change (map.get rows key))
+          (known_record branches rows own known) none (holder_there own)
           (λ other apart. ap is_some (holder_beside own other apart) ∙ sym (free other apart)) whole,
-      seen_held (with_record branches own (longer key)) rows own key change (known_longer branches own key (known_record branches rows own known)) free
+      seen_held (with_record branches own (longer key)) rows own key change
+          (known_longer branches own key (known_record branches rows own known)) free
           ∙ ap (λ s. with_changed s own (with_change key change)) (seen_listed branches rows own key),
     )
 
 -- what a new change of a row that the branch holds, in either way, leaves
-pub held_again : (branches : BranchMap) (rows : RowMap) (own : Xid) (key : List ℕ) (change : Change) → IsWhole branches rows
+pub held_again : (branches : BranchMap) (rows : RowMap) (own : Xid) (key : List ℕ) (change : Change)
+    → IsWhole branches rows
     → is_known (state_of branches rows) own ≡ true →
-    is_held_against (state_of branches rows) (Active own) key ≡ false → is_some (mode_of own (map.get rows key)) ≡ true →
+    is_held_against (state_of branches rows) (Active own) key ≡ false → is_some (mode_of own (map.get rows key)) ≡ true
+    →
     IsWhole branches (map.insert rows key (held_row own change (map.get rows key)))
-    × (state_of branches (map.insert rows key (held_row own change (map.get rows key))) ≡ with_changed (state_of branches rows) own (with_change key change))
+    × (state_of branches (map.insert rows key (held_row own change (map.get rows key)))
+    ≡ with_changed (state_of branches rows) own (with_change key change))
 held_again branches rows own key change whole known unheld there =
     let free = free_row branches rows own key whole unheld in (
-      whole_row branches rows key (held_row own change (map.get rows key)) (λ xid. elim (same_or_apart xids_total exact_xids xid own) [
-        | inl is ↦ rw is (holder_there own ∙ sym there)
-        | inr apart ↦ ap is_some (holder_beside own xid apart) ∙ sym (free xid apart)
-      ]) whole,
+      whole_row branches rows key (held_row own change (map.get rows key))
+          (λ xid. elim (same_or_apart xids_total exact_xids xid own) [
+            | inl is ↦ rw is (holder_there own ∙ sym there)
+            | inr apart ↦ ap is_some (holder_beside own xid apart) ∙ sym (free xid apart)
+          ]) whole,
       seen_held branches rows own key change (known_record branches rows own known) free,
     )
 
 -- a row that may be shared
 shareable : (branches : BranchMap) (rows : RowMap) (own : Xid) (key : List ℕ) → IsWhole branches rows
-    → is_locked_against (state_of branches rows) (Active own) key ≡ false → holds (state_of branches rows) own key ≡ false →
+    → is_locked_against (state_of branches rows) (Active own) key ≡ false
+    → holds (state_of branches rows) own key ≡ false →
     IsShareable own (map.get rows key)
 shareable branches rows own key whole unlocked unheld = record {
   unheld = sym (holds-seen branches rows own key whole) ∙ unheld;
@@ -137,16 +157,20 @@ shareable branches rows own key whole unlocked unheld = record {
 }
 
 -- what sharing a row that the branch didn't hold leaves, where no other holds it exclusively
-pub shared_anew : (branches : BranchMap) (rows : RowMap) (own : Xid) (key : List ℕ) → IsWhole branches rows → is_known (state_of branches rows) own ≡ true →
-    is_locked_against (state_of branches rows) (Active own) key ≡ false → holds (state_of branches rows) own key ≡ false →
+pub shared_anew : (branches : BranchMap) (rows : RowMap) (own : Xid) (key : List ℕ) → IsWhole branches rows
+    → is_known (state_of branches rows) own ≡ true →
+    is_locked_against (state_of branches rows) (Active own) key ≡ false → holds (state_of branches rows) own key ≡ false
+    →
     IsWhole (with_record branches own (longer key)) (map.insert rows key (shared_row own (map.get rows key)))
     × (state_of (with_record branches own (longer key)) (map.insert rows key (shared_row own (map.get rows key)))
     ≡ with_changed (state_of branches rows) own (with_lock key))
 shared_anew branches rows own key whole known unlocked unheld =
     let is = shareable branches rows own key whole unlocked unheld in (
-      whole_more branches rows own key (shared_row own (map.get rows key)) (known_record branches rows own known) is.unheld
+      whole_more branches rows own key (shared_row own (map.get rows key))
+          (known_record branches rows own known) is.unheld
           (ap is_some (share_there own (map.get rows key) is))
           (λ other apart. ap is_some (share_others own other (map.get rows key) apart)) whole,
-      seen_shared (with_record branches own (longer key)) rows own key (known_longer branches own key (known_record branches rows own known)) is
+      seen_shared (with_record branches own (longer key)) rows own key
+          (known_longer branches own key (known_record branches rows own known)) is
           ∙ ap (λ s. with_changed s own (with_lock key)) (seen_listed branches rows own key),
     )

@@ -1,5 +1,6 @@
 -- The index of what sessions have open, under each change of the records.
-use Rattle.std.proofs.Common.{◌≡◌, ◌≢◌, ℕ, ◌<◌, zero, suc, List, [], ◌∷◌, ◌++◌, refl, ap, sym, ◌∙◌, true, false, length, arith, ◌⊎◌, inl, inr, get_or-set_same, get_or-set_other}
+use Rattle.std.proofs.Common.{◌≡◌, ◌≢◌, ℕ, ◌<◌, zero, suc, List, [], ◌∷◌, ◌++◌, refl, ap, sym, ◌∙◌, true, false, length}
+use Rattle.std.proofs.Common.{arith, ◌⊎◌, inl, inr, get_or-set_same, get_or-set_other}
 use Rattle.std.specs.Prelude.{Option, Some, None, cond, slice_set}
 use Rattle.std.specs.Option.{option_and_then, option_map, option_map_or}
 use Rattle.std.specs.BTreeMap as tree
@@ -18,7 +19,8 @@ use Rattle.xa_server.specs.declared.association.Association.{Association}
 use Rattle.xa_server.specs.declared.association.Association.TheVariants.{Free, Active, Idle}
 use Rattle.xa_server.specs.State.{association_in}
 use Rattle.xa_server.specs.Tables.{BranchMap, owner_of, phase_in, opened_at, named_in, idle_of, IsIndexed, with_record}
-use Rattle.xa_server.proofs.Maps.{get_view, same_or_apart, same_itself, get_inserted, get_inserted_apart, get_removed, get_removed_apart}
+use Rattle.xa_server.proofs.Maps.{get_view, same_or_apart, same_itself, get_inserted, get_inserted_apart, get_removed}
+use Rattle.xa_server.proofs.Maps.{get_removed_apart}
 use Rattle.xa_server.proofs.Records.{branches_in}
 
 -- `Some` of two values that are equal
@@ -29,7 +31,8 @@ pub not_none : {A : Type 0} (x : A) {P : Type 0} → None ≡ Some x → P
 not_none x e = cc
 
 -- once its work has ended, what names a branch is that branch, IDLE
-pub ended_named : (association : Association) (xid : Xid) → named_in association ≡ Some xid → idle_of association ≡ Idle xid
+pub ended_named : (association : Association) (xid : Xid) → named_in association ≡ Some xid
+    → idle_of association ≡ Idle xid
 ended_named Free xid e = not_none xid e
 ended_named (Active own) xid e = ap Idle (same_value own xid e)
 ended_named (Idle own) xid e = ap Idle (same_value own xid e)
@@ -53,18 +56,21 @@ indexed_empty nothing free = record {
 
 -- records with the owners and the phases that they had
 pub indexed_moved :
-    (opened : List Association) (nothing : Association) (old new : BranchMap) → ((xid : Xid) → owner_of new xid ≡ owner_of old xid) →
+    (opened : List Association) (nothing : Association) (old new : BranchMap)
+    → ((xid : Xid) → owner_of new xid ≡ owner_of old xid) →
     ((xid : Xid) → phase_in new xid ≡ phase_in old xid) → IsIndexed opened nothing old → IsIndexed opened nothing new
 indexed_moved opened nothing old new owner phase is = record {
   free = is.free;
   found = λ session xid e. owner xid ∙ is.found session xid e;
   listed = λ session xid e. is.listed session xid (sym (owner xid) ∙ e);
-  phased = λ session xid e. is.phased session xid (sym (owner xid) ∙ e) ∙ ap (λ p. association_in p xid) (sym (phase xid));
+  phased = λ session xid e. is.phased session xid (sym (owner xid) ∙ e)
+      ∙ ap (λ p. association_in p xid) (sym (phase xid));
 }
 
 -- an index in which each session has open what it had
 pub indexed_grown :
-    (opened longer : List Association) (nothing : Association) (branches : BranchMap) → ((at : ℕ) → opened_at longer at ≡ opened_at opened at) →
+    (opened longer : List Association) (nothing : Association) (branches : BranchMap)
+    → ((at : ℕ) → opened_at longer at ≡ opened_at opened at) →
     IsIndexed opened nothing branches → IsIndexed longer nothing branches
 indexed_grown opened longer nothing branches same is = record {
   free = is.free;
@@ -81,15 +87,18 @@ one_place_more (association ∷ rest) zero = refl
 one_place_more (association ∷ rest) (suc at) = one_place_more rest at
 
 -- a session that has a branch open has a place
-named_within : (opened : List Association) (session : ℕ) (xid : Xid) → named_in (opened_at opened session) ≡ Some xid → session < length opened
+named_within : (opened : List Association) (session : ℕ) (xid : Xid) → named_in (opened_at opened session) ≡ Some xid
+    → session < length opened
 named_within [] session xid e = not_none xid e
 named_within (association ∷ rest) zero xid e = omega arith
 named_within (association ∷ rest) (suc session) xid e = omega (arith, named_within rest session xid e)
 
 pub owner_within :
-    (opened : List Association) (nothing : Association) (branches : BranchMap) (session : ℕ) (xid : Xid) → owner_of branches xid ≡ Some session →
+    (opened : List Association) (nothing : Association) (branches : BranchMap) (session : ℕ) (xid : Xid)
+    → owner_of branches xid ≡ Some session →
     IsIndexed opened nothing branches → session < length opened
-owner_within opened nothing branches session xid owner is = named_within opened session xid (is.listed session xid owner)
+owner_within opened nothing branches session xid owner is =
+    named_within opened session xid (is.listed session xid owner)
 
 -- the look-ups once the record of one identifier is this one
 pub found_with : BranchMap → Xid → Option BranchRecord → Xid → Option BranchRecord
@@ -105,24 +114,35 @@ unfolding found_with
 there old xid found other apart = ap (λ b. cond b found (map.get old other)) apart
 
 numbers_apart : (m n : ℕ) → (m ≡ n) ⊎ (m ≢ n)
-numbers_apart m n = elim (eqb m n) as (λ b. eqb m n ≡ b → (m ≡ n) ⊎ (m ≢ n)) [ true ↦ λ e. inl (grind arith) | false ↦ λ e. inr (λ is. grind arith) ] refl
+numbers_apart m n = elim (eqb m n) as (λ b. eqb m n ≡ b
+    → (m ≡ n) ⊎ (m ≢ n)) [ true ↦ λ e. inl (grind arith) | false ↦ λ e. inr (λ is. grind arith) ] refl
 
 -- a session and the branch that is its own, before one change and after it
-pub record IsSeat (opened : List Association) (old : BranchMap) (session : ℕ) (xid : Xid) (found : Option BranchRecord) (association : Association) : Type 0 where
+pub record IsSeat (opened : List Association) (old : BranchMap) (session : ℕ) (xid : Xid) (found : Option BranchRecord)
+    (association : Association) : Type 0 where
   pub within : session < length opened
   pub was : (at : ℕ) → owner_of old xid ≡ Some at → at ≡ session
   pub only : (other : Xid) → owner_of old other ≡ Some session → other ≡ xid
   pub names : (other : Xid) → named_in association ≡ Some other → (xid ≡ other) × (owner_in found ≡ Some session)
   pub owner : (at : ℕ) → owner_in found ≡ Some at → session ≡ at
-  pub owned : (at : ℕ) → owner_in found ≡ Some at → (named_in association ≡ Some xid) × (association ≡ association_in (phase_of found) xid)
+  pub owned : (at : ℕ) → owner_in found ≡ Some at → (named_in association ≡ Some xid)
+      × (association ≡ association_in (phase_of found) xid)
 
 -- a session's own branch is changed, and what the session has open with it
 pub indexed_set :
-    (opened : List Association) (nothing : Association) (old new : BranchMap) (session : ℕ) (xid : Xid) (found : Option BranchRecord)
+    (opened : List Association) (nothing : Association) (old new : BranchMap) (session : ℕ) (xid : Xid)
+    (found : Option BranchRecord)
     (association : Association) → ((other : Xid) → map.get new other ≡ found_with old xid found other) →
-    IsSeat opened old session xid found association → IsIndexed opened nothing old → IsIndexed (slice_set opened session association) nothing new
+    IsSeat opened old session xid found association → IsIndexed opened nothing old
+    → IsIndexed (slice_set opened session association) nothing new
 indexed_set opened nothing old new session xid found association gets seat is =
-    record { free = is.free; found = is_found; listed = λ at other e. (both at other e).0; phased = λ at other e. (both at other e).1 }
+    record {
+      free = is.free;
+      found = is_found;
+      listed = λ at other e. (both at other e).0;
+      phased = λ at other e.
+          (both at other e).1;
+    }
   where
     placed : opened_at (slice_set opened session association) session ≡ association
     placed = get_or-set_same opened session association Free seat.within
@@ -136,7 +156,8 @@ indexed_set opened nothing old new session xid found association gets seat is =
     gets_there : (other : Xid) → same_xid other xid ≡ false → map.get new other ≡ map.get old other
     gets_there other apart = gets other ∙ there old xid found other apart
 
-    is_found : (at : ℕ) (other : Xid) → named_in (opened_at (slice_set opened session association) at) ≡ Some other → owner_of new other ≡ Some at
+    is_found : (at : ℕ) (other : Xid) → named_in (opened_at (slice_set opened session association) at) ≡ Some other
+        → owner_of new other ≡ Some at
     is_found at other e = elim (numbers_apart at session) [
       | inl at_is ↦
           let named : named_in association ≡ Some other = sym (ap named_in placed) ∙ (rw at_is at e) in
@@ -162,22 +183,27 @@ indexed_set opened nothing old new session xid found association gets seat is =
       | inr other_is ↦
           let owner : owner_of old other ≡ Some at = sym (ap owner_in (gets_there other other_is)) ∙ e in
           let apart : at ≢ session =
-          λ at_is. true≢false (sym (ap (λ x. same_xid x xid) (seat.only other (rw at_is at owner)) ∙ same_itself xids_total exact_xids xid) ∙ other_is) in (
+          λ at_is. true≢false (sym (ap (λ x. same_xid x xid) (seat.only other (rw at_is at owner))
+          ∙ same_itself xids_total exact_xids xid) ∙ other_is) in (
             ap named_in (apart_at at apart) ∙ is.listed at other owner,
-            apart_at at apart ∙ is.phased at other owner ∙ ap (λ f. association_in (phase_of f) other) (sym (gets_there other other_is)),
+            apart_at at apart ∙ is.phased at other owner ∙ ap (λ f. association_in (phase_of f) other)
+                (sym (gets_there other other_is)),
           )
     ]
 
 -- a branch that nobody owns is changed
 pub indexed_apart :
-    (opened : List Association) (nothing : Association) (old new : BranchMap) (xid : Xid) (found : Option BranchRecord) →
-    ((other : Xid) → map.get new other ≡ found_with old xid found other) → owner_of old xid ≡ None → owner_in found ≡ None →
+    (opened : List Association) (nothing : Association) (old new : BranchMap) (xid : Xid) (found : Option BranchRecord)
+    →
+    ((other : Xid) → map.get new other ≡ found_with old xid found other) → owner_of old xid ≡ None
+    → owner_in found ≡ None →
     IsIndexed opened nothing old → IsIndexed opened nothing new
 indexed_apart opened nothing old new xid found gets before after is = record {
   free = is.free;
   found = λ at other e. owner other ∙ is.found at other e;
   listed = λ at other e. is.listed at other (sym (owner other) ∙ e);
-  phased = λ at other e. is.phased at other (sym (owner other) ∙ e) ∙ ap (λ f. association_in (phase_of f) other) (sym (record_of at other e));
+  phased = λ at other e. is.phased at other (sym (owner other) ∙ e)
+      ∙ ap (λ f. association_in (phase_of f) other) (sym (record_of at other e));
 }
   where
     owner : (other : Xid) → owner_of new other ≡ owner_of old other
@@ -207,7 +233,8 @@ seat_started opened old session xid branch within nobodys none owner phase = rec
   owned = λ at e. (refl, phase);
 }
 
-module _ (opened : List Association) (nothing : Association) (old : BranchMap) (session : ℕ) (xid : Xid) (owner_is : owner_of old xid ≡ Some session)
+module _ (opened : List Association) (nothing : Association) (old : BranchMap) (session : ℕ) (xid : Xid)
+    (owner_is : owner_of old xid ≡ Some session)
     (is : IsIndexed opened nothing old) where
   only_own : (other : Xid) → owner_of old other ≡ Some session → other ≡ xid
   only_own other e = same_value other xid (sym (is.listed session other e) ∙ is.listed session xid owner_is)
@@ -224,7 +251,8 @@ module _ (opened : List Association) (nothing : Association) (old : BranchMap) (
   }
 
   -- a branch that a session owns is IDLE
-  pub seat_idle : (branch : BranchRecord) → branch.owner ≡ Some session → Idle xid ≡ association_in (Some branch.phase) xid
+  pub seat_idle : (branch : BranchRecord) → branch.owner ≡ Some session
+      → Idle xid ≡ association_in (Some branch.phase) xid
       → IsSeat opened old session xid (Some branch) (Idle xid)
   seat_idle branch owner phase = record {
     within = owner_within opened nothing old session xid owner_is is;
@@ -236,14 +264,17 @@ module _ (opened : List Association) (nothing : Association) (old : BranchMap) (
   }
 
 -- the look-ups once a record is put in
-pub get-inserted : (old : BranchMap) (xid : Xid) (branch : BranchRecord) (other : Xid) → map.get (map.insert old xid branch) other ≡ found_with old xid (Some branch) other
+pub get-inserted : (old : BranchMap) (xid : Xid) (branch : BranchRecord) (other : Xid)
+    → map.get (map.insert old xid branch) other ≡ found_with old xid (Some branch) other
 get-inserted old xid branch other = elim (same_or_apart xids_total exact_xids other xid) [
   | inl is ↦ rw is (get_inserted xids_total exact_xids old xid branch ∙ sym (here old xid (Some branch)))
-  | inr apart ↦ get_inserted_apart xids_total exact_xids old xid branch other apart ∙ sym (there old xid (Some branch) other apart)
+  | inr apart ↦ get_inserted_apart xids_total exact_xids old xid branch other apart
+      ∙ sym (there old xid (Some branch) other apart)
 ]
 
 -- the look-ups once a record is taken out
-pub get-removed : (old : BranchMap) (xid : Xid) (other : Xid) → map.get (map.remove old xid) other ≡ found_with old xid None other
+pub get-removed : (old : BranchMap) (xid : Xid) (other : Xid)
+    → map.get (map.remove old xid) other ≡ found_with old xid None other
 get-removed old xid other = elim (same_or_apart xids_total exact_xids other xid) [
   | inl is ↦ rw is (get_removed xids_total exact_xids old xid ∙ sym (here old xid None))
   | inr apart ↦ get_removed_apart xids_total exact_xids old xid other apart ∙ sym (there old xid None other apart)
@@ -256,7 +287,8 @@ pub get-changed :
 get-changed old xid other change = by (map.get old xid) refl
   where
     by : (found : Option BranchRecord) → map.get old xid ≡ found
-        → map.get (option_map_or (λ branch. map.insert old xid (change branch)) found old) other ≡ found_with old xid (option_map change found) other
+        → map.get (option_map_or (λ branch. map.insert old xid (change branch)) found old) other
+        ≡ found_with old xid (option_map change found) other
     by None e = elim (same_or_apart xids_total exact_xids other xid) [
       | inl is ↦ rw is (e ∙ sym (here old xid None))
       | inr apart ↦ sym (there old xid None other apart)
@@ -264,7 +296,8 @@ get-changed old xid other change = by (map.get old xid) refl
     by (Some branch) e = get-inserted old xid (change branch) other
 
 -- who owns a branch that is changed otherwise
-pub same_owner : (change : BranchRecord → BranchRecord) → ((branch : BranchRecord) → (change branch).owner ≡ branch.owner) → (found : Option BranchRecord)
+pub same_owner : (change : BranchRecord → BranchRecord)
+    → ((branch : BranchRecord) → (change branch).owner ≡ branch.owner) → (found : Option BranchRecord)
     → owner_in (option_map change found) ≡ owner_in found
 same_owner change same None = refl
 same_owner change same (Some branch) = same branch
@@ -273,17 +306,20 @@ same_owner change same (Some branch) = same branch
 module _ (old : BranchMap) (xid : Xid) (change : BranchRecord → BranchRecord) where
   pub owner_of-changed : ((branch : BranchRecord) → (change branch).owner ≡ branch.owner) → (other : Xid)
       → owner_of (with_record old xid change) other ≡ owner_of old other
-  owner_of-changed same other = ap owner_in (get-changed old xid other change) ∙ elim (same_or_apart xids_total exact_xids other xid) [
-    | inl is ↦ rw is (ap owner_in (here old xid (option_map change (map.get old xid))) ∙ same_owner change same (map.get old xid))
-    | inr apart ↦ ap owner_in (there old xid (option_map change (map.get old xid)) other apart)
-  ]
+  owner_of-changed same other =
+      ap owner_in (get-changed old xid other change) ∙ elim (same_or_apart xids_total exact_xids other xid) [
+        | inl is ↦ rw is (ap owner_in (here old xid (option_map change (map.get old xid)))
+            ∙ same_owner change same (map.get old xid))
+        | inr apart ↦ ap owner_in (there old xid (option_map change (map.get old xid)) other apart)
+      ]
 
   pub phase_in-changed : ((branch : BranchRecord) → (change branch).phase ≡ branch.phase) → (other : Xid)
       → phase_in (with_record old xid change) other ≡ phase_in old other
-  phase_in-changed same other = ap phase_of (get-changed old xid other change) ∙ elim (same_or_apart xids_total exact_xids other xid) [
-    | inl is ↦ rw is (ap phase_of (here old xid (option_map change (map.get old xid))) ∙ by (map.get old xid))
-    | inr apart ↦ ap phase_of (there old xid (option_map change (map.get old xid)) other apart)
-  ]
+  phase_in-changed same other =
+      ap phase_of (get-changed old xid other change) ∙ elim (same_or_apart xids_total exact_xids other xid) [
+        | inl is ↦ rw is (ap phase_of (here old xid (option_map change (map.get old xid))) ∙ by (map.get old xid))
+        | inr apart ↦ ap phase_of (there old xid (option_map change (map.get old xid)) other apart)
+      ]
     where
       by : (found : Option BranchRecord) → phase_of (option_map change found) ≡ phase_of found
       by None = refl
@@ -300,12 +336,14 @@ record_owned branches xid session owner = by (map.get branches xid) refl
     by (Some branch) e = (branch, e, sym (ap owner_in e) ∙ owner)
 
 -- nobody owns a branch that is changed so
-pub no_owner : (change : BranchRecord → BranchRecord) → ((branch : BranchRecord) → (change branch).owner ≡ None) → (found : Option BranchRecord)
+pub no_owner : (change : BranchRecord → BranchRecord) → ((branch : BranchRecord) → (change branch).owner ≡ None)
+    → (found : Option BranchRecord)
     → owner_in (option_map change found) ≡ None
 no_owner change frees None = refl
 no_owner change frees (Some branch) = frees branch
 
-module _ (opened : List Association) (nothing : Association) (old : BranchMap) (session : ℕ) (xid : Xid) (owner_is : owner_of old xid ≡ Some session)
+module _ (opened : List Association) (nothing : Association) (old : BranchMap) (session : ℕ) (xid : Xid)
+    (owner_is : owner_of old xid ≡ Some session)
     (is : IsIndexed opened nothing old) where
   -- the branch that a session owns is IDLE
   pub indexed_idle :
@@ -318,7 +356,8 @@ module _ (opened : List Association) (nothing : Association) (old : BranchMap) (
           IsIndexed (slice_set opened session (Idle xid)) nothing (with_record old xid idle)
       by (branch, there, owned) =
           indexed_set opened nothing old (with_record old xid idle) session xid (Some (idle branch)) (Idle xid)
-          (λ other. get-changed old xid other idle ∙ ap (λ found. found_with old xid (option_map idle found) other) there)
+          (λ other. get-changed old xid other idle ∙ ap (λ found. found_with old xid
+          (option_map idle found) other) there)
           (seat_idle opened nothing old session xid owner_is is (idle branch) (owner branch ∙ owned)
           (ap (λ p. association_in (Some p) xid) (sym (phase branch))))
           is
@@ -330,7 +369,8 @@ module _ (opened : List Association) (nothing : Association) (old : BranchMap) (
   indexed_freed change frees =
       indexed_set opened nothing old (with_record old xid change) session xid (option_map change (map.get old xid)) Free
       (λ other. get-changed old xid other change)
-      (seat_freed opened nothing old session xid owner_is is (option_map change (map.get old xid)) (no_owner change frees (map.get old xid)))
+      (seat_freed opened nothing old session xid owner_is is (option_map change (map.get old xid))
+      (no_owner change frees (map.get old xid)))
       is
 
   -- or it is gone
@@ -340,30 +380,38 @@ module _ (opened : List Association) (nothing : Association) (old : BranchMap) (
       (seat_freed opened nothing old session xid owner_is is None refl)
       is
 
-module _ (opened : List Association) (nothing : Association) (old : BranchMap) (xid : Xid) (nobodys : owner_of old xid ≡ None)
+module _ (opened : List Association) (nothing : Association) (old : BranchMap) (xid : Xid)
+    (nobodys : owner_of old xid ≡ None)
     (is : IsIndexed opened nothing old) where
   -- a branch that nobody owns is changed, and nobody owns it
   pub changed_apart :
-      (change : BranchRecord → BranchRecord) → owner_in (option_map change (map.get old xid)) ≡ None → IsIndexed opened nothing (with_record old xid change)
+      (change : BranchRecord → BranchRecord) → owner_in (option_map change (map.get old xid)) ≡ None
+      → IsIndexed opened nothing (with_record old xid change)
   changed_apart change after =
-      indexed_apart opened nothing old (with_record old xid change) xid (option_map change (map.get old xid)) (λ other. get-changed old xid other change)
+      indexed_apart opened nothing old (with_record old xid change) xid (option_map change (map.get old xid))
+      (λ other. get-changed old xid other change)
       nobodys after is
 
   -- or it is gone
   pub removed_apart : IsIndexed opened nothing (map.remove old xid)
-  removed_apart = indexed_apart opened nothing old (map.remove old xid) xid None (λ other. get-removed old xid other) nobodys refl is
+  removed_apart = indexed_apart opened nothing old (map.remove old xid) xid None
+      (λ other. get-removed old xid other) nobodys refl is
 
 -- a session that owned nothing has started a branch under an identifier that no branch had
 pub indexed_started :
-    (opened : List Association) (nothing : Association) (old : BranchMap) (session : ℕ) (xid : Xid) (branch : BranchRecord) →
+    (opened : List Association) (nothing : Association) (old : BranchMap) (session : ℕ) (xid : Xid)
+    (branch : BranchRecord) →
     session < length opened → owner_of old xid ≡ None → ((other : Xid) → owner_of old other ≢ Some session) →
     branch.owner ≡ Some session → branch.phase ≡ PhaseActive → IsIndexed opened nothing old →
     IsIndexed (slice_set opened session (Active xid)) nothing (map.insert old xid branch)
 indexed_started opened nothing old session xid branch within nobodys none owner phase is =
-    indexed_set opened nothing old (map.insert old xid branch) session xid (Some branch) (Active xid) (λ other. get-inserted old xid branch other)
-    (seat_started opened old session xid branch within nobodys none owner (ap (λ p. association_in (Some p) xid) (sym phase))) is
+    indexed_set opened nothing old (map.insert old xid branch) session xid (Some branch) (Active xid)
+    (λ other. get-inserted old xid branch other)
+    (seat_started opened old session xid branch within nobodys none owner
+    (ap (λ p. association_in (Some p) xid) (sym phase))) is
 
 -- who owns the branch that a look-up in the tree finds
-pub tree_owner : (table : BTreeMap Xid BranchRecord) (xid : Xid) (owner : Option ℕ) → owner ≡ owner_in (tree.get xid_cmp table xid)
+pub tree_owner : (table : BTreeMap Xid BranchRecord) (xid : Xid) (owner : Option ℕ)
+    → owner ≡ owner_in (tree.get xid_cmp table xid)
     → owner_of (branches_in table) xid ≡ owner
 tree_owner table xid owner is = ap owner_in (get_view xids_total exact_xids table xid) ∙ sym is

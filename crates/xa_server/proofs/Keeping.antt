@@ -9,12 +9,15 @@ use Rattle.xa_xid.specs.declared.xid.Xid.{Xid}
 use Rattle.xa_xid.specs.Xid.{bytes_cmp, same_xid}
 use Rattle.xa_xid.proofs.Orders.{xids_total, exact_xids, bytes_total, exact_texts}
 use Rattle.xa_xid.specs.declared.statement.Statement.{Statement}
-use Rattle.xa_xid.specs.declared.statement.Statement.TheVariants.{Start, End, Prepare, Commit, Rollback, Recover, Unsupported, Get, Put, Del, Disconnect}
+use Rattle.xa_xid.specs.declared.statement.Statement.TheVariants.{Start, End, Prepare, Commit, Rollback, Recover}
+use Rattle.xa_xid.specs.declared.statement.Statement.TheVariants.{Unsupported, Get, Put, Del, Disconnect}
 use Rattle.xa_server.specs.declared.branch.Phase.{Phase}
-use Rattle.xa_server.specs.declared.branch.Phase.TheVariants.{Active as PhaseActive, Idle as PhaseIdle, Prepared as PhasePrepared}
+use Rattle.xa_server.specs.declared.branch.Phase.TheVariants.{Active as PhaseActive, Idle as PhaseIdle}
+use Rattle.xa_server.specs.declared.branch.Phase.TheVariants.{Prepared as PhasePrepared}
 use Rattle.xa_server.specs.declared.association.Association.{Association}
 use Rattle.xa_server.specs.declared.association.Association.TheVariants.{Free, Active, Idle}
-use Rattle.xa_server.specs.State.{Write, Exclusive, Branch, State, no_state, is_prepared, is_prepared_phase, owns, phase_at, association_in, association_of}
+use Rattle.xa_server.specs.State.{Write, Exclusive, Branch, State, no_state, is_prepared, is_prepared_phase, owns}
+use Rattle.xa_server.specs.State.{phase_at, association_in, association_of}
 use Rattle.xa_server.specs.State.{IsOpen}
 use Rattle.xa_server.specs.Locks.{LockLaw, is_exclusive}
 use Rattle.xa_server.specs.Replies.{table}
@@ -52,7 +55,8 @@ sound_in state law xid = record { detached = law.detached xid; attached = law.at
 
 sound_none : IsSound None
 unfolding is_ready owner_in mode_in is_writing
-sound_none = record { detached = λ e. refl; attached = λ e f. absurd (true≢false (sym e)); held = λ key e. absurd (true≢false (sym e)) }
+sound_none = record
+    { detached = λ e. refl; attached = λ e f. absurd (true≢false (sym e)); held = λ key e. absurd (true≢false (sym e)) }
 
 sound_started : (session : ℕ) → IsSound (Some (started_by session))
 unfolding is_ready owner_in mode_in is_writing
@@ -65,20 +69,33 @@ sound_started session = record {
 sound_idle : (found : Option Branch) → is_ready found ≡ false → IsSound found → IsSound (option_map idle found)
 unfolding is_ready owner_in mode_in is_writing idle
 sound_idle None e sound = sound_none
-sound_idle (Some branch) e sound = record { detached = λ f. absurd (true≢false (sym f)); attached = λ there f. sound.attached refl e; held = sound.held }
+sound_idle (Some branch) e sound =
+    record {
+      detached = λ f. absurd (true≢false (sym f));
+      attached = λ there f.
+          sound.attached refl e;
+      held = sound.held;
+    }
 
 sound_detached : (found : Option Branch) → IsSound found → IsSound (option_map detached found)
 unfolding is_ready owner_in mode_in is_writing detached
 sound_detached None sound = sound_none
-sound_detached (Some branch) sound = record { detached = λ e. refl; attached = λ there e. absurd (true≢false e); held = sound.held }
+sound_detached (Some branch) sound =
+    record { detached = λ e. refl; attached = λ there e. absurd (true≢false e); held = sound.held }
 
 sound_locked : (key : List ℕ) (found : Option Branch) → IsSound found → IsSound (option_map (with_lock key) found)
 unfolding is_ready owner_in mode_in is_writing
 sound_locked key None sound = sound_none
 sound_locked key (Some branch) sound =
-    record { detached = sound.detached; attached = sound.attached; held = λ other e. share_exclusive branch.locks key other ∙ sound.held other e }
+    record {
+      detached = sound.detached;
+      attached = sound.attached;
+      held = λ other e.
+          share_exclusive branch.locks key other ∙ sound.held other e;
+    }
 
-sound_written : (key : List ℕ) (write : Write) (found : Option Branch) → IsSound found → IsSound (option_map (with_own_write key write) found)
+sound_written : (key : List ℕ) (write : Write) (found : Option Branch) → IsSound found
+    → IsSound (option_map (with_own_write key write) found)
 unfolding is_ready owner_in mode_in is_writing
 sound_written key write None sound = sound_none
 sound_written key write (Some branch) sound = record {
@@ -87,7 +104,8 @@ sound_written key write (Some branch) sound = record {
   held = λ other e. elim (same_or_apart bytes_total exact_texts other key) [
     | inl is ↦ rw is (ap is_exclusive (get_inserted bytes_total exact_texts branch.locks key Exclusive))
     | inr apart ↦ ap is_exclusive (get_inserted_apart bytes_total exact_texts branch.locks key Exclusive other apart)
-        ∙ sound.held other (sym (ap is_some (get_inserted_apart bytes_total exact_texts branch.writes key write other apart)) ∙ e)
+        ∙ sound.held other
+        (sym (ap is_some (get_inserted_apart bytes_total exact_texts branch.writes key write other apart)) ∙ e)
   ];
 }
 
@@ -99,22 +117,28 @@ idle_at : (state : State) (xid at : Xid) → is_prepared state xid ≡ false →
     → IsSound (cond (same_xid at xid) (option_map idle (map.get state.branches at)) (map.get state.branches at))
 unfolding is_ready
 idle_at state xid at e sound = elim (same_or_apart xids_total exact_xids at xid) [
-  | inl is ↦ one_of (same_xid at xid) _ _ (sound_idle (map.get state.branches at) (ap (is_prepared state) is ∙ e) sound) sound
-  | inr apart ↦ subst (λ b. IsSound (cond b (option_map idle (map.get state.branches at)) (map.get state.branches at))) (sym apart) sound
+  | inl is ↦ one_of (same_xid at xid) _ _ (sound_idle (map.get state.branches at)
+      (ap (is_prepared state) is ∙ e) sound) sound
+  | inr apart ↦ subst (λ b. IsSound (cond b (option_map idle (map.get state.branches at)) (map.get state.branches at)))
+      (sym apart) sound
 ]
 
-sound_after : (state : State) (session : ℕ) (association : Association) → IsOpen state association → (statement : Statement)
+sound_after : (state : State) (session : ℕ) (association : Association) → IsOpen state association
+    → (statement : Statement)
     → is_refused (table state association statement) ≡ false
     → (at : Xid) → IsSound (map.get state.branches at) →
     IsSound (branch_after session association statement at (map.get state.branches at))
 unfolding branch_after
-sound_after state session association associated (Start xid) accepted at sound = one_of (same_xid at xid) _ _ (sound_started session) sound
+sound_after state session association associated (Start xid) accepted at sound =
+    one_of (same_xid at xid) _ _ (sound_started session) sound
 sound_after state session association associated (End xid) accepted at sound =
     idle_at state xid at (accepted_end state association xid associated accepted) sound
 sound_after state session association associated (Prepare xid) accepted at sound =
     one_of (same_xid at xid) _ _ (sound_detached (map.get state.branches at) sound) sound
-sound_after state session association associated (Commit xid one_phase) accepted at sound = one_of (same_xid at xid) _ _ sound_none sound
-sound_after state session association associated (Rollback xid) accepted at sound = one_of (same_xid at xid) _ _ sound_none sound
+sound_after state session association associated (Commit xid one_phase) accepted at sound =
+    one_of (same_xid at xid) _ _ sound_none sound
+sound_after state session association associated (Rollback xid) accepted at sound =
+    one_of (same_xid at xid) _ _ sound_none sound
 sound_after state session association associated (Recover convert) accepted at sound = sound
 sound_after state session association associated Unsupported accepted at sound = sound
 sound_after state session Free associated (Get key) accepted at sound = sound
@@ -130,8 +154,10 @@ sound_after state session (Active own) associated (Del key) accepted at sound =
     one_of (same_xid at own) _ _ (sound_written key None (map.get state.branches at) sound) sound
 sound_after state session (Idle own) associated (Del key) accepted at sound = sound
 sound_after state session Free associated Disconnect accepted at sound = sound
-sound_after state session (Active own) associated Disconnect accepted at sound = one_of (same_xid at own) _ _ sound_none sound
-sound_after state session (Idle own) associated Disconnect accepted at sound = one_of (same_xid at own) _ _ sound_none sound
+sound_after state session (Active own) associated Disconnect accepted at sound =
+    one_of (same_xid at own) _ _ sound_none sound
+sound_after state session (Idle own) associated Disconnect accepted at sound =
+    one_of (same_xid at own) _ _ sound_none sound
 
 -- ---- one branch for a session
 
@@ -141,14 +167,16 @@ is_free (Active own) = false
 is_free (Idle own) = false
 
 -- a session that owns a branch isn't free
-owner_associated : (state : State) (session : ℕ) (xid : Xid) → LockLaw state → owns state session xid ≡ true → is_free (association_of state session) ≡ false
+owner_associated : (state : State) (session : ℕ) (xid : Xid) → LockLaw state → owns state session xid ≡ true
+    → is_free (association_of state session) ≡ false
 unfolding association_of is_owned is_free
 owner_associated state session xid law e =
     ap (λ own. is_free (option_map_or (λ xid. association_in (phase_at state xid) xid) own Free))
     (own_found state session xid e (λ other f. law.one_branch session xid other e f))
     ∙ by (phase_at state xid) refl
   where
-    nothing : (found : Option Branch) → is_some found ≡ true → option_map (λ (b : Branch). b.phase) found ≡ None → is_free (association_in None xid) ≡ false
+    nothing : (found : Option Branch) → is_some found ≡ true → option_map (λ (b : Branch). b.phase) found ≡ None
+        → is_free (association_in None xid) ≡ false
     nothing None there none = absurd (true≢false (sym there))
     nothing (Some branch) there none = not_none branch.phase (sym none)
 
@@ -156,7 +184,9 @@ owner_associated state session xid law e =
     by None is = nothing (map.get state.branches xid) (known_owned session (map.get state.branches xid) e) is
     by (Some PhaseActive) is = refl
     by (Some PhaseIdle) is = refl
-    by (Some PhasePrepared) is = absurd (true≢false (sym e ∙ nobodys state session xid law (ap (λ phase. option_map_or is_prepared_phase phase false) is)))
+    by (Some PhasePrepared) is =
+        absurd (true≢false (sym e ∙ nobodys state session xid law
+        (ap (λ phase. option_map_or is_prepared_phase phase false) is)))
 
 start_of : (xid other : Xid) → Start xid ≡ Start other → xid ≡ other
 start_of xid other e = cc
@@ -170,30 +200,38 @@ starter_free state session who statement law accepted xid other started e =
     let free : association_of state session ≡ Free =
     (accepted_start state (association_of state session) xid
     (sym (ap (λ s. is_refused (table state (association_of state session) s)) started.0) ∙ accepted)).0 in
-    absurd (true≢false (sym (ap is_free free) ∙ owner_associated state session other law (ap (λ s. owns state s other) started.1 ∙ e)))
+    absurd (true≢false (sym (ap is_free free) ∙ owner_associated state session other law
+    (ap (λ s. owns state s other) started.1 ∙ e)))
 
 one_branch : (state : State) (session who : ℕ) (statement : Statement) → LockLaw state
     → is_refused (table state (association_of state session) statement) ≡ false
     → (xid other : Xid) →
-    (owns state who xid ≡ true) ⊎ IsStarted session who statement xid → (owns state who other ≡ true) ⊎ IsStarted session who statement other → xid ≡ other
+    (owns state who xid ≡ true) ⊎ IsStarted session who statement xid
+    → (owns state who other ≡ true) ⊎ IsStarted session who statement other → xid ≡ other
 one_branch state session who statement law accepted xid other (inl e) (inl f) = law.one_branch who xid other e f
-one_branch state session who statement law accepted xid other (inl e) (inr f) = starter_free state session who statement law accepted other xid f e
-one_branch state session who statement law accepted xid other (inr e) (inl f) = starter_free state session who statement law accepted xid other e f
+one_branch state session who statement law accepted xid other (inl e) (inr f) =
+    starter_free state session who statement law accepted other xid f e
+one_branch state session who statement law accepted xid other (inr e) (inl f) =
+    starter_free state session who statement law accepted xid other e f
 one_branch state session who statement law accepted xid other (inr e) (inr f) = start_of xid other (sym e.0 ∙ f.0)
 
 -- ---- the law
 
-carried_out : (state : State) (session : ℕ) (statement : Statement) → LockLaw state → is_refused (table state (association_of state session) statement) ≡ false
+carried_out : (state : State) (session : ℕ) (statement : Statement) → LockLaw state
+    → is_refused (table state (association_of state session) statement) ≡ false
     → LockLaw (effect state session (association_of state session) statement)
 unfolding is_ready owner_in mode_in is_writing is_owned Before
 carried_out state session statement law accepted = record {
   one_holder = λ xid other key e f. one_holder state (association_of state session) law xid other key
       (exclusive_before state session (association_of state session) statement accepted xid key
       (sym (ap (λ found. is_exclusive (mode_in key found)) (is xid)) ∙ e))
-      (held_before state session (association_of state session) statement accepted other key (sym (ap (λ found. is_some (mode_in key found)) (is other)) ∙ f));
+      (held_before state session (association_of state session) statement accepted other key
+      (sym (ap (λ found. is_some (mode_in key found)) (is other)) ∙ f));
   one_branch = λ who xid other e f. one_branch state session who statement law accepted xid other
-      (owned_before session who (association_of state session) statement xid (map.get state.branches xid) (sym (ap (is_owned who) (is xid)) ∙ e))
-      (owned_before session who (association_of state session) statement other (map.get state.branches other) (sym (ap (is_owned who) (is other)) ∙ f));
+      (owned_before session who (association_of state session) statement xid (map.get state.branches xid)
+      (sym (ap (is_owned who) (is xid)) ∙ e))
+      (owned_before session who (association_of state session) statement other (map.get state.branches other)
+      (sym (ap (is_owned who) (is other)) ∙ f));
   detached = λ xid. (sound xid).detached;
   attached = λ xid. (sound xid).attached;
   held_writes = λ xid. (sound xid).held;
@@ -206,9 +244,11 @@ carried_out state session statement law accepted = record {
     sound : (xid : Xid) → IsSound (map.get (effect state session (association_of state session) statement).branches xid)
     sound xid =
         subst IsSound (sym (is xid))
-        (sound_after state session (association_of state session) (open_association state session) statement accepted xid (sound_in state law xid))
+        (sound_after state session (association_of state session)
+        (open_association state session) statement accepted xid (sound_in state law xid))
 
-pub law_after : (state : State) (session : ℕ) (statement : Statement) → LockLaw state → LockLaw (after state session statement)
+pub law_after : (state : State) (session : ℕ) (statement : Statement) → LockLaw state
+    → LockLaw (after state session statement)
 law_after state session statement law = elim (outcome state session statement) [
   | inl (refused, same) ↦ subst LockLaw (sym same) law
   | inr (accepted, done) ↦ subst LockLaw (sym done) (carried_out state session statement law accepted)
@@ -216,7 +256,8 @@ law_after state session statement law = elim (outcome state session statement) [
 
 pub law_after_all : (state : State) (history : List (ℕ × Statement)) → LockLaw state → LockLaw (after_all state history)
 law_after_all state [] law = law
-law_after_all state (entry ∷ entries) law = law_after_all (after state entry.0 entry.1) entries (law_after state entry.0 entry.1 law)
+law_after_all state (entry ∷ entries) law =
+    law_after_all (after state entry.0 entry.1) entries (law_after state entry.0 entry.1 law)
 
 pub law_no_state : LockLaw no_state
 law_no_state = subst LockLaw seen_empty (lock_law map.empty map.empty whole_empty)

@@ -41,7 +41,8 @@ above_T : (b : Bool) → b ≡ true → T b
 above_T true e = tt
 above_T false e = absurd (true≢false (sym e))
 
-ascending : (es : List (Xid × Branch)) → T (is_sorted xid_cmp es) → IsStrictlySortedBy xid_cmp (map (λ (e : Xid × Branch). e.0) es)
+ascending : (es : List (Xid × Branch)) → T (is_sorted xid_cmp es)
+    → IsStrictlySortedBy xid_cmp (map (λ (e : Xid × Branch). e.0) es)
 unfolding IsStrictlySortedBy
 ascending [] h = tt
 ascending (e ∷ es) h =
@@ -51,7 +52,8 @@ ascending (e ∷ es) h =
 pub prepared_ascend : (state : State) → IsStrictlySortedBy xid_cmp (prepared_xids state)
 unfolding prepared_xids
 prepared_ascend state =
-    IsStrictlySortedBy-filter xid_cmp (is_prepared state) (fin.keys state.branches) (ascending (fin.entries state.branches) (entries_sorted state.branches))
+    IsStrictlySortedBy-filter xid_cmp (is_prepared state) (fin.keys state.branches)
+    (ascending (fin.entries state.branches) (entries_sorted state.branches))
 
 -- ---- exactly those
 
@@ -59,26 +61,33 @@ and_false : (b : Bool) → (b && false) ≡ false
 and_false true = refl
 and_false false = refl
 
-in_rest : (p : Xid → Bool) (x : Xid) (xs : List Xid) (xid : Xid) → list_any (same_xid xid) (filter p xs) ≡ (list_any (same_xid xid) xs && p xid) →
-    (b : Bool) → p x ≡ b → list_any (same_xid xid) (cond b (x ∷ filter p xs) (filter p xs)) ≡ ((same_xid xid x || list_any (same_xid xid) xs) && p xid)
+in_rest : (p : Xid → Bool) (x : Xid) (xs : List Xid) (xid : Xid)
+    → list_any (same_xid xid) (filter p xs) ≡ (list_any (same_xid xid) xs && p xid) →
+    (b : Bool) → p x ≡ b → list_any (same_xid xid) (cond b (x ∷ filter p xs) (filter p xs))
+    ≡ ((same_xid xid x || list_any (same_xid xid) xs) && p xid)
 in_rest p x xs xid rest true is = elim (same_or_apart xids_total exact_xids xid x) [
-  | inl e ↦ ap (λ b. b || list_any (same_xid xid) (filter p xs)) (here e) ∙ sym (ap (λ b. (b || list_any (same_xid xid) xs) && p xid) (here e) ∙ ap p e ∙ is)
-  | inr apart ↦ ap (λ b. b || list_any (same_xid xid) (filter p xs)) apart ∙ rest ∙ sym (ap (λ b. (b || list_any (same_xid xid) xs) && p xid) apart)
+  | inl e ↦ ap (λ b. b || list_any (same_xid xid) (filter p xs)) (here e)
+      ∙ sym (ap (λ b. (b || list_any (same_xid xid) xs) && p xid) (here e) ∙ ap p e ∙ is)
+  | inr apart ↦ ap (λ b. b || list_any (same_xid xid) (filter p xs)) apart ∙ rest
+      ∙ sym (ap (λ b. (b || list_any (same_xid xid) xs) && p xid) apart)
 ]
   where
     here : xid ≡ x → same_xid xid x ≡ true
     here e = ap (λ other. same_xid other x) e ∙ same_itself xids_total exact_xids x
 in_rest p x xs xid rest false is = rest ∙ (elim (same_or_apart xids_total exact_xids xid x) [
   | inl e ↦ ap (λ b. list_any (same_xid xid) xs && b) (ap p e ∙ is) ∙ and_false (list_any (same_xid xid) xs)
-      ∙ sym (ap (λ b. (same_xid xid x || list_any (same_xid xid) xs) && b) (ap p e ∙ is) ∙ and_false (same_xid xid x || list_any (same_xid xid) xs))
+      ∙ sym (ap (λ b. (same_xid xid x || list_any (same_xid xid) xs) && b) (ap p e ∙ is)
+      ∙ and_false (same_xid xid x || list_any (same_xid xid) xs))
   | inr apart ↦ sym (ap (λ b. (b || list_any (same_xid xid) xs) && p xid) apart)
 ])
 
-in_filter : (p : Xid → Bool) (xs : List Xid) (xid : Xid) → list_any (same_xid xid) (filter p xs) ≡ (list_any (same_xid xid) xs && p xid)
+in_filter : (p : Xid → Bool) (xs : List Xid) (xid : Xid)
+    → list_any (same_xid xid) (filter p xs) ≡ (list_any (same_xid xid) xs && p xid)
 in_filter p [] xid = refl
 in_filter p (x ∷ xs) xid = in_rest p x xs xid (in_filter p xs xid) (p x) refl
 
-pub prepared_exactly : (state : State) (xid : Xid) → list_any (same_xid xid) (prepared_xids state) ≡ is_prepared state xid
+pub prepared_exactly : (state : State) (xid : Xid) → list_any (same_xid xid) (prepared_xids state)
+    ≡ is_prepared state xid
 unfolding prepared_xids
 prepared_exactly state xid =
     in_filter (is_prepared state) (fin.keys state.branches) xid

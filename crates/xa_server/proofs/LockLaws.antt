@@ -13,7 +13,8 @@ use Rattle.xa_server.specs.Tables.{BranchMap}
 use Rattle.xa_server.specs.Rows.{RowMap, lock_of, write_by}
 use Rattle.xa_server.specs.View.{state_of, IsWhole}
 use Rattle.xa_server.proofs.Holders.{mode_of, mode_of-lock, alone_in, writes_in}
-use Rattle.xa_server.proofs.Seen.{lock_at-seen, holds-seen, is_known-seen, is_prepared-seen, owner_at-seen, owns_owner, write_at-seen}
+use Rattle.xa_server.proofs.Seen.{lock_at-seen, holds-seen, is_known-seen, is_prepared-seen, owner_at-seen, owns_owner}
+use Rattle.xa_server.proofs.Seen.{write_at-seen}
 
 is_prepared_in : Option BranchRecord → Bool
 is_prepared_in found = option_map_or is_prepared_phase (option_map (λ (b : BranchRecord). b.phase) found) false
@@ -27,10 +28,12 @@ somebody None e = absurd (true≢false e)
 somebody (Some owner) e = refl
 
 -- a PREPARED branch has no owner
-detached : (branches : BranchMap) (rows : RowMap) → IsWhole branches rows → (xid : Xid) → is_prepared (state_of branches rows) xid ≡ true
+detached : (branches : BranchMap) (rows : RowMap) → IsWhole branches rows → (xid : Xid)
+    → is_prepared (state_of branches rows) xid ≡ true
     → owner_at (state_of branches rows) xid ≡ None
 unfolding is_prepared_in
-detached branches rows whole xid e = owner_at-seen branches rows xid ∙ by (map.get branches xid) refl (sym (is_prepared-seen branches rows xid) ∙ e)
+detached branches rows whole xid e =
+    owner_at-seen branches rows xid ∙ by (map.get branches xid) refl (sym (is_prepared-seen branches rows xid) ∙ e)
   where
     by : (found : Option BranchRecord) → map.get branches xid ≡ found → is_prepared_in found ≡ true
         → option_and_then (λ (b : BranchRecord). b.owner) found ≡ None
@@ -38,34 +41,42 @@ detached branches rows whole xid e = owner_at-seen branches rows xid ∙ by (map
     by (Some branch) is e = nobody branch.owner (whole.attached xid branch is ∙ e)
 
 -- an ACTIVE or IDLE branch has one
-attached : (branches : BranchMap) (rows : RowMap) → IsWhole branches rows → (xid : Xid) → is_known (state_of branches rows) xid ≡ true
+attached : (branches : BranchMap) (rows : RowMap) → IsWhole branches rows → (xid : Xid)
+    → is_known (state_of branches rows) xid ≡ true
     → is_prepared (state_of branches rows) xid ≡ false →
     is_some (owner_at (state_of branches rows) xid) ≡ true
 unfolding is_prepared_in
 attached branches rows whole xid known e =
     ap is_some (owner_at-seen branches rows xid)
-    ∙ by (map.get branches xid) refl (sym (is_known-seen branches rows xid) ∙ known) (sym (is_prepared-seen branches rows xid) ∙ e)
+    ∙ by (map.get branches xid) refl (sym (is_known-seen branches rows xid) ∙ known)
+    (sym (is_prepared-seen branches rows xid) ∙ e)
   where
-    by : (found : Option BranchRecord) → map.get branches xid ≡ found → is_some found ≡ true → is_prepared_in found ≡ false
+    by : (found : Option BranchRecord) → map.get branches xid ≡ found → is_some found ≡ true
+        → is_prepared_in found ≡ false
         → is_some (option_and_then (λ (b : BranchRecord). b.owner) found) ≡ true
     by None is there e = absurd (true≢false (sym there))
     by (Some branch) is there e = somebody branch.owner (whole.attached xid branch is ∙ e)
 
 -- who holds a row exclusively holds it alone
-alone : (xid other : Xid) (found : Option RowRecord) → is_exclusive (mode_of xid found) ≡ true → is_some (mode_of other found) ≡ true → xid ≡ other
+alone : (xid other : Xid) (found : Option RowRecord) → is_exclusive (mode_of xid found) ≡ true
+    → is_some (mode_of other found) ≡ true → xid ≡ other
 alone xid other found e f =
-    alone_in xid other (lock_of found) (sym (ap is_exclusive (mode_of-lock xid found)) ∙ e) (sym (ap is_some (mode_of-lock other found)) ∙ f)
+    alone_in xid other (lock_of found) (sym (ap is_exclusive (mode_of-lock xid found)) ∙ e)
+    (sym (ap is_some (mode_of-lock other found)) ∙ f)
 
 -- who writes a row holds it exclusively
-writes : (xid : Xid) (found : Option RowRecord) → is_some (option_and_then (write_by xid) found) ≡ true → is_exclusive (mode_of xid found) ≡ true
+writes : (xid : Xid) (found : Option RowRecord) → is_some (option_and_then (write_by xid) found) ≡ true
+    → is_exclusive (mode_of xid found) ≡ true
 writes xid None e = absurd (true≢false (sym e))
 writes xid (Some row) e = writes_in xid row.lock e
 
 pub lock_law : (branches : BranchMap) (rows : RowMap) → IsWhole branches rows → LockLaw (state_of branches rows)
 lock_law branches rows whole = record {
   one_holder = λ xid other key e f. alone xid other (map.get rows key)
-      (sym (ap is_exclusive (lock_at-seen branches rows xid key whole)) ∙ e) (sym (holds-seen branches rows other key whole) ∙ f);
-  one_branch = λ session xid other e f. whole.one_owned session xid other (owns_owner branches rows session xid e) (owns_owner branches rows session other f);
+      (sym (ap is_exclusive (lock_at-seen branches rows xid key whole)) ∙ e)
+      (sym (holds-seen branches rows other key whole) ∙ f);
+  one_branch = λ session xid other e f. whole.one_owned session xid other (owns_owner branches rows session xid e)
+      (owns_owner branches rows session other f);
   detached = detached branches rows whole;
   attached = attached branches rows whole;
   held_writes =

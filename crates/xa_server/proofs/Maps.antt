@@ -10,7 +10,8 @@ use Rattle.std.specs.Cmp.{IsTotalOrder, eq_by_cmp_equiv}
 use Rattle.std.specs.Map.{lookup}
 use Rattle.std.specs.BTreeMap as tree
 use Rattle.std.specs.BTreeMap.{BTreeMap, is_at, Updates, IsUnchanged, IsEmpty}
-use Rattle.std.specs.FinMap.{FinMap, find, from_entries, insert, remove, empty, get, same_map, get-from_entries, get-insert, get-remove}
+use Rattle.std.specs.FinMap.{FinMap, find, from_entries, insert, remove, empty, get, same_map, get-from_entries}
+use Rattle.std.specs.FinMap.{get-insert, get-remove}
 use Rattle.std.proofs.lemmas.Map.Lookups.{CmpEqualImpliesEq}
 
 module _ {K : Type 0} {R : K → K → Ordering} (total : IsTotalOrder R) (exact : CmpEqualImpliesEq R) where
@@ -40,13 +41,15 @@ module _ {K X : Type 0} {R : K → K → Ordering} (total : IsTotalOrder R) (exa
   get_view m q = get-from_entries total m.entries q ∙ find_lookup m.entries q
 
   -- a tree that differs at one key is a map in which that key has this value
-  pub one_set : (m n : BTreeMap K X) (k : K) (v : X) → Updates R m n k (Some v) → from_entries {R = R} n.entries ≡ insert (from_entries m.entries) k v
+  pub one_set : (m n : BTreeMap K X) (k : K) (v : X) → Updates R m n k (Some v)
+      → from_entries {R = R} n.entries ≡ insert (from_entries m.entries) k v
   one_set m n k v updates = same_map total exact _ _ (λ q.
       get_view n q ∙ updates.0 q ∙ ap (λ b. cond b (Some v) (tree.get R m q)) ((eq_by_cmp_equiv total).symm k q)
       ∙ sym (get-insert total (from_entries m.entries) k v q ∙ ap (cond (eq_by_cmp R q k) (Some v)) (get_view m q)))
 
   -- or in which it has none
-  pub one_gone : (m n : BTreeMap K X) (k : K) → Updates R m n k None → from_entries {R = R} n.entries ≡ remove (from_entries m.entries) k
+  pub one_gone : (m n : BTreeMap K X) (k : K) → Updates R m n k None
+      → from_entries {R = R} n.entries ≡ remove (from_entries m.entries) k
   one_gone m n k updates = same_map total exact _ _ (λ q.
       get_view n q ∙ updates.0 q ∙ ap (λ b. cond b None (tree.get R m q)) ((eq_by_cmp_equiv total).symm k q)
       ∙ sym (get-remove total (from_entries m.entries) k q ∙ ap (cond (eq_by_cmp R q k) None) (get_view m q)))
@@ -60,7 +63,8 @@ module _ {K X : Type 0} {R : K → K → Ordering} (total : IsTotalOrder R) (exa
   pub get_inserted : (m : FinMap R X) (k : K) (v : X) → get (insert m k v) k ≡ Some v
   get_inserted m k v = get-insert total m k v k ∙ ap (λ b. cond b (Some v) (get m k)) (same_itself total exact k)
 
-  pub get_inserted_apart : (m : FinMap R X) (k : K) (v : X) (q : K) → eq_by_cmp R q k ≡ false → get (insert m k v) q ≡ get m q
+  pub get_inserted_apart : (m : FinMap R X) (k : K) (v : X) (q : K) → eq_by_cmp R q k ≡ false
+      → get (insert m k v) q ≡ get m q
   get_inserted_apart m k v q apart = get-insert total m k v q ∙ ap (λ b. cond b (Some v) (get m q)) apart
 
   pub get_removed : (m : FinMap R X) (k : K) → get (remove m k) k ≡ None

@@ -9,15 +9,18 @@ use Rattle.xa_xid.specs.declared.xid.Xid.{Xid}
 use Rattle.xa_xid.specs.Xid.{same_xid}
 use Rattle.xa_xid.proofs.Orders.{xids_total, exact_xids}
 use Rattle.xa_xid.specs.declared.statement.Statement.{Statement}
-use Rattle.xa_xid.specs.declared.statement.Statement.TheVariants.{Start, End, Prepare, Commit, Rollback, Recover, Unsupported, Get, Put, Del, Disconnect}
+use Rattle.xa_xid.specs.declared.statement.Statement.TheVariants.{Start, End, Prepare, Commit, Rollback, Recover}
+use Rattle.xa_xid.specs.declared.statement.Statement.TheVariants.{Unsupported, Get, Put, Del, Disconnect}
 use Rattle.xa_server.specs.declared.branch.Phase.{Phase}
-use Rattle.xa_server.specs.declared.branch.Phase.TheVariants.{Active as PhaseActive, Idle as PhaseIdle, Prepared as PhasePrepared}
+use Rattle.xa_server.specs.declared.branch.Phase.TheVariants.{Active as PhaseActive, Idle as PhaseIdle}
+use Rattle.xa_server.specs.declared.branch.Phase.TheVariants.{Prepared as PhasePrepared}
 use Rattle.xa_server.specs.declared.xa_error.XaError.TheVariants.{Nota, Rmfail}
 use Rattle.xa_server.specs.declared.xa_error.BranchState.TheVariants.{Prepared as StatePrepared}
 use Rattle.xa_server.specs.declared.reply.Reply.TheVariants.{Refused}
 use Rattle.xa_server.specs.declared.association.Association.{Association}
 use Rattle.xa_server.specs.declared.association.Association.TheVariants.{Free, Active, Idle}
-use Rattle.xa_server.specs.State.{Branch, State, is_prepared, owner_at, owns, own_xid, phase_at, association_in, association_of}
+use Rattle.xa_server.specs.State.{Branch, State, is_prepared, owner_at, owns, own_xid, phase_at, association_in}
+use Rattle.xa_server.specs.State.{association_of}
 use Rattle.xa_server.specs.Locks.{LockLaw}
 use Rattle.xa_server.specs.Replies.{refused_if, table}
 use Rattle.xa_server.specs.Step.{started_by, with_lock, with_own_write, is_refused, after}
@@ -30,7 +33,8 @@ use Rattle.xa_server.proofs.Changes.{idle, detached, branch_after, effect-branch
 
 -- the session owns the branch
 unfoldable pub is_owned : ℕ → Option Branch → Bool
-is_owned session found = option_map_or (λ owner. owner == session) (option_and_then (λ (b : Branch). b.owner) found) false
+is_owned session found =
+    option_map_or (λ owner. owner == session) (option_and_then (λ (b : Branch). b.owner) found) false
 
 -- ---- what a session has open, it owns
 
@@ -40,7 +44,8 @@ IsOwn state session Free = Unit {0}
 IsOwn state session (Active own) = owns state session own ≡ true
 IsOwn state session (Idle own) = owns state session own ≡ true
 
-passing : (p : Xid → Bool) (x : Xid) (rest : Option Xid) (xid : Xid) → (rest ≡ Some xid → p xid ≡ true) → (b : Bool) → p x ≡ b → cond b (Some x) rest ≡ Some xid
+passing : (p : Xid → Bool) (x : Xid) (rest : Option Xid) (xid : Xid) → (rest ≡ Some xid → p xid ≡ true) → (b : Bool)
+    → p x ≡ b → cond b (Some x) rest ≡ Some xid
     → p xid ≡ true
 passing p x rest xid later true is e = ap p (sym (same_value x xid e)) ∙ is
 passing p x rest xid later false is e = later e
@@ -50,7 +55,8 @@ find_passes : (p : Xid → Bool) (xs : List Xid) (xid : Xid) → find p xs ≡ S
 find_passes p [] xid e = not_none xid e
 find_passes p (x ∷ xs) xid e = passing p x (find p xs) xid (find_passes p xs xid) (p x) refl e
 
-in_phase : (state : State) (session : ℕ) (phase : Option Phase) (xid : Xid) → owns state session xid ≡ true → IsOwn state session (association_in phase xid)
+in_phase : (state : State) (session : ℕ) (phase : Option Phase) (xid : Xid) → owns state session xid ≡ true
+    → IsOwn state session (association_in phase xid)
 in_phase state session None xid e = tt
 in_phase state session (Some PhaseActive) xid e = e
 in_phase state session (Some PhaseIdle) xid e = e
@@ -60,9 +66,11 @@ pub own_association : (state : State) (session : ℕ) → IsOwn state session (a
 unfolding association_of own_xid
 own_association state session = by (own_xid state session) refl
   where
-    by : (own : Option Xid) → own_xid state session ≡ own → IsOwn state session (option_map_or (λ xid. association_in (phase_at state xid) xid) own Free)
+    by : (own : Option Xid) → own_xid state session ≡ own
+        → IsOwn state session (option_map_or (λ xid. association_in (phase_at state xid) xid) own Free)
     by None e = tt
-    by (Some xid) e = in_phase state session (phase_at state xid) xid (find_passes (owns state session) (map.keys state.branches) xid e)
+    by (Some xid) e = in_phase state session (phase_at state xid) xid
+        (find_passes (owns state session) (map.keys state.branches) xid e)
 
 pub known_owned : (session : ℕ) (found : Option Branch) → is_owned session found ≡ true → is_some found ≡ true
 unfolding is_owned
@@ -70,21 +78,25 @@ known_owned session None e = absurd (true≢false (sym e))
 known_owned session (Some branch) e = refl
 
 -- a branch that the session alone of all branches could own, and owns, is the one that is found
-pub own_found : (state : State) (session : ℕ) (xid : Xid) → owns state session xid ≡ true → ((other : Xid) → owns state session other ≡ true → xid ≡ other)
+pub own_found : (state : State) (session : ℕ) (xid : Xid) → owns state session xid ≡ true
+    → ((other : Xid) → owns state session other ≡ true → xid ≡ other)
     → own_xid state session ≡ Some xid
 unfolding own_xid is_owned
 own_found state session xid e only = find_one (owns state session) (map.keys state.branches) xid
     (sym (contains_key-keys state.branches xid) ∙ known_owned session (map.get state.branches xid) e) e only
 
 -- the branch that is found is the session's
-pub find_owned : (state : State) (session : ℕ) (xid : Xid) → own_xid state session ≡ Some xid → owns state session xid ≡ true
+pub find_owned : (state : State) (session : ℕ) (xid : Xid) → own_xid state session ≡ Some xid
+    → owns state session xid ≡ true
 unfolding own_xid
 find_owned state session xid e = find_passes (owns state session) (map.keys state.branches) xid e
 
 -- where the session owns no branch, none is found
-pub none_found : (state : State) (session : ℕ) → ((xid : Xid) → owns state session xid ≢ true) → own_xid state session ≡ None
+pub none_found : (state : State) (session : ℕ) → ((xid : Xid) → owns state session xid ≢ true)
+    → own_xid state session ≡ None
 unfolding own_xid
-none_found state session none = find_none (owns state session) (map.keys state.branches) (λ xid. by xid (owns state session xid) refl)
+none_found state session none =
+    find_none (owns state session) (map.keys state.branches) (λ xid. by xid (owns state session xid) refl)
   where
     by : (xid : Xid) (b : Bool) → owns state session xid ≡ b → b ≡ false
     by xid true e = absurd (none xid e)
@@ -92,7 +104,8 @@ none_found state session none = find_none (owns state session) (map.keys state.b
 
 -- ---- whose branch an accepted statement changes
 
-pub accepted_end_own : (state : State) (session : ℕ) (association : Association) (xid : Xid) → IsOwn state session association
+pub accepted_end_own : (state : State) (session : ℕ) (association : Association) (xid : Xid)
+    → IsOwn state session association
     → is_refused (table state association (End xid)) ≡ false
     → owns state session xid ≡ true
 unfolding table
@@ -100,12 +113,14 @@ accepted_end_own state session Free xid own e = absurd (true≢false e)
 accepted_end_own state session (Active associated) xid own e = ap (owns state session) (own_is xid associated _ e) ∙ own
 accepted_end_own state session (Idle associated) xid own e = absurd (true≢false e)
 
-pub accepted_prepare_own : (state : State) (session : ℕ) (association : Association) (xid : Xid) → IsOwn state session association
+pub accepted_prepare_own : (state : State) (session : ℕ) (association : Association) (xid : Xid)
+    → IsOwn state session association
     → is_refused (table state association (Prepare xid)) ≡ false → owns state session xid ≡ true
 unfolding table
 accepted_prepare_own state session Free xid own e = absurd (true≢false e)
 accepted_prepare_own state session (Active associated) xid own e = absurd (true≢false e)
-accepted_prepare_own state session (Idle associated) xid own e = ap (owns state session) (own_is xid associated _ e) ∙ own
+accepted_prepare_own state session (Idle associated) xid own e =
+    ap (owns state session) (own_is xid associated _ e) ∙ own
 
 never_done : {A : Type 0} (b : Bool) → is_refused (refused_if (not b) Nota (Refused (Rmfail StatePrepared))) ≡ false → A
 never_done true e = absurd (true≢false e)
@@ -115,7 +130,8 @@ never_done false e = absurd (true≢false e)
 abbrev pub IsFinishable : State → ℕ → Xid → Type 0
 IsFinishable state session xid = (owns state session xid ≡ true) ⊎ (is_prepared state xid ≡ true)
 
-pub accepted_commit_own : (state : State) (session : ℕ) (association : Association) (xid : Xid) (one_phase : Bool) → IsOwn state session association
+pub accepted_commit_own : (state : State) (session : ℕ) (association : Association) (xid : Xid) (one_phase : Bool)
+    → IsOwn state session association
     → is_refused (table state association (Commit xid one_phase)) ≡ false → IsFinishable state session xid
 unfolding table
 accepted_commit_own state session Free xid false own e = inr (passes (is_prepared state xid) _ e)
@@ -123,18 +139,22 @@ accepted_commit_own state session Free xid true own e = never_done (is_prepared 
 accepted_commit_own state session (Active associated) xid false own e = absurd (true≢false e)
 accepted_commit_own state session (Active associated) xid true own e = absurd (true≢false e)
 accepted_commit_own state session (Idle associated) xid false own e = absurd (true≢false e)
-accepted_commit_own state session (Idle associated) xid true own e = inl (ap (owns state session) (own_is xid associated _ e) ∙ own)
+accepted_commit_own state session (Idle associated) xid true own e =
+    inl (ap (owns state session) (own_is xid associated _ e) ∙ own)
 
-pub accepted_rollback_own : (state : State) (session : ℕ) (association : Association) (xid : Xid) → IsOwn state session association
+pub accepted_rollback_own : (state : State) (session : ℕ) (association : Association) (xid : Xid)
+    → IsOwn state session association
     → is_refused (table state association (Rollback xid)) ≡ false → IsFinishable state session xid
 unfolding table
 accepted_rollback_own state session Free xid own e = inr (passes (is_prepared state xid) _ e)
 accepted_rollback_own state session (Active associated) xid own e = absurd (true≢false e)
-accepted_rollback_own state session (Idle associated) xid own e = inl (ap (owns state session) (own_is xid associated _ e) ∙ own)
+accepted_rollback_own state session (Idle associated) xid own e =
+    inl (ap (owns state session) (own_is xid associated _ e) ∙ own)
 
 -- ---- such a branch isn't another session's
 
-one_owner : (session other : ℕ) (owner : Option ℕ) → session ≢ other → option_map_or (λ o. o == session) owner false ≡ true
+one_owner : (session other : ℕ) (owner : Option ℕ) → session ≢ other
+    → option_map_or (λ o. o == session) owner false ≡ true
     → option_map_or (λ o. o == other) owner false ≡ false
 one_owner session other owner apart e = by (option_map_or (λ o. o == other) owner false) refl
   where
@@ -142,13 +162,16 @@ one_owner session other owner apart e = by (option_map_or (λ o. o == other) own
     by true f = absurd (apart (same_value session other (sym (owned_is owner session e) ∙ owned_is owner other f)))
     by false f = refl
 
-not_others : (state : State) (session other : ℕ) (xid : Xid) → session ≢ other → owns state session xid ≡ true → owns state other xid ≡ false
+not_others : (state : State) (session other : ℕ) (xid : Xid) → session ≢ other → owns state session xid ≡ true
+    → owns state other xid ≡ false
 not_others state session other xid apart e = one_owner session other (owner_at state xid) apart e
 
-pub nobodys : (state : State) (other : ℕ) (xid : Xid) → LockLaw state → is_prepared state xid ≡ true → owns state other xid ≡ false
+pub nobodys : (state : State) (other : ℕ) (xid : Xid) → LockLaw state → is_prepared state xid ≡ true
+    → owns state other xid ≡ false
 nobodys state other xid law e = ap (λ owner. option_map_or (λ o. o == other) owner false) (law.detached xid e)
 
-not_anothers : (state : State) (session other : ℕ) (xid : Xid) → LockLaw state → session ≢ other → IsFinishable state session xid → owns state other xid ≡ false
+not_anothers : (state : State) (session other : ℕ) (xid : Xid) → LockLaw state → session ≢ other
+    → IsFinishable state session xid → owns state other xid ≡ false
 not_anothers state session other xid law apart (inl e) = not_others state session other xid apart e
 not_anothers state session other xid law apart (inr e) = nobodys state other xid law e
 
@@ -159,28 +182,36 @@ unknown_owned other (Some branch) e = absurd (true≢false e)
 
 -- ---- another session's branch stays as it is
 
-spared : (state : State) (other : ℕ) (touched at : Xid) (new : Option Branch) → owns state other touched ≡ false → owns state other at ≡ true
+spared : (state : State) (other : ℕ) (touched at : Xid) (new : Option Branch) → owns state other touched ≡ false
+    → owns state other at ≡ true
     → cond (same_xid at touched) new (map.get state.branches at) ≡ map.get state.branches at
 spared state other touched at new no_owner e = elim (same_or_apart xids_total exact_xids at touched) [
   | inl is ↦ absurd (true≢false (sym e ∙ ap (owns state other) is ∙ no_owner))
   | inr apart ↦ ap (λ b. cond b new (map.get state.branches at)) apart
 ]
 
-kept : (state : State) (session other : ℕ) → LockLaw state → session ≢ other → (association : Association) → IsOwn state session association
+kept : (state : State) (session other : ℕ) → LockLaw state → session ≢ other → (association : Association)
+    → IsOwn state session association
     → (statement : Statement)
     → is_refused (table state association statement) ≡ false →
-    (at : Xid) → owns state other at ≡ true → branch_after session association statement at (map.get state.branches at) ≡ map.get state.branches at
+    (at : Xid) → owns state other at ≡ true → branch_after session association statement at (map.get state.branches at)
+    ≡ map.get state.branches at
 unfolding branch_after is_owned
 kept state session other law apart association own (Start xid) accepted at e =
-    spared state other xid at _ (unknown_owned other (map.get state.branches xid) (accepted_start state association xid accepted).1) e
+    spared state other xid at _ (unknown_owned other (map.get state.branches xid)
+    (accepted_start state association xid accepted).1) e
 kept state session other law apart association own (End xid) accepted at e =
-    spared state other xid at _ (not_others state session other xid apart (accepted_end_own state session association xid own accepted)) e
+    spared state other xid at _ (not_others state session other xid apart
+    (accepted_end_own state session association xid own accepted)) e
 kept state session other law apart association own (Prepare xid) accepted at e =
-    spared state other xid at _ (not_others state session other xid apart (accepted_prepare_own state session association xid own accepted)) e
+    spared state other xid at _ (not_others state session other xid apart
+    (accepted_prepare_own state session association xid own accepted)) e
 kept state session other law apart association own (Commit xid one_phase) accepted at e =
-    spared state other xid at _ (not_anothers state session other xid law apart (accepted_commit_own state session association xid one_phase own accepted)) e
+    spared state other xid at _ (not_anothers state session other xid law apart
+    (accepted_commit_own state session association xid one_phase own accepted)) e
 kept state session other law apart association own (Rollback xid) accepted at e =
-    spared state other xid at _ (not_anothers state session other xid law apart (accepted_rollback_own state session association xid own accepted)) e
+    spared state other xid at _ (not_anothers state session other xid law apart
+    (accepted_rollback_own state session association xid own accepted)) e
 kept state session other law apart association own (Recover convert) accepted at e = refl
 kept state session other law apart association own Unsupported accepted at e = refl
 kept state session other law apart Free own (Get key) accepted at e = refl
@@ -208,13 +239,16 @@ either : (other : ℕ) (b : Bool) (new found : Option Branch) → (is_owned othe
 either other true new found from e = from e
 either other false new found from e = e
 
-same_owner : (other : ℕ) (change : Branch → Branch) → ((branch : Branch) → (change branch).owner ≡ branch.owner) → (found : Option Branch)
+same_owner : (other : ℕ) (change : Branch → Branch) → ((branch : Branch) → (change branch).owner ≡ branch.owner)
+    → (found : Option Branch)
     → is_owned other (option_map change found) ≡ true → is_owned other found ≡ true
 unfolding is_owned
 same_owner other change same None e = e
-same_owner other change same (Some branch) e = ap (λ owner. option_map_or (λ o. o == other) owner false) (sym (same branch)) ∙ e
+same_owner other change same (Some branch) e =
+    ap (λ owner. option_map_or (λ o. o == other) owner false) (sym (same branch)) ∙ e
 
-ownerless : (other : ℕ) (found : Option Branch) → is_owned other (option_map detached found) ≡ true → is_owned other found ≡ true
+ownerless : (other : ℕ) (found : Option Branch) → is_owned other (option_map detached found) ≡ true
+    → is_owned other found ≡ true
 unfolding is_owned detached
 ownerless other None e = absurd (true≢false (sym e))
 ownerless other (Some branch) e = absurd (true≢false (sym e))
@@ -228,7 +262,8 @@ abbrev pub IsStarted : ℕ → ℕ → Statement → Xid → Type 0
 IsStarted session who statement at = (statement ≡ Start at) × (session ≡ who)
 
 -- a branch that a session owns after a statement, it owned before, or has just started
-pub owned_before : (session who : ℕ) (association : Association) (statement : Statement) (at : Xid) (found : Option Branch)
+pub owned_before : (session who : ℕ) (association : Association) (statement : Statement) (at : Xid)
+    (found : Option Branch)
     → is_owned who (branch_after session association statement at found) ≡ true →
     (is_owned who found ≡ true) ⊎ IsStarted session who statement at
 unfolding branch_after idle is_owned
@@ -236,18 +271,24 @@ owned_before session who association (Start xid) at found e = elim (same_or_apar
   | inl is ↦ inr (
     ap Start (sym is),
     same_value session who (owned_is (Some session) who
-        (ap (λ b. is_owned who (cond b (Some (started_by session)) found)) (sym (ap (λ x. same_xid x xid) is ∙ same_itself xids_total exact_xids xid)) ∙ e)),
+        (ap (λ b. is_owned who (cond b (Some (started_by session)) found))
+        (sym (ap (λ x. same_xid x xid) is ∙ same_itself xids_total exact_xids xid)) ∙ e)),
   )
   | inr apart ↦ inl (ap (λ b. is_owned who (cond b (Some (started_by session)) found)) (sym apart) ∙ e)
 ]
-owned_before session who association (End xid) at found e = inl (either who (same_xid at xid) _ found (same_owner who idle (λ b. refl) found) e)
-owned_before session who association (Prepare xid) at found e = inl (either who (same_xid at xid) _ found (ownerless who found) e)
-owned_before session who association (Commit xid one_phase) at found e = inl (either who (same_xid at xid) _ found (removed who found) e)
-owned_before session who association (Rollback xid) at found e = inl (either who (same_xid at xid) _ found (removed who found) e)
+owned_before session who association (End xid) at found e =
+    inl (either who (same_xid at xid) _ found (same_owner who idle (λ b. refl) found) e)
+owned_before session who association (Prepare xid) at found e =
+    inl (either who (same_xid at xid) _ found (ownerless who found) e)
+owned_before session who association (Commit xid one_phase) at found e =
+    inl (either who (same_xid at xid) _ found (removed who found) e)
+owned_before session who association (Rollback xid) at found e =
+    inl (either who (same_xid at xid) _ found (removed who found) e)
 owned_before session who association (Recover convert) at found e = inl e
 owned_before session who association Unsupported at found e = inl e
 owned_before session who Free (Get key) at found e = inl e
-owned_before session who (Active own) (Get key) at found e = inl (either who (same_xid at own) _ found (same_owner who (with_lock key) (λ b. refl) found) e)
+owned_before session who (Active own) (Get key) at found e =
+    inl (either who (same_xid at own) _ found (same_owner who (with_lock key) (λ b. refl) found) e)
 owned_before session who (Idle own) (Get key) at found e = inl e
 owned_before session who Free (Put key value) at found e = inl e
 owned_before session who (Active own) (Put key value) at found e =
@@ -258,16 +299,20 @@ owned_before session who (Active own) (Del key) at found e =
     inl (either who (same_xid at own) _ found (same_owner who (with_own_write key None) (λ b. refl) found) e)
 owned_before session who (Idle own) (Del key) at found e = inl e
 owned_before session who Free Disconnect at found e = inl e
-owned_before session who (Active own) Disconnect at found e = inl (either who (same_xid at own) _ found (removed who found) e)
-owned_before session who (Idle own) Disconnect at found e = inl (either who (same_xid at own) _ found (removed who found) e)
+owned_before session who (Active own) Disconnect at found e =
+    inl (either who (same_xid at own) _ found (removed who found) e)
+owned_before session who (Idle own) Disconnect at found e =
+    inl (either who (same_xid at own) _ found (removed who found) e)
 
 -- so another session gets none
-gained : (session other : ℕ) → session ≢ other → (association : Association) (statement : Statement) (at : Xid) (found : Option Branch)
+gained : (session other : ℕ) → session ≢ other → (association : Association) (statement : Statement) (at : Xid)
+    (found : Option Branch)
     → is_owned other (branch_after session association statement at found) ≡ true → is_owned other found ≡ true
-gained session other apart association statement at found e = elim (owned_before session other association statement at found e) [
-  | inl before ↦ before
-  | inr started ↦ absurd (apart started.1)
-]
+gained session other apart association statement at found e =
+    elim (owned_before session other association statement at found e) [
+      | inl before ↦ before
+      | inr started ↦ absurd (apart started.1)
+    ]
 
 -- ---- the law
 
@@ -276,13 +321,15 @@ same_session : (old new : State) (session : ℕ) → LockLaw old
     → ((xid : Xid) → owns old session xid ≡ true → map.get new.branches xid ≡ map.get old.branches xid) →
     ((xid : Xid) → owns new session xid ≡ true → owns old session xid ≡ true) → LeavesSession old new session
 unfolding is_owned association_of
-same_session old new session law same back = record { own = own; association = association (own_xid old session) refl; phase = phase; branch = same }
+same_session old new session law same back =
+    record { own = own; association = association (own_xid old session) refl; phase = phase; branch = same }
   where
     phase : (xid : Xid) → owns old session xid ≡ true → phase_at new xid ≡ phase_at old xid
     phase xid e = ap (option_map (λ (b : Branch). b.phase)) (same xid e)
 
     found : (xid : Xid) → owns old session xid ≡ true → own_xid new session ≡ Some xid
-    found xid e = own_found new session xid (ap (is_owned session) (same xid e) ∙ e) (λ other f. law.one_branch session xid other e (back other f))
+    found xid e = own_found new session xid (ap (is_owned session) (same xid e) ∙ e)
+        (λ other f. law.one_branch session xid other e (back other f))
 
     by : (was : Option Xid) → own_xid old session ≡ was → own_xid new session ≡ was
     by (Some xid) is = found xid (find_owned old session xid is)
@@ -293,7 +340,8 @@ same_session old new session law same back = record { own = own; association = a
     own : own_xid new session ≡ own_xid old session
     own = by (own_xid old session) refl
 
-    association : (was : Option Xid) → own_xid old session ≡ was → association_of new session ≡ association_of old session
+    association : (was : Option Xid) → own_xid old session ≡ was
+        → association_of new session ≡ association_of old session
     association None is =
         ap (λ own. option_map_or (λ xid. association_in (phase_at new xid) xid) own Free) (own ∙ is)
         ∙ sym (ap (λ own. option_map_or (λ xid. association_in (phase_at old xid) xid) own Free) is)
@@ -310,8 +358,11 @@ others_left state law session other statement apart = elim (outcome state sessio
       (λ xid e. ap (λ (s : State). map.get s.branches xid) same)
       (λ xid e. sym (ap (λ s. owns s other xid) same) ∙ e)
   | inr (accepted, done) ↦ same_session state (after state session statement) other law
-      (λ xid e. ap (λ (s : State). map.get s.branches xid) done ∙ effect-branch state session (association_of state session) statement xid
-      ∙ kept state session other law apart (association_of state session) (own_association state session) statement accepted xid e)
+      (λ xid e. ap (λ (s : State). map.get s.branches xid) done
+      ∙ effect-branch state session (association_of state session) statement xid
+      ∙ kept state session other law apart (association_of state session)
+      (own_association state session) statement accepted xid e)
       (λ xid e. gained session other apart (association_of state session) statement xid (map.get state.branches xid)
-      (ap (is_owned other) (sym (effect-branch state session (association_of state session) statement xid)) ∙ sym (ap (λ s. owns s other xid) done) ∙ e))
+      (ap (is_owned other) (sym (effect-branch state session (association_of state session) statement xid))
+      ∙ sym (ap (λ s. owns s other xid) done) ∙ e))
 ]

@@ -40,7 +40,8 @@ err_value (Ok x) p = tt
 err_value (Err e) p = p
 
 -- two facts of each outcome
-pub whichever : {T E : Type 0} (r : Result T E) {P Q R S C : Type 0} → OnOk r P → OnErr r Q → OnOk r R → OnErr r S → (P → R → C) → (Q → S → C) → C
+pub whichever : {T E : Type 0} (r : Result T E) {P Q R S C : Type 0} → OnOk r P → OnErr r Q → OnOk r R → OnErr r S
+    → (P → R → C) → (Q → S → C) → C
 whichever (Ok x) p q s t f g = f p s
 whichever (Err e) p q s t f g = g q t
 

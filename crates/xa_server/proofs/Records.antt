@@ -18,7 +18,8 @@ abbrev pub branches_in : BTreeMap Xid BranchRecord → BranchMap
 branches_in table = from_entries {R = xid_cmp} table.entries
 
 -- a look-up in the tree is one in the value that contracts see
-pub get_branch : (table : BTreeMap Xid BranchRecord) (seen : BranchMap) (xid : Xid) → branches_in table ≡ seen → tree.get xid_cmp table xid ≡ map.get seen xid
+pub get_branch : (table : BTreeMap Xid BranchRecord) (seen : BranchMap) (xid : Xid) → branches_in table ≡ seen
+    → tree.get xid_cmp table xid ≡ map.get seen xid
 get_branch table seen xid is = sym (get_view xids_total exact_xids table xid) ∙ ap (λ m. map.get m xid) is
 
 -- a record that is changed in place
@@ -34,29 +35,35 @@ changed_in old new xid change = by (tree.get xid_cmp old xid) refl
         branches_in new ≡ with_record (branches_in old) xid change
     by None e same =
         ap branches_in same ∙ sym
-        (ap (λ found. option_map_or (λ branch. map.insert (branches_in old) xid (change branch)) found (branches_in old))
+        (ap (λ found. option_map_or (λ branch. map.insert (branches_in old) xid (change branch)) found
+        (branches_in old))
         (get_view xids_total exact_xids old xid ∙ e))
     by (Some branch) e updates =
         one_set xids_total exact_xids old new xid (change branch) updates
-        ∙ sym (ap (λ found. option_map_or (λ branch. map.insert (branches_in old) xid (change branch)) found (branches_in old))
+        ∙ sym (ap (λ found. option_map_or (λ branch. map.insert (branches_in old) xid (change branch)) found
+        (branches_in old))
         (get_view xids_total exact_xids old xid ∙ e))
 
 -- a record that is put back as it was changes nothing
 pub with_record-same : (branches : BranchMap) (xid : Xid) → with_record branches xid (λ branch. branch) ≡ branches
 with_record-same branches xid = by (map.get branches xid) refl
   where
-    by : (found : Option BranchRecord) → map.get branches xid ≡ found → option_map_or (λ branch. map.insert branches xid branch) found branches ≡ branches
+    by : (found : Option BranchRecord) → map.get branches xid ≡ found
+        → option_map_or (λ branch. map.insert branches xid branch) found branches ≡ branches
     by None e = refl
-    by (Some branch) e = same_map xids_total exact_xids _ _ (λ other. elim (same_or_apart xids_total exact_xids other xid) [
-      | inl is ↦ rw is (get_inserted xids_total exact_xids branches xid branch ∙ sym e)
-      | inr apart ↦ get_inserted_apart xids_total exact_xids branches xid branch other apart
-    ])
+    by (Some branch) e =
+        same_map xids_total exact_xids _ _ (λ other. elim (same_or_apart xids_total exact_xids other xid) [
+          | inl is ↦ rw is (get_inserted xids_total exact_xids branches xid branch ∙ sym e)
+          | inr apart ↦ get_inserted_apart xids_total exact_xids branches xid branch other apart
+        ])
 
 -- a record that is taken out
-pub removed_in : (old new : BTreeMap Xid BranchRecord) (xid : Xid) → Updates xid_cmp old new xid None → branches_in new ≡ map.remove (branches_in old) xid
+pub removed_in : (old new : BTreeMap Xid BranchRecord) (xid : Xid) → Updates xid_cmp old new xid None
+    → branches_in new ≡ map.remove (branches_in old) xid
 removed_in old new xid updates = one_gone xids_total exact_xids old new xid updates
 
 -- a record that a look-up in the tree found stands in the map
-pub found_in : (table : BTreeMap Xid BranchRecord) (xid : Xid) (found : Option BranchRecord) → found ≡ tree.get xid_cmp table xid
+pub found_in : (table : BTreeMap Xid BranchRecord) (xid : Xid) (found : Option BranchRecord)
+    → found ≡ tree.get xid_cmp table xid
     → map.get (branches_in table) xid ≡ found
 found_in table xid found is = get_view xids_total exact_xids table xid ∙ sym is

@@ -16,12 +16,15 @@ abbrev pub rows_in : BTreeMap (List ℕ) RowRecord → RowMap
 rows_in table = from_entries {R = bytes_cmp} table.entries
 
 -- a look-up in the tree is one in the value that contracts see
-pub get_row : (table : BTreeMap (List ℕ) RowRecord) (seen : RowMap) (key : List ℕ) → rows_in table ≡ seen → tree.get bytes_cmp table key ≡ map.get seen key
+pub get_row : (table : BTreeMap (List ℕ) RowRecord) (seen : RowMap) (key : List ℕ) → rows_in table ≡ seen
+    → tree.get bytes_cmp table key ≡ map.get seen key
 get_row table seen key is = sym (get_view bytes_total exact_texts table key) ∙ ap (λ m. map.get m key) is
 
-pub row_set : (old new : BTreeMap (List ℕ) RowRecord) (key : List ℕ) (row : RowRecord) → Updates bytes_cmp old new key (Some row)
+pub row_set : (old new : BTreeMap (List ℕ) RowRecord) (key : List ℕ) (row : RowRecord)
+    → Updates bytes_cmp old new key (Some row)
     → rows_in new ≡ map.insert (rows_in old) key row
 row_set old new key row updates = one_set bytes_total exact_texts old new key row updates
 
-pub row_gone : (old new : BTreeMap (List ℕ) RowRecord) (key : List ℕ) → Updates bytes_cmp old new key None → rows_in new ≡ map.remove (rows_in old) key
+pub row_gone : (old new : BTreeMap (List ℕ) RowRecord) (key : List ℕ) → Updates bytes_cmp old new key None
+    → rows_in new ≡ map.remove (rows_in old) key
 row_gone old new key updates = one_gone bytes_total exact_texts old new key updates

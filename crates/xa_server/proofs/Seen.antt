@@ -16,18 +16,23 @@ use Rattle.xa_server.specs.declared.branch.BranchRecord.{BranchRecord}
 use Rattle.xa_server.specs.declared.row.RowRecord.{RowRecord}
 use Rattle.xa_server.specs.declared.association.Association.{Association}
 use Rattle.xa_server.specs.declared.association.Association.TheVariants.{Free, Active, Idle}
-use Rattle.xa_server.specs.declared.branch.Phase.TheVariants.{Active as PhaseActive, Idle as PhaseIdle, Prepared as PhasePrepared}
-use Rattle.xa_server.specs.State.{LockMode, Branch, is_known, phase_at, is_prepared_phase, is_prepared, owner_at, owns, own_xid, association_in, association_of}
+use Rattle.xa_server.specs.declared.branch.Phase.TheVariants.{Active as PhaseActive, Idle as PhaseIdle}
+use Rattle.xa_server.specs.declared.branch.Phase.TheVariants.{Prepared as PhasePrepared}
+use Rattle.xa_server.specs.State.{LockMode, Branch, is_known, phase_at, is_prepared_phase, is_prepared, owner_at, owns}
+use Rattle.xa_server.specs.State.{own_xid, association_in, association_of}
 use Rattle.xa_server.specs.State.{committed_value, write_at, value_within, prepared_xids}
 use Rattle.xa_server.specs.Locks.{lock_at, holds, is_exclusive, is_another, is_held_against, is_locked_against}
 use Rattle.xa_server.specs.Tables.{BranchMap, owner_of, phase_in as recorded_phase, named_in, prepared_among}
-use Rattle.xa_server.specs.Rows.{RowMap, committed_of, lock_of, write_by, lock_by, held_against, locked_against, value_seen}
+use Rattle.xa_server.specs.Rows.{RowMap, committed_of, lock_of, write_by, lock_by, held_against, locked_against}
+use Rattle.xa_server.specs.Rows.{value_seen}
 use Rattle.xa_server.specs.View.{gather, branch_seen, state_of, times_in, times_listed, IsWhole}
 use Rattle.xa_server.proofs.Maps.{same_or_apart}
 use Rattle.xa_server.proofs.Gathered.{get-gather, keys-mapped, get-mapped}
 use Rattle.xa_server.proofs.Index.{not_none}
-use Rattle.xa_server.proofs.Holders.{zero_or_one, mode_of, mode_of-lock, none_of, same_truth, both, any_witness, any_some, held_against-lock}
-use Rattle.xa_server.proofs.Holders.{locked_against-lock, beside_there, beside_witness, locked_there, locked_witness, unwritten}
+use Rattle.xa_server.proofs.Holders.{zero_or_one, mode_of, mode_of-lock, none_of, same_truth, both, any_witness}
+use Rattle.xa_server.proofs.Holders.{any_some, held_against-lock}
+use Rattle.xa_server.proofs.Holders.{locked_against-lock, beside_there, beside_witness, locked_there, locked_witness}
+use Rattle.xa_server.proofs.Holders.{unwritten}
 
 -- the branch at an identifier
 pub get-branches : (branches : BranchMap) (rows : RowMap) (xid : Xid)
@@ -35,51 +40,64 @@ pub get-branches : (branches : BranchMap) (rows : RowMap) (xid : Xid)
 unfolding state_of
 get-branches branches rows xid = get-mapped xids_total exact_xids (branch_seen rows) branches xid
 
-pub keys-branches : (branches : BranchMap) (rows : RowMap) → map.keys (state_of branches rows).branches ≡ map.keys branches
+pub keys-branches : (branches : BranchMap) (rows : RowMap)
+    → map.keys (state_of branches rows).branches ≡ map.keys branches
 unfolding state_of
 keys-branches branches rows = keys-mapped xids_total exact_xids (branch_seen rows) branches
 
 -- the committed value of a row
-pub committed-seen : (branches : BranchMap) (rows : RowMap) (key : List ℕ) → committed_value (state_of branches rows) key ≡ committed_of (map.get rows key)
+pub committed-seen : (branches : BranchMap) (rows : RowMap) (key : List ℕ)
+    → committed_value (state_of branches rows) key ≡ committed_of (map.get rows key)
 unfolding state_of
 committed-seen branches rows key = get-gather bytes_total exact_texts (λ row. row.committed) rows key
 
-pub writes-seen : (rows : RowMap) (xid : Xid) (key : List ℕ) → map.get (gather (write_by xid) rows) key ≡ option_and_then (write_by xid) (map.get rows key)
+pub writes-seen : (rows : RowMap) (xid : Xid) (key : List ℕ)
+    → map.get (gather (write_by xid) rows) key ≡ option_and_then (write_by xid) (map.get rows key)
 writes-seen rows xid key = get-gather bytes_total exact_texts (write_by xid) rows key
 
-pub locks-seen : (rows : RowMap) (xid : Xid) (key : List ℕ) → map.get (gather (lock_by xid) rows) key ≡ option_and_then (lock_by xid) (map.get rows key)
+pub locks-seen : (rows : RowMap) (xid : Xid) (key : List ℕ)
+    → map.get (gather (lock_by xid) rows) key ≡ option_and_then (lock_by xid) (map.get rows key)
 locks-seen rows xid key = get-gather bytes_total exact_texts (lock_by xid) rows key
 
 phase_in : (rows : RowMap) (xid : Xid) (found : Option BranchRecord)
-    → option_map (λ (b : Branch). b.phase) (option_map (branch_seen rows xid) found) ≡ option_map (λ (b : BranchRecord). b.phase) found
+    → option_map (λ (b : Branch). b.phase) (option_map (branch_seen rows xid) found)
+    ≡ option_map (λ (b : BranchRecord). b.phase) found
 phase_in rows xid None = refl
 phase_in rows xid (Some branch) = refl
 
 pub phase_at-seen : (branches : BranchMap) (rows : RowMap) (xid : Xid)
     → phase_at (state_of branches rows) xid ≡ option_map (λ (b : BranchRecord). b.phase) (map.get branches xid)
-phase_at-seen branches rows xid = ap (option_map (λ (b : Branch). b.phase)) (get-branches branches rows xid) ∙ phase_in rows xid (map.get branches xid)
+phase_at-seen branches rows xid = ap (option_map (λ (b : Branch). b.phase)) (get-branches branches rows xid)
+    ∙ phase_in rows xid (map.get branches xid)
 
 owner_in : (rows : RowMap) (xid : Xid) (found : Option BranchRecord)
-    → option_and_then (λ (b : Branch). b.owner) (option_map (branch_seen rows xid) found) ≡ option_and_then (λ (b : BranchRecord). b.owner) found
+    → option_and_then (λ (b : Branch). b.owner) (option_map (branch_seen rows xid) found)
+    ≡ option_and_then (λ (b : BranchRecord). b.owner) found
 owner_in rows xid None = refl
 owner_in rows xid (Some branch) = refl
 
-pub owner_at-seen : (branches : BranchMap) (rows : RowMap) (xid : Xid) → owner_at (state_of branches rows) xid ≡ owner_of branches xid
-owner_at-seen branches rows xid = ap (option_and_then (λ (b : Branch). b.owner)) (get-branches branches rows xid) ∙ owner_in rows xid (map.get branches xid)
+pub owner_at-seen : (branches : BranchMap) (rows : RowMap) (xid : Xid)
+    → owner_at (state_of branches rows) xid ≡ owner_of branches xid
+owner_at-seen branches rows xid = ap (option_and_then (λ (b : Branch). b.owner)) (get-branches branches rows xid)
+    ∙ owner_in rows xid (map.get branches xid)
 
-known_in : (rows : RowMap) (xid : Xid) (found : Option BranchRecord) → is_some (option_map (branch_seen rows xid) found) ≡ is_some found
+known_in : (rows : RowMap) (xid : Xid) (found : Option BranchRecord)
+    → is_some (option_map (branch_seen rows xid) found) ≡ is_some found
 known_in rows xid None = refl
 known_in rows xid (Some branch) = refl
 
-pub is_known-seen : (branches : BranchMap) (rows : RowMap) (xid : Xid) → is_known (state_of branches rows) xid ≡ is_some (map.get branches xid)
+pub is_known-seen : (branches : BranchMap) (rows : RowMap) (xid : Xid)
+    → is_known (state_of branches rows) xid ≡ is_some (map.get branches xid)
 is_known-seen branches rows xid = ap is_some (get-branches branches rows xid) ∙ known_in rows xid (map.get branches xid)
 
 -- a branch that the state knows has a record
-pub known_record : (branches : BranchMap) (rows : RowMap) (xid : Xid) → is_known (state_of branches rows) xid ≡ true → is_some (map.get branches xid) ≡ true
+pub known_record : (branches : BranchMap) (rows : RowMap) (xid : Xid) → is_known (state_of branches rows) xid ≡ true
+    → is_some (map.get branches xid) ≡ true
 known_record branches rows xid known = sym (is_known-seen branches rows xid) ∙ known
 
 pub is_prepared-seen : (branches : BranchMap) (rows : RowMap) (xid : Xid)
-    → is_prepared (state_of branches rows) xid ≡ option_map_or is_prepared_phase (option_map (λ (b : BranchRecord). b.phase) (map.get branches xid)) false
+    → is_prepared (state_of branches rows) xid ≡ option_map_or is_prepared_phase
+    (option_map (λ (b : BranchRecord). b.phase) (map.get branches xid)) false
 is_prepared-seen branches rows xid = ap (λ p. option_map_or is_prepared_phase p false) (phase_at-seen branches rows xid)
 
 -- ---- what a session has open
@@ -88,54 +106,66 @@ pub find_none : {A : Type 0} (p : A → Bool) (xs : List A) → ((x : A) → p x
 find_none p [] none = refl
 find_none p (x ∷ xs) none = ap (λ b. cond b (Some x) (find p xs)) (none x) ∙ find_none p xs none
 
-found_first : (p : Xid → Bool) (x xid : Xid) (rest : Option Xid) → rest ≡ Some xid → ((other : Xid) → p other ≡ true → xid ≡ other) → (b : Bool) → p x ≡ b
+found_first : (p : Xid → Bool) (x xid : Xid) (rest : Option Xid) → rest ≡ Some xid
+    → ((other : Xid) → p other ≡ true → xid ≡ other) → (b : Bool) → p x ≡ b
     → cond b (Some x) rest ≡ Some xid
 found_first p x xid rest later only true is = ap Some (sym (only x is))
 found_first p x xid rest later only false is = later
 
 -- the one element that passes
-pub find_one : (p : Xid → Bool) (xs : List Xid) (xid : Xid) → list_any (same_xid xid) xs ≡ true → p xid ≡ true → ((other : Xid) → p other ≡ true → xid ≡ other)
+pub find_one : (p : Xid → Bool) (xs : List Xid) (xid : Xid) → list_any (same_xid xid) xs ≡ true → p xid ≡ true
+    → ((other : Xid) → p other ≡ true → xid ≡ other)
     → find p xs ≡ Some xid
 find_one p [] xid there here only = absurd (true≢false (sym there))
 find_one p (x ∷ xs) xid there here only = elim (same_or_apart xids_total exact_xids xid x) [
   | inl is ↦ ap (λ b. cond b (Some x) (find p xs)) (ap p (sym is) ∙ here) ∙ ap Some (sym is)
-  | inr apart ↦ found_first p x xid (find p xs) (find_one p xs xid (sym (ap (λ b. b || list_any (same_xid xid) xs) apart) ∙ there) here only) only (p x) refl
+  | inr apart ↦ found_first p x xid (find p xs) (find_one p xs xid
+      (sym (ap (λ b. b || list_any (same_xid xid) xs) apart) ∙ there) here only) only (p x) refl
 ]
 
 owns-seen : (branches : BranchMap) (rows : RowMap) (session : ℕ) (xid : Xid)
-    → owns (state_of branches rows) session xid ≡ option_map_or (λ owner. owner == session) (owner_of branches xid) false
-owns-seen branches rows session xid = ap (λ owner. option_map_or (λ owner. owner == session) owner false) (owner_at-seen branches rows xid)
+    → owns (state_of branches rows) session xid ≡ option_map_or (λ owner. owner == session)
+    (owner_of branches xid) false
+owns-seen branches rows session xid =
+    ap (λ owner. option_map_or (λ owner. owner == session) owner false) (owner_at-seen branches rows xid)
 
-pub owned_is : (owner : Option ℕ) (session : ℕ) → option_map_or (λ owner. owner == session) owner false ≡ true → owner ≡ Some session
+pub owned_is : (owner : Option ℕ) (session : ℕ) → option_map_or (λ owner. owner == session) owner false ≡ true
+    → owner ≡ Some session
 owned_is None session e = absurd (true≢false (sym e))
 owned_is (Some owner) session e = ap Some (eqb-true owner session e)
 
-pub owns_owner : (branches : BranchMap) (rows : RowMap) (session : ℕ) (xid : Xid) → owns (state_of branches rows) session xid ≡ true
+pub owns_owner : (branches : BranchMap) (rows : RowMap) (session : ℕ) (xid : Xid)
+    → owns (state_of branches rows) session xid ≡ true
     → owner_of branches xid ≡ Some session
 owns_owner branches rows session xid e = owned_is _ session (sym (owns-seen branches rows session xid) ∙ e)
 
 pub owner_owns : (branches : BranchMap) (rows : RowMap) (session : ℕ) (xid : Xid) → owner_of branches xid ≡ Some session
     → owns (state_of branches rows) session xid ≡ true
 owner_owns branches rows session xid e =
-    owns-seen branches rows session xid ∙ ap (λ owner. option_map_or (λ owner. owner == session) owner false) e ∙ eq-eqb session session refl
+    owns-seen branches rows session xid ∙ ap (λ owner. option_map_or (λ owner. owner == session) owner false) e
+    ∙ eq-eqb session session refl
 
-not_owned : (owner : Option ℕ) (session : ℕ) → (owner ≢ Some session) → option_map_or (λ owner. owner == session) owner false ≡ false
+not_owned : (owner : Option ℕ) (session : ℕ) → (owner ≢ Some session)
+    → option_map_or (λ owner. owner == session) owner false ≡ false
 not_owned owner session none = by (option_map_or (λ owner. owner == session) owner false) refl
   where
     by : (b : Bool) → option_map_or (λ owner. owner == session) owner false ≡ b → b ≡ false
     by true e = absurd (none (owned_is owner session e))
     by false e = refl
 
-owner_known : (found : Option BranchRecord) (session : ℕ) → option_and_then (λ (b : BranchRecord). b.owner) found ≡ Some session → is_some found ≡ true
+owner_known : (found : Option BranchRecord) (session : ℕ)
+    → option_and_then (λ (b : BranchRecord). b.owner) found ≡ Some session → is_some found ≡ true
 owner_known None session e = not_none session e
 owner_known (Some branch) session e = refl
 
 -- a record that is found stands at a key
 key_there : (branches : BranchMap) (rows : RowMap) (xid : Xid) → is_some (map.get branches xid) ≡ true
     → list_any (same_xid xid) (map.keys (state_of branches rows).branches) ≡ true
-key_there branches rows xid there = ap (list_any (same_xid xid)) (keys-branches branches rows) ∙ sym (contains_key-keys branches xid) ∙ there
+key_there branches rows xid there =
+    ap (list_any (same_xid xid)) (keys-branches branches rows) ∙ sym (contains_key-keys branches xid) ∙ there
 
-pub own_xid-owned : (branches : BranchMap) (rows : RowMap) (session : ℕ) (xid : Xid) → IsWhole branches rows → owner_of branches xid ≡ Some session
+pub own_xid-owned : (branches : BranchMap) (rows : RowMap) (session : ℕ) (xid : Xid) → IsWhole branches rows
+    → owner_of branches xid ≡ Some session
     → own_xid (state_of branches rows) session ≡ Some xid
 unfolding own_xid
 own_xid-owned branches rows session xid whole owner =
@@ -144,7 +174,8 @@ own_xid-owned branches rows session xid whole owner =
     (owner_owns branches rows session xid owner)
     (λ other is. whole.one_owned session xid other owner (owns_owner branches rows session other is))
 
-pub own_xid-free : (branches : BranchMap) (rows : RowMap) (session : ℕ) → ((xid : Xid) → owner_of branches xid ≢ Some session)
+pub own_xid-free : (branches : BranchMap) (rows : RowMap) (session : ℕ)
+    → ((xid : Xid) → owner_of branches xid ≢ Some session)
     → own_xid (state_of branches rows) session ≡ None
 unfolding own_xid
 own_xid-free branches rows session free =
@@ -152,40 +183,48 @@ own_xid-free branches rows session free =
     (λ xid. owns-seen branches rows session xid ∙ not_owned (owner_of branches xid) session (free xid))
 
 -- the association of a session that owns a branch
-pub association-owned : (branches : BranchMap) (rows : RowMap) (session : ℕ) (xid : Xid) (phase : Option Phase) → IsWhole branches rows →
+pub association-owned : (branches : BranchMap) (rows : RowMap) (session : ℕ) (xid : Xid) (phase : Option Phase)
+    → IsWhole branches rows →
     owner_of branches xid ≡ Some session → option_map (λ (b : BranchRecord). b.phase) (map.get branches xid) ≡ phase
     → association_of (state_of branches rows) session ≡ association_in phase xid
 unfolding association_of
 association-owned branches rows session xid phase whole owner is =
-    ap (λ own. option_map_or (λ xid. association_in (phase_at (state_of branches rows) xid) xid) own Free) (own_xid-owned branches rows session xid whole owner)
+    ap (λ own. option_map_or (λ xid. association_in (phase_at (state_of branches rows) xid) xid) own Free)
+    (own_xid-owned branches rows session xid whole owner)
     ∙ ap (λ p. association_in p xid) (phase_at-seen branches rows xid ∙ is)
 
 -- the association of a session that owns none
-pub association-free : (branches : BranchMap) (rows : RowMap) (session : ℕ) → ((xid : Xid) → owner_of branches xid ≢ Some session)
+pub association-free : (branches : BranchMap) (rows : RowMap) (session : ℕ)
+    → ((xid : Xid) → owner_of branches xid ≢ Some session)
     → association_of (state_of branches rows) session ≡ Free
 unfolding association_of
 association-free branches rows session free =
-    ap (λ own. option_map_or (λ xid. association_in (phase_at (state_of branches rows) xid) xid) own Free) (own_xid-free branches rows session free)
+    ap (λ own. option_map_or (λ xid. association_in (phase_at (state_of branches rows) xid) xid) own Free)
+    (own_xid-free branches rows session free)
 
 -- what the index says that a session has open
-pub association-opened : (branches : BranchMap) (rows : RowMap) (session : ℕ) (opened : Association) → IsWhole branches rows →
+pub association-opened : (branches : BranchMap) (rows : RowMap) (session : ℕ) (opened : Association)
+    → IsWhole branches rows →
     ((xid : Xid) → named_in opened ≡ Some xid → owner_of branches xid ≡ Some session) →
     ((xid : Xid) → owner_of branches xid ≡ Some session → opened ≡ association_in (recorded_phase branches xid) xid)
     → opened ≡ association_of (state_of branches rows) session
 association-opened branches rows session opened whole named owned = by opened refl
   where
     own : (xid : Xid) → owner_of branches xid ≡ Some session → opened ≡ association_of (state_of branches rows) session
-    own xid owner = owned xid owner ∙ sym (association-owned branches rows session xid (recorded_phase branches xid) whole owner refl)
+    own xid owner = owned xid owner ∙ sym (association-owned branches rows session xid
+        (recorded_phase branches xid) whole owner refl)
 
     none : opened ≡ Free → (xid : Xid) → owner_of branches xid ≢ Some session
     none free xid owner = at (map.get branches xid) refl
       where
         clash : (branch : BranchRecord) (phase : Phase) → branch.phase ≡ phase → map.get branches xid ≡ Some branch → ⊥
         clash branch PhaseActive p is =
-            let e : Free ≡ Active xid = sym free ∙ owned xid owner ∙ ap (λ found. association_in (option_map (λ (b : BranchRecord). b.phase) found) xid) is
+            let e : Free ≡ Active xid = sym free ∙ owned xid owner
+            ∙ ap (λ found. association_in (option_map (λ (b : BranchRecord). b.phase) found) xid) is
             ∙ ap (λ phase. association_in (Some phase) xid) p in cc
         clash branch PhaseIdle p is =
-            let e : Free ≡ Idle xid = sym free ∙ owned xid owner ∙ ap (λ found. association_in (option_map (λ (b : BranchRecord). b.phase) found) xid) is
+            let e : Free ≡ Idle xid = sym free ∙ owned xid owner
+            ∙ ap (λ found. association_in (option_map (λ (b : BranchRecord). b.phase) found) xid) is
             ∙ ap (λ phase. association_in (Some phase) xid) p in cc
         clash branch PhasePrepared p is =
             true≢false (sym (whole.attached xid branch is ∙ ap is_prepared_phase p)
@@ -207,13 +246,16 @@ zero_only true n z e = absurd (zero_or_one n z e)
 zero_only false n z e = refl
 
 -- a branch without a record holds nothing
-pub unknown_holds : (branches : BranchMap) (rows : RowMap) (xid : Xid) (key : List ℕ) → IsWhole branches rows → map.get branches xid ≡ None
+pub unknown_holds : (branches : BranchMap) (rows : RowMap) (xid : Xid) (key : List ℕ) → IsWhole branches rows
+    → map.get branches xid ≡ None
     → is_some (mode_of xid (map.get rows key)) ≡ false
 unknown_holds branches rows xid key whole none = zero_only _ (times_listed branches xid key)
-    (ap (λ (found : Option BranchRecord). option_map_or (λ (branch : BranchRecord). times_in key branch.held) found 0) none) (whole.listed_once xid key)
+    (ap (λ (found : Option BranchRecord). option_map_or (λ (branch : BranchRecord). times_in key branch.held) found 0)
+    none) (whole.listed_once xid key)
 
 -- a branch that holds a row has a record
-pub holder_known : (branches : BranchMap) (rows : RowMap) (xid : Xid) (key : List ℕ) → IsWhole branches rows → is_some (mode_of xid (map.get rows key)) ≡ true
+pub holder_known : (branches : BranchMap) (rows : RowMap) (xid : Xid) (key : List ℕ) → IsWhole branches rows
+    → is_some (mode_of xid (map.get rows key)) ≡ true
     → is_some (map.get branches xid) ≡ true
 holder_known branches rows xid key whole e = by (map.get branches xid) refl
   where
@@ -222,7 +264,8 @@ holder_known branches rows xid key whole e = by (map.get branches xid) refl
     by (Some branch) is = refl
 
 mode_within : (rows : RowMap) (xid : Xid) (key : List ℕ) (found : Option BranchRecord) → is_some found ≡ true →
-    option_and_then (λ (branch : Branch). map.get branch.locks key) (option_map (branch_seen rows xid) found) ≡ mode_of xid (map.get rows key)
+    option_and_then (λ (branch : Branch). map.get branch.locks key) (option_map (branch_seen rows xid) found)
+    ≡ mode_of xid (map.get rows key)
 mode_within rows xid key None there = absurd (true≢false (sym there))
 mode_within rows xid key (Some branch) there = locks-seen rows xid key
 
@@ -230,10 +273,12 @@ mode_within rows xid key (Some branch) there = locks-seen rows xid key
 pub lock_at-seen : (branches : BranchMap) (rows : RowMap) (xid : Xid) (key : List ℕ) → IsWhole branches rows
     → lock_at (state_of branches rows) xid key ≡ mode_of xid (map.get rows key)
 lock_at-seen branches rows xid key whole =
-    ap (option_and_then (λ (branch : Branch). map.get branch.locks key)) (get-branches branches rows xid) ∙ by (map.get branches xid) refl
+    ap (option_and_then (λ (branch : Branch). map.get branch.locks key)) (get-branches branches rows xid)
+    ∙ by (map.get branches xid) refl
   where
     by : (found : Option BranchRecord) → map.get branches xid ≡ found
-        → option_and_then (λ (branch : Branch). map.get branch.locks key) (option_map (branch_seen rows xid) found) ≡ mode_of xid (map.get rows key)
+        → option_and_then (λ (branch : Branch). map.get branch.locks key) (option_map (branch_seen rows xid) found)
+        ≡ mode_of xid (map.get rows key)
     by (Some branch) e = mode_within rows xid key (Some branch) refl
     by None e = sym (none_of (mode_of xid (map.get rows key)) (unknown_holds branches rows xid key whole e))
 
@@ -242,50 +287,64 @@ pub holds-seen : (branches : BranchMap) (rows : RowMap) (xid : Xid) (key : List 
 holds-seen branches rows xid key whole = ap is_some (lock_at-seen branches rows xid key whole)
 
 -- a test of how the branches of others hold a row, by the row's record
-against : (branches : BranchMap) (rows : RowMap) (association : Association) (key : List ℕ) (passes : Option LockMode → Bool) (b : Bool) → IsWhole branches rows
+against : (branches : BranchMap) (rows : RowMap) (association : Association) (key : List ℕ)
+    (passes : Option LockMode → Bool) (b : Bool) → IsWhole branches rows
     → passes None ≡ false →
     (b ≡ true → (xid : Xid) × (passes (mode_of xid (map.get rows key)) ≡ true) × (is_another association xid ≡ true)) →
     ((xid : Xid) → passes (mode_of xid (map.get rows key)) ≡ true → is_another association xid ≡ true → b ≡ true) →
-    list_any (λ xid. is_another association xid && passes (lock_at (state_of branches rows) xid key)) (map.keys (state_of branches rows).branches) ≡ b
+    list_any (λ xid. is_another association xid && passes (lock_at (state_of branches rows) xid key))
+    (map.keys (state_of branches rows).branches) ≡ b
 against branches rows association key passes b whole nothing witness there = same_truth _ b
     (λ e.
     let found =
-    any_witness (λ xid. is_another association xid && passes (lock_at (state_of branches rows) xid key)) (map.keys (state_of branches rows).branches) e in
+    any_witness (λ xid. is_another association xid && passes (lock_at (state_of branches rows) xid key))
+    (map.keys (state_of branches rows).branches) e in
     let parts = both (is_another association found.0) (passes (lock_at (state_of branches rows) found.0 key)) found.2 in
     there found.0 (ap passes (sym (lock_at-seen branches rows found.0 key whole)) ∙ parts.1) parts.0)
     (λ e.
     let found = witness e in
-    any_some (λ xid. is_another association xid && passes (lock_at (state_of branches rows) xid key)) (map.keys (state_of branches rows).branches) found.0
-    (key_there branches rows found.0 (holder_known branches rows found.0 key whole (something (mode_of found.0 (map.get rows key)) found.1)))
-    (ap (λ a. a && passes (lock_at (state_of branches rows) found.0 key)) found.2 ∙ ap passes (lock_at-seen branches rows found.0 key whole) ∙ found.1))
+    any_some (λ xid. is_another association xid && passes (lock_at (state_of branches rows) xid key))
+    (map.keys (state_of branches rows).branches) found.0
+    (key_there branches rows found.0 (holder_known branches rows found.0 key whole
+    (something (mode_of found.0 (map.get rows key)) found.1)))
+    (ap (λ a. a && passes (lock_at (state_of branches rows) found.0 key)) found.2
+    ∙ ap passes (lock_at-seen branches rows found.0 key whole) ∙ found.1))
   where
     something : (mode : Option LockMode) → passes mode ≡ true → is_some mode ≡ true
     something None e = absurd (true≢false (sym e ∙ nothing))
     something (Some mode) e = refl
 
 -- a row is held against a session where its record says that another branch holds it
-pub held_against-seen : (branches : BranchMap) (rows : RowMap) (association : Association) (key : List ℕ) → IsWhole branches rows
+pub held_against-seen : (branches : BranchMap) (rows : RowMap) (association : Association) (key : List ℕ)
+    → IsWhole branches rows
     → is_held_against (state_of branches rows) association key ≡ held_against association (map.get rows key)
 unfolding is_held_against
-held_against-seen branches rows association key whole = against branches rows association key is_some (held_against association (map.get rows key)) whole refl
-    (λ e. let found = beside_witness association (lock_of (map.get rows key)) (sym (held_against-lock association (map.get rows key)) ∙ e) in
+held_against-seen branches rows association key whole =
+    against branches rows association key is_some (held_against association (map.get rows key)) whole refl
+    (λ e. let found = beside_witness association (lock_of (map.get rows key))
+    (sym (held_against-lock association (map.get rows key)) ∙ e) in
     (found.0, ap is_some (mode_of-lock found.0 (map.get rows key)) ∙ found.1, found.2))
     (λ xid e f. held_against-lock association (map.get rows key)
-    ∙ beside_there association (lock_of (map.get rows key)) xid (sym (ap is_some (mode_of-lock xid (map.get rows key))) ∙ e) f)
+    ∙ beside_there association (lock_of (map.get rows key)) xid
+    (sym (ap is_some (mode_of-lock xid (map.get rows key))) ∙ e) f)
 
 -- and locked against it where the record says that another branch holds it exclusively
-pub locked_against-seen : (branches : BranchMap) (rows : RowMap) (association : Association) (key : List ℕ) → IsWhole branches rows
+pub locked_against-seen : (branches : BranchMap) (rows : RowMap) (association : Association) (key : List ℕ)
+    → IsWhole branches rows
     → is_locked_against (state_of branches rows) association key ≡ locked_against association (map.get rows key)
 unfolding is_locked_against
 locked_against-seen branches rows association key whole =
     against branches rows association key is_exclusive (locked_against association (map.get rows key)) whole refl
-    (λ e. let found = locked_witness association (lock_of (map.get rows key)) (sym (locked_against-lock association (map.get rows key)) ∙ e) in
+    (λ e. let found = locked_witness association (lock_of (map.get rows key))
+    (sym (locked_against-lock association (map.get rows key)) ∙ e) in
     (found.0, ap is_exclusive (mode_of-lock found.0 (map.get rows key)) ∙ found.1, found.2))
     (λ xid e f. locked_against-lock association (map.get rows key)
-    ∙ locked_there association (lock_of (map.get rows key)) xid (sym (ap is_exclusive (mode_of-lock xid (map.get rows key))) ∙ e) f)
+    ∙ locked_there association (lock_of (map.get rows key)) xid
+    (sym (ap is_exclusive (mode_of-lock xid (map.get rows key))) ∙ e) f)
 
 -- a row that isn't held against a session is held by no other branch
-not_beside : (association : Association) (found : Option RowRecord) (xid : Xid) → held_against association found ≡ false → is_another association xid ≡ true
+not_beside : (association : Association) (found : Option RowRecord) (xid : Xid) → held_against association found ≡ false
+    → is_another association xid ≡ true
     → is_some (mode_of xid found) ≡ false
 not_beside association found xid e another = by (is_some (mode_of xid found)) refl
   where
@@ -296,17 +355,20 @@ not_beside association found xid e another = by (is_some (mode_of xid found)) re
     by false none = refl
 
 -- not by any, where the session is free
-pub unheld_row : (branches : BranchMap) (rows : RowMap) (key : List ℕ) → IsWhole branches rows → is_held_against (state_of branches rows) Free key ≡ false
+pub unheld_row : (branches : BranchMap) (rows : RowMap) (key : List ℕ) → IsWhole branches rows
+    → is_held_against (state_of branches rows) Free key ≡ false
     → (xid : Xid) → mode_of xid (map.get rows key) ≡ None
 unheld_row branches rows key whole e xid =
-    none_of (mode_of xid (map.get rows key)) (not_beside Free (map.get rows key) xid (sym (held_against-seen branches rows Free key whole) ∙ e) refl)
+    none_of (mode_of xid (map.get rows key)) (not_beside Free (map.get rows key) xid
+    (sym (held_against-seen branches rows Free key whole) ∙ e) refl)
 
 -- by none but the session's own, where it has an ACTIVE branch
 pub free_row : (branches : BranchMap) (rows : RowMap) (own : Xid) (key : List ℕ) → IsWhole branches rows
     → is_held_against (state_of branches rows) (Active own) key ≡ false →
     (other : Xid) → same_xid other own ≡ false → is_some (mode_of other (map.get rows key)) ≡ false
 free_row branches rows own key whole e other apart =
-    not_beside (Active own) (map.get rows key) other (sym (held_against-seen branches rows (Active own) key whole) ∙ e) (ap not apart)
+    not_beside (Active own) (map.get rows key) other (sym (held_against-seen branches rows (Active own) key whole) ∙ e)
+    (ap not apart)
 
 -- ---- what a branch sees
 
@@ -316,10 +378,12 @@ write_in : (rows : RowMap) (xid : Xid) (key : List ℕ) (found : Option BranchRe
 write_in rows xid key None there = absurd (true≢false (sym there))
 write_in rows xid key (Some branch) there = writes-seen rows xid key
 
-pub write_at-known : (branches : BranchMap) (rows : RowMap) (xid : Xid) (key : List ℕ) → is_some (map.get branches xid) ≡ true
+pub write_at-known : (branches : BranchMap) (rows : RowMap) (xid : Xid) (key : List ℕ)
+    → is_some (map.get branches xid) ≡ true
     → write_at (state_of branches rows) xid key ≡ option_and_then (write_by xid) (map.get rows key)
 write_at-known branches rows xid key there =
-    ap (option_and_then (λ (branch : Branch). map.get branch.writes key)) (get-branches branches rows xid) ∙ write_in rows xid key (map.get branches xid) there
+    ap (option_and_then (λ (branch : Branch). map.get branch.writes key)) (get-branches branches rows xid)
+    ∙ write_in rows xid key (map.get branches xid) there
 
 pub write_at-seen : (branches : BranchMap) (rows : RowMap) (xid : Xid) (key : List ℕ) → IsWhole branches rows
     → write_at (state_of branches rows) xid key ≡ option_and_then (write_by xid) (map.get rows key)
@@ -329,14 +393,17 @@ write_at-seen branches rows xid key whole = by (map.get branches xid) refl
         → write_at (state_of branches rows) xid key ≡ option_and_then (write_by xid) (map.get rows key)
     by (Some branch) e = write_at-known branches rows xid key (ap is_some e)
     by None e =
-        ap (option_and_then (λ (branch : Branch). map.get branch.writes key)) (get-branches branches rows xid ∙ ap (option_map (branch_seen rows xid)) e)
+        ap (option_and_then (λ (branch : Branch). map.get branch.writes key))
+        (get-branches branches rows xid ∙ ap (option_map (branch_seen rows xid)) e)
         ∙ sym (unwritten xid (map.get rows key) (unknown_holds branches rows xid key whole e))
 
 pub value_within-seen : (branches : BranchMap) (rows : RowMap) (xid : Xid) (key : List ℕ) → IsWhole branches rows
     → value_within (state_of branches rows) xid key ≡ value_seen xid (map.get rows key)
-value_within-seen branches rows xid key whole = λ i. unwrap_or (write_at-seen branches rows xid key whole i) (committed-seen branches rows key i)
+value_within-seen branches rows xid key whole =
+    λ i. unwrap_or (write_at-seen branches rows xid key whole i) (committed-seen branches rows key i)
 
 -- the PREPARED branches
-pub prepared-seen : (branches : BranchMap) (rows : RowMap) → prepared_xids (state_of branches rows) ≡ prepared_among branches
+pub prepared-seen : (branches : BranchMap) (rows : RowMap)
+    → prepared_xids (state_of branches rows) ≡ prepared_among branches
 unfolding prepared_xids
 prepared-seen branches rows = λ i. filter (λ xid. is_prepared-seen branches rows xid i) (keys-branches branches rows i)

@@ -1,5 +1,6 @@
 -- The branches that share a row, a list of the first and a tree of the later ones, seen as a finite set.
-use Rattle.std.proofs.Common.{◌≡◌, List, [], ◌∷◌, ◌++◌, refl, ap, sym, ◌∙◌, Bool, true, false, inl, inr, arith, length-append}
+use Rattle.std.proofs.Common.{◌≡◌, List, [], ◌∷◌, ◌++◌, refl, ap, sym, ◌∙◌, Bool, true, false, inl, inr, arith}
+use Rattle.std.proofs.Common.{length-append}
 use Rattle.std.proofs.lemmas.List.Folds.{list_all-append, list_any-append}
 use mathlib.Core.Bool.{true≢false}
 use Rattle.std.specs.Prelude.{cond, not, ◌&&◌, ◌||◌, ◌⊎◌, filter, length}
@@ -8,7 +9,8 @@ use Rattle.std.specs.Cmp.{eq_by_cmp_equiv}
 use Rattle.std.specs.BTreeSet as tree
 use Rattle.std.specs.BTreeSet.{BTreeSet, Updates}
 use Rattle.std.specs.FinSet as set
-use Rattle.std.specs.FinSet.{contains-empty, contains-insert, contains-remove, contains-from_list, contains-items, contains-is_subset, is_subset-contains, same_set}
+use Rattle.std.specs.FinSet.{contains-empty, contains-insert, contains-remove, contains-from_list, contains-items}
+use Rattle.std.specs.FinSet.{contains-is_subset, is_subset-contains, same_set}
 use Rattle.xa_xid.specs.declared.xid.Xid.{Xid}
 use Rattle.xa_xid.specs.Xid.{xid_cmp, same_xid}
 use Rattle.xa_xid.proofs.Orders.{xids_total, exact_xids}
@@ -74,11 +76,13 @@ contains-one own xid = contains-from_list xids_total (own ∷ []) xid ∙ or_fal
 -- a look-up in the set is one in the list and in the tree
 pub contains-several : (few : List Xid) (many : BTreeSet Xid) (xid : Xid)
     → set.contains (several_in few many) xid ≡ (list_any (same_xid xid) few || tree.contains xid_cmp many xid)
-contains-several few many xid = contains-from_list xids_total (few ++ many.keys) xid ∙ list_any-append (same_xid xid) few many.keys
+contains-several few many xid =
+    contains-from_list xids_total (few ++ many.keys) xid ∙ list_any-append (same_xid xid) few many.keys
 
 -- a test that one of the list passes is one that one of the set's members passes
 pub any-listed : (p : Xid → Bool) (xids : List Xid) → list_any p (set.items (listed xids)) ≡ list_any p xids
-any-listed p xids = same_any p (set.items (listed xids)) xids (λ xid. sym (contains-items (listed xids) xid) ∙ contains-from_list xids_total xids xid)
+any-listed p xids = same_any p (set.items (listed xids)) xids
+    (λ xid. sym (contains-items (listed xids) xid) ∙ contains-from_list xids_total xids xid)
 
 pub any-one : (p : Xid → Bool) (own : Xid) → list_any p (set.items (listed (own ∷ []))) ≡ p own
 any-one p own = any-listed p (own ∷ []) ∙ or_false (p own)
@@ -89,28 +93,34 @@ any-several p few many = any-listed p (few ++ many.keys) ∙ list_any-append p f
 
 -- ---- sets within sets
 
-all_some : (p : Xid → Bool) (xs : List Xid) (xid : Xid) → list_all p xs ≡ true → list_any (same_xid xid) xs ≡ true → p xid ≡ true
+all_some : (p : Xid → Bool) (xs : List Xid) (xid : Xid) → list_all p xs ≡ true → list_any (same_xid xid) xs ≡ true
+    → p xid ≡ true
 all_some p [] xid all there = absurd (true≢false (sym there))
 all_some p (x ∷ xs) xid all there = elim (same_or_apart xids_total exact_xids xid x) [
   | inl is ↦ ap p is ∙ (both (p x) (list_all p xs) all).0
-  | inr apart ↦ all_some p xs xid (both (p x) (list_all p xs) all).1 (sym (ap (λ b. b || list_any (same_xid xid) xs) apart) ∙ there)
+  | inr apart ↦ all_some p xs xid (both (p x) (list_all p xs) all).1
+      (sym (ap (λ b. b || list_any (same_xid xid) xs) apart) ∙ there)
 ]
 
 -- where a set has each of the list, it has all members
-pub subset-listed : (xids : List Xid) (all : Sharing) → list_all (set.contains all) xids ≡ true → set.is_subset (listed xids) all ≡ true
+pub subset-listed : (xids : List Xid) (all : Sharing) → list_all (set.contains all) xids ≡ true
+    → set.is_subset (listed xids) all ≡ true
 subset-listed xids all each = contains-is_subset xids_total (listed xids) all (λ xid there.
     all_some (set.contains all) xids xid each (sym (contains-from_list xids_total xids xid) ∙ there))
 
-pub subset-one : (own : Xid) (all : Sharing) → set.contains all own ≡ true → set.is_subset (listed (own ∷ [])) all ≡ true
+pub subset-one : (own : Xid) (all : Sharing) → set.contains all own ≡ true
+    → set.is_subset (listed (own ∷ [])) all ≡ true
 subset-one own all has = subset-listed (own ∷ []) all (ap (λ b. b && true) has)
 
 pub subset-several : (few : List Xid) (many : BTreeSet Xid) (all : Sharing) → list_all (set.contains all) few ≡ true
     → list_all (set.contains all) many.keys ≡ true → set.is_subset (several_in few many) all ≡ true
 subset-several few many all has_few has_many = subset-listed (few ++ many.keys) all
-    (list_all-append (set.contains all) few many.keys ∙ ap (λ b. b && list_all (set.contains all) many.keys) has_few ∙ has_many)
+    (list_all-append (set.contains all) few many.keys ∙ ap (λ b. b && list_all (set.contains all) many.keys) has_few
+    ∙ has_many)
 
 -- sets that are within each other are one
-pub same_sharers : (left right : Sharing) → set.is_subset left right ≡ true → set.is_subset right left ≡ true → left ≡ right
+pub same_sharers : (left right : Sharing) → set.is_subset left right ≡ true → set.is_subset right left ≡ true
+    → left ≡ right
 same_sharers left right to from = same_set xids_total exact_xids left right (λ xid.
     same_truth (set.contains left xid) (set.contains right xid)
     (is_subset-contains xids_total left right to xid) (is_subset-contains xids_total right left from xid))
@@ -132,11 +142,14 @@ nothing_listed [] none = refl
 nothing_listed (xid ∷ xids) none = absurd (omega (arith, none))
 
 -- a set has no members if neither the list has one nor the tree a key
-pub none_in : (few : List Xid) (many : BTreeSet Xid) → length few ≡ 0 → length many.keys ≡ 0 → several_in few many ≡ set.empty
-none_in few many none no_more = nothing_listed (few ++ many.keys) (length-append few many.keys ∙ omega (arith, none, no_more))
+pub none_in : (few : List Xid) (many : BTreeSet Xid) → length few ≡ 0 → length many.keys ≡ 0
+    → several_in few many ≡ set.empty
+none_in few many none no_more =
+    nothing_listed (few ++ many.keys) (length-append few many.keys ∙ omega (arith, none, no_more))
 
 -- and only then
-pub none_of : (few : List Xid) (many : BTreeSet Xid) → several_in few many ≡ set.empty → (length few ≡ 0) × (length many.keys ≡ 0)
+pub none_of : (few : List Xid) (many : BTreeSet Xid) → several_in few many ≡ set.empty
+    → (length few ≡ 0) × (length many.keys ≡ 0)
 none_of few many none =
     let e = sym (length-append few many.keys) ∙ none_listed (few ++ many.keys) none in
     (omega (arith, e), omega (arith, e))
@@ -144,12 +157,14 @@ none_of few many none =
 -- ---- one comes
 
 -- a list with one more is a set with one member more
-pub few_added : (few : List Xid) (many : BTreeSet Xid) (xid : Xid) → several_in (few ++ xid ∷ []) many ≡ set.insert (several_in few many) xid
+pub few_added : (few : List Xid) (many : BTreeSet Xid) (xid : Xid)
+    → several_in (few ++ xid ∷ []) many ≡ set.insert (several_in few many) xid
 few_added few many xid = same_set xids_total exact_xids _ _ (λ other.
     contains-several (few ++ xid ∷ []) many other
     ∙ ap (λ b. b || tree.contains xid_cmp many other) (list_any-append (same_xid other) few (xid ∷ []))
     ∙ or_one_more (list_any (same_xid other) few) (same_xid other xid) (tree.contains xid_cmp many other)
-    ∙ sym (contains-insert xids_total (several_in few many) xid other ∙ ap (λ b. same_xid other xid || b) (contains-several few many other)))
+    ∙ sym (contains-insert xids_total (several_in few many) xid other
+    ∙ ap (λ b. same_xid other xid || b) (contains-several few many other)))
 
 -- and so is a tree with one key more
 pub many_added : (few : List Xid) (old new : BTreeSet Xid) (xid : Xid) → Updates xid_cmp old new xid true
@@ -157,9 +172,11 @@ pub many_added : (few : List Xid) (old new : BTreeSet Xid) (xid : Xid) → Updat
 many_added few old new xid updates = same_set xids_total exact_xids _ _ (λ other.
     contains-several few new other
     ∙ ap (λ b. list_any (same_xid other) few || b)
-    (updates.0 other ∙ ap (λ b. cond b true (tree.contains xid_cmp old other)) ((eq_by_cmp_equiv xids_total).symm xid other))
+    (updates.0 other ∙ ap (λ b. cond b true (tree.contains xid_cmp old other))
+    ((eq_by_cmp_equiv xids_total).symm xid other))
     ∙ or_cond (list_any (same_xid other) few) (same_xid other xid) (tree.contains xid_cmp old other)
-    ∙ sym (contains-insert xids_total (several_in few old) xid other ∙ ap (λ b. same_xid other xid || b) (contains-several few old other)))
+    ∙ sym (contains-insert xids_total (several_in few old) xid other
+    ∙ ap (λ b. same_xid other xid || b) (contains-several few old other)))
 
 -- ---- one goes
 
@@ -173,7 +190,8 @@ any-without : (xid : Xid) (few : List Xid) (other : Xid)
 any-without xid [] other = sym (and_false (not (same_xid other xid)))
 any-without xid (own ∷ few) other = elim (same_or_apart xids_total exact_xids own xid) [
   | inl is ↦ rw is
-      (ap (λ b. list_any (same_xid other) (cond (not b) (xid ∷ without xid few) (without xid few))) (itself xid) ∙ any-without xid few other
+      (ap (λ b. list_any (same_xid other) (cond (not b) (xid ∷ without xid few) (without xid few))) (itself xid)
+      ∙ any-without xid few other
       ∙ and_not (same_xid other xid) (list_any (same_xid other) few))
   | inr apart ↦
       ap (λ b. list_any (same_xid other) (cond (not b) (own ∷ without xid few) (without xid few))) apart
@@ -196,10 +214,12 @@ any-without xid (own ∷ few) other = elim (same_or_apart xids_total exact_xids 
 pub listed_left : (xids : List Xid) (xid : Xid) → listed (without xid xids) ≡ set.remove (listed xids) xid
 listed_left xids xid = same_set xids_total exact_xids _ _ (λ other.
     contains-from_list xids_total (without xid xids) other ∙ any-without xid xids other
-    ∙ sym (contains-remove xids_total (listed xids) xid other ∙ ap (λ b. not (same_xid other xid) && b) (contains-from_list xids_total xids other)))
+    ∙ sym (contains-remove xids_total (listed xids) xid other
+    ∙ ap (λ b. not (same_xid other xid) && b) (contains-from_list xids_total xids other)))
 
 -- the only one goes, or another
-pub one_left : (own xid : Xid) → cond (same_xid own xid) set.empty (listed (own ∷ [])) ≡ set.remove (listed (own ∷ [])) xid
+pub one_left : (own xid : Xid) → cond (same_xid own xid) set.empty (listed (own ∷ []))
+    ≡ set.remove (listed (own ∷ [])) xid
 one_left own xid = by (same_xid own xid) ∙ listed_left (own ∷ []) xid
   where
     by : (b : Bool) → cond b set.empty (listed (own ∷ [])) ≡ listed (cond (not b) (own ∷ []) [])
@@ -213,6 +233,8 @@ several_left few old new xid updates = same_set xids_total exact_xids _ _ (λ ot
     contains-several (without xid few) new other
     ∙ ap (λ b. b || tree.contains xid_cmp new other) (any-without xid few other)
     ∙ ap (λ b. (not (same_xid other xid) && list_any (same_xid other) few) || b)
-    (updates.0 other ∙ ap (λ b. cond b false (tree.contains xid_cmp old other)) ((eq_by_cmp_equiv xids_total).symm xid other))
+    (updates.0 other ∙ ap (λ b. cond b false (tree.contains xid_cmp old other))
+    ((eq_by_cmp_equiv xids_total).symm xid other))
     ∙ and_cond (list_any (same_xid other) few) (same_xid other xid) (tree.contains xid_cmp old other)
-    ∙ sym (contains-remove xids_total (several_in few old) xid other ∙ ap (λ b. not (same_xid other xid) && b) (contains-several few old other)))
+    ∙ sym (contains-remove xids_total (several_in few old) xid other
+    ∙ ap (λ b. not (same_xid other xid) && b) (contains-several few old other)))

@@ -8,7 +8,8 @@ use Rattle.std.specs.declared.cmp.Ordering.TheVariants.{Less}
 use Rattle.std.specs.Ordering.{eq_by_cmp, is_lt, is_eq}
 use Rattle.std.specs.Cmp.{eq_by_cmp_equiv}
 use Rattle.std.specs.List.Sorted.{IsStrictlySortedBy}
-use Rattle.std.specs.FinMap.{find, is_sorted, from_sorted, from_entries, entries, same_map, get-from_entries, get-from_sorted, entries-from_sorted}
+use Rattle.std.specs.FinMap.{find, is_sorted, from_sorted, from_entries, entries, same_map, get-from_entries}
+use Rattle.std.specs.FinMap.{get-from_sorted, entries-from_sorted}
 use Rattle.std.specs.FinMap.Entries.{below_all}
 use lib.Dec.{T}
 use Rattle.xa_xid.specs.declared.xid.Xid.{Xid}
@@ -21,18 +22,21 @@ use Rattle.xa_server.proofs.Maps.{same_itself}
 
 -- ---- a list in order
 
-below-all : (xid : Xid) (es : List (Xid × BranchRecord)) → AllByRecursion (λ y. xid_cmp xid y ≡ Less) (map (λ (e : Xid × BranchRecord). e.0) es)
+below-all : (xid : Xid) (es : List (Xid × BranchRecord))
+    → AllByRecursion (λ y. xid_cmp xid y ≡ Less) (map (λ (e : Xid × BranchRecord). e.0) es)
     → below_all xid_cmp xid es ≡ true
 below-all xid [] h = refl
 below-all xid (e ∷ es) h = ap (λ r. is_lt r && below_all xid_cmp xid es) h.0 ∙ below-all xid es h.1
 
-sorted : (es : List (Xid × BranchRecord)) → IsStrictlySortedBy xid_cmp (map (λ (e : Xid × BranchRecord). e.0) es) → is_sorted xid_cmp es ≡ true
+sorted : (es : List (Xid × BranchRecord)) → IsStrictlySortedBy xid_cmp (map (λ (e : Xid × BranchRecord). e.0) es)
+    → is_sorted xid_cmp es ≡ true
 unfolding IsStrictlySortedBy
 sorted [] h = refl
 sorted (e ∷ es) h = ap (λ b. b && is_sorted xid_cmp es) (below-all e.0 es h.0) ∙ sorted es h.1
 
 -- the map that a list in order makes has that list as its entries
-pub entries-from : (es : List (Xid × BranchRecord)) → IsStrictlySortedBy xid_cmp (map (λ (e : Xid × BranchRecord). e.0) es)
+pub entries-from : (es : List (Xid × BranchRecord)) → IsStrictlySortedBy xid_cmp
+    (map (λ (e : Xid × BranchRecord). e.0) es)
     → entries (from_entries {R = xid_cmp} es) ≡ es
 entries-from es h =
     let is : T (is_sorted xid_cmp es) = subst T (sym (sorted es h)) tt in
@@ -48,21 +52,26 @@ tests es xid = option_map_or is_prepared_phase (option_map (λ (b : BranchRecord
 flipped : (r : Ordering) (x y : Xid) → r ≡ Less → xid_cmp x y ≡ r → eq_by_cmp xid_cmp y x ≡ false
 flipped r x y less is = (eq_by_cmp_equiv xids_total).symm y x ∙ ap is_eq (is ∙ less)
 
-test_beside : (e : Xid × BranchRecord) (all : List (Xid × BranchRecord)) (xid : Xid) → xid_cmp e.0 xid ≡ Less → tests (e ∷ all) xid ≡ tests all xid
+test_beside : (e : Xid × BranchRecord) (all : List (Xid × BranchRecord)) (xid : Xid) → xid_cmp e.0 xid ≡ Less
+    → tests (e ∷ all) xid ≡ tests all xid
 unfolding tests
 test_beside e all xid less =
-    ap (λ b. option_map_or is_prepared_phase (option_map (λ (b : BranchRecord). b.phase) (cond b (Some e.1) (find xid_cmp xid all))) false)
+    ap (λ b. option_map_or is_prepared_phase (option_map (λ (b : BranchRecord). b.phase)
+    (cond b (Some e.1) (find xid_cmp xid all))) false)
     (flipped (xid_cmp e.0 xid) e.0 xid less refl)
 
 -- a record that stands before those in question doesn't matter
 tests_beside : (e : Xid × BranchRecord) (all es : List (Xid × BranchRecord))
     → AllByRecursion (λ y. xid_cmp e.0 y ≡ Less) (map (λ (f : Xid × BranchRecord). f.0) es) →
-    filter (tests (e ∷ all)) (map (λ (f : Xid × BranchRecord). f.0) es) ≡ filter (tests all) (map (λ (f : Xid × BranchRecord). f.0) es)
+    filter (tests (e ∷ all)) (map (λ (f : Xid × BranchRecord). f.0) es)
+    ≡ filter (tests all) (map (λ (f : Xid × BranchRecord). f.0) es)
 unfolding tests
 tests_beside e all [] h = refl
-tests_beside e all (f ∷ es) h = (λ i. cond (test_beside e all f.0 h.0 i) (f.0 ∷ tests_beside e all es h.1 i) (tests_beside e all es h.1 i))
+tests_beside e all (f ∷ es) h =
+    (λ i. cond (test_beside e all f.0 h.0 i) (f.0 ∷ tests_beside e all es h.1 i) (tests_beside e all es h.1 i))
 
-prepared-more : (e : Xid × BranchRecord) (es : List (Xid × BranchRecord)) → IsStrictlySortedBy xid_cmp (e.0 ∷ map (λ (e : Xid × BranchRecord). e.0) es)
+prepared-more : (e : Xid × BranchRecord) (es : List (Xid × BranchRecord))
+    → IsStrictlySortedBy xid_cmp (e.0 ∷ map (λ (e : Xid × BranchRecord). e.0) es)
     → filter (tests es) (map (λ (e : Xid × BranchRecord). e.0) es) ≡ prepared_keys es →
     filter (tests (e ∷ es)) (e.0 ∷ map (λ (f : Xid × BranchRecord). f.0) es) ≡ prepared_keys (e ∷ es)
 unfolding tests IsStrictlySortedBy
@@ -70,7 +79,8 @@ prepared-more e es h rest = (λ i. cond (here i) (e.0 ∷ later i) (later i))
   where
     here : tests (e ∷ es) e.0 ≡ is_prepared_phase e.1.phase
     here =
-        ap (λ b. option_map_or is_prepared_phase (option_map (λ (b : BranchRecord). b.phase) (cond b (Some e.1) (find xid_cmp e.0 es))) false)
+        ap (λ b. option_map_or is_prepared_phase (option_map (λ (b : BranchRecord). b.phase)
+        (cond b (Some e.1) (find xid_cmp e.0 es))) false)
         (same_itself xids_total exact_xids e.0)
 
     later : filter (tests (e ∷ es)) (map (λ (f : Xid × BranchRecord). f.0) es) ≡ prepared_keys es
@@ -82,12 +92,15 @@ unfolding tests IsStrictlySortedBy
 prepared-keys [] h = refl
 prepared-keys (e ∷ es) h = prepared-more e es h (prepared-keys es h.1)
 
-tests-is : (es : List (Xid × BranchRecord)) → IsStrictlySortedBy xid_cmp (map (λ (e : Xid × BranchRecord). e.0) es) → (xid : Xid)
+tests-is : (es : List (Xid × BranchRecord)) → IsStrictlySortedBy xid_cmp (map (λ (e : Xid × BranchRecord). e.0) es)
+    → (xid : Xid)
     → is_prepared_at (from_entries {R = xid_cmp} es) xid ≡ tests es xid
 unfolding tests
-tests-is es h xid = ap (λ found. option_map_or is_prepared_phase (option_map (λ (b : BranchRecord). b.phase) found) false) (get-from_entries xids_total es xid)
+tests-is es h xid = ap (λ found. option_map_or is_prepared_phase
+    (option_map (λ (b : BranchRecord). b.phase) found) false) (get-from_entries xids_total es xid)
 
-pub prepared-among : (es : List (Xid × BranchRecord)) → IsStrictlySortedBy xid_cmp (map (λ (e : Xid × BranchRecord). e.0) es)
+pub prepared-among : (es : List (Xid × BranchRecord)) → IsStrictlySortedBy xid_cmp
+    (map (λ (e : Xid × BranchRecord). e.0) es)
     → prepared_among (from_entries {R = xid_cmp} es) ≡ prepared_keys es
 prepared-among es h =
     (λ i. filter (λ xid. tests-is es h xid i) (map (λ (e : Xid × BranchRecord). e.0) (entries-from es h i)))
@@ -96,15 +109,19 @@ prepared-among es h =
 -- ---- going over a tree's entries
 
 -- a PREPARED branch goes into the list
-pub goes_in : (xids all : List Xid) (left rest : List (Xid × BranchRecord)) (xid : Xid) (branch : BranchRecord) → xids ++ prepared_keys left ≡ all
+pub goes_in : (xids all : List Xid) (left rest : List (Xid × BranchRecord)) (xid : Xid) (branch : BranchRecord)
+    → xids ++ prepared_keys left ≡ all
     → left ≡ (xid, branch) ∷ rest → is_prepared_phase branch.phase ≡ true →
     (xids ++ xid ∷ []) ++ prepared_keys rest ≡ all
 goes_in xids all left rest xid branch is left_is prepared = append_assoc xids (xid ∷ []) (prepared_keys rest)
-    ∙ ap (λ b. xids ++ cond b (xid ∷ prepared_keys rest) (prepared_keys rest)) (sym prepared) ∙ ap (λ es. xids ++ prepared_keys es) (sym left_is) ∙ is
+    ∙ ap (λ b. xids ++ cond b (xid ∷ prepared_keys rest) (prepared_keys rest)) (sym prepared)
+    ∙ ap (λ es. xids ++ prepared_keys es) (sym left_is) ∙ is
 
 -- another one doesn't
-pub stays_out : (xids all : List Xid) (left rest : List (Xid × BranchRecord)) (xid : Xid) (branch : BranchRecord) → xids ++ prepared_keys left ≡ all
+pub stays_out : (xids all : List Xid) (left rest : List (Xid × BranchRecord)) (xid : Xid) (branch : BranchRecord)
+    → xids ++ prepared_keys left ≡ all
     → left ≡ (xid, branch) ∷ rest → is_prepared_phase branch.phase ≡ false →
     xids ++ prepared_keys rest ≡ all
 stays_out xids all left rest xid branch is left_is not =
-    ap (λ b. xids ++ cond b (xid ∷ prepared_keys rest) (prepared_keys rest)) (sym not) ∙ ap (λ es. xids ++ prepared_keys es) (sym left_is) ∙ is
+    ap (λ b. xids ++ cond b (xid ∷ prepared_keys rest) (prepared_keys rest)) (sym not)
+    ∙ ap (λ es. xids ++ prepared_keys es) (sym left_is) ∙ is

@@ -20,11 +20,13 @@ use Rattle.xa_server.specs.State.{LockMode, Shared, Exclusive, Branch, State, no
 use Rattle.xa_server.specs.Locks.{is_exclusive}
 use Rattle.xa_server.specs.Step.{started_by, with_branch, with_changed, with_lock, with_write}
 use Rattle.xa_server.specs.Tables.{BranchMap, with_record}
-use Rattle.xa_server.specs.Rows.{RowMap, committed_of, lock_of, write_of, write_by, mode_in, lock_by, locked_against, held_row, shared_row, with_change}
+use Rattle.xa_server.specs.Rows.{RowMap, committed_of, lock_of, write_of, write_by, mode_in, lock_by, locked_against}
+use Rattle.xa_server.specs.Rows.{held_row, shared_row, with_change}
 use Rattle.xa_server.specs.View.{gather, branch_seen, state_of}
 use Rattle.xa_server.proofs.Maps.{same_or_apart, get_inserted, get_inserted_apart, get_removed, get_removed_apart}
 use Rattle.xa_server.proofs.Gathered.{get-gather}
-use Rattle.xa_server.proofs.Holders.{mode_of, mode_of-lock, none_of, itself, turned_apart, unwritten, locked_against-lock, sharer_there, sharer_beside}
+use Rattle.xa_server.proofs.Holders.{mode_of, mode_of-lock, none_of, itself, turned_apart, unwritten}
+use Rattle.xa_server.proofs.Holders.{locked_against-lock, sharer_there, sharer_beside}
 use Rattle.xa_server.proofs.Holders.{sharer_writes}
 use Rattle.xa_server.proofs.Seen.{get-branches}
 
@@ -42,28 +44,36 @@ same_branches m n is = same_map xids_total exact_xids m n is
 
 module _ {W : Type 0} (found : RowRecord → Option W) where
   -- rows in which the same is found
-  pub gather_same : (old new : RowMap) → ((key : List ℕ) → option_and_then found (map.get new key) ≡ option_and_then found (map.get old key))
+  pub gather_same : (old new : RowMap) → ((key : List ℕ)
+      → option_and_then found (map.get new key) ≡ option_and_then found (map.get old key))
       → gather found new ≡ gather found old
   gather_same old new is =
       same_map bytes_total exact_texts _ _
-      (λ key. get-gather bytes_total exact_texts found new key ∙ is key ∙ sym (get-gather bytes_total exact_texts found old key))
+      (λ key. get-gather bytes_total exact_texts found new key ∙ is key
+      ∙ sym (get-gather bytes_total exact_texts found old key))
 
-  gather_none : (rows : RowMap) → ((key : List ℕ) → option_and_then found (map.get rows key) ≡ None) → gather found rows ≡ map.empty
-  gather_none rows is = same_map bytes_total exact_texts _ _ (λ key. get-gather bytes_total exact_texts found rows key ∙ is key ∙ sym (get-empty bytes_cmp key))
+  gather_none : (rows : RowMap) → ((key : List ℕ) → option_and_then found (map.get rows key) ≡ None)
+      → gather found rows ≡ map.empty
+  gather_none rows is = same_map bytes_total exact_texts _ _
+      (λ key. get-gather bytes_total exact_texts found rows key ∙ is key ∙ sym (get-empty bytes_cmp key))
 
   -- a row of which the same is found
-  gather_insert_same : (rows : RowMap) (key : List ℕ) (row : RowRecord) → found row ≡ option_and_then found (map.get rows key)
+  gather_insert_same : (rows : RowMap) (key : List ℕ) (row : RowRecord)
+      → found row ≡ option_and_then found (map.get rows key)
       → gather found (map.insert rows key row) ≡ gather found rows
-  gather_insert_same rows key row is = gather_same rows (map.insert rows key row) (λ other. elim (same_or_apart bytes_total exact_texts other key) [
-    | inl e ↦ rw e (ap (option_and_then found) (get_inserted bytes_total exact_texts rows key row) ∙ is)
-    | inr apart ↦ ap (option_and_then found) (get_inserted_apart bytes_total exact_texts rows key row other apart)
-  ])
+  gather_insert_same rows key row is =
+      gather_same rows (map.insert rows key row) (λ other. elim (same_or_apart bytes_total exact_texts other key) [
+        | inl e ↦ rw e (ap (option_and_then found) (get_inserted bytes_total exact_texts rows key row) ∙ is)
+        | inr apart ↦ ap (option_and_then found) (get_inserted_apart bytes_total exact_texts rows key row other apart)
+      ])
 
-  gather_remove_same : (rows : RowMap) (key : List ℕ) → option_and_then found (map.get rows key) ≡ None → gather found (map.remove rows key) ≡ gather found rows
-  gather_remove_same rows key is = gather_same rows (map.remove rows key) (λ other. elim (same_or_apart bytes_total exact_texts other key) [
-    | inl e ↦ rw e (ap (option_and_then found) (get_removed bytes_total exact_texts rows key) ∙ sym is)
-    | inr apart ↦ ap (option_and_then found) (get_removed_apart bytes_total exact_texts rows key other apart)
-  ])
+  gather_remove_same : (rows : RowMap) (key : List ℕ) → option_and_then found (map.get rows key) ≡ None
+      → gather found (map.remove rows key) ≡ gather found rows
+  gather_remove_same rows key is =
+      gather_same rows (map.remove rows key) (λ other. elim (same_or_apart bytes_total exact_texts other key) [
+        | inl e ↦ rw e (ap (option_and_then found) (get_removed bytes_total exact_texts rows key) ∙ sym is)
+        | inr apart ↦ ap (option_and_then found) (get_removed_apart bytes_total exact_texts rows key other apart)
+      ])
 
   -- a row of which this is found
   gather_insert : (rows : RowMap) (key : List ℕ) (row : RowRecord) (w : W) → found row ≡ Some w
@@ -74,74 +84,91 @@ module _ {W : Type 0} (found : RowRecord → Option W) where
         | inl e ↦ rw e (ap (option_and_then found) (get_inserted bytes_total exact_texts rows key row) ∙ is
             ∙ sym (get_inserted bytes_total exact_texts (gather found rows) key w))
         | inr apart ↦ ap (option_and_then found) (get_inserted_apart bytes_total exact_texts rows key row other apart)
-            ∙ sym (get_inserted_apart bytes_total exact_texts (gather found rows) key w other apart ∙ get-gather bytes_total exact_texts found rows other)
+            ∙ sym (get_inserted_apart bytes_total exact_texts (gather found rows) key w other apart
+            ∙ get-gather bytes_total exact_texts found rows other)
       ]))
 
-  gather_remove : (rows : RowMap) (key : List ℕ) → gather found (map.remove rows key) ≡ map.remove (gather found rows) key
+  gather_remove : (rows : RowMap) (key : List ℕ) → gather found (map.remove rows key)
+      ≡ map.remove (gather found rows) key
   gather_remove rows key = same_map bytes_total exact_texts _ _ (λ other.
       get-gather bytes_total exact_texts found (map.remove rows key) other ∙
       (elim (same_or_apart bytes_total exact_texts other key) [
         | inl e ↦ rw e (ap (option_and_then found) (get_removed bytes_total exact_texts rows key)
             ∙ sym (get_removed bytes_total exact_texts (gather found rows) key))
         | inr apart ↦ ap (option_and_then found) (get_removed_apart bytes_total exact_texts rows key other apart)
-            ∙ sym (get_removed_apart bytes_total exact_texts (gather found rows) key other apart ∙ get-gather bytes_total exact_texts found rows other)
+            ∙ sym (get_removed_apart bytes_total exact_texts (gather found rows) key other apart
+            ∙ get-gather bytes_total exact_texts found rows other)
       ]))
 
 -- rows that say the same of every branch
-seen_same_rows : (branches : BranchMap) (old new : RowMap) → ((xid : Xid) → gather (write_by xid) new ≡ gather (write_by xid) old)
+seen_same_rows : (branches : BranchMap) (old new : RowMap)
+    → ((xid : Xid) → gather (write_by xid) new ≡ gather (write_by xid) old)
     → ((xid : Xid) → gather (lock_by xid) new ≡ gather (lock_by xid) old) →
     (state_of branches new).branches ≡ (state_of branches old).branches
 seen_same_rows branches old new writes locks =
-    same_branches _ _ (λ xid. get-branches branches new xid ∙ ap (λ (f : BranchRecord → Branch). option_map f (map.get branches xid)) (same xid)
+    same_branches _ _ (λ xid. get-branches branches new xid
+    ∙ ap (λ (f : BranchRecord → Branch). option_map f (map.get branches xid)) (same xid)
     ∙ sym (get-branches branches old xid))
   where
     same : (xid : Xid) → branch_seen new xid ≡ branch_seen old xid
-    same xid = λ i branch. record { phase = branch.phase; owner = branch.owner; writes = writes xid i; locks = locks xid i }
+    same xid = λ i branch. record
+        { phase = branch.phase; owner = branch.owner; writes = writes xid i; locks = locks xid i }
 
 -- ---- no records, records of branches
 
 pub seen_empty : state_of map.empty map.empty ≡ no_state
 unfolding state_of no_state
 seen_empty = same_state _ _
-    (same_branches _ _ (λ xid. get-branches map.empty map.empty xid ∙ ap (option_map (branch_seen map.empty xid)) (get-empty xid_cmp xid)
+    (same_branches _ _ (λ xid. get-branches map.empty map.empty xid
+    ∙ ap (option_map (branch_seen map.empty xid)) (get-empty xid_cmp xid)
     ∙ sym (get-empty xid_cmp xid)))
-    (gather_none (λ row. row.committed) map.empty (λ key. ap (option_and_then (λ (row : RowRecord). row.committed)) (get-empty bytes_cmp key)))
+    (gather_none (λ row. row.committed) map.empty (λ key. ap (option_and_then (λ (row : RowRecord). row.committed))
+    (get-empty bytes_cmp key)))
 
 -- a record put in is a branch put in
 pub seen_inserted : (branches : BranchMap) (rows : RowMap) (xid : Xid) (branch : BranchRecord)
-    → state_of (map.insert branches xid branch) rows ≡ with_branch (state_of branches rows) xid (branch_seen rows xid branch)
+    → state_of (map.insert branches xid branch) rows ≡ with_branch (state_of branches rows) xid
+    (branch_seen rows xid branch)
 unfolding state_of
 seen_inserted branches rows xid branch = same_state _ _
-    (same_branches _ _ (λ other. get-branches (map.insert branches xid branch) rows other ∙ (elim (same_or_apart xids_total exact_xids other xid) [
+    (same_branches _ _ (λ other. get-branches (map.insert branches xid branch) rows other
+    ∙ (elim (same_or_apart xids_total exact_xids other xid) [
       | inl e ↦ rw e (ap (option_map (branch_seen rows xid)) (get_inserted xids_total exact_xids branches xid branch)
           ∙ sym (get_inserted xids_total exact_xids (state_of branches rows).branches xid _))
-      | inr apart ↦ ap (option_map (branch_seen rows other)) (get_inserted_apart xids_total exact_xids branches xid branch other apart)
-          ∙ sym (get_inserted_apart xids_total exact_xids (state_of branches rows).branches xid (branch_seen rows xid branch) other apart
+      | inr apart ↦ ap (option_map (branch_seen rows other))
+          (get_inserted_apart xids_total exact_xids branches xid branch other apart)
+          ∙ sym (get_inserted_apart xids_total exact_xids (state_of branches rows).branches xid
+          (branch_seen rows xid branch) other apart
           ∙ get-branches branches rows other)
     ])))
     refl
 
 -- a record changed is a branch changed
-pub seen_changed : (branches : BranchMap) (rows : RowMap) (xid : Xid) (change : BranchRecord → BranchRecord) (seen : Branch → Branch) →
+pub seen_changed : (branches : BranchMap) (rows : RowMap) (xid : Xid) (change : BranchRecord → BranchRecord)
+    (seen : Branch → Branch) →
     ((branch : BranchRecord) → branch_seen rows xid (change branch) ≡ seen (branch_seen rows xid branch)) →
     state_of (with_record branches xid change) rows ≡ with_changed (state_of branches rows) xid seen
 seen_changed branches rows xid change seen is =
     by (map.get branches xid)
-    ∙ ap (λ found. option_map_or (λ branch. with_branch (state_of branches rows) xid (seen branch)) found (state_of branches rows))
+    ∙ ap (λ found. option_map_or (λ branch. with_branch (state_of branches rows) xid (seen branch)) found
+    (state_of branches rows))
     (sym (get-branches branches rows xid))
   where
     by : (found : Option BranchRecord) →
         state_of (option_map_or (λ branch. map.insert branches xid (change branch)) found branches) rows
-        ≡ option_map_or (λ branch. with_branch (state_of branches rows) xid (seen branch)) (option_map (branch_seen rows xid) found) (state_of branches rows)
+        ≡ option_map_or (λ branch. with_branch (state_of branches rows) xid (seen branch))
+        (option_map (branch_seen rows xid) found) (state_of branches rows)
     by None = refl
-    by (Some branch) = seen_inserted branches rows xid (change branch) ∙ ap (with_branch (state_of branches rows) xid) (is branch)
+    by (Some branch) =
+        seen_inserted branches rows xid (change branch) ∙ ap (with_branch (state_of branches rows) xid) (is branch)
 
 -- a row without sharers is held by no branch
 pub nobodys : (xid : Xid) → mode_in xid (SharedBy set.empty) ≡ None
 nobodys xid = ap (λ b. cond b (Some Shared) None) (contains-empty xid_cmp xid)
 
 -- a branch that holds no row has no writes and no locks
-pub seen_fresh : (rows : RowMap) (xid : Xid) (session : ℕ) → ((key : List ℕ) → is_some (mode_of xid (map.get rows key)) ≡ false) →
+pub seen_fresh : (rows : RowMap) (xid : Xid) (session : ℕ)
+    → ((key : List ℕ) → is_some (mode_of xid (map.get rows key)) ≡ false) →
     branch_seen rows xid (record { phase = PhaseActive; owner = Some session; held = [] }) ≡ started_by session
 seen_fresh rows xid session free = same_branch _ _ refl refl
     (gather_none (write_by xid) rows (λ key. unwritten xid (map.get rows key) (free key)))
@@ -150,10 +177,12 @@ seen_fresh rows xid session free = same_branch _ _ refl refl
 -- ---- rows that nobody holds
 
 -- the record of a row that no branch holds says nothing of any
-unheld_writes : (xid : Xid) (found : Option RowRecord) → mode_of xid found ≡ None → option_and_then (write_by xid) found ≡ None
+unheld_writes : (xid : Xid) (found : Option RowRecord) → mode_of xid found ≡ None
+    → option_and_then (write_by xid) found ≡ None
 unheld_writes xid found none = unwritten xid found (ap is_some none)
 
-pub seen_put : (branches : BranchMap) (rows : RowMap) (key : List ℕ) (value : Text) → ((xid : Xid) → mode_of xid (map.get rows key) ≡ None) →
+pub seen_put : (branches : BranchMap) (rows : RowMap) (key : List ℕ) (value : Text)
+    → ((xid : Xid) → mode_of xid (map.get rows key) ≡ None) →
     state_of branches (map.insert rows key (record { committed = Some value; lock = SharedBy set.empty }))
     ≡ record (state_of branches rows) { rows = with_write key (Some value) (state_of branches rows).rows }
 unfolding state_of
@@ -163,8 +192,10 @@ seen_put branches rows key value free = same_state _ _
     (λ xid. gather_insert_same (lock_by xid) rows key _ (nobodys xid ∙ sym (free xid))))
     (gather_insert (λ row. row.committed) rows key _ value refl)
 
-pub seen_deleted : (branches : BranchMap) (rows : RowMap) (key : List ℕ) → ((xid : Xid) → mode_of xid (map.get rows key) ≡ None) →
-    state_of branches (map.remove rows key) ≡ record (state_of branches rows) { rows = with_write key None (state_of branches rows).rows }
+pub seen_deleted : (branches : BranchMap) (rows : RowMap) (key : List ℕ)
+    → ((xid : Xid) → mode_of xid (map.get rows key) ≡ None) →
+    state_of branches (map.remove rows key) ≡ record (state_of branches rows)
+    { rows = with_write key None (state_of branches rows).rows }
 unfolding state_of
 seen_deleted branches rows key free = same_state _ _
     (seen_same_rows branches rows _
@@ -175,27 +206,35 @@ seen_deleted branches rows key free = same_state _ _
 -- ---- a row that a branch comes to hold
 
 -- a record that differs for one branch alone is that branch changed
-seen_row : (branches : BranchMap) (rows : RowMap) (xid : Xid) (key : List ℕ) (row : RowRecord) (change : Branch → Branch) →
+seen_row : (branches : BranchMap) (rows : RowMap) (xid : Xid) (key : List ℕ) (row : RowRecord)
+    (change : Branch → Branch) →
     is_some (map.get branches xid) ≡ true → row.committed ≡ committed_of (map.get rows key) →
-    ((branch : BranchRecord) → branch_seen (map.insert rows key row) xid branch ≡ change (branch_seen rows xid branch)) →
-    ((other : Xid) → same_xid other xid ≡ false → branch_seen (map.insert rows key row) other ≡ branch_seen rows other) →
+    ((branch : BranchRecord) → branch_seen (map.insert rows key row) xid branch ≡ change (branch_seen rows xid branch))
+    →
+    ((other : Xid) → same_xid other xid ≡ false → branch_seen (map.insert rows key row) other ≡ branch_seen rows other)
+    →
     state_of branches (map.insert rows key row) ≡ with_changed (state_of branches rows) xid change
 unfolding state_of
 seen_row branches rows xid key row change known value own others =
     by (map.get branches xid) refl known
-    ∙ ap (λ found. option_map_or (λ branch. with_branch (state_of branches rows) xid (change branch)) found (state_of branches rows))
+    ∙ ap (λ found. option_map_or (λ branch. with_branch (state_of branches rows) xid (change branch)) found
+    (state_of branches rows))
     (sym (get-branches branches rows xid))
   where
     by : (found : Option BranchRecord) → map.get branches xid ≡ found → is_some found ≡ true →
         state_of branches (map.insert rows key row)
-        ≡ option_map_or (λ branch. with_branch (state_of branches rows) xid (change branch)) (option_map (branch_seen rows xid) found) (state_of branches rows)
+        ≡ option_map_or (λ branch. with_branch (state_of branches rows) xid (change branch))
+        (option_map (branch_seen rows xid) found) (state_of branches rows)
     by None e there = absurd (true≢false (sym there))
     by (Some branch) e there = same_state _ _
-        (same_branches _ _ (λ other. get-branches branches _ other ∙ (elim (same_or_apart xids_total exact_xids other xid) [
+        (same_branches _ _ (λ other. get-branches branches _ other
+        ∙ (elim (same_or_apart xids_total exact_xids other xid) [
           | inl is ↦ rw is (ap (option_map (branch_seen (map.insert rows key row) xid)) e ∙ ap Some (own branch)
-              ∙ sym (get_inserted xids_total exact_xids (state_of branches rows).branches xid (change (branch_seen rows xid branch))))
+              ∙ sym (get_inserted xids_total exact_xids (state_of branches rows).branches xid
+              (change (branch_seen rows xid branch))))
           | inr apart ↦ ap (λ (f : BranchRecord → Branch). option_map f (map.get branches other)) (others other apart)
-              ∙ sym (get_inserted_apart xids_total exact_xids (state_of branches rows).branches xid (change (branch_seen rows xid branch)) other apart
+              ∙ sym (get_inserted_apart xids_total exact_xids (state_of branches rows).branches xid
+              (change (branch_seen rows xid branch)) other apart
               ∙ get-branches branches rows other)
         ])))
         (gather_insert_same (λ row. row.committed) rows key _ value)
@@ -214,31 +253,41 @@ if_apart false x e = refl
 
 -- the branch that comes to hold the row exclusively
 held_branch : (rows : RowMap) (xid : Xid) (key : List ℕ) (change : Change) (branch : BranchRecord) →
-    branch_seen (map.insert rows key (held_row xid change (map.get rows key))) xid branch ≡ with_change key change (branch_seen rows xid branch)
+    branch_seen (map.insert rows key (held_row xid change (map.get rows key))) xid branch
+    ≡ with_change key change (branch_seen rows xid branch)
 held_branch rows xid key change branch = same_branch _ _ refl refl
-    (gather_insert (write_by xid) rows key _ (write_of change) (if_there (same_xid xid xid) (write_of change) (itself xid)))
+    (gather_insert (write_by xid) rows key _ (write_of change)
+    (if_there (same_xid xid xid) (write_of change) (itself xid)))
     (gather_insert (lock_by xid) rows key _ Exclusive (if_there (same_xid xid xid) Exclusive (itself xid)))
 
 -- the others
-held_others : (rows : RowMap) (xid : Xid) (key : List ℕ) (change : Change) (other : Xid) → IsFreeFor xid (map.get rows key) → same_xid other xid ≡ false →
+held_others : (rows : RowMap) (xid : Xid) (key : List ℕ) (change : Change) (other : Xid)
+    → IsFreeFor xid (map.get rows key) → same_xid other xid ≡ false →
     branch_seen (map.insert rows key (held_row xid change (map.get rows key))) other ≡ branch_seen rows other
-held_others rows xid key change other free apart = λ i branch. record { phase = branch.phase; owner = branch.owner; writes = writes i; locks = locks i }
+held_others rows xid key change other free apart =
+    λ i branch. record { phase = branch.phase; owner = branch.owner; writes = writes i; locks = locks i }
   where
-    writes : gather (write_by other) (map.insert rows key (held_row xid change (map.get rows key))) ≡ gather (write_by other) rows
+    writes : gather (write_by other) (map.insert rows key (held_row xid change (map.get rows key)))
+        ≡ gather (write_by other) rows
     writes =
         gather_insert_same (write_by other) rows key _
-        (if_apart (same_xid xid other) (write_of change) (turned_apart xid other apart) ∙ sym (unwritten other (map.get rows key) (free other apart)))
+        (if_apart (same_xid xid other) (write_of change) (turned_apart xid other apart)
+        ∙ sym (unwritten other (map.get rows key) (free other apart)))
 
-    locks : gather (lock_by other) (map.insert rows key (held_row xid change (map.get rows key))) ≡ gather (lock_by other) rows
+    locks : gather (lock_by other) (map.insert rows key (held_row xid change (map.get rows key)))
+        ≡ gather (lock_by other) rows
     locks =
         gather_insert_same (lock_by other) rows key _
-        (if_apart (same_xid xid other) Exclusive (turned_apart xid other apart) ∙ sym (none_of (mode_of other (map.get rows key)) (free other apart)))
+        (if_apart (same_xid xid other) Exclusive (turned_apart xid other apart)
+        ∙ sym (none_of (mode_of other (map.get rows key)) (free other apart)))
 
 pub seen_held : (branches : BranchMap) (rows : RowMap) (xid : Xid) (key : List ℕ) (change : Change) →
     is_some (map.get branches xid) ≡ true → IsFreeFor xid (map.get rows key) →
-    state_of branches (map.insert rows key (held_row xid change (map.get rows key))) ≡ with_changed (state_of branches rows) xid (with_change key change)
+    state_of branches (map.insert rows key (held_row xid change (map.get rows key)))
+    ≡ with_changed (state_of branches rows) xid (with_change key change)
 seen_held branches rows xid key change known free =
-    seen_row branches rows xid key (held_row xid change (map.get rows key)) (with_change key change) known refl (held_branch rows xid key change)
+    seen_row branches rows xid key (held_row xid change (map.get rows key)) (with_change key change) known refl
+    (held_branch rows xid key change)
     (λ other. held_others rows xid key change other free)
 
 -- ---- a row that a branch comes to share
@@ -249,9 +298,11 @@ pub record IsShareable (xid : Xid) (found : Option RowRecord) : Type 0 where
   pub unlocked : locked_against (Active xid) found ≡ false
 
 -- the branch that comes to share it
-pub share_there : (xid : Xid) (found : Option RowRecord) → IsShareable xid found → lock_by xid (shared_row xid found) ≡ Some Shared
+pub share_there : (xid : Xid) (found : Option RowRecord) → IsShareable xid found
+    → lock_by xid (shared_row xid found) ≡ Some Shared
 share_there xid found is =
-    sharer_there xid (lock_of found) (by (mode_in xid (lock_of found)) (sym (ap is_some (mode_of-lock xid found)) ∙ is.unheld))
+    sharer_there xid (lock_of found) (by (mode_in xid (lock_of found))
+    (sym (ap is_some (mode_of-lock xid found)) ∙ is.unheld))
     (sym (locked_against-lock (Active xid) found) ∙ is.unlocked)
   where
     by : (mode : Option LockMode) → is_some mode ≡ false → is_exclusive mode ≡ false
@@ -259,16 +310,20 @@ share_there xid found is =
     by (Some mode) e = absurd (true≢false e)
 
 -- the others
-pub share_others : (xid other : Xid) (found : Option RowRecord) → same_xid other xid ≡ false → lock_by other (shared_row xid found) ≡ mode_of other found
+pub share_others : (xid other : Xid) (found : Option RowRecord) → same_xid other xid ≡ false
+    → lock_by other (shared_row xid found) ≡ mode_of other found
 share_others xid other found apart = sharer_beside xid other (lock_of found) apart ∙ sym (mode_of-lock other found)
 
 -- nobody's write
-share_writes : (xid other : Xid) (found : Option RowRecord) → write_by other (shared_row xid found) ≡ option_and_then (write_by other) found
+share_writes : (xid other : Xid) (found : Option RowRecord)
+    → write_by other (shared_row xid found) ≡ option_and_then (write_by other) found
 share_writes xid other None = refl
 share_writes xid other (Some row) = sharer_writes xid other row.lock
 
-shared_branch : (rows : RowMap) (xid : Xid) (key : List ℕ) (branch : BranchRecord) → IsShareable xid (map.get rows key) →
-    branch_seen (map.insert rows key (shared_row xid (map.get rows key))) xid branch ≡ with_lock key (branch_seen rows xid branch)
+shared_branch : (rows : RowMap) (xid : Xid) (key : List ℕ) (branch : BranchRecord) → IsShareable xid (map.get rows key)
+    →
+    branch_seen (map.insert rows key (shared_row xid (map.get rows key))) xid branch
+    ≡ with_lock key (branch_seen rows xid branch)
 shared_branch rows xid key branch is = same_branch _ _ refl refl
     (gather_insert_same (write_by xid) rows key _ (share_writes xid xid (map.get rows key)))
     (gather_insert (lock_by xid) rows key _ Shared (share_there xid (map.get rows key) is)
@@ -277,17 +332,22 @@ shared_branch rows xid key branch is = same_branch _ _ refl refl
 
 shared_others : (rows : RowMap) (xid : Xid) (key : List ℕ) (other : Xid) → same_xid other xid ≡ false →
     branch_seen (map.insert rows key (shared_row xid (map.get rows key))) other ≡ branch_seen rows other
-shared_others rows xid key other apart = λ i branch. record { phase = branch.phase; owner = branch.owner; writes = writes i; locks = locks i }
+shared_others rows xid key other apart =
+    λ i branch. record { phase = branch.phase; owner = branch.owner; writes = writes i; locks = locks i }
   where
-    writes : gather (write_by other) (map.insert rows key (shared_row xid (map.get rows key))) ≡ gather (write_by other) rows
+    writes : gather (write_by other) (map.insert rows key (shared_row xid (map.get rows key)))
+        ≡ gather (write_by other) rows
     writes = gather_insert_same (write_by other) rows key _ (share_writes xid other (map.get rows key))
 
-    locks : gather (lock_by other) (map.insert rows key (shared_row xid (map.get rows key))) ≡ gather (lock_by other) rows
+    locks : gather (lock_by other) (map.insert rows key (shared_row xid (map.get rows key)))
+        ≡ gather (lock_by other) rows
     locks = gather_insert_same (lock_by other) rows key _ (share_others xid other (map.get rows key) apart)
 
 pub seen_shared : (branches : BranchMap) (rows : RowMap) (xid : Xid) (key : List ℕ) →
     is_some (map.get branches xid) ≡ true → IsShareable xid (map.get rows key) →
-    state_of branches (map.insert rows key (shared_row xid (map.get rows key))) ≡ with_changed (state_of branches rows) xid (with_lock key)
+    state_of branches (map.insert rows key (shared_row xid (map.get rows key)))
+    ≡ with_changed (state_of branches rows) xid (with_lock key)
 seen_shared branches rows xid key known is =
-    seen_row branches rows xid key (shared_row xid (map.get rows key)) (with_lock key) known refl (λ branch. shared_branch rows xid key branch is)
+    seen_row branches rows xid key (shared_row xid (map.get rows key)) (with_lock key) known refl
+    (λ branch. shared_branch rows xid key branch is)
     (λ other. shared_others rows xid key other)

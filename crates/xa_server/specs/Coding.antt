@@ -58,7 +58,8 @@ coded_mode = code_by ℕ coded_ℕ number_of_mode mode_of_number mode_back
 abbrev pub coded_branch : Coded Branch
 coded_branch =
     code_by (Phase × (Option ℕ × (map.FinMap bytes_cmp Write × RowLocks)))
-    (coded× coded_phase (coded× (coded_option coded_ℕ) (coded× (map.code coded_key (coded_option coded_text)) (map.code coded_key coded_mode))))
+    (coded× coded_phase (coded× (coded_option coded_ℕ) (coded× (map.code coded_key (coded_option coded_text))
+    (map.code coded_key coded_mode))))
     (λ b. (b.phase, (b.owner, (b.writes, b.locks))))
     (λ p. record { phase = p.0; owner = p.1.0; writes = p.1.1.0; locks = p.1.1.1 }) (λ _. refl)
 
@@ -107,7 +108,8 @@ lock_back (SharedBy sharers) = refl
 
 abbrev pub coded_lock : Coded Lock
 coded_lock =
-    code_by (Option (Xid × Change) × Sharing) (coded× (coded_option (coded× coded_xid coded_change)) (set.code coded_xid))
+    code_by (Option (Xid × Change) × Sharing) (coded× (coded_option (coded× coded_xid coded_change))
+    (set.code coded_xid))
     holder_and_sharers lock_of_parts lock_back
 
 abbrev pub coded_row_record : Coded RowRecord

@@ -1,5 +1,5 @@
--- The numbers of refusals (MySQL 8.0 Reference Manual, 'Server Error Message Reference'; the XA codes are C193's return codes), and their texts
--- (own rule).
+-- The numbers of refusals (MySQL 8.0 Reference Manual, 'Server Error Message Reference'; the XA codes are C193's return
+-- codes), and their texts (own rule).
 --     number_of       the server's error number
 --     sqlstate_of     its five characters
 --     xa_code_of      the XA return code, if there is one

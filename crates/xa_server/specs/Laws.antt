@@ -9,7 +9,8 @@ use Rattle.xa_server.specs.State.{State, owns, own_xid, phase_at, association_of
 use Rattle.xa_server.specs.Finish.{PreparesAt}
 
 -- there is an accepted XA PREPARE of the branch between two places of a history
-pub record IsPreparedBetween (base : State) (history : List (ℕ × Statement)) (first second : ℕ) (xid : Xid) : Type 0 where
+pub record IsPreparedBetween (base : State) (history : List (ℕ × Statement)) (first second : ℕ)
+    (xid : Xid) : Type 0 where
   pub place : ℕ
   pub after_first : first < place
   pub before_second : place < second

@@ -39,21 +39,27 @@ is_another (Idle own) xid = not (same_xid xid own)
 
 -- a branch that isn't the session's own holds the row, in either way
 unfoldable pub is_held_against : State → Association → List ℕ → Bool
-is_held_against state association key = list_any (λ xid. is_another association xid && holds state xid key) (map.keys state.branches)
+is_held_against state association key =
+    list_any (λ xid. is_another association xid && holds state xid key) (map.keys state.branches)
 
 -- a branch that isn't the session's own holds the row exclusively
 unfoldable pub is_locked_against : State → Association → List ℕ → Bool
-is_locked_against state association key = list_any (λ xid. is_another association xid && holds_exclusively state xid key) (map.keys state.branches)
+is_locked_against state association key =
+    list_any (λ xid. is_another association xid && holds_exclusively state xid key) (map.keys state.branches)
 
 -- what every state of a server keeps
 pub record LockLaw (state : State) : Type 0 where
   -- a row that one branch holds exclusively is held by no other, in either way
-  pub one_holder : (xid other : Xid) (key : List ℕ) → holds_exclusively state xid key ≡ true → holds state other key ≡ true → xid ≡ other
+  pub one_holder : (xid other : Xid) (key : List ℕ) → holds_exclusively state xid key ≡ true
+      → holds state other key ≡ true → xid ≡ other
   -- a session owns at most one branch
-  pub one_branch : (session : ℕ) (xid other : Xid) → owns state session xid ≡ true → owns state session other ≡ true → xid ≡ other
+  pub one_branch : (session : ℕ) (xid other : Xid) → owns state session xid ≡ true → owns state session other ≡ true
+      → xid ≡ other
   -- a PREPARED branch has no owner
   pub detached : (xid : Xid) → is_prepared state xid ≡ true → owner_at state xid ≡ None
   -- an ACTIVE or IDLE branch has one
-  pub attached : (xid : Xid) → is_known state xid ≡ true → is_prepared state xid ≡ false → is_some (owner_at state xid) ≡ true
+  pub attached : (xid : Xid) → is_known state xid ≡ true → is_prepared state xid ≡ false
+      → is_some (owner_at state xid) ≡ true
   -- a branch writes only rows that it holds exclusively
-  pub held_writes : (xid : Xid) (key : List ℕ) → is_some (write_at state xid key) ≡ true → holds_exclusively state xid key ≡ true
+  pub held_writes : (xid : Xid) (key : List ℕ) → is_some (write_at state xid key) ≡ true
+      → holds_exclusively state xid key ≡ true

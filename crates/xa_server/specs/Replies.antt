@@ -4,15 +4,18 @@
 use Rattle.std.specs.Prelude.{ℕ, Bool, true, false, not}
 use Rattle.xa_xid.specs.Xid.{same_xid}
 use Rattle.xa_xid.specs.declared.statement.Statement.{Statement}
-use Rattle.xa_xid.specs.declared.statement.Statement.TheVariants.{Start, End, Prepare, Commit, Rollback, Recover, Unsupported, Get, Put, Del, Disconnect}
+use Rattle.xa_xid.specs.declared.statement.Statement.TheVariants.{Start, End, Prepare, Commit, Rollback, Recover}
+use Rattle.xa_xid.specs.declared.statement.Statement.TheVariants.{Unsupported, Get, Put, Del, Disconnect}
 use Rattle.xa_server.specs.declared.reply.Reply.{Reply}
 use Rattle.xa_server.specs.declared.reply.Reply.TheVariants.{Ok as Accepted, Value, Recovered, Refused}
 use Rattle.xa_server.specs.declared.xa_error.XaError.{XaError}
 use Rattle.xa_server.specs.declared.xa_error.XaError.TheVariants.{Nota, Inval, Rmfail, Dupid, RowLocked}
-use Rattle.xa_server.specs.declared.xa_error.BranchState.TheVariants.{NonExisting, Active as StateActive, Idle as StateIdle, Prepared as StatePrepared}
+use Rattle.xa_server.specs.declared.xa_error.BranchState.TheVariants.{NonExisting, Active as StateActive}
+use Rattle.xa_server.specs.declared.xa_error.BranchState.TheVariants.{Idle as StateIdle, Prepared as StatePrepared}
 use Rattle.xa_server.specs.declared.association.Association.{Association}
 use Rattle.xa_server.specs.declared.association.Association.TheVariants.{Free, Active, Idle}
-use Rattle.xa_server.specs.State.{State, is_known, is_prepared, association_of, committed_value, value_within, prepared_xids}
+use Rattle.xa_server.specs.State.{State, is_known, is_prepared, association_of, committed_value, value_within}
+use Rattle.xa_server.specs.State.{prepared_xids}
 use Rattle.xa_server.specs.Locks.{is_held_against, is_locked_against}
 
 -- the statement is carried out if the test holds, and else refused
@@ -26,8 +29,9 @@ refused_if true error reply = Refused error
 refused_if false error reply = reply
 
 -- One line a row and column of docs/STATEMENTS.md#replies, in its order. `own` is the branch that the session has open.
--- Which statement is allowed in which state is the manual's ('XA Transaction States') and C193's; the order of the refusals,
--- the reply to an identifier that isn't the session's, ONE PHASE of a PREPARED branch, and the rows are our own rules.
+-- Which statement is allowed in which state is the manual's ('XA Transaction States') and C193's; the order of the
+-- refusals, the reply to an identifier that isn't the session's, ONE PHASE of a PREPARED branch, and the rows are our
+-- own rules.
 unfoldable pub table : State → Association → Statement → Reply
 table state Free (Start xid) = refused_if (is_known state xid) Dupid Accepted
 table state (Active own) (Start xid) = Refused (Rmfail StateActive)
@@ -50,7 +54,8 @@ table state (Idle own) (Rollback xid) = ok_if (same_xid xid own) (Rmfail StateId
 table state association (Recover convert) = Recovered (prepared_xids state)
 table state association Unsupported = Refused Inval
 table state Free (Get key) = Value (committed_value state key)
-table state (Active own) (Get key) = refused_if (is_locked_against state (Active own) key) RowLocked (Value (value_within state own key))
+table state (Active own) (Get key) =
+    refused_if (is_locked_against state (Active own) key) RowLocked (Value (value_within state own key))
 table state (Idle own) (Get key) = Refused (Rmfail StateIdle)
 table state Free (Put key value) = refused_if (is_held_against state Free key) RowLocked Accepted
 table state (Active own) (Put key value) = refused_if (is_held_against state (Active own) key) RowLocked Accepted

@@ -5,7 +5,8 @@
 --     held_against           a branch that isn't the session's own holds the row, in either way
 --     locked_against         such a branch holds it exclusively
 --     value_seen             the value that the branch sees
---     held_row, shared_row   the record after the branch holds the row exclusively, with this change;  after it shares the row
+--     held_row, shared_row   the record after the branch holds the row exclusively, with this change;  after it shares
+--                            the row
 --     with_change            the branch after it holds the row exclusively, with this change
 --     freed_row, freed       the record after the branch has ended
 --     Frees                  all records after the branch has ended
@@ -110,7 +111,12 @@ freed_lock xid (SharedBy sharers) = SharedBy (set.remove sharers xid)
 
 -- the record after the branch has ended: its write is the committed value if it commits, and it holds the row no more
 abbrev pub freed_row : Bool → Xid → RowRecord → RowRecord
-freed_row commits xid row = record { committed = cond commits (unwrap_or (write_by xid row) row.committed) row.committed; lock = freed_lock xid row.lock }
+freed_row commits xid row =
+    record {
+      committed = cond commits (unwrap_or (write_by xid row) row.committed) row.committed;
+      lock = freed_lock xid
+          row.lock;
+    }
 
 -- the record of a row that has a value or is held
 abbrev pub is_needed : RowRecord → Bool
@@ -127,4 +133,5 @@ freed commits xid found = option_and_then (λ row. kept (freed_row commits xid r
 -- the records after the end of a branch that held the rows of these keys
 abbrev pub Frees : Bool → Xid → List (List ℕ) → RowMap → RowMap → Type 0
 Frees commits xid keys old new =
-    (key : List ℕ) → map.get new key ≡ cond (list_any (eq_by_cmp bytes_cmp key) keys) (freed commits xid (map.get old key)) (map.get old key)
+    (key : List ℕ) → map.get new key ≡ cond (list_any (eq_by_cmp bytes_cmp key) keys)
+    (freed commits xid (map.get old key)) (map.get old key)

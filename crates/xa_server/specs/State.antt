@@ -1,5 +1,6 @@
 -- What a resource manager holds: transaction branches and rows.
---     Write, LockMode, RowLocks     what a branch does to a row at its commit;  how it holds a row;  the rows that it holds
+--     Write, LockMode, RowLocks     what a branch does to a row at its commit;  how it holds a row;  the rows that it
+--                                   holds
 --     Branch, State        a transaction branch;  all branches, and the committed values of all rows
 --     no_state             no branch, no row
 --     is_known, is_prepared      whether a branch has this identifier;  and is PREPARED
@@ -14,7 +15,8 @@ use Rattle.std.specs.FinMap as map
 use Rattle.xa_xid.specs.declared.xid.Xid.{Xid}
 use Rattle.xa_xid.specs.Xid.{Text, bytes_cmp, xid_cmp}
 use Rattle.xa_server.specs.declared.branch.Phase.{Phase}
-use Rattle.xa_server.specs.declared.branch.Phase.TheVariants.{Active as PhaseActive, Idle as PhaseIdle, Prepared as PhasePrepared}
+use Rattle.xa_server.specs.declared.branch.Phase.TheVariants.{Active as PhaseActive, Idle as PhaseIdle}
+use Rattle.xa_server.specs.declared.branch.Phase.TheVariants.{Prepared as PhasePrepared}
 use Rattle.xa_server.specs.declared.association.Association.{Association}
 use Rattle.xa_server.specs.declared.association.Association.TheVariants.{Free, Active, Idle}
 
@@ -86,7 +88,8 @@ association_in (Some PhasePrepared) xid = Free
 
 -- what the session has open (manual, 'XA Transaction States')
 unfoldable pub association_of : State → ℕ → Association
-association_of state session = option_map_or (λ xid. association_in (phase_at state xid) xid) (own_xid state session) Free
+association_of state session =
+    option_map_or (λ xid. association_in (phase_at state xid) xid) (own_xid state session) Free
 
 -- the value that all sessions see
 abbrev pub committed_value : State → List ℕ → Option Text
@@ -100,7 +103,8 @@ write_at state xid key = option_and_then (λ branch. map.get branch.writes key) 
 abbrev pub value_within : State → Xid → List ℕ → Option Text
 value_within state xid key = unwrap_or (write_at state xid key) (committed_value state key)
 
--- the identifiers of the prepared branches of the whole resource manager, ascending (manual, XA RECOVER; the order is our own)
+-- the identifiers of the prepared branches of the whole resource manager, ascending (manual, XA RECOVER; the order is
+-- our own)
 unfoldable pub prepared_xids : State → List Xid
 prepared_xids state = filter (is_prepared state) (map.keys state.branches)
 

@@ -11,8 +11,10 @@ use Rattle.std.specs.FinMap as map
 use Rattle.xa_xid.specs.declared.xid.Xid.{Xid}
 use Rattle.xa_xid.specs.Xid.{Text, bytes_cmp}
 use Rattle.xa_xid.specs.declared.statement.Statement.{Statement}
-use Rattle.xa_xid.specs.declared.statement.Statement.TheVariants.{Start, End, Prepare, Commit, Rollback, Recover, Unsupported, Get, Put, Del, Disconnect}
-use Rattle.xa_server.specs.declared.branch.Phase.TheVariants.{Active as PhaseActive, Idle as PhaseIdle, Prepared as PhasePrepared}
+use Rattle.xa_xid.specs.declared.statement.Statement.TheVariants.{Start, End, Prepare, Commit, Rollback, Recover}
+use Rattle.xa_xid.specs.declared.statement.Statement.TheVariants.{Unsupported, Get, Put, Del, Disconnect}
+use Rattle.xa_server.specs.declared.branch.Phase.TheVariants.{Active as PhaseActive, Idle as PhaseIdle}
+use Rattle.xa_server.specs.declared.branch.Phase.TheVariants.{Prepared as PhasePrepared}
 use Rattle.xa_server.specs.declared.reply.Reply.{Reply}
 use Rattle.xa_server.specs.declared.reply.Reply.TheVariants.{Ok as Accepted, Value, Recovered, Refused}
 use Rattle.xa_server.specs.declared.association.Association.{Association}
@@ -31,7 +33,8 @@ with_branch state xid branch = record state { branches = map.insert state.branch
 
 -- the state with the branch of this identifier changed, if there is one
 abbrev pub with_changed : State → Xid → (Branch → Branch) → State
-with_changed state xid change = option_map_or (λ branch. with_branch state xid (change branch)) (map.get state.branches xid) state
+with_changed state xid change =
+    option_map_or (λ branch. with_branch state xid (change branch)) (map.get state.branches xid) state
 
 -- the state without the branch: its writes are dropped, and it holds no row any more
 abbrev pub without_branch : State → Xid → State
@@ -50,7 +53,8 @@ with_writes (write ∷ writes) rows = with_write write.0 write.1 (with_writes wr
 -- the state after the branch's commit: its writes are the committed values, and it is gone with its locks
 unfoldable pub committed : State → Xid → State
 committed state xid =
-    option_map_or (λ branch. record (without_branch state xid) { rows = with_writes (map.entries branch.writes) state.rows })
+    option_map_or (λ branch. record (without_branch state xid)
+    { rows = with_writes (map.entries branch.writes) state.rows })
     (map.get state.branches xid) state
 
 -- the rows after this one is held: in share, if it wasn't held before
@@ -63,7 +67,8 @@ with_lock key branch = record branch { locks = with_share key branch.locks }
 
 -- the branch holds the row exclusively, also if it shared it before, and writes it
 abbrev pub with_own_write : List ℕ → Write → Branch → Branch
-with_own_write key write branch = record branch { locks = map.insert branch.locks key Exclusive; writes = map.insert branch.writes key write }
+with_own_write key write branch =
+    record branch { locks = map.insert branch.locks key Exclusive; writes = map.insert branch.writes key write }
 
 -- a row is written: by a free session at once, in a branch under its exclusive lock
 abbrev pub row_written : State → Association → List ℕ → Write → State
@@ -71,11 +76,13 @@ row_written state Free key write = record state { rows = with_write key write st
 row_written state (Active own) key write = with_changed state own (with_own_write key write)
 row_written state (Idle own) key write = state
 
--- what an accepted statement does, one line for each statement (the phases are the manual's and C193's; rows and DISCONNECT are our own)
+-- what an accepted statement does, one line for each statement (the phases are the manual's and C193's; rows and
+-- DISCONNECT are our own)
 unfoldable pub effect : State → ℕ → Association → Statement → State
 effect state session association (Start xid) = with_branch state xid (started_by session)
 effect state session association (End xid) = with_changed state xid (λ branch. record branch { phase = PhaseIdle })
-effect state session association (Prepare xid) = with_changed state xid (λ branch. record branch { phase = PhasePrepared; owner = None })
+effect state session association (Prepare xid) =
+    with_changed state xid (λ branch. record branch { phase = PhasePrepared; owner = None })
 effect state session association (Commit xid one_phase) = committed state xid
 effect state session association (Rollback xid) = without_branch state xid
 effect state session association (Recover convert) = state
@@ -98,7 +105,8 @@ unless_refused (Refused error) old new = old
 
 -- the state after a session's statement
 unfoldable pub after : State → ℕ → Statement → State
-after state session statement = unless_refused (reply_to state session statement) state (effect state session (association_of state session) statement)
+after state session statement = unless_refused (reply_to state session statement) state
+    (effect state session (association_of state session) statement)
 
 -- the statement has this reply, and leaves this state
 abbrev pub Step : State → ℕ → Statement → Reply → State → Type 0
@@ -135,9 +143,11 @@ may_enter state (Idle own) Disconnect = true
 
 -- whether the statement is logged: it isn't refused, and is of a kind that is logged
 unfoldable pub enters : State → ℕ → Statement → Bool
-enters state session statement = not (is_refused (reply_to state session statement)) && may_enter state (association_of state session) statement
+enters state session statement =
+    not (is_refused (reply_to state session statement)) && may_enter state (association_of state session) statement
 
--- the state after a history of statements, each with its session; one that is refused at its place leaves the state as it was
+-- the state after a history of statements, each with its session; one that is refused at its place leaves the state as
+-- it was
 abbrev pub after_all : State → List (ℕ × Statement) → State
 after_all state [] = state
 after_all state (entry ∷ entries) = after_all (after state entry.0 entry.1) entries
@@ -155,6 +165,8 @@ makes_record (Put key value) = true
 makes_record (Del key) = true
 makes_record statement = false
 
--- carrying the statement out may take memory: XA RECOVER, and of what is logged XA START and the row statements (own rule)
+-- carrying the statement out may take memory: XA RECOVER, and of what is logged XA START and the row statements (own
+-- rule)
 abbrev pub may_take_memory : State → ℕ → Statement → Bool
-may_take_memory state session statement = is_recover statement || (enters state session statement && makes_record statement)
+may_take_memory state session statement =
+    is_recover statement || (enters state session statement && makes_record statement)

@@ -9,8 +9,10 @@
 --     without_last           a list without its last element
 --     prepared_keys          the identifiers of the PREPARED branches in a list of records
 --     prepared_among         the identifiers of the PREPARED branches, ascending
---     IsIndexed              the index has exactly the branches that have owners, each at its owner's place and in its phase
-use Rattle.std.specs.Prelude.{◌≡◌, ℕ, ◌-◌, Bool, false, cond, [], ◌∷◌, filter, Option, Some, None, List, slice_index_or, take, length}
+--     IsIndexed              the index has exactly the branches that have owners, each at its owner's place and in its
+--                            phase
+use Rattle.std.specs.Prelude.{◌≡◌, ℕ, ◌-◌, Bool, false, cond, [], ◌∷◌, filter, Option, Some, None, List, slice_index_or}
+use Rattle.std.specs.Prelude.{take, length}
 use Rattle.std.specs.Option.{option_and_then, option_map, option_map_or}
 use Rattle.std.specs.FinMap as map
 use Rattle.xa_xid.specs.declared.xid.Xid.{Xid}
@@ -52,13 +54,17 @@ idle_of (Idle own) = Idle own
 pub record IsIndexed (opened : List Association) (nothing : Association) (branches : BranchMap) : Type 0 where
   -- what is lent for a session past the end
   pub free : nothing ≡ Free
-  pub found : (session : ℕ) (xid : Xid) → named_in (opened_at opened session) ≡ Some xid → owner_of branches xid ≡ Some session
-  pub listed : (session : ℕ) (xid : Xid) → owner_of branches xid ≡ Some session → named_in (opened_at opened session) ≡ Some xid
-  pub phased : (session : ℕ) (xid : Xid) → owner_of branches xid ≡ Some session → opened_at opened session ≡ association_in (phase_in branches xid) xid
+  pub found : (session : ℕ) (xid : Xid) → named_in (opened_at opened session) ≡ Some xid
+      → owner_of branches xid ≡ Some session
+  pub listed : (session : ℕ) (xid : Xid) → owner_of branches xid ≡ Some session
+      → named_in (opened_at opened session) ≡ Some xid
+  pub phased : (session : ℕ) (xid : Xid) → owner_of branches xid ≡ Some session
+      → opened_at opened session ≡ association_in (phase_in branches xid) xid
 
 -- the records with the one of this identifier changed, if there is one
 abbrev pub with_record : BranchMap → Xid → (BranchRecord → BranchRecord) → BranchMap
-with_record branches xid change = option_map_or (λ branch. map.insert branches xid (change branch)) (map.get branches xid) branches
+with_record branches xid change =
+    option_map_or (λ branch. map.insert branches xid (change branch)) (map.get branches xid) branches
 
 -- a list without its last element
 abbrev pub without_last : List (List ℕ) → List (List ℕ)
@@ -67,11 +73,13 @@ without_last keys = take (length keys - 1) keys
 -- the identifiers of the PREPARED branches in a list of records
 abbrev pub prepared_keys : List (Xid × BranchRecord) → List Xid
 prepared_keys [] = []
-prepared_keys (entry ∷ entries) = cond (is_prepared_phase entry.1.phase) (entry.0 ∷ prepared_keys entries) (prepared_keys entries)
+prepared_keys (entry ∷ entries) =
+    cond (is_prepared_phase entry.1.phase) (entry.0 ∷ prepared_keys entries) (prepared_keys entries)
 
 -- the branch of this identifier is PREPARED
 abbrev pub is_prepared_at : BranchMap → Xid → Bool
-is_prepared_at branches xid = option_map_or is_prepared_phase (option_map (λ branch. branch.phase) (map.get branches xid)) false
+is_prepared_at branches xid =
+    option_map_or is_prepared_phase (option_map (λ branch. branch.phase) (map.get branches xid)) false
 
 -- the identifiers of the PREPARED branches, ascending
 abbrev pub prepared_among : BranchMap → List Xid

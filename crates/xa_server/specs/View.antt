@@ -28,7 +28,8 @@ module _ {K V W : Type 0} {R : K → K → Ordering} where
   abbrev pub gather_at : (V → Option W) → map.FinMap R V → List K → map.FinMap R W
   gather_at found records [] = map.empty
   gather_at found records (key ∷ keys) =
-      option_map_or (λ value. map.insert (gather_at found records keys) key value) (option_and_then found (map.get records key)) (gather_at found records keys)
+      option_map_or (λ value. map.insert (gather_at found records keys) key value)
+      (option_and_then found (map.get records key)) (gather_at found records keys)
 
   -- the map of what is found in each record
   unfoldable pub gather : (V → Option W) → map.FinMap R V → map.FinMap R W
@@ -40,11 +41,19 @@ module _ {K V W : Type 0} {R : K → K → Ordering} where
 
 -- a branch's record, with its writes and locks from the rows' records
 abbrev pub branch_seen : RowMap → Xid → BranchRecord → Branch
-branch_seen rows xid branch = record { phase = branch.phase; owner = branch.owner; writes = gather (write_by xid) rows; locks = gather (lock_by xid) rows }
+branch_seen rows xid branch =
+    record {
+      phase = branch.phase;
+      owner = branch.owner;
+      writes = gather (write_by xid) rows;
+      locks = gather
+          (lock_by xid) rows;
+    }
 
 -- the state that the records stand for
 unfoldable pub state_of : BranchMap → RowMap → State
-state_of branches rows = record { branches = mapped (branch_seen rows) branches; rows = gather (λ row. row.committed) rows }
+state_of branches rows =
+    record { branches = mapped (branch_seen rows) branches; rows = gather (λ row. row.committed) rows }
 
 -- how often a list names the row
 abbrev pub times_in : List ℕ → List (List ℕ) → ℕ
@@ -61,8 +70,10 @@ is_holder rows xid key = is_some (option_and_then (lock_by xid) (map.get rows ke
 -- what the records keep
 pub record IsWhole (branches : BranchMap) (rows : RowMap) : Type 0 where
   -- exactly the PREPARED branches have no owner
-  pub attached : (xid : Xid) (branch : BranchRecord) → map.get branches xid ≡ Some branch → is_none branch.owner ≡ is_prepared_phase branch.phase
+  pub attached : (xid : Xid) (branch : BranchRecord) → map.get branches xid ≡ Some branch
+      → is_none branch.owner ≡ is_prepared_phase branch.phase
   -- a session owns at most one branch
-  pub one_owned : (session : ℕ) (xid other : Xid) → owner_of branches xid ≡ Some session → owner_of branches other ≡ Some session → xid ≡ other
+  pub one_owned : (session : ℕ) (xid other : Xid) → owner_of branches xid ≡ Some session
+      → owner_of branches other ≡ Some session → xid ≡ other
   -- a branch lists exactly the rows that it holds in either way, each once
   pub listed_once : (xid : Xid) (key : List ℕ) → times_listed branches xid key ≡ cond (is_holder rows xid key) 1 0

@@ -2,7 +2,8 @@
 ghost use Rattle.std.specs.Prelude.{◌≡◌, ℕ, true, false, IfOk, OnOk, OnErr};
 ghost use Rattle.xa_server.specs.Replies.{table, reply_to};
 ghost use Rattle.xa_server.specs.State.{association_of};
-ghost use Rattle.xa_server.specs.Step.{Step, after, effect, is_refused, makes_record, may_enter, may_take_memory, row_written};
+ghost use Rattle.xa_server.specs.Step.{Step, after, effect, is_refused, makes_record, may_enter, may_take_memory};
+ghost use Rattle.xa_server.specs.Step.{row_written};
 ghost use Rattle.xa_xid.specs.declared.statement.Statement.TheVariants.{Get, Put, Del, Disconnect};
 
 use crate::association::Association;
@@ -36,7 +37,8 @@ impl Server {
     #[tactic(auto, unfolding(crate::specs::Step::effect))]
     fn put(&mut self, session: SessionNo, key: &Key, value: &Bytes) -> Result<(), NoMemory>
         requires { is_refused (reply_to self.old session (Put key.now value.now)) ≡ false }
-        ensures ok { OnOk result (self.new ≡ effect self.old session (association_of self.old session) (Put key.now value.now)) }
+        ensures ok { OnOk result (self.new ≡ effect self.old session (association_of self.old session)
+            (Put key.now value.now)) }
         ensures err { OnErr result (self.new ≡ self.old) }
     {
         match self.association(session) {

@@ -1,5 +1,6 @@
 //! The records of all branches, found by identifier and by session.
-ghost use Rattle.std.specs.Prelude.{◌≡◌, true, ◌≢◌, ℕ, [], ◌∷◌, ◌++◌, OnOk, OnErr, IfOk, MatchOption, ◌<◌, length, slice_set};
+ghost use Rattle.std.specs.Prelude.{◌≡◌, true, ◌≢◌, ℕ, [], ◌∷◌, ◌++◌, OnOk, OnErr, IfOk, MatchOption, ◌<◌, length};
+ghost use Rattle.std.specs.Prelude.{slice_set};
 ghost use Rattle.std.specs.Option.{option_map, option_and_then};
 ghost use Rattle.std.specs.BTreeMap as tree;
 ghost use Rattle.std.specs.FinMap as map;
@@ -42,7 +43,8 @@ impl Model for BranchTable {
 
     ghost view = { λ table. map.from_entries {R = xid_cmp} table.by_xid.entries };
 
-    ghost invariant = { λ table. IsIndexed table.opened.items table.nothing (map.from_entries {R = xid_cmp} table.by_xid.entries) };
+    ghost invariant = { λ table. IsIndexed table.opened.items table.nothing
+        (map.from_entries {R = xid_cmp} table.by_xid.entries) };
 }
 
 /// Returns the place of a session in the index.
@@ -110,7 +112,8 @@ fn set_idle(by_xid: &mut BTreeMap<Xid, BranchRecord>, xid: &Xid) -> Option<Sessi
 /// owner.
 fn set_prepared(by_xid: &mut BTreeMap<Xid, BranchRecord>, xid: &Xid) -> Option<SessionNo>
     ensures changed { MatchOption (tree.get xid_cmp by_xid.old xid.now) (by_xid.new ≡ by_xid.old)
-        (λ branch. tree.Updates xid_cmp by_xid.old by_xid.new xid.now (Some (record branch { phase = Phase.Prepared; owner = None }))) }
+        (λ branch. tree.Updates xid_cmp by_xid.old by_xid.new xid.now
+        (Some (record branch { phase = Phase.Prepared; owner = None }))) }
     ensures owner { result ≡ option_and_then (λ branch. branch.owner) (tree.get xid_cmp by_xid.old xid.now) }
 {
     let branch = by_xid.get_mut(xid)?;
@@ -121,7 +124,8 @@ fn set_prepared(by_xid: &mut BTreeMap<Xid, BranchRecord>, xid: &Xid) -> Option<S
 /// Adds a key to those that a branch holds, if there is such a branch.
 fn list_key(by_xid: &mut BTreeMap<Xid, BranchRecord>, xid: &Xid, key: &Key) -> Result<(), NoMemory>
     ensures ok { OnOk result (MatchOption (tree.get xid_cmp by_xid.old xid.now) (by_xid.new ≡ by_xid.old)
-        (λ branch. tree.Updates xid_cmp by_xid.old by_xid.new xid.now (Some (record branch { held = branch.held ++ key.now ∷ [] })))) }
+        (λ branch. tree.Updates xid_cmp by_xid.old by_xid.new xid.now
+        (Some (record branch { held = branch.held ++ key.now ∷ [] })))) }
     ensures err { OnErr result (MatchOption (tree.get xid_cmp by_xid.old xid.now) (by_xid.new ≡ by_xid.old)
         (λ branch. tree.Updates xid_cmp by_xid.old by_xid.new xid.now (Some branch))) }
 {
@@ -134,7 +138,8 @@ fn list_key(by_xid: &mut BTreeMap<Xid, BranchRecord>, xid: &Xid, key: &Key) -> R
 /// Removes the last key of those that a branch holds, if there is such a branch.
 fn unlist_key(by_xid: &mut BTreeMap<Xid, BranchRecord>, xid: &Xid)
     ensures { MatchOption (tree.get xid_cmp by_xid.old xid.now) (by_xid.new ≡ by_xid.old)
-        (λ branch. tree.Updates xid_cmp by_xid.old by_xid.new xid.now (Some (record branch { held = without_last branch.held }))) }
+        (λ branch. tree.Updates xid_cmp by_xid.old by_xid.new xid.now
+        (Some (record branch { held = without_last branch.held }))) }
 {
     if let Some(branch) = by_xid.get_mut(xid) {
         let _last = branch.held.pop();
@@ -236,7 +241,8 @@ impl BranchTable {
     /// Returns what the session has open.
     pub fn opened(&self, session: SessionNo) -> &Association
         ensures named { (xid : XidSeen) → named_in result.now ≡ Some xid → owner_of self.now xid ≡ Some session }
-        ensures owned { (xid : XidSeen) → owner_of self.now xid ≡ Some session → result.now ≡ association_in (phase_in self.now xid) xid }
+        ensures owned { (xid : XidSeen) → owner_of self.now xid ≡ Some session
+            → result.now ≡ association_in (phase_in self.now xid) xid }
     {
         opened_at(self.opened.as_slice(), &self.nothing, session)
     }
@@ -259,7 +265,8 @@ impl BranchTable {
     pub fn start(&mut self, session: SessionNo, xid: &Xid) -> Result<(), NoMemory>
         requires unknown { map.get self.old xid.now ≡ None }
         requires free { (other : XidSeen) → owner_of self.old other ≢ Some session }
-        ensures ok { OnOk result (self.new ≡ map.insert self.old xid.now (record { phase = Phase.Active; owner = Some session; held = [] })) }
+        ensures ok { OnOk result (self.new ≡ map.insert self.old xid.now
+            (record { phase = Phase.Active; owner = Some session; held = [] })) }
         ensures err { OnErr result (self.new ≡ self.old) }
     {
         let own = SharedXid::of(self.alloc, xid)?;
@@ -285,7 +292,8 @@ impl BranchTable {
 
     /// Removes the owner of a branch and sets its phase to PREPARED, if there is one.
     pub fn detach(&mut self, xid: &Xid)
-        ensures { self.new ≡ with_record self.old xid.now (λ branch. record branch { phase = Phase.Prepared; owner = None }) }
+        ensures { self.new ≡ with_record self.old xid.now (λ branch. record branch
+            { phase = Phase.Prepared; owner = None }) }
     {
         if let Some(owner) = set_prepared(&mut self.by_xid, xid) {
             set_place(&mut self.opened, owner, Association::Free);
@@ -295,7 +303,8 @@ impl BranchTable {
     /// Adds a key to those that a branch holds, if there is such a branch. After `NoMemory` the records are
     /// unchanged.
     pub fn list(&mut self, xid: &Xid, key: &Key) -> Result<(), NoMemory>
-        ensures ok { OnOk result (self.new ≡ with_record self.old xid.now (λ branch. record branch { held = branch.held ++ key.now ∷ [] })) }
+        ensures ok { OnOk result (self.new ≡ with_record self.old xid.now
+            (λ branch. record branch { held = branch.held ++ key.now ∷ [] })) }
         ensures err { OnErr result (self.new ≡ self.old) }
     {
         list_key(&mut self.by_xid, xid, key)
@@ -303,7 +312,8 @@ impl BranchTable {
 
     /// Removes the last key of those that a branch holds, if there is such a branch.
     pub fn unlist(&mut self, xid: &Xid)
-        ensures { self.new ≡ with_record self.old xid.now (λ branch. record branch { held = without_last branch.held }) }
+        ensures { self.new ≡ with_record self.old xid.now (λ branch. record branch
+            { held = without_last branch.held }) }
     {
         unlist_key(&mut self.by_xid, xid);
     }

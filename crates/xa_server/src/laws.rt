@@ -53,7 +53,8 @@ pub fn refused_statement_changes_nothing()
 /// Own rule: docs/STATEMENTS.md#which-statements-are-logged.
 pub fn statement_outside_history_changes_nothing()
     // Proved (server, refusal-changes-nothing)
-    ensures { (state : State) (session : ℕ) (statement : Statement) → enters state session statement ≡ false → after state session statement ≡ state }
+    ensures { (state : State) (session : ℕ) (statement : Statement) → enters state session statement ≡ false
+        → after state session statement ≡ state }
 {}
 
 /// States that there is an accepted `XA PREPARE` of a branch between any two of its finishes in one
@@ -98,7 +99,8 @@ pub fn recovered_list_is_exact()
     ensures ascending { (state : State) → IsStrictlySortedBy xid_cmp (prepared_xids state) }
     // Proved (server, recovered-list)
     // Proved (sessions, recover-at-a-prefix)
-    ensures exact { (state : State) (xid : Xid) → list_any (same_xid xid) (prepared_xids state) ≡ is_prepared state xid }
+    ensures exact { (state : State) (xid : Xid) → list_any (same_xid xid) (prepared_xids state)
+        ≡ is_prepared state xid }
 {}
 
 /// States that the state with no branches keeps the lock law, and that each statement and each history
@@ -112,7 +114,9 @@ pub fn lock_law_is_kept()
     // Proved (server, lock-law)
     ensures empty { LockLaw no_state }
     // Proved (server, lock-law)
-    ensures step { (state : State) (session : ℕ) (statement : Statement) → LockLaw state → LockLaw (after state session statement) }
+    ensures step { (state : State) (session : ℕ) (statement : Statement) → LockLaw state
+        → LockLaw (after state session statement) }
     // Proved (server, lock-law)
-    ensures history { (state : State) (history : List (ℕ × Statement)) → LockLaw state → LockLaw (after_all state history) }
+    ensures history { (state : State) (history : List (ℕ × Statement)) → LockLaw state
+        → LockLaw (after_all state history) }
 {}

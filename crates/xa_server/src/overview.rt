@@ -65,7 +65,8 @@ fn one_key(alloc: Global, key: &Key) -> Result<Vec<Key>, NoMemory>
 
 impl Server {
     ghost use Rattle.xa_server.specs.State.{committed_value as committed_value_of, association_of};
-    ghost use Rattle.xa_server.specs.Overview.{branches_of, rows_of as rows_of_branch, keys_open as keys_open_at, keys_about as keys_about_statement};
+    ghost use Rattle.xa_server.specs.Overview.{branches_of, rows_of as rows_of_branch, keys_open as keys_open_at};
+    ghost use Rattle.xa_server.specs.Overview.{keys_about as keys_about_statement};
 
     /// Lists every branch, once, ascending by identifier.
     ///

@@ -1,7 +1,8 @@
 //! The record of a row.
 ghost use Rattle.std.specs.Prelude.{◌≡◌, true, is_some, IfOk};
 ghost use Rattle.std.specs.Option.{option_copied, option_and_then};
-ghost use Rattle.xa_server.specs.Rows.{committed_of, held_against, locked_against, value_seen, lock_by, freed_row, is_needed};
+ghost use Rattle.xa_server.specs.Rows.{committed_of, held_against, locked_against, value_seen, lock_by, freed_row};
+ghost use Rattle.xa_server.specs.Rows.{is_needed};
 
 use crate::association::{Association, is_same};
 use crate::lock::{Change, Lock, is_same_text};

@@ -61,7 +61,8 @@ fn share_in(
     xid: &SharedXid,
 ) -> Result<bool, NoMemory>
     ensures ok { OnOk result (MatchOption (tree.get bytes_cmp by_key.old key.now) (by_key.new ≡ by_key.old)
-        (λ row. tree.Updates bytes_cmp by_key.old by_key.new key.now (Some (record row { lock = with_sharer xid.now row.lock })))) }
+        (λ row. tree.Updates bytes_cmp by_key.old by_key.new key.now
+        (Some (record row { lock = with_sharer xid.now row.lock })))) }
     ensures found { IfOk result (λ found. found ≡ is_some (tree.get bytes_cmp by_key.old key.now)) }
     ensures err { OnErr result (MatchOption (tree.get bytes_cmp by_key.old key.now) (by_key.new ≡ by_key.old)
         (λ row. tree.Updates bytes_cmp by_key.old by_key.new key.now (Some row))) }
@@ -179,7 +180,8 @@ impl RowTable {
 
     /// Makes a branch hold a row exclusively, with this change. After `NoMemory` the records are unchanged.
     pub fn hold(&mut self, key: &Key, holder: SharedXid, change: Change) -> Result<(), NoMemory>
-        ensures ok { OnOk result (self.new ≡ map.insert self.old key.now (held_row holder change (map.get self.old key.now))) }
+        ensures ok { OnOk result (self.new ≡ map.insert self.old key.now
+            (held_row holder change (map.get self.old key.now))) }
         ensures err { OnErr result (self.new ≡ self.old) }
     {
         let lock = Lock::Exclusive { holder, change };
@@ -197,7 +199,8 @@ impl RowTable {
     /// Makes a branch share a row that no branch holds exclusively. After `NoMemory` the records are
     /// unchanged.
     pub fn share(&mut self, key: &Key, xid: &SharedXid) -> Result<(), NoMemory>
-        ensures ok { OnOk result (self.new ≡ map.insert self.old key.now (shared_row xid.now (map.get self.old key.now))) }
+        ensures ok { OnOk result (self.new ≡ map.insert self.old key.now
+            (shared_row xid.now (map.get self.old key.now))) }
         ensures err { OnErr result (self.new ≡ self.old) }
     {
         if share_in(&mut self.by_key, key, xid)? {
@@ -215,7 +218,8 @@ impl RowTable {
 
     /// Gives a value to a row that no branch holds. After `NoMemory` the records are unchanged.
     pub fn put(&mut self, key: &Key, value: &Bytes) -> Result<(), NoMemory>
-        ensures ok { OnOk result (self.new ≡ map.insert self.old key.now (record { committed = Some value.now; lock = Lock.Shared set.empty })) }
+        ensures ok { OnOk result (self.new ≡ map.insert self.old key.now
+            (record { committed = Some value.now; lock = Lock.Shared set.empty })) }
         ensures err { OnErr result (self.new ≡ self.old) }
     {
         let row = RowRecord {

@@ -47,7 +47,8 @@ impl Model for Server {
 /// Removes the key that a branch listed last, if the allocation for the row failed.
 fn unlist_refused(branches: &mut BranchTable, own: &Xid, held: &Result<(), NoMemory>)
     ensures held { OnOk held.now (branches.new ≡ branches.old) }
-    ensures refused { OnErr held.now (branches.new ≡ with_record branches.old own.now (λ branch. record branch { held = without_last branch.held })) }
+    ensures refused { OnErr held.now (branches.new ≡ with_record branches.old own.now
+        (λ branch. record branch { held = without_last branch.held })) }
 {
     if held.is_err() {
         branches.unlist(own);
@@ -55,10 +56,13 @@ fn unlist_refused(branches: &mut BranchTable, own: &Xid, held: &Result<(), NoMem
 }
 
 impl Server {
-    ghost use Rattle.xa_server.specs.State.{no_state, is_known, is_prepared, association_of, prepared_xids as prepared_xids_of};
+    ghost use Rattle.xa_server.specs.State.{no_state, is_known, is_prepared, association_of};
+    ghost use Rattle.xa_server.specs.State.{prepared_xids as prepared_xids_of};
     ghost use Rattle.xa_server.specs.State.{committed_value as committed_value_of, value_within as value_within_of};
-    ghost use Rattle.xa_server.specs.Locks.{LockLaw, holds as holds_of, is_held_against as is_held_against_of, is_locked_against as is_locked_against_of};
-    ghost use Rattle.xa_server.specs.Step.{started_by, with_branch, with_changed, with_lock, with_write, without_branch, committed};
+    ghost use Rattle.xa_server.specs.Locks.{LockLaw, holds as holds_of, is_held_against as is_held_against_of};
+    ghost use Rattle.xa_server.specs.Locks.{is_locked_against as is_locked_against_of};
+    ghost use Rattle.xa_server.specs.Step.{started_by, with_branch, with_changed, with_lock, with_write};
+    ghost use Rattle.xa_server.specs.Step.{without_branch, committed};
     ghost use Rattle.xa_server.specs.Overview.{branches_of, rows_of};
     ghost use Rattle.xa_server.specs.Rows.{with_change};
     ghost use Rattle.xa_server.specs.declared.branch.Phase.TheVariants.{Idle as PhaseIdle, Prepared as PhasePrepared};
@@ -237,7 +241,8 @@ impl Server {
 
     /// Prepares a branch, and detaches it from its session.
     pub(crate) fn detach(&mut self, xid: &Xid)
-        ensures { self.new ≡ with_changed self.old xid.now (λ branch. record branch { phase = PhasePrepared; owner = None }) }
+        ensures { self.new ≡ with_changed self.old xid.now (λ branch. record branch
+            { phase = PhasePrepared; owner = None }) }
     {
         self.branches.detach(xid);
     }
@@ -285,7 +290,8 @@ impl Server {
     /// Gives a value to a row that no branch holds. After `NoMemory` the server is unchanged.
     pub(crate) fn put_row(&mut self, key: &Key, value: &Bytes) -> Result<(), NoMemory>
         requires { is_held_against_of self.old Free key.now ≡ false }
-        ensures ok { OnOk result (self.new ≡ record self.old { rows = with_write key.now (Some value.now) self.old.rows }) }
+        ensures ok { OnOk result (self.new ≡ record self.old
+            { rows = with_write key.now (Some value.now) self.old.rows }) }
         ensures err { OnErr result (self.new ≡ self.old) }
     {
         self.rows.put(key, value)

@@ -1,5 +1,7 @@
--- What a look, a reply and an add make of an answer or a fault, what tries one after another come to, and what an answer says of its statement.
-use Rattle.std.proofs.Common.{◌≡◌, ◌+◌, ℕ, Bool, true, false, List, [], ◌∷◌, ◌++◌, length, take, refl, ap, sym, ◌∙◌, subst, ⊎_elim, inl, inr, Some, Ok, Err}
+-- What a look, a reply and an add make of an answer or a fault, what tries one after another come to, and what an
+-- answer says of its statement.
+use Rattle.std.proofs.Common.{◌≡◌, ◌+◌, ℕ, Bool, true, false, List, [], ◌∷◌, ◌++◌, length, take, refl, ap, sym, ◌∙◌}
+use Rattle.std.proofs.Common.{subst, ⊎_elim, inl, inr, Some, Ok, Err}
 use Rattle.std.proofs.Common.{arith, length-append}
 use Rattle.std.specs.Prelude.{slice_get, ◌⊎◌, Result, OnOk, OnErr, not, ◌&&◌}
 use Rattle.xa_words.specs.Entry.{Entry}
@@ -27,25 +29,32 @@ slice_get-last [] entry = refl
 slice_get-last (x ∷ xs) entry = slice_get-last xs entry
 
 -- the server's answer at the end of what is seen
-pub record IsReply (base : State) (statement : Statement) (answer : Answer) (enters_there : Bool) (known : Known) : Type 0 where
+pub record IsReply (base : State) (statement : Statement) (answer : Answer) (enters_there : Bool)
+    (known : Known) : Type 0 where
   pub place : answer.place ≡ length known.seen
   pub reply_is : answer.reply ≡ reply_to (state_at base known.seen (length known.seen)) known.number statement
   pub enters_is : enters_there ≡ enters (state_at base known.seen (length known.seen)) known.number statement
 
 -- a replica that stands for all that is seen answers so
-pub replied : (base : State) (statement : Statement) (answer : Answer) (entering : Bool) (known : Known) (server : State) (session replayed : ℕ)
-    → answer.place ≡ length known.seen → server ≡ state_at base known.seen replayed → replayed ≡ length known.seen → session ≡ known.number
-    → answer.reply ≡ reply_to server session statement → entering ≡ enters server session statement → IsReply base statement answer entering known
+pub replied : (base : State) (statement : Statement) (answer : Answer) (entering : Bool) (known : Known)
+    (server : State) (session replayed : ℕ)
+    → answer.place ≡ length known.seen → server ≡ state_at base known.seen replayed → replayed ≡ length known.seen
+    → session ≡ known.number
+    → answer.reply ≡ reply_to server session statement → entering ≡ enters server session statement
+    → IsReply base statement answer entering known
 replied base statement answer entering known server session replayed place state whole number reply entered =
     let there : server ≡ state_at base known.seen (length known.seen) = state ∙ ap (state_at base known.seen) whole in
     record {
       place = place;
-      reply_is = reply ∙ ap (λ s. reply_to s session statement) there ∙ ap (λ n. reply_to (state_at base known.seen (length known.seen)) n statement) number;
-      enters_is = entered ∙ ap (λ s. enters s session statement) there ∙ ap (λ n. enters (state_at base known.seen (length known.seen)) n statement) number;
+      reply_is = reply ∙ ap (λ s. reply_to s session statement) there
+          ∙ ap (λ n. reply_to (state_at base known.seen (length known.seen)) n statement) number;
+      enters_is = entered ∙ ap (λ s. enters s session statement) there
+          ∙ ap (λ n. enters (state_at base known.seen (length known.seen)) n statement) number;
     }
 
 pub advances_looked : (old new : Known) → Looked old new → Advances old new
-advances_looked old new looked = record { number = looked.number; seen = looked.seen; looks = omega arith; tries = omega arith }
+advances_looked old new looked =
+    record { number = looked.number; seen = looked.seen; looks = omega arith; tries = omega arith }
 
 pub advances_through : (old mid new : Known) → Advances old mid → Advances mid new → Advances old new
 advances_through old mid new first second = record {
@@ -56,13 +65,15 @@ advances_through old mid new first second = record {
 }
 
 -- a statement that doesn't enter
-pub answered_outside : (base : State) (statement : Statement) (answer : Answer) (old new : Known) → Looked old new → IsReply base statement answer false new
+pub answered_outside : (base : State) (statement : Statement) (answer : Answer) (old new : Known) → Looked old new
+    → IsReply base statement answer false new
     → IsAnswered base statement answer old new
 answered_outside base statement answer old new looked is =
     let state : ℕ → State = state_at base new.seen in
     let number : new.number ≡ old.number = looked.number in
     let not_entering : enters (state answer.place) old.number statement ≡ false =
-    ap (λ place. enters (state place) old.number statement) is.place ∙ ap (λ n. enters (state (length new.seen)) n statement) (sym number) ∙ sym is.enters_is in
+    ap (λ place. enters (state place) old.number statement) is.place
+    ∙ ap (λ n. enters (state (length new.seen)) n statement) (sym number) ∙ sym is.enters_is in
     record {
       advances = advances_looked old new looked;
       looked = omega arith;
@@ -79,19 +90,24 @@ answered_outside base statement answer old new looked is =
     }
 
 -- a statement that enters, and was added
-pub answered_entered : (base : State) (statement : Statement) (answer : Answer) (old mid new : Known) → Looked old mid → IsReply base statement answer true mid
+pub answered_entered : (base : State) (statement : Statement) (answer : Answer) (old mid new : Known) → Looked old mid
+    → IsReply base statement answer true mid
     → IsAdded (entry_of mid.number statement) mid new → IsAnswered base statement answer old new
 answered_entered base statement answer old mid new looked is added =
     let number : mid.number ≡ old.number = looked.number in
     let entry : Entry = entry_of old.number statement in
-    let seen : new.seen ≡ mid.seen ++ entry ∷ [] = added.seen ∙ ap (λ n. mid.seen ++ entry_of n statement ∷ []) number in
+    let seen : new.seen ≡ mid.seen ++ entry ∷ [] = added.seen
+    ∙ ap (λ n. mid.seen ++ entry_of n statement ∷ []) number in
     let mine : new.mine ≡ old.mine ++ entry ∷ [] =
     added.mine ∙ ap (λ n. mid.mine ++ entry_of n statement ∷ []) number ∙ ap (λ list. list ++ entry ∷ []) looked.mine in
-    let begins : Begins mid.seen new.seen = subst (λ list. Begins mid.seen list) (sym seen) (begins_append mid.seen (entry ∷ [])) in
+    let begins : Begins mid.seen new.seen = subst (λ list. Begins mid.seen list) (sym seen)
+    (begins_append mid.seen (entry ∷ [])) in
     let state : state_at base new.seen answer.place ≡ state_at base mid.seen (length mid.seen) =
-    ap (state_at base new.seen) is.place ∙ state_at-begins base mid.seen new.seen (length mid.seen) begins (omega arith) in
+    ap (state_at base new.seen) is.place ∙ state_at-begins base mid.seen new.seen (length mid.seen) begins
+    (omega arith) in
     let entering : enters (state_at base new.seen answer.place) old.number statement ≡ true =
-    ap (λ s. enters s old.number statement) state ∙ ap (λ n. enters (state_at base mid.seen (length mid.seen)) n statement) (sym number) ∙ sym is.enters_is in
+    ap (λ s. enters s old.number statement) state ∙ ap (λ n. enters
+    (state_at base mid.seen (length mid.seen)) n statement) (sym number) ∙ sym is.enters_is in
     let longer : length new.seen ≡ length mid.seen + 1 = ap length seen ∙ length-append mid.seen (entry ∷ []) in
     record {
       advances = record {
@@ -107,7 +123,8 @@ answered_entered base statement answer old mid new looked is added =
         reply_is =
             is.reply_is ∙ ap (λ n. reply_to (state_at base mid.seen (length mid.seen)) n statement) number
             ∙ ap (λ s. reply_to s old.number statement) (sym state);
-        next = λ _. ap (λ place. slice_get new.seen place) is.place ∙ ap (λ list. slice_get list (length mid.seen)) seen ∙ slice_get-last mid.seen entry;
+        next = λ _. ap (λ place. slice_get new.seen place) is.place ∙ ap (λ list. slice_get list (length mid.seen)) seen
+            ∙ slice_get-last mid.seen entry;
       };
       entered = λ _. record {
         seen = seen ∙ ap (λ list. list ++ entry ∷ []) (sym (ap (λ place. take place new.seen) is.place ∙ begins));
@@ -120,10 +137,12 @@ answered_entered base statement answer old mid new looked is added =
 pub next_added : (entry : Entry) (old new : Known) (replayed : ℕ) → IsAdded entry old new → replayed ≡ length old.seen
     → slice_get new.seen replayed ≡ Some entry
 next_added entry old new replayed added whole =
-    ap (slice_get new.seen) whole ∙ ap (λ list. slice_get list (length old.seen)) added.seen ∙ slice_get-last old.seen entry
+    ap (slice_get new.seen) whole ∙ ap (λ list. slice_get list (length old.seen)) added.seen
+    ∙ slice_get-last old.seen entry
 
 -- a replica that has replayed all goes on by that entry, or there was no memory
-pub kept_by : {E M : Type 0} (result : Result (Unit {0}) E) (entry : Entry) (old new : Known) (replayed grown : ℕ) → IsAdded entry old new
+pub kept_by : {E M : Type 0} (result : Result (Unit {0}) E) (entry : Entry) (old new : Known) (replayed grown : ℕ)
+    → IsAdded entry old new
     → replayed ≡ length old.seen
     → OnOk result (grown ≡ replayed + 1) → OnErr result M → (grown ≡ length new.seen) ⊎ M
 kept_by (Ok _) entry old new replayed grown added whole next memory =
@@ -131,17 +150,23 @@ kept_by (Ok _) entry old new replayed grown added whole next memory =
 kept_by (Err _) entry old new replayed grown added whole next memory = inr memory
 
 -- the same, as the answer's place has it
-pub kept_entered : (base : State) (statement : Statement) (answer : Answer) (entry : Entry) (mid new : Known) (replica : Replica) (server : State)
+pub kept_entered : (base : State) (statement : Statement) (answer : Answer) (entry : Entry) (mid new : Known)
+    (replica : Replica) (server : State)
     (session replayed : ℕ)
-    → answer.place ≡ length mid.seen → server ≡ state_at base mid.seen replayed → replayed ≡ length mid.seen → session ≡ mid.number → IsAdded entry mid new
-    → (replica.replayed ≡ length new.seen) ⊎ (may_take_memory server session statement ≡ true) → IsKept base statement answer replica new
+    → answer.place ≡ length mid.seen → server ≡ state_at base mid.seen replayed → replayed ≡ length mid.seen
+    → session ≡ mid.number → IsAdded entry mid new
+    → (replica.replayed ≡ length new.seen) ⊎ (may_take_memory server session statement ≡ true)
+    → IsKept base statement answer replica new
 kept_entered base statement answer entry mid new replica server session replayed place state whole number added kept =
-    let begins : Begins mid.seen new.seen = subst (λ list. Begins mid.seen list) (sym added.seen) (begins_append mid.seen (entry ∷ [])) in
+    let begins : Begins mid.seen new.seen = subst (λ list. Begins mid.seen list) (sym added.seen)
+    (begins_append mid.seen (entry ∷ [])) in
     let there : state_at base new.seen answer.place ≡ server =
-    ap (state_at base new.seen) place ∙ state_at-begins base mid.seen new.seen (length mid.seen) begins (omega arith) ∙ ap (state_at base mid.seen) (sym whole)
+    ap (state_at base new.seen) place ∙ state_at-begins base mid.seen new.seen (length mid.seen) begins (omega arith)
+    ∙ ap (state_at base mid.seen) (sym whole)
     ∙ sym state in
     ⊎_elim (λ e. inl e) (λ m. inr
-    (ap (λ s. may_take_memory s new.number statement) there ∙ ap (λ n. may_take_memory server n statement) (added.number ∙ sym number) ∙ m)) kept
+    (ap (λ s. may_take_memory s new.number statement) there
+    ∙ ap (λ n. may_take_memory server n statement) (added.number ∙ sym number) ∙ m)) kept
 
 pub unanswered_looked : (old new : Known) → Looked old new → IsUnanswered old new
 unanswered_looked old new looked = record { advances = advances_looked old new looked; mine = looked.mine }
@@ -150,7 +175,8 @@ pub unanswered_through : (old mid new : Known) → IsUnanswered old mid → IsUn
 unanswered_through old mid new first second =
     record { advances = advances_through old mid new first.advances second.advances; mine = second.mine ∙ first.mine }
 
-pub fails_overtaken : (front : ℕ) (old mid new : Known) → Looked old mid → IsOvertaken front mid new → IsOvertaken front old new
+pub fails_overtaken : (front : ℕ) (old mid new : Known) → Looked old mid → IsOvertaken front mid new
+    → IsOvertaken front old new
 fails_overtaken front old mid new looked lost = record {
   number = lost.number ∙ looked.number;
   seen = begins_through old.seen mid.seen new.seen looked.seen lost.seen;
@@ -161,7 +187,8 @@ fails_overtaken front old mid new looked lost = record {
   tries = omega arith;
 }
 
-pub fails_full : (base : State) (capacity : ℕ) (statement : Statement) (answer : Answer) (old new : Known) → Looked old new
+pub fails_full : (base : State) (capacity : ℕ) (statement : Statement) (answer : Answer) (old new : Known)
+    → Looked old new
     → IsReply base statement answer true new → length new.seen ≡ capacity → IsFull base capacity statement old new
 fails_full base capacity statement answer old new looked is full = record {
   unanswered = unanswered_looked old new looked;
@@ -184,7 +211,8 @@ fails_busy old mid new looked busy = record {
 
 -- tries one after another
 
-pub fails_unanswered : (turns : Bool) (capacity : ℕ) (base : State) (statement : Statement) (fault : Fault) (old new : Known)
+pub fails_unanswered : (turns : Bool) (capacity : ℕ) (base : State) (statement : Statement) (fault : Fault)
+    (old new : Known)
     → Fails turns capacity base statement fault old new → IsUnanswered old new
 fails_unanswered turns capacity base statement (Overtaken front) old new fails = record {
   advances = record { number = fails.number; seen = fails.seen; looks = fails.looks; tries = omega arith };
@@ -195,9 +223,15 @@ fails_unanswered turns capacity base statement NoMemory old new fails = fails
 fails_unanswered turns capacity base statement Busy old new fails = fails.1
 
 pub unanswered_itself : (known : Known) → IsUnanswered known known
-unanswered_itself known = record { advances = record { number = refl; seen = begins_itself known.seen; looks = omega arith; tries = omega arith }; mine = refl }
+unanswered_itself known =
+    record {
+      advances = record
+          { number = refl; seen = begins_itself known.seen; looks = omega arith; tries = omega arith };
+      mine = refl;
+    }
 
-pub then_answered : (base : State) (statement : Statement) (answer : Answer) (old mid new : Known) → IsUnanswered old mid
+pub then_answered : (base : State) (statement : Statement) (answer : Answer) (old mid new : Known)
+    → IsUnanswered old mid
     → IsAnswered base statement answer mid new → IsAnswered base statement answer old new
 then_answered base statement answer old mid new first is =
     let number : mid.number ≡ old.number = first.advances.number in
@@ -211,14 +245,16 @@ then_answered base statement answer old mid new first is =
           let added = is.entered (subst (λ n. Enters n true) (sym number) entering) in
           record {
             seen = added.seen ∙ ap (λ n. take answer.place new.seen ++ entry_of n statement ∷ []) number;
-            mine = added.mine ∙ ap (λ n. mid.mine ++ entry_of n statement ∷ []) number ∙ ap (λ list. list ++ entry_of old.number statement ∷ []) first.mine;
+            mine = added.mine ∙ ap (λ n. mid.mine ++ entry_of n statement ∷ []) number
+                ∙ ap (λ list. list ++ entry_of old.number statement ∷ []) first.mine;
           };
       outside = λ other.
           let stays = is.outside (subst (λ n. Enters n false) (sym number) other) in
           record { whole = stays.whole; mine = stays.mine ∙ first.mine };
     }
 
-pub then_full : (base : State) (capacity : ℕ) (statement : Statement) (old mid new : Known) → IsUnanswered old mid → IsFull base capacity statement mid new
+pub then_full : (base : State) (capacity : ℕ) (statement : Statement) (old mid new : Known) → IsUnanswered old mid
+    → IsFull base capacity statement mid new
     → IsFull base capacity statement old new
 then_full base capacity statement old mid new first is = record {
   unanswered = unanswered_through old mid new first is.unanswered;
@@ -243,17 +279,20 @@ disconnected base answer old new is = record {
 }
 
 -- an accepted answer is an accepted statement
-pub accepted_there : (base : State) (statement : Statement) (answer : Answer) (old new : Known) → IsAnswered base statement answer old new
+pub accepted_there : (base : State) (statement : Statement) (answer : Answer) (old new : Known)
+    → IsAnswered base statement answer old new
     → is_refused answer.reply ≡ false →
     is_refused (reply_to (state_at base new.seen answer.place) old.number statement) ≡ false
 accepted_there base statement answer old new is accepted = sym (ap is_refused is.at.reply_is) ∙ accepted
 
 -- a refused statement adds nothing
-pub refused_unanswered : (base : State) (statement : Statement) (answer : Answer) (old new : Known) → IsAnswered base statement answer old new
+pub refused_unanswered : (base : State) (statement : Statement) (answer : Answer) (old new : Known)
+    → IsAnswered base statement answer old new
     → is_refused answer.reply ≡ true → IsUnanswered old new
 unfolding enters
 refused_unanswered base statement answer old new is refused =
-    let there : is_refused (reply_to (state_at base new.seen answer.place) old.number statement) ≡ true = sym (ap is_refused is.at.reply_is) ∙ refused in
+    let there : is_refused (reply_to (state_at base new.seen answer.place) old.number statement) ≡ true =
+    sym (ap is_refused is.at.reply_is) ∙ refused in
     record {
       advances = is.advances;
       mine =

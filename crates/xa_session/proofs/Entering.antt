@@ -1,9 +1,11 @@
 -- A statement that enters makes an entry, DISCONNECT is accepted, and XA RECOVER is answered a list and doesn't enter.
-use Rattle.std.proofs.Common.{◌≡◌, ℕ, Bool, true, false, if◌then◌else◌, ◌&&◌, not, refl, subst, sym, Option, Some, None, rules}
+use Rattle.std.proofs.Common.{◌≡◌, ℕ, Bool, true, false, if◌then◌else◌, ◌&&◌, not, refl, subst, sym, Option, Some, None}
+use Rattle.std.proofs.Common.{rules}
 use Rattle.std.specs.Option.{IsSome}
 use Rattle.xa_words.specs.Entry.{Entry}
 use Rattle.xa_xid.specs.declared.statement.Statement.{Statement}
-use Rattle.xa_xid.specs.declared.statement.Statement.TheVariants.{Start, End, Prepare, Commit, Rollback, Recover, Unsupported, Get, Put, Del, Disconnect}
+use Rattle.xa_xid.specs.declared.statement.Statement.TheVariants.{Start, End, Prepare, Commit, Rollback, Recover}
+use Rattle.xa_xid.specs.declared.statement.Statement.TheVariants.{Unsupported, Get, Put, Del, Disconnect}
 use Rattle.xa_words.specs.Entry.{may_be_entry as makes_entry}
 use Rattle.xa_server.specs.State.{State, association_of, prepared_xids}
 use Rattle.xa_server.specs.Replies.{table, reply_to}
@@ -16,15 +18,18 @@ never_both : (b : Bool) → b && false ≡ true → ⊥
 never_both true is = cc
 never_both false is = cc
 
-pub entering_makes_entry : (state : State) (session : ℕ) (statement : Statement) → enters state session statement ≡ true → makes_entry statement ≡ true
+pub entering_makes_entry : (state : State) (session : ℕ) (statement : Statement) → enters state session statement ≡ true
+    → makes_entry statement ≡ true
 unfolding enters may_enter
 entering_makes_entry state session (Start xid) is = refl
 entering_makes_entry state session (End xid) is = refl
 entering_makes_entry state session (Prepare xid) is = refl
 entering_makes_entry state session (Commit xid one_phase) is = refl
 entering_makes_entry state session (Rollback xid) is = refl
-entering_makes_entry state session (Recover convert) is = absurd (never_both (not (is_refused (reply_to state session (Recover convert)))) is)
-entering_makes_entry state session Unsupported is = absurd (never_both (not (is_refused (reply_to state session Unsupported))) is)
+entering_makes_entry state session (Recover convert) is =
+    absurd (never_both (not (is_refused (reply_to state session (Recover convert)))) is)
+entering_makes_entry state session Unsupported is =
+    absurd (never_both (not (is_refused (reply_to state session Unsupported))) is)
 entering_makes_entry state session (Get key) is = refl
 entering_makes_entry state session (Put key value) is = refl
 entering_makes_entry state session (Del key) is = refl
@@ -34,7 +39,8 @@ entering_makes_entry state session Disconnect is = refl
 pub entering_accepted : (state : State) (session : ℕ) (statement : Statement) → enters state session statement ≡ true
     → is_refused (reply_to state session statement) ≡ false
 unfolding enters
-entering_accepted state session statement is = by (is_refused (reply_to state session statement)) (may_enter state (association_of state session) statement) is
+entering_accepted state session statement is =
+    by (is_refused (reply_to state session statement)) (may_enter state (association_of state session) statement) is
   where
     by : (refused rest : Bool) → not refused && rest ≡ true → refused ≡ false
     by true rest e = absurd (cc)
@@ -60,7 +66,8 @@ recover_outside state session convert = none (not (is_refused (reply_to state se
     none false = refl
 
 -- and is answered the list of the prepared branches
-pub recover_reply : (state : State) (session : ℕ) (convert : Bool) → reply_to state session (Recover convert) ≡ Recovered (prepared_xids state)
+pub recover_reply : (state : State) (session : ℕ) (convert : Bool)
+    → reply_to state session (Recover convert) ≡ Recovered (prepared_xids state)
 unfolding reply_to table
 recover_reply state session convert = by (association_of state session)
   where
@@ -70,10 +77,12 @@ recover_reply state session convert = by (association_of state session)
     by (Idle own) = refl
 
 -- an entry is made where it may be
-pub is_made : (makes : Bool) (found : Option Entry) (entry : Entry) → found ≡ (if makes then Some entry else None) → makes ≡ true → IsSome found
+pub is_made : (makes : Bool) (found : Option Entry) (entry : Entry) → found ≡ (if makes then Some entry else None)
+    → makes ≡ true → IsSome found
 is_made true found entry is makes = let P : Option Entry → Type 0 = λ o. IsSome o in subst P (sym is) (search rules)
 is_made false found entry is makes = absurd (cc)
 
-pub made_entry : (makes : Bool) (found : Option Entry) (entry made : Entry) → found ≡ (if makes then Some entry else None) → found ≡ Some made → made ≡ entry
+pub made_entry : (makes : Bool) (found : Option Entry) (entry made : Entry)
+    → found ≡ (if makes then Some entry else None) → found ≡ Some made → made ≡ entry
 made_entry true found entry made is was = cc
 made_entry false found entry made is was = absurd (cc)

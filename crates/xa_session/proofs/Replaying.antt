@@ -1,5 +1,6 @@
 -- Replaying a history: entry by entry, and in longer histories.
-use Rattle.std.proofs.Common.{◌≡◌, ℕ, zero, suc, ◌<◌, ◌≤◌, ◌+◌, List, [], ◌∷◌, ◌++◌, length, take, refl, ap, sym, ◌∙◌, Some, arith, add-one}
+use Rattle.std.proofs.Common.{◌≡◌, ℕ, zero, suc, ◌<◌, ◌≤◌, ◌+◌, List, [], ◌∷◌, ◌++◌, length, take, refl, ap, sym, ◌∙◌}
+use Rattle.std.proofs.Common.{Some, arith, add-one}
 use Rattle.std.specs.Prelude.{slice_get}
 use Rattle.std.proofs.lemmas.List.{take_all, take-append-le}
 use Rattle.xa_words.specs.Entry.{Entry}
@@ -11,7 +12,8 @@ use Rattle.xa_session.specs.Replay.{state_after, state_at, Stands}
 use Rattle.xa_session.specs.declared.replica.Replica.{Replica}
 
 -- the prefix with one entry more
-pub take-next : (xs : List Entry) (place : ℕ) (entry : Entry) → slice_get xs place ≡ Some entry → take (suc place) xs ≡ take place xs ++ entry ∷ []
+pub take-next : (xs : List Entry) (place : ℕ) (entry : Entry) → slice_get xs place ≡ Some entry
+    → take (suc place) xs ≡ take place xs ++ entry ∷ []
 take-next [] place entry is = absurd (cc)
 take-next (x ∷ xs) zero entry is = let same : x ≡ entry = cc in ap (λ e. e ∷ []) same
 take-next (x ∷ xs) (suc place) entry is = ap (λ rest. x ∷ rest) (take-next xs place entry is)
@@ -34,7 +36,8 @@ state_after-last base (x ∷ xs) entry = state_after-last (after base x.session 
 pub state_at-next : (base : State) (seen : List Entry) (place : ℕ) (entry : Entry) → slice_get seen place ≡ Some entry
     → state_at base seen (place + 1) ≡ after (state_at base seen place) entry.session entry.statement
 state_at-next base seen place entry is =
-    ap (state_at base seen) (add-one place) ∙ ap (state_after base) (take-next seen place entry is) ∙ state_after-last base (take place seen) entry
+    ap (state_at base seen) (add-one place) ∙ ap (state_after base) (take-next seen place entry is)
+    ∙ state_after-last base (take place seen) entry
 
 -- a longer history has the same states where the shorter one reaches
 pub state_at-begins : (base : State) (seen longer : List Entry) (place : ℕ) → Begins seen longer → place ≤ length seen
@@ -46,24 +49,29 @@ state_at-begins base seen longer place begins within =
 pub state_at-whole : (base : State) (seen : List Entry) → state_at base seen (length seen) ≡ state_after base seen
 state_at-whole base seen = ap (state_after base) (take_all (length seen) seen (omega arith))
 
-pub stands_first : (base : State) (seen : List Entry) (replica : Replica) → replica.server ≡ base → replica.replayed ≡ 0 → Stands base seen replica
+pub stands_first : (base : State) (seen : List Entry) (replica : Replica) → replica.server ≡ base → replica.replayed ≡ 0
+    → Stands base seen replica
 stands_first base seen replica server none = record {
   within = omega arith;
   state = server ∙ sym (state_after-nil base) ∙ ap (state_at base seen) (sym none);
 }
 
-pub stands_next : (base : State) (seen : List Entry) (old new : Replica) (entry : Entry) → Stands base seen old → slice_get seen old.replayed ≡ Some entry
-    → new.server ≡ after old.server entry.session entry.statement → new.replayed ≡ old.replayed + 1 → Stands base seen new
+pub stands_next : (base : State) (seen : List Entry) (old new : Replica) (entry : Entry) → Stands base seen old
+    → slice_get seen old.replayed ≡ Some entry
+    → new.server ≡ after old.server entry.session entry.statement → new.replayed ≡ old.replayed + 1
+    → Stands base seen new
 stands_next base seen old new entry stands is server next =
     let below = place_below seen old.replayed entry is in
     record {
       within = omega arith;
       state =
-          server ∙ ap (λ s. after s entry.session entry.statement) stands.state ∙ sym (state_at-next base seen old.replayed entry is)
+          server ∙ ap (λ s. after s entry.session entry.statement) stands.state
+          ∙ sym (state_at-next base seen old.replayed entry is)
           ∙ ap (state_at base seen) (sym next);
     }
 
-pub stands_longer : (base : State) (seen longer : List Entry) (replica : Replica) → Begins seen longer → Stands base seen replica → Stands base longer replica
+pub stands_longer : (base : State) (seen longer : List Entry) (replica : Replica) → Begins seen longer
+    → Stands base seen replica → Stands base longer replica
 stands_longer base seen longer replica begins stands = record {
   within = omega (arith, length_begins seen longer begins, stands.within);
   state = stands.state ∙ sym (state_at-begins base seen longer replica.replayed begins stands.within);

@@ -12,7 +12,8 @@
 --     FullAfter        at Full the replica has replayed all that is seen
 --     IsKept           an answered statement has been replayed
 --     WantsMemory      the only causes of NoMemory
-use Rattle.std.specs.Prelude.{◌≡◌, ◌<◌, ◌≤◌, ℕ, Bool, true, false, IsTrue, ◌⊎◌, List, [], ◌∷◌, ◌++◌, length, take, slice_get, Some}
+use Rattle.std.specs.Prelude.{◌≡◌, ◌<◌, ◌≤◌, ℕ, Bool, true, false, IsTrue, ◌⊎◌, List, [], ◌∷◌, ◌++◌, length, take}
+use Rattle.std.specs.Prelude.{slice_get, Some}
 use Rattle.xa_words.specs.Entry.{Entry}
 use Rattle.xa_xid.specs.declared.statement.Statement.{Statement}
 use Rattle.xa_server.specs.State.{State}
@@ -33,10 +34,12 @@ abbrev pub entry_of : ℕ → Statement → Entry
 entry_of session statement = record { session = session; statement = statement }
 
 -- the reply is the server's after a prefix of the history, and a statement that is logged there is the next entry
-pub record AnswersAt (base : State) (history : List Entry) (session : ℕ) (statement : Statement) (place : ℕ) (reply : Reply) : Type 0 where
+pub record AnswersAt (base : State) (history : List Entry) (session : ℕ) (statement : Statement) (place : ℕ)
+    (reply : Reply) : Type 0 where
   pub within : place ≤ length history
   pub reply_is : reply ≡ reply_to (state_at base history place) session statement
-  pub next : enters (state_at base history place) session statement ≡ true → slice_get history place ≡ Some (entry_of session statement)
+  pub next : enters (state_at base history place) session statement ≡ true
+      → slice_get history place ≡ Some (entry_of session statement)
 
 -- what is seen begins with what was seen, and counts never fall
 pub record Advances (old new : Known) : Type 0 where
@@ -61,8 +64,10 @@ pub record IsAnswered (base : State) (statement : Statement) (answer : Answer) (
   pub looked : old.looks < new.looks
   pub not_before : length old.seen ≤ answer.place
   pub at : AnswersAt base new.seen old.number statement answer.place answer.reply
-  pub entered : enters (state_at base new.seen answer.place) old.number statement ≡ true → IsEntered (entry_of old.number statement) answer.place old new
-  pub outside : enters (state_at base new.seen answer.place) old.number statement ≡ false → IsOutside answer.place old new
+  pub entered : enters (state_at base new.seen answer.place) old.number statement ≡ true
+      → IsEntered (entry_of old.number statement) answer.place old new
+  pub outside : enters (state_at base new.seen answer.place) old.number statement ≡ false
+      → IsOutside answer.place old new
 
 -- nothing of the statement was appended
 pub record IsUnanswered (old new : Known) : Type 0 where
@@ -99,7 +104,8 @@ FullAfter Busy replica known = Unit {0}
 -- all that is seen has been replayed, an appended statement too, unless it may take memory there
 abbrev pub IsKept : State → Statement → Answer → Replica → Known → Type 0
 IsKept base statement answer replica known =
-    (replica.replayed ≡ length known.seen) ⊎ (may_take_memory (state_at base known.seen answer.place) known.number statement ≡ true)
+    (replica.replayed ≡ length known.seen) ⊎ (may_take_memory
+    (state_at base known.seen answer.place) known.number statement ≡ true)
 
 -- there is no memory only for the list of an XA RECOVER, or for a replica that hasn't replayed all that is seen
 abbrev pub WantsMemory : Statement → Fault → Replica → Known → Type 0

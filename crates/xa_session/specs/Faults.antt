@@ -3,7 +3,8 @@
 --     fault_of              the session's fault for a fault of an append
 use Rattle.std.specs.Prelude.{ℕ}
 use Rattle.decision_log.specs.declared.fault.AddFault.{AddFault}
-use Rattle.decision_log.specs.declared.fault.AddFault.TheVariants.{Overtaken as IsOvertaken, Full as IsFull, Busy as IsBusy}
+use Rattle.decision_log.specs.declared.fault.AddFault.TheVariants.{Overtaken as IsOvertaken, Full as IsFull}
+use Rattle.decision_log.specs.declared.fault.AddFault.TheVariants.{Busy as IsBusy}
 use Rattle.xa_session.specs.declared.fault.Fault.{Fault}
 use Rattle.xa_session.specs.declared.fault.Fault.TheVariants.{Overtaken, Full, NoMemory, Busy}
 

@@ -14,26 +14,34 @@ use Rattle.xa_session.specs.declared.fault.Fault.{Fault}
 use Rattle.xa_session.specs.declared.replica.Replica.{Replica}
 use Rattle.xa_session.specs.declared.session.Session.{Session}
 
--- the reply is the server's at the answer's place, the replica had replayed what it was found on, and has replayed all that is seen since
-pub record HasAnswered {Log Pass : Type 0} {log : LogOf Log Pass} (statement : Statement) (answer : Answer) (old new : Session Log Pass log) : Type 0 where
+-- the reply is the server's at the answer's place, the replica had replayed what it was found on, and has replayed all
+-- that is seen since
+pub record HasAnswered {Log Pass : Type 0} {log : LogOf Log Pass} (statement : Statement) (answer : Answer)
+    (old new : Session Log Pass log) : Type 0 where
   pub answered : IsAnswered old.base.now statement answer (log.known old.pass) (log.known new.pass)
   pub replayed : answer.place ≤ new.replica.replayed
   pub kept : IsKept old.base.now statement answer new.replica (log.known new.pass)
 
--- the fault has its cause, the replica had replayed all that is seen at Full, and only the list or the replica needs memory
-pub record HasFailed {Log Pass : Type 0} {log : LogOf Log Pass} (statement : Statement) (fault : Fault) (old new : Session Log Pass log) : Type 0 where
-  pub fails : Fails log.TURNS (log.belongs_to old.pass).capacity old.base.now statement fault (log.known old.pass) (log.known new.pass)
+-- the fault has its cause, the replica had replayed all that is seen at Full, and only the list or the replica needs
+-- memory
+pub record HasFailed {Log Pass : Type 0} {log : LogOf Log Pass} (statement : Statement) (fault : Fault)
+    (old new : Session Log Pass log) : Type 0 where
+  pub fails : Fails log.TURNS (log.belongs_to old.pass).capacity old.base.now statement fault (log.known old.pass)
+      (log.known new.pass)
   pub replayed : FullAfter fault new.replica (log.known new.pass)
   pub memory : WantsMemory statement fault new.replica (log.known new.pass)
 
 -- the statement was answered, or it has a fault with its cause
-abbrev pub Answers : {Log Pass : Type 0} {log : LogOf Log Pass} → Statement → Result Answer Fault → Session Log Pass log → Session Log Pass log → Type 0
+abbrev pub Answers : {Log Pass : Type 0} {log : LogOf Log Pass} → Statement → Result Answer Fault → Session Log Pass log
+    → Session Log Pass log → Type 0
 Answers statement (Ok answer) old new = HasAnswered statement answer old new
 Answers statement (Err fault) old new = HasFailed statement fault old new
 
 -- the same for a replica that is in no session, in a log with a turn or without, of a capacity
 abbrev pub Finds : Bool → ℕ → State → Statement → Result Answer Fault → Replica → Known → Known → Type 0
 Finds turns capacity base statement (Ok answer) replica old new =
-    IsAnswered base statement answer old new × (answer.place ≤ replica.replayed) × IsKept base statement answer replica new
+    IsAnswered base statement answer old new × (answer.place ≤ replica.replayed)
+    × IsKept base statement answer replica new
 Finds turns capacity base statement (Err fault) replica old new =
-    Fails turns capacity base statement fault old new × FullAfter fault replica new × WantsMemory statement fault replica new
+    Fails turns capacity base statement fault old new × FullAfter fault replica new
+    × WantsMemory statement fault replica new

@@ -27,8 +27,8 @@ pub record TriesOnce (result : Result Answer Fault) (old new : Known) : Type 0 w
 abbrev pub LooksLast : Known → Known → Type 0
 LooksLast old new = new.tries + old.looks < new.looks + old.tries
 
--- the replica has replayed all that an attempt saw when it looked: at Overtaken more is seen than that; at Busy just that, by the one look;
--- at Full and NoMemory the one look was the last step on the log
+-- the replica has replayed all that an attempt saw when it looked: at Overtaken more is seen than that; at Busy just
+-- that, by the one look; at Full and NoMemory the one look was the last step on the log
 abbrev pub Leaves : Fault → Replica → Known → Known → Type 0
 Leaves (Overtaken front) replica old new = (length old.seen ≤ replica.replayed) × (replica.replayed < length new.seen)
 Leaves Full replica old new = (new.looks ≡ old.looks + 1) × (0 < new.since)

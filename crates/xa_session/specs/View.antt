@@ -1,5 +1,6 @@
 -- What a contract sees of a session, or of any other value that answers statements as one.
---     SessionView      its log, whether that has turns, the state in which its history begins, what it knows, and what its other sessions know
+--     SessionView      its log, whether that has turns, the state in which its history begins, what it knows, and what
+--                      its other sessions know
 --     StaysOfLog       it is of the same log, and no other session of the value spoke
 use Rattle.std.specs.Prelude.{◌≡◌, Bool, List}
 use Rattle.xa_server.specs.State.{State}

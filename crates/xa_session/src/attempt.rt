@@ -60,7 +60,8 @@ impl<'a, L: DecisionLog> Session<'a, L> {
         //   `ChainLog` a try is one exchange.
         ensures once { TriesOnce result (L.known self.old.pass) (L.known self.new.pass) }
         // Proved (sessions, causes-of-faults)
-        ensures leaves { IfErr result (λ fault. Leaves fault self.new.replica (L.known self.old.pass) (L.known self.new.pass)) }
+        ensures leaves { IfErr result (λ fault. Leaves fault self.new.replica (L.known self.old.pass)
+            (L.known self.new.pass)) }
     {
         self.replica
             .attempt(self.log, &mut self.pass, self.base, statement)

@@ -64,7 +64,8 @@ impl<'a, L: DecisionLog> Session<'a, L> {
         // Proved (sessions, disconnect)
         ensures answered { IfOk result
             (λ pass. (place : ℕ)
-            × IsAnswered self.entry.base.now Disconnect (record { place = place; reply = Accepted }) (L.known self.entry.pass) (L.known pass)) }
+            × IsAnswered self.entry.base.now Disconnect (record { place = place; reply = Accepted })
+            (L.known self.entry.pass) (L.known pass)) }
         // Proved (sessions, disconnect)
         // Proved (sessions, replayed-never-falls)
         ensures stays { IfErr result (λ refused. Stays self.entry refused.0) }

@@ -154,7 +154,8 @@ impl<'a, L: DecisionLog> Session<'a, L> {
     /// Own rule: docs/RATTLE.md#sessions.
     pub fn meet(&mut self, other: &mut Session<'_, L>)
         requires { L.belongs_to self.old.pass ≡ L.belongs_to other.old.pass }
-        ensures belongs { (L.belongs_to self.new.pass ≡ L.belongs_to self.old.pass) × (L.belongs_to other.new.pass ≡ L.belongs_to other.old.pass) }
+        ensures belongs { (L.belongs_to self.new.pass ≡ L.belongs_to self.old.pass)
+            × (L.belongs_to other.new.pass ≡ L.belongs_to other.old.pass) }
         ensures bases { (self.new.base.now ≡ self.old.base.now) × (other.new.base.now ≡ other.old.base.now) }
         // Proved (sessions, reading-keeps-the-replica)
         ensures replicas { (self.new.replica ≡ self.old.replica) × (other.new.replica ≡ other.old.replica) }

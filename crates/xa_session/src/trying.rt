@@ -120,10 +120,12 @@ impl Replica {
         ensures belongs { L.belongs_to pass.new ≡ L.belongs_to pass.old }
         ensures stands { Stands base.now (L.known pass.new).seen self.new }
         ensures folds { self.old.replayed ≤ self.new.replayed }
-        ensures added { Adds L.TURNS (L.belongs_to pass.old).capacity (entry_of session statement.now) result (L.known pass.old)
+        ensures added { Adds L.TURNS (L.belongs_to pass.old).capacity (entry_of session statement.now) result
+            (L.known pass.old)
             (L.known pass.new) }
         ensures kept { OnOk result
-            ((self.new.replayed ≡ length (L.known pass.new).seen) ⊎ (may_take_memory self.old.server session statement.now ≡ true)) }
+            ((self.new.replayed ≡ length (L.known pass.new).seen)
+            ⊎ (may_take_memory self.old.server session statement.now ≡ true)) }
         ensures err { OnErr result (self.new ≡ self.old) }
     {
         let entry = Entry::entering(session, statement.copy());
@@ -151,7 +153,8 @@ impl Replica {
         // Proved (sessions, replica-without-session)
         ensures folds { self.old.replayed ≤ self.new.replayed }
         // Proved (sessions, replica-without-session)
-        ensures answers { Finds L.TURNS (L.belongs_to pass.old).capacity base.now statement.now result self.new (L.known pass.old) (L.known pass.new) }
+        ensures answers { Finds L.TURNS (L.belongs_to pass.old).capacity base.now statement.now result self.new
+            (L.known pass.old) (L.known pass.new) }
         // Proved (sessions, replica-without-session)
         ensures once { TriesOnce result (L.known pass.old) (L.known pass.new) }
         // Proved (sessions, replica-without-session)

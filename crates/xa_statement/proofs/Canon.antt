@@ -1,5 +1,6 @@
 -- The canonical text of a statement spells that statement.
-use Rattle.std.proofs.Common.{◌≡◌, ℕ, ◌^◌, ◌<◌, ◌≤◌, Bool, true, false, ◌||◌, nat_lt, List, [], ◌∷◌, ◌++◌, length, codes, decimal, is_none, Option, Some, None}
+use Rattle.std.proofs.Common.{◌≡◌, ℕ, ◌^◌, ◌<◌, ◌≤◌, Bool, true, false, ◌||◌, nat_lt, List, [], ◌∷◌, ◌++◌, length}
+use Rattle.std.proofs.Common.{codes, decimal, is_none, Option, Some, None}
 use Rattle.std.proofs.Common.{Ok, refl, sym, ◌∙◌, ap, arith}
 use Rattle.std.proofs.lemmas.Bool.{agree_below_at, ne_eqb, le-ltb, true≢false}
 use Rattle.std.proofs.lemmas.List.{append-nil}
@@ -13,24 +14,32 @@ use Rattle.xa_xid.specs.Xid.{Text}
 use Rattle.xa_xid.specs.XidText.{IsWritable, part_text, xid_text}
 use Rattle.xa_xid.specs.declared.byte_class.ByteClass.TheVariants.{Word as word_byte}
 use Rattle.xa_xid.specs.declared.xid.Xid.{Xid}
-use Rattle.xa_xid.specs.declared.statement.Statement.TheVariants.{Start, End, Prepare, Commit, Rollback, Recover, Get, Put, Del, Disconnect}
-use Rattle.xa_xid.proofs.Written.{Passes, front-append, behind-append, part_back, part_word, number_back, decimal_word, part_unblank, number_unblank}
+use Rattle.xa_xid.specs.declared.statement.Statement.TheVariants.{Start, End, Prepare, Commit, Rollback, Recover, Get}
+use Rattle.xa_xid.specs.declared.statement.Statement.TheVariants.{Put, Del, Disconnect}
+use Rattle.xa_xid.proofs.Written.{Passes, front-append, behind-append, part_back, part_word, number_back, decimal_word}
+use Rattle.xa_xid.proofs.Written.{part_unblank, number_unblank}
 use Rattle.xa_xid.proofs.Written.{xid_text-append, comma_no_word, decimal_byte}
 use Rattle.xa_statement.specs.declared.token.Keyword.{Keyword}
-use Rattle.xa_statement.specs.declared.token.Keyword.TheVariants.{Xa as XA, Start as START, End as END, Prepare as PREPARE, Commit as COMMIT}
-use Rattle.xa_statement.specs.declared.token.Keyword.TheVariants.{Rollback as ROLLBACK, Recover as RECOVER, One as ONE, Phase as PHASE, Convert as CONVERT}
-use Rattle.xa_statement.specs.declared.token.Keyword.TheVariants.{Xid as XID, Get as GET, Put as PUT, Del as DEL, Disconnect as DISCONNECT}
+use Rattle.xa_statement.specs.declared.token.Keyword.TheVariants.{Xa as XA, Start as START, End as END}
+use Rattle.xa_statement.specs.declared.token.Keyword.TheVariants.{Prepare as PREPARE, Commit as COMMIT}
+use Rattle.xa_statement.specs.declared.token.Keyword.TheVariants.{Rollback as ROLLBACK, Recover as RECOVER, One as ONE}
+use Rattle.xa_statement.specs.declared.token.Keyword.TheVariants.{Phase as PHASE, Convert as CONVERT}
+use Rattle.xa_statement.specs.declared.token.Keyword.TheVariants.{Xid as XID, Get as GET, Put as PUT, Del as DEL}
+use Rattle.xa_statement.specs.declared.token.Keyword.TheVariants.{Disconnect as DISCONNECT}
 use Rattle.xa_statement.specs.declared.token.Token.{Token}
 use Rattle.xa_statement.specs.declared.token.Token.TheVariants.{Word, Comma, Value}
 use Rattle.xa_statement.specs.Canonical.{statement_text, IsKey}
-use Rattle.xa_statement.specs.Grammar.{XidTokens, gtrid_bqual_format, is_start, start, end, prepare, commit, commit_one, rollback, recover, recover_convert}
+use Rattle.xa_statement.specs.Grammar.{XidTokens, gtrid_bqual_format, is_start, start, end, prepare, commit, commit_one}
+use Rattle.xa_statement.specs.Grammar.{rollback, recover, recover_convert}
 use Rattle.xa_statement.specs.Grammar.{get, put, del, disconnect, bare_row, Spells}
-use Rattle.xa_statement.specs.Token.{is_word, statement_word, clause_word, keyword_of, part_of, run_token, run_at, quoted_piece, opens_quoted, token_at, pieces}
+use Rattle.xa_statement.specs.Token.{is_word, statement_word, clause_word, keyword_of, part_of, run_token, run_at}
+use Rattle.xa_statement.specs.Token.{quoted_piece, opens_quoted, token_at, pieces}
 use Rattle.xa_statement.specs.Token.{tokens_of, bare}
 use Rattle.xa_statement.proofs.Pieces.{IsUnblank, first_token, tokens-unblank, pieces-nil}
 
 -- one token, and those behind it
-pub token_next : (text body tail : List ℕ) (byte : ℕ) (token : Token) → unblank text ≡ byte ∷ body → token_at (byte ∷ body) ≡ (token, tail)
+pub token_next : (text body tail : List ℕ) (byte : ℕ) (token : Token) → unblank text ≡ byte ∷ body
+    → token_at (byte ∷ body) ≡ (token, tail)
     → unblank (byte ∷ body) ≡ byte ∷ body → bare (tokens_of text) ≡ token ∷ bare (tokens_of tail)
 token_next text body tail byte token e cut again =
     let is : IsUnblank (byte ∷ body) = record { same = again } in
@@ -47,10 +56,12 @@ unfolding behind belongs token_at
 comma_next text = token_next (44 ∷ text) text text 44 Comma refl refl refl
 
 -- the words, with a blank behind them
-word_next : (text body rest : List ℕ) (byte : ℕ) (word : Keyword) → text ≡ byte ∷ body → unblank (byte ∷ body) ≡ byte ∷ body
+word_next : (text body rest : List ℕ) (byte : ℕ) (word : Keyword) → text ≡ byte ∷ body
+    → unblank (byte ∷ body) ≡ byte ∷ body
     → token_at (byte ∷ body) ≡ (Word word, 32 ∷ rest) → bare (tokens_of text) ≡ Word word ∷ bare (tokens_of rest)
 word_next text body rest byte word e is cut =
-    token_next text body (32 ∷ rest) byte (Word word) (ap unblank e ∙ is) cut is ∙ ap (λ ts. Word word ∷ ts) (space_next rest)
+    token_next text body (32 ∷ rest) byte (Word word) (ap unblank e ∙ is) cut is
+    ∙ ap (λ ts. Word word ∷ ts) (space_next rest)
 
 xa_word : (rest : List ℕ) → bare (tokens_of (codes "XA " ++ rest)) ≡ Word XA ∷ bare (tokens_of rest)
 unfolding token_at front behind belongs keyword_of statement_word clause_word is_word
@@ -121,11 +132,19 @@ digit_no_word byte more low high =
 no_quote : (byte : ℕ) (text : List ℕ) → 48 ≤ byte → byte ≤ 57 → opens_quoted (byte ∷ text) ≡ false
 no_quote byte [] low high = rw (ne_eqb byte 39 (λ e. omega arith), ne_eqb byte 34 (λ e. omega arith)) refl
 no_quote byte (second ∷ text) low high =
-    rw (ne_eqb byte 39 (λ e. omega arith), ne_eqb byte 34 (λ e. omega arith), ne_eqb byte 88 (λ e. omega arith), ne_eqb byte 120 (λ e. omega arith)) refl
+    rw (
+      ne_eqb byte 39 (λ e. omega arith),
+      ne_eqb byte 34 (λ e. omega arith),
+      ne_eqb byte 88
+          (λ e. omega arith),
+      ne_eqb byte 120 (λ e. omega arith),
+    ) refl
 
 -- a run that begins with a digit
-digit_token : (byte : ℕ) (body rest : List ℕ) → 48 ≤ byte → byte ≤ 57 → Passes (belongs word_byte) (byte ∷ body) → StartsNo (belongs word_byte) rest
-    → token_at (byte ∷ body ++ rest) ≡ (Value (part_of (literal_ahead (byte ∷ body ++ rest))) (part_of (number_ahead (byte ∷ body ++ rest))), rest)
+digit_token : (byte : ℕ) (body rest : List ℕ) → 48 ≤ byte → byte ≤ 57 → Passes (belongs word_byte) (byte ∷ body)
+    → StartsNo (belongs word_byte) rest
+    → token_at (byte ∷ body ++ rest)
+    ≡ (Value (part_of (literal_ahead (byte ∷ body ++ rest))) (part_of (number_ahead (byte ∷ body ++ rest))), rest)
 unfolding token_at
 digit_token byte body rest low high word s =
     let text = byte ∷ body ++ rest in
@@ -140,9 +159,11 @@ digit_token byte body rest low high word s =
 -- the token of a part
 pub record PartToken (bytes rest : List ℕ) : Type 0 where
   pub number : Option ℕ
-  pub tokens : bare (tokens_of (part_text bytes ++ rest)) ≡ Value (Some (record { items = bytes })) number ∷ bare (tokens_of rest)
+  pub tokens : bare (tokens_of (part_text bytes ++ rest))
+      ≡ Value (Some (record { items = bytes })) number ∷ bare (tokens_of rest)
 
-pub part_token : (bytes rest : List ℕ) → IsBytes bytes → length bytes ≤ 64 → StartsNo (belongs word_byte) rest → PartToken bytes rest
+pub part_token : (bytes rest : List ℕ) → IsBytes bytes → length bytes ≤ 64 → StartsNo (belongs word_byte) rest
+    → PartToken bytes rest
 unfolding token_at
 part_token [] rest all fits s = record {
   number = None;
@@ -153,9 +174,11 @@ part_token (byte ∷ bytes) rest all fits s =
     let text = part_text (byte ∷ bytes) ++ rest in
     let body = 120 ∷ encode_lower (byte ∷ bytes) in
     let number = part_of (number_ahead text) in
-    let literal : part_of (literal_ahead text) ≡ Some (record { items = byte ∷ bytes }) = ap part_of (part_back (byte ∷ bytes) rest all fits s) in
+    let literal : part_of (literal_ahead text) ≡ Some (record { items = byte ∷ bytes }) =
+    ap part_of (part_back (byte ∷ bytes) rest all fits s) in
     let cut : token_at text ≡ (Value (Some (record { items = byte ∷ bytes })) number, rest) =
-    digit_token 48 body rest (omega arith) (omega arith) (part_word byte bytes all) s ∙ ap (λ l. (Value l number, rest)) literal in
+    digit_token 48 body rest (omega arith) (omega arith) (part_word byte bytes all) s
+    ∙ ap (λ l. (Value l number, rest)) literal in
     record {
       number = number;
       tokens = token_next text (body ++ rest) rest 48 (Value (Some (record { items = byte ∷ bytes })) number)
@@ -167,8 +190,10 @@ pub record NumberToken (n : ℕ) (digits rest : List ℕ) : Type 0 where
   pub literal : Option Text
   pub tokens : bare (tokens_of (digits ++ rest)) ≡ Value literal (Some n) ∷ bare (tokens_of rest)
 
-digits_token : (n : ℕ) (digits rest : List ℕ) → IsNumeral 10 digits → Passes (belongs word_byte) digits → StartsNo (belongs word_byte) rest
-    → unblank (digits ++ rest) ≡ digits ++ rest → number_ahead (digits ++ rest) ≡ Ok (n, rest) → NumberToken n digits rest
+digits_token : (n : ℕ) (digits rest : List ℕ) → IsNumeral 10 digits → Passes (belongs word_byte) digits
+    → StartsNo (belongs word_byte) rest
+    → unblank (digits ++ rest) ≡ digits ++ rest → number_ahead (digits ++ rest) ≡ Ok (n, rest)
+    → NumberToken n digits rest
 digits_token n [] rest is word s blank e = absurd (omega (arith, is.0))
 digits_token n (digit ∷ digits) rest is word s blank e =
     let text = digit ∷ digits ++ rest in
@@ -177,11 +202,16 @@ digits_token n (digit ∷ digits) rest is word s blank e =
     let number : part_of (number_ahead text) ≡ Some n = ap part_of e in
     let cut : token_at text ≡ (Value literal (Some n), rest) =
     digit_token digit digits rest range.0 range.1 word s ∙ ap (λ v. (Value literal v, rest)) number in
-    record { literal = literal; tokens = token_next text (digits ++ rest) rest digit (Value literal (Some n)) blank cut blank }
+    record {
+      literal = literal;
+      tokens = token_next text (digits ++ rest) rest digit
+          (Value literal (Some n)) blank cut blank;
+    }
 
 number_token : (n : ℕ) (rest : List ℕ) → n < 2 ^ 64 → StartsNo (belongs word_byte) rest → NumberToken n (decimal n) rest
 number_token n rest small s =
-    digits_token n (decimal n) rest (decimal_is_IsNumeral n small).0 (decimal_word n small) s (number_unblank n rest small) (number_back n rest small s)
+    digits_token n (decimal n) rest (decimal_is_IsNumeral n small).0 (decimal_word n small) s
+    (number_unblank n rest small) (number_back n rest small s)
 
 -- the tokens of an identifier
 pub record XidIs (xid : Xid) (rest : List ℕ) : Type 0 where
@@ -214,14 +244,16 @@ xid_tokens xid rest is s =
 xid_last : (xid : Xid) → (is : IsWritable xid) → bare (tokens_of (xid_text xid)) ≡ (xid_tokens xid [] is tt).x
 xid_last xid is =
     let x = xid_tokens xid [] is tt in
-    ap (λ t. bare (tokens_of t)) (sym (append-nil (xid_text xid))) ∙ x.tokens ∙ ap (λ ts. x.x ++ bare ts) (pieces-nil 0) ∙ append-nil x.x
+    ap (λ t. bare (tokens_of t)) (sym (append-nil (xid_text xid))) ∙ x.tokens ∙ ap (λ ts. x.x ++ bare ts) (pieces-nil 0)
+    ∙ append-nil x.x
 
 one_phase_no_word : StartsNo (belongs word_byte) (codes " ONE PHASE")
 unfolding belongs
 one_phase_no_word = refl
 
 part_last : (bytes : List ℕ) (all : IsBytes bytes) (fits : length bytes ≤ 64)
-    → bare (tokens_of (part_text bytes)) ≡ Value (Some (record { items = bytes })) (part_token bytes [] all fits tt).number ∷ []
+    → bare (tokens_of (part_text bytes)) ≡ Value (Some (record { items = bytes }))
+    (part_token bytes [] all fits tt).number ∷ []
 part_last bytes all fits =
     let part = part_token bytes [] all fits tt in
     ap (λ t. bare (tokens_of t)) (sym (append-nil (part_text bytes))) ∙ part.tokens
@@ -232,11 +264,13 @@ xa_xid : (text : List ℕ) (word : Keyword) (xid : Xid) → (is : IsWritable xid
     → ((rest : List ℕ) → bare (tokens_of (text ++ rest)) ≡ Word word ∷ bare (tokens_of rest))
     → bare (tokens_of (codes "XA " ++ (text ++ xid_text xid))) ≡ Word XA ∷ Word word ∷ (xid_tokens xid [] is tt).x
 xa_xid text word xid is next =
-    xa_word (text ++ xid_text xid) ∙ ap (λ ts. Word XA ∷ ts) (next (xid_text xid) ∙ ap (λ ts. Word word ∷ ts) (xid_last xid is))
+    xa_word (text ++ xid_text xid) ∙ ap (λ ts. Word XA ∷ ts)
+    (next (xid_text xid) ∙ ap (λ ts. Word word ∷ ts) (xid_last xid is))
 
 pub start_spelled : (xid : Xid) → IsWritable xid → Spells (statement_text (Start xid)) (Start xid)
 unfolding statement_text
-start_spelled xid is = rw (xa_xid (codes "START ") START xid is start_word) (bare_row (start is_start (xid_tokens xid [] is tt).form))
+start_spelled xid is =
+    rw (xa_xid (codes "START ") START xid is start_word) (bare_row (start is_start (xid_tokens xid [] is tt).form))
 
 pub end_spelled : (xid : Xid) → IsWritable xid → Spells (statement_text (End xid)) (End xid)
 unfolding statement_text
@@ -244,20 +278,25 @@ end_spelled xid is = rw (xa_xid (codes "END ") END xid is end_word) (bare_row (e
 
 pub prepare_spelled : (xid : Xid) → IsWritable xid → Spells (statement_text (Prepare xid)) (Prepare xid)
 unfolding statement_text
-prepare_spelled xid is = rw (xa_xid (codes "PREPARE ") PREPARE xid is prepare_word) (bare_row (prepare (xid_tokens xid [] is tt).form))
+prepare_spelled xid is =
+    rw (xa_xid (codes "PREPARE ") PREPARE xid is prepare_word) (bare_row (prepare (xid_tokens xid [] is tt).form))
 
 pub rollback_spelled : (xid : Xid) → IsWritable xid → Spells (statement_text (Rollback xid)) (Rollback xid)
 unfolding statement_text
-rollback_spelled xid is = rw (xa_xid (codes "ROLLBACK ") ROLLBACK xid is rollback_word) (bare_row (rollback (xid_tokens xid [] is tt).form))
+rollback_spelled xid is =
+    rw (xa_xid (codes "ROLLBACK ") ROLLBACK xid is rollback_word) (bare_row (rollback (xid_tokens xid [] is tt).form))
 
-pub commit_spelled : (xid : Xid) (one_phase : Bool) → IsWritable xid → Spells (statement_text (Commit xid one_phase)) (Commit xid one_phase)
+pub commit_spelled : (xid : Xid) (one_phase : Bool) → IsWritable xid
+    → Spells (statement_text (Commit xid one_phase)) (Commit xid one_phase)
 unfolding statement_text
-commit_spelled xid false is = rw (xa_xid (codes "COMMIT ") COMMIT xid is commit_word) (bare_row (commit (xid_tokens xid [] is tt).form))
+commit_spelled xid false is =
+    rw (xa_xid (codes "COMMIT ") COMMIT xid is commit_word) (bare_row (commit (xid_tokens xid [] is tt).form))
 commit_spelled xid true is =
     let words = codes " ONE PHASE" in
     let x = xid_tokens xid words is one_phase_no_word in
     rw (xa_word (codes "COMMIT " ++ (xid_text xid ++ words))
-    ∙ ap (λ ts. Word XA ∷ ts) (commit_word (xid_text xid ++ words) ∙ ap (λ ts. Word COMMIT ∷ ts) (x.tokens ∙ ap (λ ts. x.x ++ ts) one_phase_end)))
+    ∙ ap (λ ts. Word XA ∷ ts) (commit_word (xid_text xid ++ words)
+    ∙ ap (λ ts. Word COMMIT ∷ ts) (x.tokens ∙ ap (λ ts. x.x ++ ts) one_phase_end)))
     (bare_row (commit_one x.form))
 
 pub recover_spelled : (convert : Bool) → Spells (statement_text (Recover convert)) (Recover convert)
@@ -268,12 +307,14 @@ recover_spelled true = rw convert_text (bare_row recover_convert)
 pub get_spelled : (key : List ℕ) → IsKey key → Spells (statement_text (Get key)) (Get key)
 unfolding statement_text
 get_spelled key is =
-    rw (get_word (part_text key) ∙ ap (λ ts. Word GET ∷ ts) (part_last key is.all is.fits)) (bare_row (get (record { items = key }) _ is.some))
+    rw (get_word (part_text key) ∙ ap (λ ts. Word GET ∷ ts) (part_last key is.all is.fits))
+    (bare_row (get (record { items = key }) _ is.some))
 
 pub del_spelled : (key : List ℕ) → IsKey key → Spells (statement_text (Del key)) (Del key)
 unfolding statement_text
 del_spelled key is =
-    rw (del_word (part_text key) ∙ ap (λ ts. Word DEL ∷ ts) (part_last key is.all is.fits)) (bare_row (del (record { items = key }) _ is.some))
+    rw (del_word (part_text key) ∙ ap (λ ts. Word DEL ∷ ts) (part_last key is.all is.fits))
+    (bare_row (del (record { items = key }) _ is.some))
 
 pub put_spelled : (key : List ℕ) (value : Text) → IsKey key → IsBytes value.items → length value.items ≤ 64
     → Spells (statement_text (Put key value)) (Put key value)
@@ -284,7 +325,8 @@ put_spelled key value is all fits =
     let token : Token = Value (Some (record { items = key })) k.number in
     rw (put_word (part_text key ++ rest)
     ∙ ap (λ ts. Word PUT ∷ ts)
-    (k.tokens ∙ ap (λ ts. token ∷ ts) (comma_next (part_text value.items) ∙ ap (λ ts. Comma ∷ ts) (part_last value.items all fits))))
+    (k.tokens ∙ ap (λ ts. token ∷ ts) (comma_next (part_text value.items)
+    ∙ ap (λ ts. Comma ∷ ts) (part_last value.items all fits))))
     (bare_row (put (record { items = key }) value _ _ is.some))
 
 pub disconnect_spelled : Spells (statement_text Disconnect) Disconnect

@@ -1,5 +1,6 @@
 -- The reading against the grammar, both ways. It knows the grammar by what the machine's states lead to alone.
-use Rattle.std.proofs.Common.{◌≡◌, ℕ, ◌+◌, ◌-◌, ◌≤◌, zero, suc, List, [], ◌∷◌, ◌++◌, length, Option, Some, None, Result, Ok, Err, IfOk, IfErr, ◌⊎◌, inl, inr}
+use Rattle.std.proofs.Common.{◌≡◌, ℕ, ◌+◌, ◌-◌, ◌≤◌, zero, suc, List, [], ◌∷◌, ◌++◌, length, Option, Some, None, Result}
+use Rattle.std.proofs.Common.{Ok, Err, IfOk, IfErr, ◌⊎◌, inl, inr}
 use Rattle.std.proofs.Common.{refl, sym, ◌∙◌, ap, arith}
 use Rattle.std.proofs.Math.Nat.{le_refl}
 use Rattle.std.proofs.lemmas.List.{append-nil}
@@ -30,19 +31,22 @@ ok_is_err : {A B : Type 0} (a : A) (b : B) → Ok a ≡ Err b → ⊥
 ok_is_err a b e = cc
 
 -- the pieces along which the machine goes on are read
-run_next : (reached : Option State) (left : ℕ) (front back : List Piece) (last : State) → walk_on reached (bare front) ≡ Some last
+run_next : (reached : Option State) (left : ℕ) (front back : List Piece) (last : State)
+    → walk_on reached (bare front) ≡ Some last
     → ((s : State) → walk s (bare front) ≡ Some last → read_from s (front ++ back) ≡ read_from last back)
     → from_next reached left (front ++ back) ≡ read_from last back
 run_next None left front back last e each = absurd (none_is_some last e)
 run_next (Some s) left front back last e each = each s e
 
-run_on : (front back : List Piece) (state last : State) → walk state (bare front) ≡ Some last → read_from state (front ++ back) ≡ read_from last back
+run_on : (front back : List Piece) (state last : State) → walk state (bare front) ≡ Some last
+    → read_from state (front ++ back) ≡ read_from last back
 run_on [] back state last e =
     let some : Some state ≡ Some last = sym (walk-nil state) ∙ e in
     let same : state ≡ last = cc in ap (λ s. read_from s back) same
 run_on (piece ∷ front) back state last e =
     read_from-cons state piece (front ++ back)
-    ∙ run_next (after_token state piece.0) piece.1 front back last (sym (walk-cons state piece.0 (bare front)) ∙ e) (λ s w. run_on front back s last w)
+    ∙ run_next (after_token state piece.0) piece.1 front back last (sym (walk-cons state piece.0 (bare front)) ∙ e)
+    (λ s w. run_on front back s last w)
 
 -- where a reading stops at a token
 record StopsAt (state : State) (text : List Piece) (left : ℕ) : Type 0 where
@@ -70,7 +74,8 @@ ended_ok None statement e = absurd (ok_is_err statement 0 (sym e))
 ended_ok (Some other) statement e = let same : other ≡ statement = cc in ap (λ st. Some st) same
 
 later_stop : (state next : State) (piece : Piece) (more : List Piece) (left : ℕ) → after_token state piece.0 ≡ Some next
-    → StopsAt next more left ⊎ StopsEnd next more left → StopsAt state (piece ∷ more) left ⊎ StopsEnd state (piece ∷ more) left
+    → StopsAt next more left ⊎ StopsEnd next more left → StopsAt state (piece ∷ more) left
+    ⊎ StopsEnd state (piece ∷ more) left
 later_stop state next piece more left e (inl s) = inl (record {
   front = piece ∷ s.front;
   back = s.back;
@@ -87,7 +92,8 @@ later_stop state next piece more left e (inr s) = inr (record {
   none_left = s.none_left;
 })
 
-stop_here : (state : State) (piece : Piece) (more : List Piece) (left : ℕ) → after_token state piece.0 ≡ None → piece.1 ≡ left
+stop_here : (state : State) (piece : Piece) (more : List Piece) (left : ℕ) → after_token state piece.0 ≡ None
+    → piece.1 ≡ left
     → StopsAt state (piece ∷ more) left
 stop_here state piece more left stops same = record {
   front = [];
@@ -99,19 +105,23 @@ stop_here state piece more left stops same = record {
   stops = stops;
 }
 
-err_next : (reached : Option State) (state : State) (piece : Piece) (more : List Piece) (left : ℕ) → after_token state piece.0 ≡ reached
+err_next : (reached : Option State) (state : State) (piece : Piece) (more : List Piece) (left : ℕ)
+    → after_token state piece.0 ≡ reached
     → from_next reached piece.1 more ≡ Err left
     → ((s : State) → read_from s more ≡ Err left → StopsAt s more left ⊎ StopsEnd s more left)
     → StopsAt state (piece ∷ more) left ⊎ StopsEnd state (piece ∷ more) left
-err_next None state piece more left e read each = let same : piece.1 ≡ left = cc in inl (stop_here state piece more left e same)
+err_next None state piece more left e read each = let same : piece.1 ≡ left = cc in
+    inl (stop_here state piece more left e same)
 err_next (Some s) state piece more left e read each = later_stop state s piece more left e (each s read)
 
-err_stops : (text : List Piece) (state : State) (left : ℕ) → read_from state text ≡ Err left → StopsAt state text left ⊎ StopsEnd state text left
+err_stops : (text : List Piece) (state : State) (left : ℕ) → read_from state text ≡ Err left
+    → StopsAt state text left ⊎ StopsEnd state text left
 err_stops [] state left e =
     let none = ended_err (finish state) left (sym (read_from-nil state) ∙ e) in
     inr (record { last = state; led = walk-nil state; unfinished = none.0; none_left = none.1 })
 err_stops (piece ∷ more) state left e =
-    err_next (after_token state piece.0) state piece more left refl (sym (read_from-cons state piece more) ∙ e) (λ s r. err_stops more s left r)
+    err_next (after_token state piece.0) state piece more left refl (sym (read_from-cons state piece more) ∙ e)
+    (λ s r. err_stops more s left r)
 
 -- what is left from a token on is no more than the text
 abbrev Within : ℕ → List Piece → Type 0
@@ -119,7 +129,8 @@ Within most [] = Unit {0}
 Within most (piece ∷ more) = (piece.1 ≤ most) × Within most more
 
 within_first : (fuel most : ℕ) (text : List ℕ) → length text ≤ most
-    → ((rest : List ℕ) → length rest ≤ most → Within most (pieces fuel rest)) → Within most (go_on fuel (first_piece text))
+    → ((rest : List ℕ) → length rest ≤ most → Within most (pieces fuel rest))
+    → Within most (go_on fuel (first_piece text))
 within_first fuel most [] short each = tt
 within_first fuel most (byte ∷ text) short each =
     (short, each (token_at (byte ∷ text)).1 (omega (arith, token-short byte text)))
@@ -128,7 +139,8 @@ within_pieces : (fuel most : ℕ) (text : List ℕ) → length text ≤ most →
 unfolding pieces
 within_pieces zero most text short = tt
 within_pieces (suc fuel) most text short =
-    within_first fuel most (unblank text) (omega (arith, behind-short (belongs blank_byte) text)) (λ rest s. within_pieces fuel most rest s)
+    within_first fuel most (unblank text) (omega (arith, behind-short (belongs blank_byte) text))
+    (λ rest s. within_pieces fuel most rest s)
 
 within_at : (most : ℕ) (front back : List Piece) (piece : Piece) → Within most (front ++ piece ∷ back) → piece.1 ≤ most
 within_at most [] back piece w = w.0
@@ -141,13 +153,16 @@ led_on tokens last e = rw e at (reach tokens AtFirst [] refl)
 spelled : (text : List ℕ) (statement : Statement) → read_from AtFirst (tokens_of text) ≡ Ok statement → (last : State)
     → walk AtFirst (bare (tokens_of text)) ≡ Some last → Spells text statement
 spelled text statement read last e =
-    let ran : read_from AtFirst (tokens_of text ++ []) ≡ read_from last [] = run_on (tokens_of text) [] AtFirst last e in
+    let ran : read_from AtFirst (tokens_of text ++ []) ≡ read_from last [] =
+    run_on (tokens_of text) [] AtFirst last e in
     let ends : read_end (finish last) ≡ Ok statement =
     sym (read_from-nil last) ∙ sym ran ∙ ap (read_from AtFirst) (append-nil (tokens_of text)) ∙ read in
-    rw (ended_ok (finish last) statement ends) at (said last (bare (tokens_of text)) (led_on (bare (tokens_of text)) last e))
+    rw (ended_ok (finish last) statement ends) at (said last (bare (tokens_of text))
+    (led_on (bare (tokens_of text)) last e))
 
 -- what is read is led along all tokens
-ok_next : (reached : Option State) (left : ℕ) (more : List Piece) (statement : Statement) → from_next reached left more ≡ Ok statement
+ok_next : (reached : Option State) (left : ℕ) (more : List Piece) (statement : Statement)
+    → from_next reached left more ≡ Ok statement
     → ((s : State) → read_from s more ≡ Ok statement → (last : State) × (walk s (bare more) ≡ Some last))
     → (last : State) × (walk_on reached (bare more) ≡ Some last)
 ok_next None left more statement e each = absurd (ok_is_err statement left (sym e))
@@ -157,21 +172,26 @@ ok_led : (text : List Piece) (state : State) (statement : Statement) → read_fr
     → (last : State) × (walk state (bare text) ≡ Some last)
 ok_led [] state statement e = (state, walk-nil state)
 ok_led (piece ∷ more) state statement e =
-    let led = ok_next (after_token state piece.0) piece.1 more statement (sym (read_from-cons state piece more) ∙ e) (λ s r. ok_led more s statement r) in
+    let led = ok_next (after_token state piece.0) piece.1 more statement (sym (read_from-cons state piece more) ∙ e)
+    (λ s r. ok_led more s statement r) in
     (led.0, walk-cons state piece.0 (bare more) ∙ led.1)
 
-pub ok_sound : (text : List ℕ) (statement : Statement) → read_from AtFirst (tokens_of text) ≡ Ok statement → Spells text statement
+pub ok_sound : (text : List ℕ) (statement : Statement) → read_from AtFirst (tokens_of text) ≡ Ok statement
+    → Spells text statement
 ok_sound text statement e =
     let led = ok_led (tokens_of text) AtFirst statement e in spelled text statement e led.0 led.1
 
-some_answered : (reached : Option State) (statement : Statement) → answer reached ≡ Some statement → (s : State) × (reached ≡ Some s)
+some_answered : (reached : Option State) (statement : Statement) → answer reached ≡ Some statement
+    → (s : State) × (reached ≡ Some s)
 some_answered None statement e = absurd (none_is_some statement e)
 some_answered (Some s) statement e = (s, refl)
 
 -- a statement that is spelled is read
-pub ok_complete : (text : List ℕ) (statement : Statement) → Spells text statement → read_from AtFirst (tokens_of text) ≡ Ok statement
+pub ok_complete : (text : List ℕ) (statement : Statement) → Spells text statement
+    → read_from AtFirst (tokens_of text) ≡ Ok statement
 ok_complete text statement s =
-    let answered : answer (walk AtFirst (bare (tokens_of text))) ≡ Some statement = said_read (bare (tokens_of text)) statement s in
+    let answered : answer (walk AtFirst (bare (tokens_of text))) ≡ Some statement =
+    said_read (bare (tokens_of text)) statement s in
     let led = some_answered (walk AtFirst (bare (tokens_of text))) statement answered in
     let ends : finish led.0 ≡ Some statement = sym (ap answer led.1) ∙ answered in
     ap (read_from AtFirst) (sym (append-nil (tokens_of text)))
@@ -182,10 +202,12 @@ unspelled : (text : List ℕ) (last : State) → walk AtFirst (bare (tokens_of t
 unspelled text last led unfinished statement s =
     none_is_some statement (sym unfinished ∙ ap answer (sym led) ∙ said_read (bare (tokens_of text)) statement s)
 
-fault_of : (text : List ℕ) (left : ℕ) → StopsAt AtFirst (tokens_of text) left ⊎ StopsEnd AtFirst (tokens_of text) left → FaultAt text (length text - left)
+fault_of : (text : List ℕ) (left : ℕ) → StopsAt AtFirst (tokens_of text) left ⊎ StopsEnd AtFirst (tokens_of text) left
+    → FaultAt text (length text - left)
 fault_of text left (inl s) =
     let within : left ≤ length text =
-    within_at (length text) s.front s.back (s.token, left) (rw s.cut at (within_pieces (length text) (length text) text (le_refl (length text)))) in
+    within_at (length text) s.front s.back (s.token, left)
+    (rw s.cut at (within_pieces (length text) (length text) text (le_refl (length text)))) in
     at_token (length text - left) left s.front s.back s.token s.cut
     (goes_on s.last (bare s.front) (led_on (bare s.front) s.last s.led))
     (stuck (bare s.front) s.token s.last s.led s.stops)
@@ -196,28 +218,34 @@ fault_of text left (inr s) =
     (goes_on s.last (bare (tokens_of text)) (led_on (bare (tokens_of text)) s.last s.led)))
 
 -- where a reading stops, the text stops being a statement
-pub err_sound : (text : List ℕ) (left : ℕ) → read_from AtFirst (tokens_of text) ≡ Err left → FaultAt text (length text - left)
+pub err_sound : (text : List ℕ) (left : ℕ) → read_from AtFirst (tokens_of text) ≡ Err left
+    → FaultAt text (length text - left)
 err_sound text left e = fault_of text left (err_stops (tokens_of text) AtFirst left e)
 
 -- the machine has no next state at the token of a fault
-stops_there : (tokens : List Token) (token : Token) (last : State) → walk AtFirst tokens ≡ Some last → (MayGoOn (tokens ++ token ∷ []) → ⊥)
+stops_there : (tokens : List Token) (token : Token) (last : State) → walk AtFirst tokens ≡ Some last
+    → (MayGoOn (tokens ++ token ∷ []) → ⊥)
     → (reached : Option State) → after_token last token ≡ reached → after_token last token ≡ None
 stops_there tokens token last led never None e = e
 stops_there tokens token last led never (Some s) e =
     absurd (never (goes_on s (tokens ++ token ∷ []) (rw e at (next last token tokens (led_on tokens last led)))))
 
-fault_read : (text : List ℕ) (place left : ℕ) (front back : List Piece) (token : Token) → tokens_of text ≡ front ++ (token, left) ∷ back
+fault_read : (text : List ℕ) (place left : ℕ) (front back : List Piece) (token : Token)
+    → tokens_of text ≡ front ++ (token, left) ∷ back
     → MayGoOn (bare front) → (MayGoOn (bare front ++ token ∷ []) → ⊥) → place + left ≡ length text
     → (found : ℕ) × ((read_from AtFirst (tokens_of text) ≡ Err found) × (place ≡ length text - found))
 fault_read text place left front back token cut may never sum =
     let led = viable (bare front) may in
-    let stops : after_token led.0 token ≡ None = stops_there (bare front) token led.0 led.1 never (after_token led.0 token) refl in
+    let stops : after_token led.0 token ≡ None = stops_there (bare front) token led.0 led.1 never
+    (after_token led.0 token) refl in
     let read : read_from AtFirst (tokens_of text) ≡ Err left =
-    ap (read_from AtFirst) cut ∙ run_on front ((token, left) ∷ back) AtFirst led.0 led.1 ∙ read_from-stop led.0 (token, left) back stops in
+    ap (read_from AtFirst) cut ∙ run_on front ((token, left) ∷ back) AtFirst led.0 led.1
+    ∙ read_from-stop led.0 (token, left) back stops in
     (left, (read, omega arith))
 
 -- the machine has no statement where none is spelled
-unfinished_there : (text : List ℕ) (last : State) → walk AtFirst (bare (tokens_of text)) ≡ Some last → ((statement : Statement) → Spells text statement → ⊥)
+unfinished_there : (text : List ℕ) (last : State) → walk AtFirst (bare (tokens_of text)) ≡ Some last
+    → ((statement : Statement) → Spells text statement → ⊥)
     → (found : Option Statement) → finish last ≡ found → finish last ≡ None
 unfinished_there text last led never None e = e
 unfinished_there text last led never (Some statement) e =
@@ -236,15 +264,18 @@ end_read text never may =
 -- and only there
 pub err_complete : (text : List ℕ) (place : ℕ) → FaultAt text place
     → (found : ℕ) × ((read_from AtFirst (tokens_of text) ≡ Err found) × (place ≡ length text - found))
-err_complete text _ (at_token place left front back token cut may never sum) = fault_read text place left front back token cut may never sum
+err_complete text _ (at_token place left front back token cut may never sum) =
+    fault_read text place left front back token cut may never sum
 err_complete text _ (at_end never may) = end_read text never may
 
 -- the reading and what it is to be
-read_as : (text : List ℕ) (found : Result Statement ℕ) → read_from AtFirst (tokens_of text) ≡ found → read_of text ≡ placed_in text found
+read_as : (text : List ℕ) (found : Result Statement ℕ) → read_from AtFirst (tokens_of text) ≡ found
+    → read_of text ≡ placed_in text found
 unfolding read_of
 read_as text found e = ap (placed_in text) e
 
-placed_ok : (text : List ℕ) (found : Result Statement ℕ) (statement : Statement) → placed_in text found ≡ Ok statement → found ≡ Ok statement
+placed_ok : (text : List ℕ) (found : Result Statement ℕ) (statement : Statement) → placed_in text found ≡ Ok statement
+    → found ≡ Ok statement
 placed_ok text (Ok other) statement e = e
 placed_ok text (Err left) statement e = absurd (ok_is_err statement (length text - left) (sym e))
 
@@ -260,12 +291,14 @@ found_of text = read_as text (read_from AtFirst (tokens_of text)) refl
 pub reads_spelled : (text : List ℕ) (statement : Statement)
     → (read_of text ≡ Ok statement → Spells text statement) × (Spells text statement → read_of text ≡ Ok statement)
 reads_spelled text statement = (
-  λ e. ok_sound text statement (placed_ok text (read_from AtFirst (tokens_of text)) statement (sym (found_of text) ∙ e)),
+  λ e. ok_sound text statement (placed_ok text (read_from AtFirst (tokens_of text)) statement
+      (sym (found_of text) ∙ e)),
   λ s. read_as text (Ok statement) (ok_complete text statement s),
 )
 
 -- a fault is found exactly where it stands
-pub reads_fault : (text : List ℕ) (place : ℕ) → (read_of text ≡ Err place → FaultAt text place) × (FaultAt text place → read_of text ≡ Err place)
+pub reads_fault : (text : List ℕ) (place : ℕ) → (read_of text ≡ Err place → FaultAt text place)
+    × (FaultAt text place → read_of text ≡ Err place)
 reads_fault text place = (
   λ e. let left = placed_err text (read_from AtFirst (tokens_of text)) place (sym (found_of text) ∙ e) in
       rw left.1.1 at (err_sound text left.0 left.1.0),
@@ -286,21 +319,26 @@ seen_ok : (text : List ℕ) (found : Result Statement ℕ) → read_of text ≡ 
 seen_ok text (Ok statement) e = (reads_spelled text statement).0 e
 seen_ok text (Err place) e = tt
 
-seen_err : (text : List ℕ) (found : Result Statement ℕ) → read_of text ≡ found → IfErr (seen_of found) (λ fault. FaultAt text fault.at)
+seen_err : (text : List ℕ) (found : Result Statement ℕ) → read_of text ≡ found
+    → IfErr (seen_of found) (λ fault. FaultAt text fault.at)
 seen_err text (Ok statement) e = tt
 seen_err text (Err place) e = (reads_fault text place).0 e
 
 -- the same of what a program sees
-pub seen_spelled : (text : List ℕ) (seen : Result Statement SyntaxFault) → seen ≡ seen_of (read_of text) → IfOk seen (Spells text)
+pub seen_spelled : (text : List ℕ) (seen : Result Statement SyntaxFault) → seen ≡ seen_of (read_of text)
+    → IfOk seen (Spells text)
 seen_spelled text seen e = rw e (seen_ok text (read_of text) refl)
 
-pub seen_fault : (text : List ℕ) (seen : Result Statement SyntaxFault) → seen ≡ seen_of (read_of text) → IfErr seen (λ fault. FaultAt text fault.at)
+pub seen_fault : (text : List ℕ) (seen : Result Statement SyntaxFault) → seen ≡ seen_of (read_of text)
+    → IfErr seen (λ fault. FaultAt text fault.at)
 seen_fault text seen e = rw e (seen_err text (read_of text) refl)
 
-pub spelled_seen : (text : List ℕ) (seen : Result Statement SyntaxFault) → seen ≡ seen_of (read_of text) → (statement : Statement) → Spells text statement
+pub spelled_seen : (text : List ℕ) (seen : Result Statement SyntaxFault) → seen ≡ seen_of (read_of text)
+    → (statement : Statement) → Spells text statement
     → seen ≡ Ok statement
 spelled_seen text seen e statement s = e ∙ ap seen_of ((reads_spelled text statement).1 s)
 
-pub fault_seen : (text : List ℕ) (seen : Result Statement SyntaxFault) → seen ≡ seen_of (read_of text) → (place : ℕ) → FaultAt text place
+pub fault_seen : (text : List ℕ) (seen : Result Statement SyntaxFault) → seen ≡ seen_of (read_of text) → (place : ℕ)
+    → FaultAt text place
     → seen ≡ Err (record { at = place })
 fault_seen text seen e place f = e ∙ ap seen_of ((reads_fault text place).1 f)

@@ -1,15 +1,20 @@
 -- The tokens that lead to each state, and that each state can still become a statement.
-use Rattle.std.proofs.Common.{◌≡◌, ◌<◌, ℕ, length, arith, List, [], ◌∷◌, ◌++◌, append_assoc, Option, Some, None, refl, ◌∙◌, ap}
+use Rattle.std.proofs.Common.{◌≡◌, ◌<◌, ℕ, length, arith, List, [], ◌∷◌, ◌++◌, append_assoc, Option, Some, None, refl}
+use Rattle.std.proofs.Common.{◌∙◌, ap}
 use Rattle.xa_xid.specs.Xid.{Text}
 use Rattle.xa_xid.specs.XidText.{xid_of, no_text}
 use Rattle.xa_xid.specs.declared.xid.Xid.{Xid}
 use Rattle.xa_xid.specs.declared.statement.Statement.{Statement}
 use Rattle.xa_xid.specs.declared.statement.Statement.TheVariants.{Put}
 use Rattle.xa_statement.specs.declared.token.Keyword.{Keyword}
-use Rattle.xa_statement.specs.declared.token.Keyword.TheVariants.{Xa as XA, Start as START, Begin as BEGIN, End as END, Prepare as PREPARE, Commit as COMMIT}
-use Rattle.xa_statement.specs.declared.token.Keyword.TheVariants.{Rollback as ROLLBACK, Recover as RECOVER, Join as JOIN, Resume as RESUME, Suspend as SUSPEND}
-use Rattle.xa_statement.specs.declared.token.Keyword.TheVariants.{For as FOR, Migrate as MIGRATE, One as ONE, Phase as PHASE, Convert as CONVERT, Xid as XID}
-use Rattle.xa_statement.specs.declared.token.Keyword.TheVariants.{Get as GET, Put as PUT, Del as DEL, Disconnect as DISCONNECT}
+use Rattle.xa_statement.specs.declared.token.Keyword.TheVariants.{Xa as XA, Start as START, Begin as BEGIN, End as END}
+use Rattle.xa_statement.specs.declared.token.Keyword.TheVariants.{Prepare as PREPARE, Commit as COMMIT}
+use Rattle.xa_statement.specs.declared.token.Keyword.TheVariants.{Rollback as ROLLBACK, Recover as RECOVER}
+use Rattle.xa_statement.specs.declared.token.Keyword.TheVariants.{Join as JOIN, Resume as RESUME, Suspend as SUSPEND}
+use Rattle.xa_statement.specs.declared.token.Keyword.TheVariants.{For as FOR, Migrate as MIGRATE, One as ONE}
+use Rattle.xa_statement.specs.declared.token.Keyword.TheVariants.{Phase as PHASE, Convert as CONVERT, Xid as XID}
+use Rattle.xa_statement.specs.declared.token.Keyword.TheVariants.{Get as GET, Put as PUT, Del as DEL}
+use Rattle.xa_statement.specs.declared.token.Keyword.TheVariants.{Disconnect as DISCONNECT}
 use Rattle.xa_statement.specs.declared.token.Token.{Token}
 use Rattle.xa_statement.specs.declared.token.Token.TheVariants.{Word, Comma, Semicolon, Value}
 use Rattle.xa_statement.specs.declared.state.Verb.{Verb}
@@ -17,13 +22,18 @@ use Rattle.xa_statement.specs.declared.state.Verb.TheVariants.{Starts, Ends, Pre
 use Rattle.xa_statement.specs.declared.state.RowVerb.{RowVerb}
 use Rattle.xa_statement.specs.declared.state.RowVerb.TheVariants.{Gets, Puts, Deletes}
 use Rattle.xa_statement.specs.declared.state.State.{State}
-use Rattle.xa_statement.specs.declared.state.State.TheVariants.{AtFirst, AfterXa, WantsGtrid, AfterGtrid, WantsBqual, AfterBqual, WantsFormatId, AfterXid}
-use Rattle.xa_statement.specs.declared.state.State.TheVariants.{AfterSuspend, AfterFor, AfterOne, AfterRecover, AfterConvert, WantsKey, AfterKey, WantsValue}
+use Rattle.xa_statement.specs.declared.state.State.TheVariants.{AtFirst, AfterXa, WantsGtrid, AfterGtrid, WantsBqual}
+use Rattle.xa_statement.specs.declared.state.State.TheVariants.{AfterBqual, WantsFormatId, AfterXid}
+use Rattle.xa_statement.specs.declared.state.State.TheVariants.{AfterSuspend, AfterFor, AfterOne, AfterRecover}
+use Rattle.xa_statement.specs.declared.state.State.TheVariants.{AfterConvert, WantsKey, AfterKey, WantsValue}
 use Rattle.xa_statement.specs.declared.state.State.TheVariants.{Whole, Ended}
-use Rattle.xa_statement.specs.Grammar.{XidTokens, gtrid, gtrid_bqual, gtrid_bqual_format, StartWord, is_start, is_begin, is_join, is_resume, Row, start}
-use Rattle.xa_statement.specs.Grammar.{start_clause, end, end_suspend, end_suspend_for, prepare, commit, commit_one, rollback, recover, recover_convert, get}
+use Rattle.xa_statement.specs.Grammar.{XidTokens, gtrid, gtrid_bqual, gtrid_bqual_format, StartWord, is_start, is_begin}
+use Rattle.xa_statement.specs.Grammar.{is_join, is_resume, Row, start}
+use Rattle.xa_statement.specs.Grammar.{start_clause, end, end_suspend, end_suspend_for, prepare, commit, commit_one}
+use Rattle.xa_statement.specs.Grammar.{rollback, recover, recover_convert, get}
 use Rattle.xa_statement.specs.Grammar.{put, del, disconnect, Says, ended_row}
-use Rattle.xa_statement.specs.Machine.{after_token, unended, ended, statement_of, xid_word, key_state, after_word, after_comma, after_value}
+use Rattle.xa_statement.specs.Machine.{after_token, unended, ended, statement_of, xid_word, key_state, after_word}
+use Rattle.xa_statement.specs.Machine.{after_comma, after_value}
 
 -- the words that lead to a verb
 abbrev pub VerbWord : Verb → Keyword → Type 0
@@ -101,7 +111,8 @@ FrontOf None tokens = Unit {0}
 FrontOf (Some state) tokens = Front state tokens
 
 -- one token more behind the verb
-opened_more : (verb : Verb) (tail tokens : List Token) (token : Token) → Opened verb tail tokens → Opened verb (tail ++ token ∷ []) (tokens ++ token ∷ [])
+opened_more : (verb : Verb) (tail tokens : List Token) (token : Token) → Opened verb tail tokens
+    → Opened verb (tail ++ token ∷ []) (tokens ++ token ∷ [])
 opened_more verb tail tokens token o = record { word = o.word; is = o.is; same = ap (λ ts. ts ++ token ∷ []) o.same }
 
 clause_more : (word : Keyword) (tail tokens : List Token) (token : Token) → ClauseOf word tail tokens
@@ -113,7 +124,8 @@ clause_more word tail tokens token c = record {
   same = ap (λ ts. ts ++ token ∷ []) c.same ∙ ap (λ ts. Word XA ∷ Word word ∷ ts) (append_assoc c.x tail (token ∷ []));
 }
 
-key_more : (key : List ℕ) (tail tokens : List Token) (token : Token) → KeyOf key tail tokens → KeyOf key (tail ++ token ∷ []) (tokens ++ token ∷ [])
+key_more : (key : List ℕ) (tail tokens : List Token) (token : Token) → KeyOf key tail tokens
+    → KeyOf key (tail ++ token ∷ []) (tokens ++ token ∷ [])
 key_more key tail tokens token k = record {
   text = k.text;
   number = k.number;
@@ -131,7 +143,8 @@ xid_next Ends xid SUSPEND tokens f = record {
   x = f.x;
   xid = xid;
   form = f.form;
-  same = ap (λ ts. ts ++ Word SUSPEND ∷ []) f.before.same ∙ ap (λ w. Word XA ∷ Word w ∷ (f.x ++ Word SUSPEND ∷ [])) f.before.is;
+  same = ap (λ ts. ts ++ Word SUSPEND ∷ []) f.before.same
+      ∙ ap (λ w. Word XA ∷ Word w ∷ (f.x ++ Word SUSPEND ∷ [])) f.before.is;
 }
 xid_next Commits xid ONE tokens f = record {
   x = f.x;
@@ -141,13 +154,22 @@ xid_next Commits xid ONE tokens f = record {
 xid_next _ xid word tokens f = tt
 
 -- the states behind a gtrid and behind a bqual as whole xids
-gtrid_xid : (verb : Verb) (g : Text) (tokens : List Token) → Front (AfterGtrid verb g) tokens → XidOf verb (xid_of g no_text 1) tokens
+gtrid_xid : (verb : Verb) (g : Text) (tokens : List Token) → Front (AfterGtrid verb g) tokens
+    → XidOf verb (xid_of g no_text 1) tokens
 gtrid_xid verb g tokens f = record { x = Value (Some g) f.0 ∷ []; form = gtrid g f.0; before = f.1 }
 
-bqual_xid : (verb : Verb) (g b : Text) (tokens : List Token) → Front (AfterBqual verb g b) tokens → XidOf verb (xid_of g b 1) tokens
-bqual_xid verb g b tokens f = record { x = Value (Some g) f.0 ∷ Comma ∷ Value (Some b) f.1.0 ∷ []; form = gtrid_bqual g b f.0 f.1.0; before = f.1.1 }
+bqual_xid : (verb : Verb) (g b : Text) (tokens : List Token) → Front (AfterBqual verb g b) tokens
+    → XidOf verb (xid_of g b 1) tokens
+bqual_xid verb g b tokens f =
+    record {
+      x = Value (Some g) f.0 ∷ Comma ∷ Value (Some b) f.1.0
+          ∷ [];
+      form = gtrid_bqual g b f.0 f.1.0;
+      before = f.1.1;
+    }
 
-word_next : (state : State) (word : Keyword) (tokens : List Token) → Front state tokens → FrontOf (after_word state word) (tokens ++ Word word ∷ [])
+word_next : (state : State) (word : Keyword) (tokens : List Token) → Front state tokens
+    → FrontOf (after_word state word) (tokens ++ Word word ∷ [])
 word_next AtFirst XA tokens f = ap (λ ts. ts ++ Word XA ∷ []) f
 word_next AtFirst GET tokens f = ap (λ ts. ts ++ Word GET ∷ []) f
 word_next AtFirst PUT tokens f = ap (λ ts. ts ++ Word PUT ∷ []) f
@@ -158,23 +180,27 @@ word_next AfterXa BEGIN tokens f = record { word = BEGIN; is = is_begin; same = 
 word_next AfterXa END tokens f = record { word = END; is = refl; same = ap (λ ts. ts ++ Word END ∷ []) f }
 word_next AfterXa PREPARE tokens f = record { word = PREPARE; is = refl; same = ap (λ ts. ts ++ Word PREPARE ∷ []) f }
 word_next AfterXa COMMIT tokens f = record { word = COMMIT; is = refl; same = ap (λ ts. ts ++ Word COMMIT ∷ []) f }
-word_next AfterXa ROLLBACK tokens f = record { word = ROLLBACK; is = refl; same = ap (λ ts. ts ++ Word ROLLBACK ∷ []) f }
+word_next AfterXa ROLLBACK tokens f =
+    record { word = ROLLBACK; is = refl; same = ap (λ ts. ts ++ Word ROLLBACK ∷ []) f }
 word_next AfterXa RECOVER tokens f = ap (λ ts. ts ++ Word RECOVER ∷ []) f
 word_next (AfterGtrid verb g) word tokens f = xid_next verb (xid_of g no_text 1) word tokens (gtrid_xid verb g tokens f)
 word_next (AfterBqual verb g b) word tokens f = xid_next verb (xid_of g b 1) word tokens (bqual_xid verb g b tokens f)
 word_next (AfterXid verb xid) word tokens f = xid_next verb xid word tokens f
 word_next AfterSuspend FOR tokens f = clause_more END (Word SUSPEND ∷ []) tokens (Word FOR) f
 word_next AfterFor MIGRATE tokens f =
-    let more = clause_more END (Word SUSPEND ∷ Word FOR ∷ []) tokens (Word MIGRATE) f in rw more.same (end_suspend_for more.form)
+    let more = clause_more END (Word SUSPEND ∷ Word FOR ∷ []) tokens (Word MIGRATE) f in
+    rw more.same (end_suspend_for more.form)
 word_next (AfterOne xid) PHASE tokens f =
     let e : tokens ++ Word PHASE ∷ [] ≡ Word XA ∷ Word COMMIT ∷ (f.x ++ Word ONE ∷ Word PHASE ∷ []) =
-    ap (λ ts. ts ++ Word PHASE ∷ []) f.same ∙ ap (λ ts. Word XA ∷ Word COMMIT ∷ ts) (append_assoc f.x (Word ONE ∷ []) (Word PHASE ∷ [])) in
+    ap (λ ts. ts ++ Word PHASE ∷ []) f.same ∙ ap (λ ts. Word XA ∷ Word COMMIT ∷ ts)
+    (append_assoc f.x (Word ONE ∷ []) (Word PHASE ∷ [])) in
     rw e (commit_one f.form)
 word_next AfterRecover CONVERT tokens f = ap (λ ts. ts ++ Word CONVERT ∷ []) f
 word_next AfterConvert XID tokens f = rw f recover_convert
 word_next _ word tokens f = tt
 
-comma_next : (state : State) (tokens : List Token) → Front state tokens → FrontOf (after_comma state) (tokens ++ Comma ∷ [])
+comma_next : (state : State) (tokens : List Token) → Front state tokens
+    → FrontOf (after_comma state) (tokens ++ Comma ∷ [])
 comma_next (AfterGtrid verb g) tokens f = (f.0, opened_more verb (Value (Some g) f.0 ∷ []) tokens Comma f.1)
 comma_next (AfterBqual verb g b) tokens f =
     (f.0, (f.1.0, opened_more verb (Value (Some g) f.0 ∷ Comma ∷ Value (Some b) f.1.0 ∷ []) tokens Comma f.1.1))
@@ -182,17 +208,26 @@ comma_next (AfterKey key) tokens f = key_more key [] tokens Comma f
 comma_next _ tokens f = tt
 
 -- a literal in the place of a key
-key_next : (verb : RowVerb) (text : Text) (number : Option ℕ) (tokens : List Token) (items : List ℕ) → items ≡ text.items → tokens ≡ Word (row_word verb) ∷ []
+key_next : (verb : RowVerb) (text : Text) (number : Option ℕ) (tokens : List Token) (items : List ℕ)
+    → items ≡ text.items → tokens ≡ Word (row_word verb) ∷ []
     → FrontOf (key_state verb items) (tokens ++ Value (Some text) number ∷ [])
 key_next verb text number tokens [] e f = tt
 key_next Gets text number tokens (byte ∷ bytes) e f =
     let some : 0 < length text.items = rw (← e) (omega arith) in rw (f, e) (get text number some)
 key_next Puts text number tokens (byte ∷ bytes) e f =
-    record { text = text; number = number; some = rw (← e) (omega arith); is = e; same = ap (λ ts. ts ++ Value (Some text) number ∷ []) f }
+    record {
+      text = text;
+      number = number;
+      some = rw (← e) (omega arith);
+      is = e;
+      same = ap
+          (λ ts. ts ++ Value (Some text) number ∷ []) f;
+    }
 key_next Deletes text number tokens (byte ∷ bytes) e f =
     let some : 0 < length text.items = rw (← e) (omega arith) in rw (f, e) (del text number some)
 
-put_row : (key : List ℕ) (text value : Text) (m n : Option ℕ) (tokens : List Token) → 0 < length text.items → key ≡ text.items
+put_row : (key : List ℕ) (text value : Text) (m n : Option ℕ) (tokens : List Token) → 0 < length text.items
+    → key ≡ text.items
     → tokens ≡ Word PUT ∷ Value (Some text) m ∷ Comma ∷ Value (Some value) n ∷ [] → Row tokens (Put key value)
 put_row key text value m n tokens some e same = rw (same, e) (put text value m n some)
 
@@ -204,7 +239,8 @@ value_next (WantsBqual verb g) (Some b) n tokens f =
 value_next (WantsFormatId verb g b) l (Some format) tokens f = record {
   x = Value (Some g) f.0 ∷ Comma ∷ Value (Some b) f.1.0 ∷ Comma ∷ Value l (Some format) ∷ [];
   form = gtrid_bqual_format g b f.0 f.1.0 l format;
-  before = opened_more verb (Value (Some g) f.0 ∷ Comma ∷ Value (Some b) f.1.0 ∷ Comma ∷ []) tokens (Value l (Some format)) f.1.1;
+  before = opened_more verb (Value (Some g) f.0 ∷ Comma ∷ Value (Some b) f.1.0 ∷ Comma ∷ []) tokens
+      (Value l (Some format)) f.1.1;
 }
 value_next (WantsKey verb) (Some text) m tokens f = key_next verb text m tokens text.items refl f
 value_next (WantsValue key) (Some value) n tokens f =
@@ -233,12 +269,14 @@ row_of AfterRecover tokens f = rw f recover
 row_of (Whole statement) tokens f = f
 row_of _ tokens f = tt
 
-semicolon_next : (found : Option Statement) (tokens : List Token) → RowOf found tokens → FrontOf (ended found) (tokens ++ Semicolon ∷ [])
+semicolon_next : (found : Option Statement) (tokens : List Token) → RowOf found tokens
+    → FrontOf (ended found) (tokens ++ Semicolon ∷ [])
 semicolon_next None tokens row = tt
 semicolon_next (Some statement) tokens row = ended_row row
 
 -- one token more
-pub next : (state : State) (token : Token) (tokens : List Token) → Front state tokens → FrontOf (after_token state token) (tokens ++ token ∷ [])
+pub next : (state : State) (token : Token) (tokens : List Token) → Front state tokens
+    → FrontOf (after_token state token) (tokens ++ token ∷ [])
 unfolding after_token
 next state (Word word) tokens f = word_next state word tokens f
 next state Comma tokens f = comma_next state tokens f

@@ -1,5 +1,6 @@
 -- The tokens of a text, one after another.
-use Rattle.std.proofs.Common.{◌≡◌, ℕ, ◌≤◌, ◌<◌, zero, suc, Bool, true, false, ◌==◌, if◌then◌else◌, List, [], ◌∷◌, length, Option, Some, None, Ok, Err, refl}
+use Rattle.std.proofs.Common.{◌≡◌, ℕ, ◌≤◌, ◌<◌, zero, suc, Bool, true, false, ◌==◌, if◌then◌else◌, List, [], ◌∷◌}
+use Rattle.std.proofs.Common.{length, Option, Some, None, Ok, Err, refl}
 use Rattle.std.proofs.Common.{sym, ◌∙◌, ap, arith}
 use Rattle.std.proofs.Math.Nat.{le_refl}
 use Rattle.std.proofs.lemmas.Bool.{cond_both}
@@ -11,7 +12,8 @@ use Rattle.xa_xid.proofs.Cuts.{behind-passes, behind-stops, behind-nil}
 use Rattle.xa_xid.proofs.Shorter.{behind-short, ShortReading, literal-short}
 use Rattle.xa_statement.specs.declared.token.Token.{Token}
 use Rattle.xa_statement.specs.declared.token.Token.TheVariants.{Comma, Semicolon, Value}
-use Rattle.xa_statement.specs.Token.{token_at, quoted_piece, run_at, opens_quoted, pieces, tokens_of, first_piece, Piece}
+use Rattle.xa_statement.specs.Token.{token_at, quoted_piece, run_at, opens_quoted, pieces, tokens_of, first_piece}
+use Rattle.xa_statement.specs.Token.{Piece}
 
 -- what is left behind a token is at most so long
 abbrev Leaves : ℕ → Token × List ℕ → Type 0
@@ -27,7 +29,8 @@ token-short byte text =
     let most = length text in
     let stray : Token × List ℕ = (Value None None, []) in
     let word : Token × List ℕ = if belongs word_byte byte then run_at (byte ∷ text) else stray in
-    let quoted : Token × List ℕ = if opens_quoted (byte ∷ text) then quoted_piece (literal_ahead (byte ∷ text)) else word in
+    let quoted : Token × List ℕ = if opens_quoted (byte ∷ text) then quoted_piece
+    (literal_ahead (byte ∷ text)) else word in
     let semicolon : Token × List ℕ = if byte == 59 then (Semicolon, text) else quoted in
     cond_both (byte == 44) (Comma, text) semicolon (Leaves most) (λ _. le_refl most)
     (λ _. cond_both (byte == 59) (Semicolon, text) quoted (Leaves most) (λ _. le_refl most)
@@ -51,7 +54,8 @@ fewer_more least most None more fewer = tt
 fewer_more least most (Some cut) more fewer = omega arith
 
 fewer : (text : List ℕ) → Fewer (length text) (first_piece (unblank text))
-fewer text = fewer_more _ _ (first_piece (unblank text)) (behind-short (belongs blank_byte) text) (fewer_first (unblank text))
+fewer text = fewer_more _ _ (first_piece (unblank text)) (behind-short (belongs blank_byte) text)
+    (fewer_first (unblank text))
 
 pub pieces-nil : (most : ℕ) → pieces most [] ≡ []
 unfolding pieces behind
@@ -71,14 +75,16 @@ pub pieces-suc : (most : ℕ) (text : List ℕ) → pieces (suc most) text ≡ g
 unfolding pieces
 pieces-suc most text = refl
 
-same_more : (most other : ℕ) (cut : Option (Piece × List ℕ)) (bound : ℕ) → Fewer bound cut → bound ≤ suc most → bound ≤ suc other
+same_more : (most other : ℕ) (cut : Option (Piece × List ℕ)) (bound : ℕ) → Fewer bound cut → bound ≤ suc most
+    → bound ≤ suc other
     → ((text : List ℕ) → length text ≤ most → length text ≤ other → pieces most text ≡ pieces other text)
     → go_on most cut ≡ go_on other cut
 same_more most other None bound few a b same = refl
 same_more most other (Some cut) bound few a b same = ap (λ more. cut.0 ∷ more) (same cut.1 (omega arith) (omega arith))
 
 -- how many tokens are looked for doesn't matter, where it is enough
-pub stable : (most other : ℕ) (text : List ℕ) → length text ≤ most → length text ≤ other → pieces most text ≡ pieces other text
+pub stable : (most other : ℕ) (text : List ℕ) → length text ≤ most → length text ≤ other
+    → pieces most text ≡ pieces other text
 stable zero other text a b = rw (no_bytes text a, pieces-nil zero, pieces-nil other) refl
 stable (suc most) zero text a b = rw (no_bytes text b, pieces-nil zero, pieces-nil (suc most)) refl
 stable (suc most) (suc other) text a b =
@@ -103,7 +109,8 @@ unblank-unblank text = record { same = behind-behind (belongs blank_byte) text }
 
 -- the tokens of a text that begins with one
 pub first_token : (byte : ℕ) (text : List ℕ) → IsUnblank (byte ∷ text)
-    → tokens_of (byte ∷ text) ≡ ((token_at (byte ∷ text)).0, length (byte ∷ text)) ∷ tokens_of (token_at (byte ∷ text)).1
+    → tokens_of (byte ∷ text) ≡ ((token_at (byte ∷ text)).0, length (byte ∷ text)) ∷ tokens_of
+    (token_at (byte ∷ text)).1
 first_token byte text is =
     let rest = (token_at (byte ∷ text)).1 in
     pieces-suc (length text) (byte ∷ text)
@@ -118,4 +125,5 @@ same_start (suc most) text = ap (λ t. go_on most (first_piece t)) (behind-behin
 
 pub tokens-unblank : (text : List ℕ) → tokens_of (unblank text) ≡ tokens_of text
 tokens-unblank text =
-    stable (length (unblank text)) (length text) (unblank text) (le_refl _) (behind-short (belongs blank_byte) text) ∙ same_start (length text) text
+    stable (length (unblank text)) (length text) (unblank text) (le_refl _) (behind-short (belongs blank_byte) text)
+    ∙ same_start (length text) text

@@ -1,5 +1,6 @@
 -- A statement read token by token, while the rest of the text gets shorter.
-use Rattle.std.proofs.Common.{◌≡◌, ℕ, ◌≤◌, ◌<◌, ◌-◌, List, [], ◌∷◌, length, Option, Some, None, Result, Err, ok_or, true, false, ◌==◌, refl, sym, ◌∙◌, ap}
+use Rattle.std.proofs.Common.{◌≡◌, ℕ, ◌≤◌, ◌<◌, ◌-◌, List, [], ◌∷◌, length, Option, Some, None, Result, Err, ok_or}
+use Rattle.std.proofs.Common.{true, false, ◌==◌, refl, sym, ◌∙◌, ap}
 use Rattle.std.proofs.Common.{arith}
 use Rattle.std.proofs.lemmas.Bool.{eqb-true, eqb-false}
 use Rattle.xa_xid.specs.Bytes.{belongs, unblank}
@@ -18,7 +19,8 @@ abbrev pub from_next : Option State → ℕ → List Piece → Result Statement 
 from_next None left more = Err left
 from_next (Some next) left more = read_from next more
 
-pub read_from-stop : (state : State) (piece : Piece) (more : List Piece) → after_token state piece.0 ≡ None → read_from state (piece ∷ more) ≡ Err piece.1
+pub read_from-stop : (state : State) (piece : Piece) (more : List Piece) → after_token state piece.0 ≡ None
+    → read_from state (piece ∷ more) ≡ Err piece.1
 unfolding read_from
 read_from-stop state piece more e = rw (e, read_from) refl
 
@@ -27,9 +29,11 @@ pub read_from-go : (state next : State) (piece : Piece) (more : List Piece) → 
 unfolding read_from
 read_from-go state next piece more e = rw (e, read_from) refl
 
-pub read_from-cons : (state : State) (piece : Piece) (more : List Piece) → read_from state (piece ∷ more) ≡ from_next (after_token state piece.0) piece.1 more
+pub read_from-cons : (state : State) (piece : Piece) (more : List Piece)
+    → read_from state (piece ∷ more) ≡ from_next (after_token state piece.0) piece.1 more
 read_from-cons state piece more =
-    elim (after_token state piece.0) as (λ o. after_token state piece.0 ≡ o → read_from state (piece ∷ more) ≡ from_next o piece.1 more) [
+    elim (after_token state piece.0) as (λ o. after_token state piece.0 ≡ o
+    → read_from state (piece ∷ more) ≡ from_next o piece.1 more) [
       | None ↦ λ e. read_from-stop state piece more e
       | Some next ↦ λ e. read_from-go state next piece more e
     ] refl
@@ -53,7 +57,8 @@ read_start text rest e = rw e (record {
 
 -- the first token of a rest that isn't empty
 pub step_of : (state : State) (rest : List ℕ) → 0 < length rest → IsUnblank rest
-    → read_from state (tokens_of rest) ≡ from_next (after_token state (token_at rest).0) (length rest) (tokens_of (token_at rest).1)
+    → read_from state (tokens_of rest) ≡ from_next (after_token state (token_at rest).0) (length rest)
+    (tokens_of (token_at rest).1)
 step_of state [] some is = absurd (omega arith)
 step_of state (byte ∷ rest) some is = ap (read_from state) (first_token byte rest is) ∙ read_from-cons state _ _
 
@@ -63,7 +68,8 @@ rest-short (byte ∷ rest) some =
     let tail = (token_at (byte ∷ rest)).1 in
     omega (arith, token-short byte rest, behind-short (belongs blank_byte) tail)
 
-pub read_step : (text rest later : List ℕ) (state next : State) → 0 < length rest → after_token state (token_at rest).0 ≡ Some next
+pub read_step : (text rest later : List ℕ) (state next : State) → 0 < length rest
+    → after_token state (token_at rest).0 ≡ Some next
     → later ≡ unblank (token_at rest).1 → ReadBefore text state rest → ReadBefore text next later
 read_step text rest later state next some steps e before =
     let shorter : length (unblank (token_at rest).1) < length rest = rest-short rest some in
@@ -78,28 +84,34 @@ read_step text rest later state next some steps e before =
           ∙ before.same;
     })
 
-pub seen : (text : List ℕ) (found : Result Statement ℕ) → read_from AtFirst (tokens_of text) ≡ found → seen_of (read_of text) ≡ seen_of (placed_in text found)
+pub seen : (text : List ℕ) (found : Result Statement ℕ) → read_from AtFirst (tokens_of text) ≡ found
+    → seen_of (read_of text) ≡ seen_of (placed_in text found)
 unfolding read_of
 seen text found e = ap (λ r. seen_of (placed_in text r)) e
 
-pub read_stop : (text rest : List ℕ) (state : State) → 0 < length rest → after_token state (token_at rest).0 ≡ None → ReadBefore text state rest
+pub read_stop : (text rest : List ℕ) (state : State) → 0 < length rest → after_token state (token_at rest).0 ≡ None
+    → ReadBefore text state rest
     → Err (record { at = length text - length rest }) ≡ seen_of (read_of text)
 read_stop text rest state some stops before =
     sym (seen text (Err (length rest))
-    (sym before.same ∙ step_of state rest some before.front ∙ ap (λ o. from_next o (length rest) (tokens_of (token_at rest).1)) stops))
+    (sym before.same ∙ step_of state rest some before.front
+    ∙ ap (λ o. from_next o (length rest) (tokens_of (token_at rest).1)) stops))
 
-ended_as : (text : List ℕ) (found : Option Statement) → seen_of (placed_in text (read_end found)) ≡ ok_or found (record { at = length text })
+ended_as : (text : List ℕ) (found : Option Statement) → seen_of (placed_in text (read_end found))
+    ≡ ok_or found (record { at = length text })
 ended_as text (Some statement) = refl
 ended_as text None = ap (λ n. Err (record { at = n })) (omega arith)
 
-pub read_all : (state : State) (rest : List ℕ) → length rest ≡ 0 → read_from state (tokens_of rest) ≡ read_end (finish state)
+pub read_all : (state : State) (rest : List ℕ) → length rest ≡ 0
+    → read_from state (tokens_of rest) ≡ read_end (finish state)
 read_all state [] none = ap (read_from state) (pieces-nil 0) ∙ read_from-nil state
 read_all state (byte ∷ rest) none = absurd (omega arith)
 
 pub read_finish : (text rest : List ℕ) (state : State) → length rest ≡ 0 → ReadBefore text state rest
     → ok_or (finish state) (record { at = length text }) ≡ seen_of (read_of text)
 read_finish text rest state none before =
-    sym (ended_as text (finish state)) ∙ sym (seen text (read_end (finish state)) (sym before.same ∙ read_all state rest none))
+    sym (ended_as text (finish state)) ∙ sym (seen text (read_end (finish state))
+    (sym before.same ∙ read_all state rest none))
 
 pub some_left : (rest : List ℕ) → false ≡ (length rest == 0) → 0 < length rest
 some_left rest e = let some : length rest ≡ 0 → ⊥ = eqb-false _ _ (sym e) in omega arith

@@ -1,21 +1,27 @@
 -- Each state can still become a statement, and none that there isn't can.
-use Rattle.std.proofs.Common.{◌≡◌, true, false, List, [], ◌∷◌, ◌++◌, append_assoc, Option, Some, None, refl, sym, ◌∙◌, ap}
+use Rattle.std.proofs.Common.{◌≡◌, true, false, List, [], ◌∷◌, ◌++◌, append_assoc, Option, Some, None, refl, sym, ◌∙◌}
+use Rattle.std.proofs.Common.{ap}
 use Rattle.std.proofs.lemmas.List.{append-nil}
 use Rattle.xa_xid.specs.Xid.{Text}
 use Rattle.xa_xid.specs.XidText.{xid_of, no_text}
 use Rattle.xa_xid.specs.declared.statement.Statement.{Statement}
-use Rattle.xa_xid.specs.declared.statement.Statement.TheVariants.{Commit, Recover, Unsupported, Get, Put, Del, Disconnect}
-use Rattle.xa_statement.specs.declared.token.Keyword.TheVariants.{Recover as RECOVER, Migrate as MIGRATE, Phase as PHASE, Xid as XID, Disconnect as DISCONNECT}
+use Rattle.xa_xid.specs.declared.statement.Statement.TheVariants.{Commit, Recover, Unsupported, Get, Put, Del}
+use Rattle.xa_xid.specs.declared.statement.Statement.TheVariants.{Disconnect}
+use Rattle.xa_statement.specs.declared.token.Keyword.TheVariants.{Recover as RECOVER, Migrate as MIGRATE}
+use Rattle.xa_statement.specs.declared.token.Keyword.TheVariants.{Phase as PHASE, Xid as XID, Disconnect as DISCONNECT}
 use Rattle.xa_statement.specs.declared.token.Token.{Token}
 use Rattle.xa_statement.specs.declared.token.Token.TheVariants.{Word, Comma, Value}
 use Rattle.xa_statement.specs.declared.state.RowVerb.TheVariants.{Gets, Puts, Deletes}
 use Rattle.xa_statement.specs.declared.state.State.{State}
-use Rattle.xa_statement.specs.declared.state.State.TheVariants.{AtFirst, AfterXa, WantsGtrid, AfterGtrid, WantsBqual, AfterBqual, WantsFormatId, AfterXid}
-use Rattle.xa_statement.specs.declared.state.State.TheVariants.{AfterSuspend, AfterFor, AfterOne, AfterRecover, AfterConvert, WantsKey, AfterKey, WantsValue}
+use Rattle.xa_statement.specs.declared.state.State.TheVariants.{AtFirst, AfterXa, WantsGtrid, AfterGtrid, WantsBqual}
+use Rattle.xa_statement.specs.declared.state.State.TheVariants.{AfterBqual, WantsFormatId, AfterXid}
+use Rattle.xa_statement.specs.declared.state.State.TheVariants.{AfterSuspend, AfterFor, AfterOne, AfterRecover}
+use Rattle.xa_statement.specs.declared.state.State.TheVariants.{AfterConvert, WantsKey, AfterKey, WantsValue}
 use Rattle.xa_statement.specs.declared.state.State.TheVariants.{Whole, Ended}
 use Rattle.xa_statement.specs.Grammar.{Says, bare_row, MayGoOn}
 use Rattle.xa_statement.specs.Machine.{after_token, finish, unended, statement_of}
-use Rattle.xa_statement.proofs.Walk.{walk, walk_on, walk-nil, walk-cons, walk_then, walk-append, walk-stop, answer, said_read}
+use Rattle.xa_statement.proofs.Walk.{walk, walk_on, walk-nil, walk-cons, walk_then, walk-append, walk-stop, answer}
+use Rattle.xa_statement.proofs.Walk.{said_read}
 use Rattle.xa_statement.proofs.Fronts.{Front, FrontOf, RowOf, row_of, next}
 
 reach_on : (reached : Option State) (token : Token) (more tokens : List Token) → FrontOf reached (tokens ++ token ∷ [])
@@ -25,11 +31,13 @@ reach_on None token more tokens f each = tt
 reach_on (Some s) token more tokens f each = rw append_assoc at (each s f)
 
 -- more tokens lead on
-pub reach : (more : List Token) (state : State) (tokens : List Token) → Front state tokens → FrontOf (walk state more) (tokens ++ more)
+pub reach : (more : List Token) (state : State) (tokens : List Token) → Front state tokens
+    → FrontOf (walk state more) (tokens ++ more)
 reach [] state tokens f = rw (walk-nil state, append-nil tokens) f
 reach (token ∷ more) state tokens f =
     rw (walk-cons state token more)
-    (reach_on (after_token state token) token more tokens (next state token tokens f) (λ s g. reach more s (tokens ++ token ∷ []) g))
+    (reach_on (after_token state token) token more tokens (next state token tokens f)
+    (λ s g. reach more s (tokens ++ token ∷ []) g))
 
 -- a statement that there may be is said
 abbrev pub SaysOf : Option Statement → List Token → Type 0
@@ -44,7 +52,8 @@ pub said : (state : State) (tokens : List Token) → Front state tokens → Says
 unfolding finish
 said (Ended statement) tokens f = f
 said (AfterGtrid verb g) tokens f = said_row (unended (AfterGtrid verb g)) tokens (row_of (AfterGtrid verb g) tokens f)
-said (AfterBqual verb g b) tokens f = said_row (unended (AfterBqual verb g b)) tokens (row_of (AfterBqual verb g b) tokens f)
+said (AfterBqual verb g b) tokens f =
+    said_row (unended (AfterBqual verb g b)) tokens (row_of (AfterBqual verb g b) tokens f)
 said (AfterXid verb xid) tokens f = said_row (unended (AfterXid verb xid)) tokens (row_of (AfterXid verb xid) tokens f)
 said AfterSuspend tokens f = said_row (unended AfterSuspend) tokens (row_of AfterSuspend tokens f)
 said AfterRecover tokens f = said_row (unended AfterRecover) tokens (row_of AfterRecover tokens f)
@@ -56,7 +65,8 @@ said_of None tokens f = tt
 said_of (Some state) tokens f = said state tokens f
 
 -- one way on from a state to a statement
-way : (state : State) (tokens more : List Token) (statement : Statement) → answer (walk state more) ≡ Some statement → Front state tokens → MayGoOn tokens
+way : (state : State) (tokens more : List Token) (statement : Statement) → answer (walk state more) ≡ Some statement
+    → Front state tokens → MayGoOn tokens
 way state tokens more statement e f = record {
   more = more;
   statement = statement;
@@ -77,11 +87,14 @@ pub goes_on : (state : State) (tokens : List Token) → Front state tokens → M
 unfolding walk after_token finish
 goes_on AtFirst ts f = way AtFirst ts (Word DISCONNECT ∷ []) Disconnect refl f
 goes_on AfterXa ts f = way AfterXa ts (Word RECOVER ∷ []) (Recover false) refl f
-goes_on (WantsGtrid verb) ts f = way (WantsGtrid verb) ts (any_literal ∷ []) (statement_of verb (xid_of no_text no_text 1)) refl f
+goes_on (WantsGtrid verb) ts f =
+    way (WantsGtrid verb) ts (any_literal ∷ []) (statement_of verb (xid_of no_text no_text 1)) refl f
 goes_on (AfterGtrid verb g) ts f = way (AfterGtrid verb g) ts [] (statement_of verb (xid_of g no_text 1)) refl f
-goes_on (WantsBqual verb g) ts f = way (WantsBqual verb g) ts (any_literal ∷ []) (statement_of verb (xid_of g no_text 1)) refl f
+goes_on (WantsBqual verb g) ts f =
+    way (WantsBqual verb g) ts (any_literal ∷ []) (statement_of verb (xid_of g no_text 1)) refl f
 goes_on (AfterBqual verb g b) ts f = way (AfterBqual verb g b) ts [] (statement_of verb (xid_of g b 1)) refl f
-goes_on (WantsFormatId verb g b) ts f = way (WantsFormatId verb g b) ts (Value None (Some 0) ∷ []) (statement_of verb (xid_of g b 0)) refl f
+goes_on (WantsFormatId verb g b) ts f =
+    way (WantsFormatId verb g b) ts (Value None (Some 0) ∷ []) (statement_of verb (xid_of g b 0)) refl f
 goes_on (AfterXid verb xid) ts f = way (AfterXid verb xid) ts [] (statement_of verb xid) refl f
 goes_on AfterSuspend ts f = way AfterSuspend ts [] Unsupported refl f
 goes_on AfterFor ts f = way AfterFor ts (Word MIGRATE ∷ []) Unsupported refl f
@@ -99,7 +112,8 @@ goes_on (Ended statement) ts f = way (Ended statement) ts [] statement refl f
 pub none_is_some : {A : Type 0} (value : A) → None ≡ Some value → ⊥
 none_is_some value e = cc
 
-pub some_reached : (reached : Option State) (more : List Token) (statement : Statement) → answer (walk_on reached more) ≡ Some statement
+pub some_reached : (reached : Option State) (more : List Token) (statement : Statement)
+    → answer (walk_on reached more) ≡ Some statement
     → (s : State) × (reached ≡ Some s)
 some_reached None more statement e = let no : None ≡ Some statement = e in absurd (none_is_some statement no)
 some_reached (Some s) more statement e = (s, refl)
@@ -111,8 +125,10 @@ viable tokens m =
     (ap answer (sym (walk-append tokens m.more AtFirst)) ∙ said_read (tokens ++ m.more) m.statement m.says)
 
 -- and none where it has no next one
-pub stuck : (tokens : List Token) (token : Token) (s : State) → walk AtFirst tokens ≡ Some s → after_token s token ≡ None → MayGoOn (tokens ++ token ∷ []) → ⊥
+pub stuck : (tokens : List Token) (token : Token) (s : State) → walk AtFirst tokens ≡ Some s
+    → after_token s token ≡ None → MayGoOn (tokens ++ token ∷ []) → ⊥
 stuck tokens token s e stops m =
     let reached = viable (tokens ++ token ∷ []) m in
-    let none : walk AtFirst (tokens ++ token ∷ []) ≡ None = walk_then tokens (token ∷ []) AtFirst s e ∙ walk-stop s token [] stops in
+    let none : walk AtFirst (tokens ++ token ∷ []) ≡ None =
+    walk_then tokens (token ∷ []) AtFirst s e ∙ walk-stop s token [] stops in
     none_is_some reached.0 (sym none ∙ reached.1)

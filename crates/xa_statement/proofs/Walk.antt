@@ -1,11 +1,14 @@
 -- The machine led along tokens, and that it answers each row of the grammar.
-use Rattle.std.proofs.Common.{◌≡◌, ◌<◌, ℕ, length, arith, true, List, [], ◌∷◌, ◌++◌, Option, Some, None, refl, sym, ◌∙◌, ap}
+use Rattle.std.proofs.Common.{◌≡◌, ◌<◌, ℕ, length, arith, true, List, [], ◌∷◌, ◌++◌, Option, Some, None, refl, sym, ◌∙◌}
+use Rattle.std.proofs.Common.{ap}
 use Rattle.xa_xid.specs.XidText.{xid_of}
 use Rattle.xa_xid.specs.declared.xid.Xid.{Xid}
 use Rattle.xa_xid.specs.declared.statement.Statement.{Statement}
-use Rattle.xa_xid.specs.declared.statement.Statement.TheVariants.{Commit, Recover, Unsupported, Get, Put, Del, Disconnect}
+use Rattle.xa_xid.specs.declared.statement.Statement.TheVariants.{Commit, Recover, Unsupported, Get, Put, Del}
+use Rattle.xa_xid.specs.declared.statement.Statement.TheVariants.{Disconnect}
 use Rattle.xa_statement.specs.declared.token.Keyword.{Keyword}
-use Rattle.xa_statement.specs.declared.token.Keyword.TheVariants.{Xa as XA, Suspend as SUSPEND, For as FOR, Migrate as MIGRATE, One as ONE, Phase as PHASE}
+use Rattle.xa_statement.specs.declared.token.Keyword.TheVariants.{Xa as XA, Suspend as SUSPEND, For as FOR}
+use Rattle.xa_statement.specs.declared.token.Keyword.TheVariants.{Migrate as MIGRATE, One as ONE, Phase as PHASE}
 use Rattle.xa_statement.specs.declared.token.Token.{Token}
 use Rattle.xa_statement.specs.declared.token.Token.TheVariants.{Word, Semicolon}
 use Rattle.xa_statement.specs.declared.state.Verb.{Verb}
@@ -13,12 +16,16 @@ use Rattle.xa_statement.specs.declared.state.Verb.TheVariants.{Starts, Ends, Pre
 use Rattle.xa_statement.specs.declared.state.RowVerb.{RowVerb}
 use Rattle.xa_statement.specs.declared.state.RowVerb.TheVariants.{Gets, Puts, Deletes}
 use Rattle.xa_statement.specs.declared.state.State.{State}
-use Rattle.xa_statement.specs.declared.state.State.TheVariants.{AtFirst, WantsGtrid, AfterGtrid, AfterBqual, AfterXid, AfterSuspend, AfterOne, AfterRecover}
+use Rattle.xa_statement.specs.declared.state.State.TheVariants.{AtFirst, WantsGtrid, AfterGtrid, AfterBqual, AfterXid}
+use Rattle.xa_statement.specs.declared.state.State.TheVariants.{AfterSuspend, AfterOne, AfterRecover}
 use Rattle.xa_statement.specs.declared.state.State.TheVariants.{Whole, Ended}
-use Rattle.xa_statement.specs.Grammar.{XidTokens, gtrid, gtrid_bqual, gtrid_bqual_format, StartWord, is_start, is_begin, JoinWord, is_join, is_resume, Row}
-use Rattle.xa_statement.specs.Grammar.{start, start_clause, end, end_suspend, end_suspend_for, prepare, commit, commit_one, rollback, recover, recover_convert}
+use Rattle.xa_statement.specs.Grammar.{XidTokens, gtrid, gtrid_bqual, gtrid_bqual_format, StartWord, is_start, is_begin}
+use Rattle.xa_statement.specs.Grammar.{JoinWord, is_join, is_resume, Row}
+use Rattle.xa_statement.specs.Grammar.{start, start_clause, end, end_suspend, end_suspend_for, prepare, commit}
+use Rattle.xa_statement.specs.Grammar.{commit_one, rollback, recover, recover_convert}
 use Rattle.xa_statement.specs.Grammar.{get, put, del, disconnect, Says, bare_row, ended_row}
-use Rattle.xa_statement.specs.Machine.{after_token, finish, unended, ended, statement_of, xid_word, key_state, after_key}
+use Rattle.xa_statement.specs.Machine.{after_token, finish, unended, ended, statement_of, xid_word, key_state}
+use Rattle.xa_statement.specs.Machine.{after_key}
 
 -- the state after tokens
 unfoldable pub walk : State → List Token → Option State
@@ -39,34 +46,40 @@ pub walk-nil : (state : State) → walk state [] ≡ Some state
 unfolding walk
 walk-nil state = refl
 
-pub walk-stop : (state : State) (token : Token) (more : List Token) → after_token state token ≡ None → walk state (token ∷ more) ≡ None
+pub walk-stop : (state : State) (token : Token) (more : List Token) → after_token state token ≡ None
+    → walk state (token ∷ more) ≡ None
 unfolding walk
 walk-stop state token more e = rw (e, walk) refl
 
-pub walk-go : (state next : State) (token : Token) (more : List Token) → after_token state token ≡ Some next → walk state (token ∷ more) ≡ walk next more
+pub walk-go : (state next : State) (token : Token) (more : List Token) → after_token state token ≡ Some next
+    → walk state (token ∷ more) ≡ walk next more
 unfolding walk
 walk-go state next token more e = rw (e, walk) refl
 
-pub walk-cons : (state : State) (token : Token) (more : List Token) → walk state (token ∷ more) ≡ walk_on (after_token state token) more
+pub walk-cons : (state : State) (token : Token) (more : List Token)
+    → walk state (token ∷ more) ≡ walk_on (after_token state token) more
 walk-cons state token more =
     elim (after_token state token) as (λ o. after_token state token ≡ o → walk state (token ∷ more) ≡ walk_on o more) [
       | None ↦ λ e. walk-stop state token more e
       | Some next ↦ λ e. walk-go state next token more e
     ] refl
 
-walk_on-append : (reached : Option State) (front back : List Token) → ((s : State) → walk s (front ++ back) ≡ walk_on (walk s front) back)
+walk_on-append : (reached : Option State) (front back : List Token)
+    → ((s : State) → walk s (front ++ back) ≡ walk_on (walk s front) back)
     → walk_on reached (front ++ back) ≡ walk_on (walk_on reached front) back
 walk_on-append None front back each = refl
 walk_on-append (Some state) front back each = each state
 
-pub walk-append : (front back : List Token) (state : State) → walk state (front ++ back) ≡ walk_on (walk state front) back
+pub walk-append : (front back : List Token) (state : State)
+    → walk state (front ++ back) ≡ walk_on (walk state front) back
 walk-append [] back state = ap (λ o. walk_on o back) (sym (walk-nil state))
 walk-append (token ∷ front) back state =
     walk-cons state token (front ++ back)
     ∙ walk_on-append (after_token state token) front back (λ s. walk-append front back s)
     ∙ ap (λ o. walk_on o back) (sym (walk-cons state token front))
 
-pub walk_then : (front back : List Token) (state next : State) → walk state front ≡ Some next → walk state (front ++ back) ≡ walk next back
+pub walk_then : (front back : List Token) (state next : State) → walk state front ≡ Some next
+    → walk state (front ++ back) ≡ walk next back
 walk_then front back state next e = walk-append front back state ∙ ap (λ o. walk_on o back) e
 
 -- where an xid leads
@@ -79,10 +92,19 @@ pub record XidRead (verb : Verb) (xid : Xid) (tokens : List Token) : Type 0 wher
 
 xid_read : (verb : Verb) (tokens : List Token) (xid : Xid) → XidTokens tokens xid → XidRead verb xid tokens
 unfolding walk after_token finish
-xid_read verb _ _ (gtrid g m) = record { state = AfterGtrid verb g; reached = refl; open_end = refl; closed_end = refl; goes = λ word. refl }
-xid_read verb _ _ (gtrid_bqual g b m n) = record { state = AfterBqual verb g b; reached = refl; open_end = refl; closed_end = refl; goes = λ word. refl }
+xid_read verb _ _ (gtrid g m) =
+    record { state = AfterGtrid verb g; reached = refl; open_end = refl; closed_end = refl; goes = λ word. refl }
+xid_read verb _ _ (gtrid_bqual g b m n) =
+    record { state = AfterBqual verb g b; reached = refl; open_end = refl; closed_end = refl; goes = λ word. refl }
 xid_read verb _ _ (gtrid_bqual_format g b m n l f) =
-    record { state = AfterXid verb (xid_of g b f); reached = refl; open_end = refl; closed_end = refl; goes = λ word. refl }
+    record {
+      state = AfterXid verb (xid_of g b f);
+      reached = refl;
+      open_end = refl;
+      closed_end = refl;
+      goes = λ word.
+          refl;
+    }
 
 -- where a row leads
 pub record RowRead (tokens : List Token) (statement : Statement) : Type 0 where
@@ -92,21 +114,24 @@ pub record RowRead (tokens : List Token) (statement : Statement) : Type 0 where
   pub closed_end : finish state ≡ Some statement
 
 -- a row that ends with its xid
-plain_row : (verb : Verb) (tokens x : List Token) (xid : Xid) → walk AtFirst tokens ≡ walk (WantsGtrid verb) x → XidTokens x xid
+plain_row : (verb : Verb) (tokens x : List Token) (xid : Xid) → walk AtFirst tokens ≡ walk (WantsGtrid verb) x
+    → XidTokens x xid
     → RowRead tokens (statement_of verb xid)
 plain_row verb tokens x xid e form =
     let read = xid_read verb x xid form in
     record { state = read.state; reached = e ∙ read.reached; open_end = read.open_end; closed_end = read.closed_end }
 
 -- a word behind the xid
-clause_step : (verb : Verb) (x more : List Token) (xid : Xid) (word : Keyword) (next : State) → XidTokens x xid → xid_word verb xid word ≡ Some next
+clause_step : (verb : Verb) (x more : List Token) (xid : Xid) (word : Keyword) (next : State) → XidTokens x xid
+    → xid_word verb xid word ≡ Some next
     → walk (WantsGtrid verb) (x ++ Word word ∷ more) ≡ walk next more
 clause_step verb x more xid word next form e =
     let read = xid_read verb x xid form in
     walk_then x (Word word ∷ more) (WantsGtrid verb) read.state read.reached
     ∙ walk-go read.state next (Word word) more (read.goes word ∙ e)
 
-start_read : (word : Keyword) (x : List Token) → StartWord word → walk AtFirst (Word XA ∷ Word word ∷ x) ≡ walk (WantsGtrid Starts) x
+start_read : (word : Keyword) (x : List Token) → StartWord word
+    → walk AtFirst (Word XA ∷ Word word ∷ x) ≡ walk (WantsGtrid Starts) x
 unfolding walk after_token
 start_read _ x is_start = refl
 start_read _ x is_begin = refl
@@ -116,7 +141,8 @@ join_next _ xid is_join = refl
 join_next _ xid is_resume = refl
 
 -- a row that reaches a whole statement
-whole_row : (tokens : List Token) (statement : Statement) → walk AtFirst tokens ≡ Some (Whole statement) → RowRead tokens statement
+whole_row : (tokens : List Token) (statement : Statement) → walk AtFirst tokens ≡ Some (Whole statement)
+    → RowRead tokens statement
 unfolding finish
 whole_row tokens statement e = record { state = Whole statement; reached = e; open_end = refl; closed_end = refl }
 
@@ -136,7 +162,8 @@ row_read _ _ (start_clause {word} {clause} {parts = x} {xid} is form join) =
     whole_row _ Unsupported (start_read word (x ++ Word clause ∷ []) is
     ∙ clause_step Starts x [] xid clause (Whole Unsupported) form (join_next clause xid join))
 row_read _ _ (end {parts = x} {xid} form) = plain_row Ends _ x xid refl form
-row_read _ _ (end_suspend {parts = x} {xid} form) = suspend_row _ (clause_step Ends x [] xid SUSPEND AfterSuspend form refl)
+row_read _ _ (end_suspend {parts = x} {xid} form) =
+    suspend_row _ (clause_step Ends x [] xid SUSPEND AfterSuspend form refl)
 row_read _ _ (end_suspend_for {parts = x} {xid} form) =
     whole_row _ Unsupported (clause_step Ends x (Word FOR ∷ Word MIGRATE ∷ []) xid SUSPEND AfterSuspend form refl)
 row_read _ _ (prepare {parts = x} {xid} form) = plain_row Prepares _ x xid refl form
@@ -151,12 +178,14 @@ row_read _ _ (put key value m n some) = whole_row _ (Put key.items value) (rw (k
 row_read _ _ (del key m some) = whole_row _ (Del key.items) (rw (key_next key.items some Deletes, walk) refl)
 row_read _ _ disconnect = whole_row _ Disconnect refl
 
-semicolon_step : (state : State) (statement : Statement) → unended state ≡ Some statement → after_token state Semicolon ≡ Some (Ended statement)
+semicolon_step : (state : State) (statement : Statement) → unended state ≡ Some statement
+    → after_token state Semicolon ≡ Some (Ended statement)
 unfolding after_token
 semicolon_step state statement e = ap ended e
 
 -- each statement's tokens are answered by it
-pub said_read : (tokens : List Token) (statement : Statement) → Says tokens statement → answer (walk AtFirst tokens) ≡ Some statement
+pub said_read : (tokens : List Token) (statement : Statement) → Says tokens statement
+    → answer (walk AtFirst tokens) ≡ Some statement
 unfolding finish
 said_read _ statement (bare_row {tokens} row) =
     let read = row_read tokens statement row in ap answer read.reached ∙ read.closed_end

@@ -1,5 +1,6 @@
 -- What stands first in a text, and where reading goes from there.
-use Rattle.std.proofs.Common.{◌≡◌, ℕ, ◌+◌, ◌≤◌, ◌<◌, Bool, true, false, ◌==◌, not, if◌then◌else◌, List, [], ◌∷◌, ◌++◌, length, Option, Some, None, Ok, refl}
+use Rattle.std.proofs.Common.{◌≡◌, ℕ, ◌+◌, ◌≤◌, ◌<◌, Bool, true, false, ◌==◌, not, if◌then◌else◌, List, [], ◌∷◌, ◌++◌}
+use Rattle.std.proofs.Common.{length, Option, Some, None, Ok, refl}
 use Rattle.std.proofs.Common.{sym, ◌∙◌, ap, arith, IsTrue}
 use Rattle.std.proofs.lemmas.Bool.{eq-eqb, eqb-true, eqb-false}
 use Rattle.std.proofs.lemmas.List.{append-nil}
@@ -15,7 +16,8 @@ use Rattle.xa_xid.proofs.Cuts.{front-passes, front-stops, front-nil, behind-pass
 use Rattle.xa_xid.proofs.Reading.{plain_quote, plain_byte, quote_closes, quoted-nil-plain, quoted-nil-quote}
 use Rattle.xa_xid.proofs.Texts.{kept-fits}
 use Rattle.xa_statement.specs.declared.state.State.{State}
-use Rattle.xa_statement.specs.declared.state.State.TheVariants.{AtFirst, WantsGtrid, AfterGtrid, WantsBqual, AfterBqual, WantsFormatId, AfterXid, WantsKey}
+use Rattle.xa_statement.specs.declared.state.State.TheVariants.{AtFirst, WantsGtrid, AfterGtrid, WantsBqual, AfterBqual}
+use Rattle.xa_statement.specs.declared.state.State.TheVariants.{WantsFormatId, AfterXid, WantsKey}
 use Rattle.xa_statement.specs.declared.state.State.TheVariants.{AfterKey, WantsValue, Whole, Ended}
 use Rattle.xa_statement.specs.declared.state.Verb.{Verb}
 use Rattle.xa_statement.specs.declared.state.RowVerb.{RowVerb}
@@ -23,7 +25,8 @@ use Rattle.xa_statement.specs.declared.state.RowVerb.TheVariants.{Gets, Puts, De
 use Rattle.xa_statement.specs.declared.token.Keyword.{Keyword}
 use Rattle.xa_statement.specs.declared.token.Token.{Token}
 use Rattle.xa_statement.specs.declared.token.Token.TheVariants.{Word, Comma, Semicolon, Value}
-use Rattle.xa_statement.specs.Machine.{after_token, unended, ended, finish, statement_of, after_word, after_key, key_state}
+use Rattle.xa_statement.specs.Machine.{after_token, unended, ended, finish, statement_of, after_word, after_key}
+use Rattle.xa_statement.specs.Machine.{key_state}
 use Rattle.xa_statement.specs.Reading.{read_from, read_end, read_of, seen_of}
 use Rattle.xa_statement.specs.Token.{token_at, quoted_piece, tokens_of}
 use Rattle.xa_statement.specs.Ways.{Goes, TakesToken, TakesLiteral, TakesNumber, Leads, Ends, plain_in, heads, Closes}
@@ -31,7 +34,8 @@ use Rattle.xa_statement.proofs.Pieces.{unblank-unblank, tokens-unblank}
 use Rattle.xa_statement.proofs.Run.{from_next, step_of, read_all, seen}
 
 -- a token that stands first behind blanks
-pub takes : (token : Token) (text found rest : List ℕ) → found ≡ unblank text → 0 < length found → token_at found ≡ (token, rest) → TakesToken token text rest
+pub takes : (token : Token) (text found rest : List ℕ) → found ≡ unblank text → 0 < length found
+    → token_at found ≡ (token, rest) → TakesToken token text rest
 takes token text found rest is some first =
     let here : token_at (unblank text) ≡ (token, rest) = ap token_at (sym is) ∙ first in
     let left : 0 < length (unblank text) = rw (sym is) some in
@@ -49,7 +53,8 @@ semicolon_first : (rest : List ℕ) → token_at (59 ∷ rest) ≡ (Semicolon, r
 unfolding token_at
 semicolon_first rest = refl
 
-takes_semicolon : (state : State) (said : Statement) → unended state ≡ Some said → after_token state Semicolon ≡ Some (Ended said)
+takes_semicolon : (state : State) (said : Statement) → unended state ≡ Some said
+    → after_token state Semicolon ≡ Some (Ended said)
 unfolding after_token
 takes_semicolon state said un = ap ended un
 
@@ -57,38 +62,47 @@ ended_said : (said : Statement) → finish (Ended said) ≡ Some said
 unfolding finish
 ended_said said = refl
 
-at_end : (text : List ℕ) (state : State) (said : Statement) → unblank text ≡ [] → finish state ≡ Some said → read_from state (tokens_of text) ≡ Ok said
+at_end : (text : List ℕ) (state : State) (said : Statement) → unblank text ≡ [] → finish state ≡ Some said
+    → read_from state (tokens_of text) ≡ Ok said
 at_end text state said none fin =
     ap (read_from state) (sym (tokens-unblank text)) ∙ read_all state (unblank text) (ap length none) ∙ ap read_end fin
 
 pub takes_comma : (text found rest : List ℕ) → found ≡ unblank text → found ≡ 44 ∷ rest → TakesToken Comma text rest
-takes_comma text found rest is first = takes Comma text (44 ∷ rest) rest (sym first ∙ is) (omega arith) (comma_first rest)
+takes_comma text found rest is first =
+    takes Comma text (44 ∷ rest) rest (sym first ∙ is) (omega arith) (comma_first rest)
 
 false_is_true : false ≡ true → ⊥
 false_is_true e = cc
 
 no_bytes : (text : List ℕ) (empty : Bool) → empty ≡ (length text == 0) → IsTrue empty → text ≡ []
 no_bytes [] empty is e = refl
-no_bytes (byte ∷ text) true is e = let none : length (byte ∷ text) ≡ 0 = eqb-true _ _ (sym is) in absurd (omega (arith, none))
+no_bytes (byte ∷ text) true is e = let none : length (byte ∷ text) ≡ 0 = eqb-true _ _ (sym is) in
+    absurd (omega (arith, none))
 no_bytes (byte ∷ text) false is e = absurd (false_is_true e)
 
-pub ends_bare : (text found : List ℕ) (empty : Bool) → found ≡ unblank text → empty ≡ (length found == 0) → IsTrue empty → Ends text
-ends_bare text found empty is tested e = λ state said un fin. at_end text state said (sym is ∙ no_bytes found empty tested e) fin
+pub ends_bare : (text found : List ℕ) (empty : Bool) → found ≡ unblank text → empty ≡ (length found == 0) → IsTrue empty
+    → Ends text
+ends_bare text found empty is tested e =
+    λ state said un fin. at_end text state said (sym is ∙ no_bytes found empty tested e) fin
 
-pub ends_marked : (text found rest last : List ℕ) (empty : Bool) → found ≡ unblank text → found ≡ 59 ∷ rest → last ≡ unblank rest
+pub ends_marked : (text found rest last : List ℕ) (empty : Bool) → found ≡ unblank text → found ≡ 59 ∷ rest
+    → last ≡ unblank rest
     → empty ≡ (length last == 0) → IsTrue empty → Ends text
 ends_marked text found rest last empty is first behind_it tested e = λ state said un fin.
-    takes Semicolon text (59 ∷ rest) rest (sym first ∙ is) (omega arith) (semicolon_first rest) state (Ended said) (takes_semicolon state said un)
+    takes Semicolon text (59 ∷ rest) rest (sym first ∙ is) (omega arith) (semicolon_first rest) state (Ended said)
+    (takes_semicolon state said un)
     ∙ at_end rest (Ended said) said (sym behind_it ∙ no_bytes last empty tested e) (ended_said said)
 
 -- a text that reading ends with
-pub said_so : (text rest end : List ℕ) (state : State) (said : Statement) → Goes AtFirst text state rest → Leads state rest said end → Ends end
+pub said_so : (text rest end : List ℕ) (state : State) (said : Statement) → Goes AtFirst text state rest
+    → Leads state rest said end → Ends end
     → Ok said ≡ seen_of (read_of text)
 said_so text rest end state said goes leads ends =
     sym (seen text (Ok said) (goes ∙ leads.1.0 ∙ ends leads.0 said leads.1.1.0 leads.1.1.1))
 
 -- the same of a statement that is known under another name
-pub told_so : (text rest end : List ℕ) (state : State) (said told : Statement) → told ≡ said → Goes AtFirst text state rest → Leads state rest said end
+pub told_so : (text rest end : List ℕ) (state : State) (said told : Statement) → told ≡ said
+    → Goes AtFirst text state rest → Leads state rest said end
     → Ends end → Ok told ≡ seen_of (read_of text)
 told_so text rest end state said told is goes leads ends = rw is (said_so text rest end state said goes leads ends)
 
@@ -97,7 +111,8 @@ onto_nil : (found : Option (List ℕ × List ℕ)) → onto [] found ≡ found
 onto_nil None = refl
 onto_nil (Some (bytes, rest)) = refl
 
-onto_onto : (byte : ℕ) (xs : List ℕ) (found : Option (List ℕ × List ℕ)) → onto (byte ∷ []) (onto xs found) ≡ onto (byte ∷ xs) found
+onto_onto : (byte : ℕ) (xs : List ℕ) (found : Option (List ℕ × List ℕ))
+    → onto (byte ∷ []) (onto xs found) ≡ onto (byte ∷ xs) found
 onto_onto byte xs None = refl
 onto_onto byte xs (Some (bytes, rest)) = refl
 
@@ -106,20 +121,24 @@ not_92 byte e is = false_is_true (rw (eq-eqb byte 92 is) at e)
 
 other : (quote byte : ℕ) → plain_in quote byte ≡ true → (byte ≡ quote → ⊥) × (byte ≡ 92 → ⊥)
 other quote byte plain =
-    elim (byte == quote) as (λ b. (byte == quote) ≡ b → (if b then false else not (byte == 92)) ≡ true → (byte ≡ quote → ⊥) × (byte ≡ 92 → ⊥)) [
+    elim (byte == quote) as (λ b. (byte == quote) ≡ b → (if b then false else not (byte == 92)) ≡ true
+    → (byte ≡ quote → ⊥) × (byte ≡ 92 → ⊥)) [
       | true ↦ λ same e. absurd (false_is_true e)
       | false ↦ λ same e. (eqb-false byte quote same, not_92 byte e)
     ] refl plain
 
 quoted_front : (quote : ℕ) (body : List ℕ)
-    → read_in_quotes quote Plain body ≡ onto (front (plain_in quote) body) (read_in_quotes quote Plain (behind (plain_in quote) body))
+    → read_in_quotes quote Plain body ≡ onto (front (plain_in quote) body)
+    (read_in_quotes quote Plain (behind (plain_in quote) body))
 quoted_front quote [] = rw (front-nil (plain_in quote), behind-nil (plain_in quote), quoted-nil-plain quote) refl
 quoted_front quote (byte ∷ body) =
     let p = plain_in quote in
     elim (p byte) as (λ b. p byte ≡ b
-    → read_in_quotes quote Plain (byte ∷ body) ≡ onto (front p (byte ∷ body)) (read_in_quotes quote Plain (behind p (byte ∷ body)))) [
+    → read_in_quotes quote Plain (byte ∷ body) ≡ onto (front p (byte ∷ body))
+    (read_in_quotes quote Plain (behind p (byte ∷ body)))) [
       | true ↦ λ e. rw (front-passes p byte body e, behind-passes p byte body e)
-          (plain_byte quote byte body (other quote byte e).0 (other quote byte e).1 ∙ ap (onto (byte ∷ [])) (quoted_front quote body) ∙ onto_onto byte _ _)
+          (plain_byte quote byte body (other quote byte e).0 (other quote byte e).1
+          ∙ ap (onto (byte ∷ [])) (quoted_front quote body) ∙ onto_onto byte _ _)
       | false ↦ λ e. rw (front-stops p byte body e, behind-stops p byte body e) (sym (onto_nil _))
     ] refl
 
@@ -137,14 +156,16 @@ quoted_whole quote body rest closes =
     ∙ ap (λ bytes. Some (bytes, rest)) (append-nil plain)
 
 plain_read : (quote : ℕ) (body rest : List ℕ) (text : Text) → Closes quote (behind (plain_in quote) body) rest
-    → text.items ≡ front (plain_in quote) body → length text.items ≤ 64 → text_literal_of (read_in_quotes quote Plain body) ≡ Ok (text, rest)
+    → text.items ≡ front (plain_in quote) body → length text.items ≤ 64
+    → text_literal_of (read_in_quotes quote Plain body) ≡ Ok (text, rest)
 plain_read quote body rest text closes items fits =
     ap text_literal_of (quoted_whole quote body rest closes ∙ ap (λ bytes. Some (bytes, rest)) (sym items))
     ∙ ap (λ found. sized found rest) (kept-fits text.items fits)
 
 -- the same, as it is put into an empty text
 pub plain_taken : (quote : ℕ) (body plain closing rest : List ℕ) (old text : Text) → plain ≡ front (plain_in quote) body
-    → closing ≡ behind (plain_in quote) body → Closes quote closing rest → old.items ≡ [] → text.items ≡ old.items ++ plain
+    → closing ≡ behind (plain_in quote) body → Closes quote closing rest → old.items ≡ []
+    → text.items ≡ old.items ++ plain
     → length old.items + length plain ≤ 64 → text_literal_of (read_in_quotes quote Plain body) ≡ Ok (text, rest)
 plain_taken quote body plain closing rest old text is_front is_behind closes none items fits =
     let held : text.items ≡ plain = items ∙ ap (λ xs. xs ++ plain) none in
@@ -163,16 +184,20 @@ unfolding token_at literal_ahead
 double_first body rest text read = ap quoted_piece read
 
 -- a word leads on
-pub goes_word : (text rest : List ℕ) (state next : State) (word : Keyword) → after_word state word ≡ Some next → TakesToken (Word word) text rest
+pub goes_word : (text rest : List ℕ) (state next : State) (word : Keyword) → after_word state word ≡ Some next
+    → TakesToken (Word word) text rest
     → Goes state text next rest
 unfolding after_token
 goes_word text rest state next word steps first = first state next steps
 
-pub goes_known : (text rest : List ℕ) (state next : State) (found word : Keyword) → found ≡ word → after_word state word ≡ Some next
+pub goes_known : (text rest : List ℕ) (state next : State) (found word : Keyword) → found ≡ word
+    → after_word state word ≡ Some next
     → TakesToken (Word found) text rest → Goes state text next rest
-goes_known text rest state next found word is steps first = goes_word text rest state next found (ap (after_word state) is ∙ steps) first
+goes_known text rest state next found word is steps first =
+    goes_word text rest state next found (ap (after_word state) is ∙ steps) first
 
-pub goes_then : (text rest end : List ℕ) (state next : State) (said : Statement) → Goes state text next rest → Leads next rest said end
+pub goes_then : (text rest end : List ℕ) (state next : State) (said : Statement) → Goes state text next rest
+    → Leads next rest said end
     → Leads state text said end
 goes_then text rest end state next said goes leads = (leads.0, (goes ∙ leads.1.0, leads.1.1))
 
@@ -180,9 +205,11 @@ goes_then text rest end state next said goes leads = (leads.0, (goes ∙ leads.1
 pub gtrid_leads : (verb : Verb) (text rest : List ℕ) (found : Text) → TakesLiteral text found rest
     → Leads (WantsGtrid verb) text (statement_of verb (xid_of found no_text 1)) rest
 unfolding after_token finish
-gtrid_leads verb text rest found first = (AfterGtrid verb found, (first.1 (WantsGtrid verb) (AfterGtrid verb found) refl, (refl, refl)))
+gtrid_leads verb text rest found first =
+    (AfterGtrid verb found, (first.1 (WantsGtrid verb) (AfterGtrid verb found) refl, (refl, refl)))
 
-pub gtrid_goes : (verb : Verb) (text middle rest : List ℕ) (found : Text) → TakesLiteral text found middle → TakesToken Comma middle rest
+pub gtrid_goes : (verb : Verb) (text middle rest : List ℕ) (found : Text) → TakesLiteral text found middle
+    → TakesToken Comma middle rest
     → Goes (WantsGtrid verb) text (WantsBqual verb found) rest
 unfolding after_token
 gtrid_goes verb text middle rest found first comma =
@@ -191,25 +218,31 @@ gtrid_goes verb text middle rest found first comma =
 pub bqual_leads : (verb : Verb) (gtrid : Text) (text rest : List ℕ) (found : Text) → TakesLiteral text found rest
     → Leads (WantsBqual verb gtrid) text (statement_of verb (xid_of gtrid found 1)) rest
 unfolding after_token finish
-bqual_leads verb gtrid text rest found first = (AfterBqual verb gtrid found, (first.1 (WantsBqual verb gtrid) (AfterBqual verb gtrid found) refl, (refl, refl)))
+bqual_leads verb gtrid text rest found first =
+    (AfterBqual verb gtrid found, (first.1 (WantsBqual verb gtrid) (AfterBqual verb gtrid found) refl, (refl, refl)))
 
-pub bqual_goes : (verb : Verb) (gtrid : Text) (text middle rest : List ℕ) (found : Text) → TakesLiteral text found middle → TakesToken Comma middle rest
+pub bqual_goes : (verb : Verb) (gtrid : Text) (text middle rest : List ℕ) (found : Text)
+    → TakesLiteral text found middle → TakesToken Comma middle rest
     → Goes (WantsBqual verb gtrid) text (WantsFormatId verb gtrid found) rest
 unfolding after_token
 bqual_goes verb gtrid text middle rest found first comma =
-    first.1 (WantsBqual verb gtrid) (AfterBqual verb gtrid found) refl ∙ comma (AfterBqual verb gtrid found) (WantsFormatId verb gtrid found) refl
+    first.1 (WantsBqual verb gtrid) (AfterBqual verb gtrid found) refl
+    ∙ comma (AfterBqual verb gtrid found) (WantsFormatId verb gtrid found) refl
 
 -- the same of an xid whose other parts are those that are left out
-pub gtrid_said : (verb : Verb) (text rest : List ℕ) (found bqual : Text) (number : ℕ) → bqual ≡ no_text → number ≡ 1 → TakesLiteral text found rest
+pub gtrid_said : (verb : Verb) (text rest : List ℕ) (found bqual : Text) (number : ℕ) → bqual ≡ no_text → number ≡ 1
+    → TakesLiteral text found rest
     → Leads (WantsGtrid verb) text (statement_of verb (xid_of found bqual number)) rest
 gtrid_said verb text rest found bqual number none one first = rw (none, one) (gtrid_leads verb text rest found first)
 
-pub bqual_said : (verb : Verb) (gtrid : Text) (text rest : List ℕ) (found : Text) (number : ℕ) → number ≡ 1 → TakesLiteral text found rest
+pub bqual_said : (verb : Verb) (gtrid : Text) (text rest : List ℕ) (found : Text) (number : ℕ) → number ≡ 1
+    → TakesLiteral text found rest
     → Leads (WantsBqual verb gtrid) text (statement_of verb (xid_of gtrid found number)) rest
 bqual_said verb gtrid text rest found number one first = rw one (bqual_leads verb gtrid text rest found first)
 
 format_steps : (verb : Verb) (gtrid bqual : Text) (literal : Option Text) (number : ℕ)
-    → after_token (WantsFormatId verb gtrid bqual) (Value literal (Some number)) ≡ Some (AfterXid verb (xid_of gtrid bqual number))
+    → after_token (WantsFormatId verb gtrid bqual) (Value literal (Some number))
+    ≡ Some (AfterXid verb (xid_of gtrid bqual number))
 unfolding after_token
 format_steps verb gtrid bqual None number = refl
 format_steps verb gtrid bqual (Some text) number = refl
@@ -229,21 +262,27 @@ key_some verb (byte ∷ bytes) some = refl
 key_goes : (verb : RowVerb) (text rest : List ℕ) (key : Text) → TakesLiteral text key rest → 0 < length key.items
     → Goes (WantsKey verb) text (after_key verb key.items) rest
 unfolding after_token
-key_goes verb text rest key first some = first.1 (WantsKey verb) (after_key verb key.items) (key_some verb key.items some)
+key_goes verb text rest key first some =
+    first.1 (WantsKey verb) (after_key verb key.items) (key_some verb key.items some)
 
-pub get_leads : (text rest : List ℕ) (key : Text) → TakesLiteral text key rest → 0 < length key.items → Leads (WantsKey Gets) text (Get key.items) rest
+pub get_leads : (text rest : List ℕ) (key : Text) → TakesLiteral text key rest → 0 < length key.items
+    → Leads (WantsKey Gets) text (Get key.items) rest
 unfolding finish
 get_leads text rest key first some = (Whole (Get key.items), (key_goes Gets text rest key first some, (refl, refl)))
 
-pub del_leads : (text rest : List ℕ) (key : Text) → TakesLiteral text key rest → 0 < length key.items → Leads (WantsKey Deletes) text (Del key.items) rest
+pub del_leads : (text rest : List ℕ) (key : Text) → TakesLiteral text key rest → 0 < length key.items
+    → Leads (WantsKey Deletes) text (Del key.items) rest
 unfolding finish
 del_leads text rest key first some = (Whole (Del key.items), (key_goes Deletes text rest key first some, (refl, refl)))
 
-pub row_leads : (text behind_key behind_comma rest : List ℕ) (key value : Text) → TakesLiteral text key behind_key → TakesToken Comma behind_key behind_comma
-    → TakesLiteral behind_comma value rest → 0 < length key.items → Leads (WantsKey Puts) text (Put key.items value) rest
+pub row_leads : (text behind_key behind_comma rest : List ℕ) (key value : Text) → TakesLiteral text key behind_key
+    → TakesToken Comma behind_key behind_comma
+    → TakesLiteral behind_comma value rest → 0 < length key.items
+    → Leads (WantsKey Puts) text (Put key.items value) rest
 unfolding after_token finish
 row_leads text behind_key behind_comma rest key value first comma last some =
     let said : State = Whole (Put key.items value) in
-    let at_value = key_goes Puts text behind_key key first some ∙ comma (AfterKey key.items) (WantsValue key.items) refl in
+    let at_value = key_goes Puts text behind_key key first some
+    ∙ comma (AfterKey key.items) (WantsValue key.items) refl in
     let goes = at_value ∙ last.1 (WantsValue key.items) said refl in
     (said, (goes, (refl, refl)))

@@ -5,7 +5,9 @@ use Rattle.std.specs.Cmp.Lexicographic.{bytes_decides}
 use Rattle.std.proofs.lemmas.Bool.Decides.{same_from_decides}
 use Rattle.xa_statement.specs.Token.{is_word}
 
-pub is_word_from : (word run : List ℕ) (answer : Bool) → (IsTrue answer ↔ (map to_ascii_lowercase run ≡ map to_ascii_lowercase word))
+pub is_word_from : (word run : List ℕ) (answer : Bool)
+    → (IsTrue answer ↔ (map to_ascii_lowercase run ≡ map to_ascii_lowercase word))
     → answer ≡ is_word word run
 unfolding is_word
-is_word_from word run answer same = same_from_decides answer _ same (bytes_decides (map to_ascii_lowercase run) (map to_ascii_lowercase word))
+is_word_from word run answer same =
+    same_from_decides answer _ same (bytes_decides (map to_ascii_lowercase run) (map to_ascii_lowercase word))

@@ -4,7 +4,8 @@ use Rattle.hex.specs.Hex.{IsBytes}
 use Rattle.xa_xid.specs.Limits.{text_bytes}
 use Rattle.xa_xid.specs.XidText.{part_text, xid_text}
 use Rattle.xa_xid.specs.declared.statement.Statement.{Statement}
-use Rattle.xa_xid.specs.declared.statement.Statement.TheVariants.{Start, End, Prepare, Commit, Rollback, Recover, Unsupported, Get, Put, Del, Disconnect}
+use Rattle.xa_xid.specs.declared.statement.Statement.TheVariants.{Start, End, Prepare, Commit, Rollback, Recover}
+use Rattle.xa_xid.specs.declared.statement.Statement.TheVariants.{Unsupported, Get, Put, Del, Disconnect}
 
 -- nothing is written for an unsupported statement
 unfoldable pub statement_text : Statement → List ℕ

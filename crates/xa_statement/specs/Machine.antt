@@ -6,12 +6,17 @@ use Rattle.xa_xid.specs.Xid.{Text}
 use Rattle.xa_xid.specs.XidText.{xid_of, no_text}
 use Rattle.xa_xid.specs.declared.xid.Xid.{Xid}
 use Rattle.xa_xid.specs.declared.statement.Statement.{Statement}
-use Rattle.xa_xid.specs.declared.statement.Statement.TheVariants.{Start, End, Prepare, Commit, Rollback, Recover, Unsupported, Get, Put, Del, Disconnect}
+use Rattle.xa_xid.specs.declared.statement.Statement.TheVariants.{Start, End, Prepare, Commit, Rollback, Recover}
+use Rattle.xa_xid.specs.declared.statement.Statement.TheVariants.{Unsupported, Get, Put, Del, Disconnect}
 use Rattle.xa_statement.specs.declared.token.Keyword.{Keyword}
-use Rattle.xa_statement.specs.declared.token.Keyword.TheVariants.{Xa as XA, Start as START, Begin as BEGIN, End as END, Prepare as PREPARE, Commit as COMMIT}
-use Rattle.xa_statement.specs.declared.token.Keyword.TheVariants.{Rollback as ROLLBACK, Recover as RECOVER, Join as JOIN, Resume as RESUME, Suspend as SUSPEND}
-use Rattle.xa_statement.specs.declared.token.Keyword.TheVariants.{For as FOR, Migrate as MIGRATE, One as ONE, Phase as PHASE, Convert as CONVERT, Xid as XID}
-use Rattle.xa_statement.specs.declared.token.Keyword.TheVariants.{Get as GET, Put as PUT, Del as DEL, Disconnect as DISCONNECT}
+use Rattle.xa_statement.specs.declared.token.Keyword.TheVariants.{Xa as XA, Start as START, Begin as BEGIN, End as END}
+use Rattle.xa_statement.specs.declared.token.Keyword.TheVariants.{Prepare as PREPARE, Commit as COMMIT}
+use Rattle.xa_statement.specs.declared.token.Keyword.TheVariants.{Rollback as ROLLBACK, Recover as RECOVER}
+use Rattle.xa_statement.specs.declared.token.Keyword.TheVariants.{Join as JOIN, Resume as RESUME, Suspend as SUSPEND}
+use Rattle.xa_statement.specs.declared.token.Keyword.TheVariants.{For as FOR, Migrate as MIGRATE, One as ONE}
+use Rattle.xa_statement.specs.declared.token.Keyword.TheVariants.{Phase as PHASE, Convert as CONVERT, Xid as XID}
+use Rattle.xa_statement.specs.declared.token.Keyword.TheVariants.{Get as GET, Put as PUT, Del as DEL}
+use Rattle.xa_statement.specs.declared.token.Keyword.TheVariants.{Disconnect as DISCONNECT}
 use Rattle.xa_statement.specs.declared.token.Token.{Token}
 use Rattle.xa_statement.specs.declared.token.Token.TheVariants.{Word, Comma, Semicolon, Value}
 use Rattle.xa_statement.specs.declared.state.Verb.{Verb}
@@ -19,8 +24,10 @@ use Rattle.xa_statement.specs.declared.state.Verb.TheVariants.{Starts, Ends, Pre
 use Rattle.xa_statement.specs.declared.state.RowVerb.{RowVerb}
 use Rattle.xa_statement.specs.declared.state.RowVerb.TheVariants.{Gets, Puts, Deletes}
 use Rattle.xa_statement.specs.declared.state.State.{State}
-use Rattle.xa_statement.specs.declared.state.State.TheVariants.{AtFirst, AfterXa, WantsGtrid, AfterGtrid, WantsBqual, AfterBqual, WantsFormatId, AfterXid}
-use Rattle.xa_statement.specs.declared.state.State.TheVariants.{AfterSuspend, AfterFor, AfterOne, AfterRecover, AfterConvert, WantsKey, AfterKey, WantsValue}
+use Rattle.xa_statement.specs.declared.state.State.TheVariants.{AtFirst, AfterXa, WantsGtrid, AfterGtrid, WantsBqual}
+use Rattle.xa_statement.specs.declared.state.State.TheVariants.{AfterBqual, WantsFormatId, AfterXid}
+use Rattle.xa_statement.specs.declared.state.State.TheVariants.{AfterSuspend, AfterFor, AfterOne, AfterRecover}
+use Rattle.xa_statement.specs.declared.state.State.TheVariants.{AfterConvert, WantsKey, AfterKey, WantsValue}
 use Rattle.xa_statement.specs.declared.state.State.TheVariants.{Whole, Ended}
 
 -- what a verb does with an xid

@@ -18,7 +18,8 @@ read_end (Some statement) = Ok statement
 -- the statement, or the number of bytes from the faulty token to the end
 unfoldable pub read_from : State → List Piece → Result Statement ℕ
 read_from state [] = read_end (finish state)
-read_from state (piece ∷ more) = elim (after_token state piece.0) [ None ↦ Err piece.1 | Some next ↦ read_from next more ]
+read_from state (piece ∷ more) =
+    elim (after_token state piece.0) [ None ↦ Err piece.1 | Some next ↦ read_from next more ]
 
 -- the place of the rest of a text
 abbrev pub placed_in : List ℕ → Result Statement ℕ → Result Statement ℕ

@@ -4,7 +4,8 @@
 --     token_at text          the token that a text begins with, and the text after it
 --     tokens_of text         the tokens of a text, each with the number of bytes from it to the end
 --     bare tokens            the tokens without these numbers
-use Rattle.std.specs.Prelude.{ℕ, Bool, ◌==◌, ◌||◌, if◌then◌else◌, List, [], ◌∷◌, length, map, codes, zero, suc, Option, Some, None, Ok, Err, bytes_eq}
+use Rattle.std.specs.Prelude.{ℕ, Bool, ◌==◌, ◌||◌, if◌then◌else◌, List, [], ◌∷◌, length, map, codes, zero, suc, Option}
+use Rattle.std.specs.Prelude.{Some, None, Ok, Err, bytes_eq}
 use Rattle.std.specs.Char.{to_ascii_lowercase}
 use Rattle.xa_xid.specs.Bytes.{belongs, run, after_run, unblank}
 use Rattle.xa_xid.specs.Literal.{Reading, literal_ahead, opens_text, opens_hex}
@@ -12,10 +13,14 @@ use Rattle.xa_xid.specs.Number.{number_ahead}
 use Rattle.xa_xid.specs.Xid.{Text}
 use Rattle.xa_xid.specs.declared.byte_class.ByteClass.TheVariants.{Word as word_byte}
 use Rattle.xa_statement.specs.declared.token.Keyword.{Keyword}
-use Rattle.xa_statement.specs.declared.token.Keyword.TheVariants.{Xa as XA, Start as START, Begin as BEGIN, End as END, Prepare as PREPARE, Commit as COMMIT}
-use Rattle.xa_statement.specs.declared.token.Keyword.TheVariants.{Rollback as ROLLBACK, Recover as RECOVER, Join as JOIN, Resume as RESUME, Suspend as SUSPEND}
-use Rattle.xa_statement.specs.declared.token.Keyword.TheVariants.{For as FOR, Migrate as MIGRATE, One as ONE, Phase as PHASE, Convert as CONVERT, Xid as XID}
-use Rattle.xa_statement.specs.declared.token.Keyword.TheVariants.{Get as GET, Put as PUT, Del as DEL, Disconnect as DISCONNECT}
+use Rattle.xa_statement.specs.declared.token.Keyword.TheVariants.{Xa as XA, Start as START, Begin as BEGIN, End as END}
+use Rattle.xa_statement.specs.declared.token.Keyword.TheVariants.{Prepare as PREPARE, Commit as COMMIT}
+use Rattle.xa_statement.specs.declared.token.Keyword.TheVariants.{Rollback as ROLLBACK, Recover as RECOVER}
+use Rattle.xa_statement.specs.declared.token.Keyword.TheVariants.{Join as JOIN, Resume as RESUME, Suspend as SUSPEND}
+use Rattle.xa_statement.specs.declared.token.Keyword.TheVariants.{For as FOR, Migrate as MIGRATE, One as ONE}
+use Rattle.xa_statement.specs.declared.token.Keyword.TheVariants.{Phase as PHASE, Convert as CONVERT, Xid as XID}
+use Rattle.xa_statement.specs.declared.token.Keyword.TheVariants.{Get as GET, Put as PUT, Del as DEL}
+use Rattle.xa_statement.specs.declared.token.Keyword.TheVariants.{Disconnect as DISCONNECT}
 use Rattle.xa_statement.specs.declared.token.Token.{Token}
 use Rattle.xa_statement.specs.declared.token.Token.TheVariants.{Word, Comma, Semicolon, Value}
 

@@ -45,8 +45,10 @@ TakesNumber text number rest = (literal : Option Text) × TakesToken (Value lite
 
 -- reading comes to a state of a whole statement
 abbrev pub Leads : State → List ℕ → Statement → List ℕ → Type 0
-Leads state text said rest = (next : State) × (Goes state text next rest × ((unended next ≡ Some said) × (finish next ≡ Some said)))
+Leads state text said rest =
+    (next : State) × (Goes state text next rest × ((unended next ≡ Some said) × (finish next ≡ Some said)))
 
 -- no token is left, or one ;
 abbrev pub Ends : List ℕ → Type 0
-Ends text = (state : State) (said : Statement) → unended state ≡ Some said → finish state ≡ Some said → read_from state (tokens_of text) ≡ Ok said
+Ends text = (state : State) (said : Statement) → unended state ≡ Some said → finish state ≡ Some said
+    → read_from state (tokens_of text) ≡ Ok said

@@ -68,7 +68,8 @@ pub(crate) fn first_number(text: &[u8]) -> Option<(u64, &[u8])>
 #[tactic(auto, unfolding(crate::specs::Token::token_at))]
 fn number_in_front(text: &[u8]) -> Option<(u64, &[u8])>
     ensures some { IfSome result (λ found. 0 < length text.now) }
-    ensures token { IfSome result (λ found. token_at text.now ≡ (Value (part_of (literal_ahead text.now)) (Some found.0), found.1.now)) }
+    ensures token { IfSome result (λ found. token_at text.now
+        ≡ (Value (part_of (literal_ahead text.now)) (Some found.0), found.1.now)) }
 {
     if text.is_empty() {
         return None;
@@ -90,7 +91,8 @@ fn number_in_front(text: &[u8]) -> Option<(u64, &[u8])>
 
 /// Takes a run of word bytes that is a number.
 fn number_run(text: &[u8]) -> Option<(u64, &[u8])>
-    ensures { IfSome result (λ found. run_at text.now ≡ (Value (part_of (literal_ahead text.now)) (Some found.0), found.1.now)) }
+    ensures { IfSome result
+        (λ found. run_at text.now ≡ (Value (part_of (literal_ahead text.now)) (Some found.0), found.1.now)) }
 {
     let (run, rest) = ByteClass::Word.split(text);
     match (word_of_run(run), number_part(text)) {
@@ -148,7 +150,8 @@ pub(crate) fn take_literal<'a>(bytes: &mut Bytes, text: &'a [u8]) -> Option<&'a 
 /// Takes a literal of any form.
 fn take_any<'a>(bytes: &mut Bytes, text: &'a [u8]) -> Option<&'a [u8]>
     ensures some { IfSome result (λ rest. 0 < length text.now) }
-    ensures token { IfSome result (λ rest. (number : Option ℕ) × (token_at text.now ≡ (Value (Some bytes.new) number, rest.now))) }
+    ensures token { IfSome result (λ rest. (number : Option ℕ)
+        × (token_at text.now ≡ (Value (Some bytes.new) number, rest.now))) }
 {
     if text.is_empty() {
         return None;

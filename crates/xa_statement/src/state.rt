@@ -1,6 +1,7 @@
 //! How far a statement has been read, and the state that each token leads to.
 ghost use Rattle.std.specs.Prelude.{◌≡◌};
-ghost use Rattle.xa_statement.specs.Machine.{after_word, xid_word, after_comma, after_value, after_token, unended, finish, statement_of, after_key};
+ghost use Rattle.xa_statement.specs.Machine.{after_word, xid_word, after_comma, after_value, after_token, unended};
+ghost use Rattle.xa_statement.specs.Machine.{finish, statement_of, after_key};
 ghost use Rattle.xa_xid.specs.XidText.{xid_of};
 
 use crate::token::{Keyword, Token};

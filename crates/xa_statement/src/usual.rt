@@ -7,7 +7,8 @@ ghost use Rattle.xa_xid.specs.XidText.{xid_of, no_text};
 ghost use Rattle.xa_xid.specs.declared.statement.Statement.TheVariants.{Put};
 ghost use Rattle.xa_statement.specs.declared.state.Verb.{Verb};
 ghost use Rattle.xa_statement.specs.declared.state.RowVerb.TheVariants.{Gets, Puts, Deletes};
-ghost use Rattle.xa_statement.specs.declared.state.State.TheVariants.{AtFirst, AfterXa, WantsGtrid, WantsBqual, WantsFormatId, WantsKey};
+ghost use Rattle.xa_statement.specs.declared.state.State.TheVariants.{AtFirst, AfterXa, WantsGtrid, WantsBqual};
+ghost use Rattle.xa_statement.specs.declared.state.State.TheVariants.{WantsFormatId, WantsKey};
 ghost use Rattle.xa_statement.specs.Machine.{after_word, statement_of};
 ghost use Rattle.xa_statement.specs.Reading.{read_of, seen_of};
 ghost use Rattle.xa_statement.specs.Ways.{Goes, Leads};
@@ -78,7 +79,8 @@ fn read_branch(verb: Verb, text: &[u8], rest: &[u8]) -> Result<Statement, Syntax
 /// Fills an xid, and returns the text after it.
 fn take_xid<'a>(xid: &mut Xid, text: &'a [u8]) -> Option<&'a [u8]>
     requires { xid.now ≡ xid_of no_text no_text 1 }
-    ensures { IfSome result (λ rest. (verb : Verb) → Leads (WantsGtrid verb) text.now (statement_of verb xid.new) rest.now) }
+    ensures { IfSome result (λ rest. (verb : Verb) → Leads (WantsGtrid verb) text.now
+        (statement_of verb xid.new) rest.now) }
 {
     let rest = take_literal(&mut xid.gtrid, text)?;
     match behind_comma(rest) {
@@ -93,7 +95,8 @@ fn take_xid<'a>(xid: &mut Xid, text: &'a [u8]) -> Option<&'a [u8]>
 /// Fills an xid from its bqual on.
 fn take_bqual<'a>(xid: &mut Xid, text: &'a [u8]) -> Option<&'a [u8]>
     requires { xid.now ≡ xid_of xid.now.gtrid no_text 1 }
-    ensures { IfSome result (λ rest. (verb : Verb) → Leads (WantsBqual verb xid.old.gtrid) text.now (statement_of verb xid.new) rest.now) }
+    ensures { IfSome result (λ rest. (verb : Verb) → Leads (WantsBqual verb xid.old.gtrid) text.now
+        (statement_of verb xid.new) rest.now) }
 {
     let rest = take_literal(&mut xid.bqual, text)?;
     match behind_comma(rest) {
@@ -107,7 +110,8 @@ fn take_bqual<'a>(xid: &mut Xid, text: &'a [u8]) -> Option<&'a [u8]>
 
 /// Fills an xid's formatID.
 fn take_format_id<'a>(xid: &mut Xid, text: &'a [u8]) -> Option<&'a [u8]>
-    ensures { IfSome result (λ rest. (verb : Verb) → Leads (WantsFormatId verb xid.old.gtrid xid.old.bqual) text.now (statement_of verb xid.new) rest.now) }
+    ensures { IfSome result (λ rest. (verb : Verb) → Leads (WantsFormatId verb xid.old.gtrid xid.old.bqual) text.now
+        (statement_of verb xid.new) rest.now) }
 {
     let (number, rest) = first_number(text)?;
     xid.format_id = number;
@@ -164,7 +168,8 @@ fn read_put(text: &[u8], rest: &[u8]) -> Result<Statement, SyntaxFault>
 fn take_row<'a>(key: &mut Bytes, value: &mut Bytes, text: &'a [u8]) -> Option<&'a [u8]>
     requires key { key.now.items ≡ [] }
     requires value { value.now.items ≡ [] }
-    ensures { IfSome result (λ rest. 0 < length key.new.items → Leads (WantsKey Puts) text.now (Put key.new.items value.new) rest.now) }
+    ensures { IfSome result (λ rest. 0 < length key.new.items
+        → Leads (WantsKey Puts) text.now (Put key.new.items value.new) rest.now) }
 {
     let found = take_literal(key, text)?;
     let next = behind_comma(found)?;

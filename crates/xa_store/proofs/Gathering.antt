@@ -1,7 +1,9 @@
 -- A round in which each of some sessions meets a last one.
-use Rattle.std.proofs.Common.{◌≡◌, ℕ, zero, suc, ◌+◌, ◌<◌, ◌≤◌, List, [], ◌∷◌, ◌++◌, length, map, get_or, set, refl, ap, sym, ◌∙◌, subst, arith}
+use Rattle.std.proofs.Common.{◌≡◌, ℕ, zero, suc, ◌+◌, ◌<◌, ◌≤◌, List, [], ◌∷◌, ◌++◌, length, map, get_or, set, refl, ap}
+use Rattle.std.proofs.Common.{sym, ◌∙◌, subst, arith}
 use Rattle.std.specs.List.{All, AllZip, AllWithin}
-use Rattle.std.proofs.lemmas.List.Elements.{AllWithin-more_set, AllWithin-none, All-get_or, AllZip-get_or, length_all_zip}
+use Rattle.std.proofs.lemmas.List.Elements.{AllWithin-more_set, AllWithin-none, All-get_or, AllZip-get_or}
+use Rattle.std.proofs.lemmas.List.Elements.{length_all_zip}
 use Rattle.decision_log.specs.declared.known.Known.{Known}
 use Rattle.decision_log.specs.History.{Begins, entries_of}
 use Rattle.decision_log.specs.Calls.{Looked, MeetsFirst, MeetsSecond}
@@ -14,10 +16,18 @@ meets_nobody known = record { number = refl; seen = refl; mine = refl; looks = o
 
 pub meets_again : (old now new : Known) → MeetsFirst old now → MeetsFirst now new → MeetsFirst old new
 meets_again old now new m n =
-    record { number = n.number ∙ m.number; seen = n.seen ∙ m.seen; mine = n.mine ∙ m.mine; looks = omega (arith, m.looks, n.looks); tries = n.tries ∙ m.tries }
+    record {
+      number = n.number ∙ m.number;
+      seen = n.seen ∙ m.seen;
+      mine = n.mine
+          ∙ m.mine;
+      looks = omega (arith, m.looks, n.looks);
+      tries = n.tries ∙ m.tries;
+    }
 
 pub keeps_itself : (known : Known) → AddsNothing known known
-keeps_itself known = record { number = refl; seen = begins_itself known.seen; mine = refl; looks = omega arith; tries = refl }
+keeps_itself known =
+    record { number = refl; seen = begins_itself known.seen; mine = refl; looks = omega arith; tries = refl }
 
 pub keeps_again : (old now new : Known) → AddsNothing old now → AddsNothing now new → AddsNothing old new
 keeps_again old now new k l =
@@ -31,7 +41,8 @@ keeps_again old now new k l =
 
 -- a pass that has looked keeps all that it had
 pub looks_keeps : (old new : Known) → Looked old new → AddsNothing old new
-looks_keeps old new l = record { number = l.number; seen = l.seen; mine = l.mine; looks = omega (arith, l.looks); tries = l.tries }
+looks_keeps old new l =
+    record { number = l.number; seen = l.seen; mine = l.mine; looks = omega (arith, l.looks); tries = l.tries }
 
 -- the last of two that meet
 met_keeps : (first old new : Known) → MeetsSecond first old new → AddsNothing old new
@@ -42,32 +53,38 @@ zip_itself R itself [] = tt
 zip_itself R itself (s ∷ list) = (itself s, zip_itself R itself list)
 
 -- one element more has changed
-zip_set : {S : Type 0} (R : S → S → Type 0) → ((a b c : S) → R a b → R b c → R a c) → (before now : List S) (index : ℕ) (new d : S) → index < length now
+zip_set : {S : Type 0} (R : S → S → Type 0) → ((a b c : S) → R a b → R b c → R a c)
+    → (before now : List S) (index : ℕ) (new d : S) → index < length now
     → AllZip R before now → R (get_or now index d) new → AllZip R before (set now index new)
 zip_set R through [] [] index new d below zip step = absurd (omega arith)
 zip_set R through [] (t ∷ now) index new d below zip step = absurd zip
 zip_set R through (s ∷ before) [] index new d below zip step = absurd zip
 zip_set R through (s ∷ before) (t ∷ now) zero new d below zip step = (through s t new zip.0 step, zip.1)
-zip_set R through (s ∷ before) (t ∷ now) (suc index) new d below zip step = (zip.0, zip_set R through before now index new d (omega (arith, below)) zip.1 step)
+zip_set R through (s ∷ before) (t ∷ now) (suc index) new d below zip step =
+    (zip.0, zip_set R through before now index new d (omega (arith, below)) zip.1 step)
 
-pub zip_through : {S : Type 0} (R : S → S → Type 0) → ((a b c : S) → R a b → R b c → R a c) → (before now after : List S) → AllZip R before now
+pub zip_through : {S : Type 0} (R : S → S → Type 0) → ((a b c : S) → R a b → R b c → R a c)
+    → (before now after : List S) → AllZip R before now
     → AllZip R now after → AllZip R before after
 zip_through R through [] [] [] zip zip' = tt
 zip_through R through [] [] (c ∷ after) zip zip' = absurd zip'
 zip_through R through [] (b ∷ now) after zip zip' = absurd zip
 zip_through R through (a ∷ before) [] after zip zip' = absurd zip
 zip_through R through (a ∷ before) (b ∷ now) [] zip zip' = absurd zip'
-zip_through R through (a ∷ before) (b ∷ now) (c ∷ after) zip zip' = (through a b c zip.0 zip'.0, zip_through R through before now after zip.1 zip'.1)
+zip_through R through (a ∷ before) (b ∷ now) (c ∷ after) zip zip' =
+    (through a b c zip.0 zip'.0, zip_through R through before now after zip.1 zip'.1)
 
 -- what is true of each element stays so where its change keeps it
-pub all_kept : {S : Type 0} (R : S → S → Type 0) (P Q : S → Type 0) → ((a b : S) → R a b → P a → Q b) → (before now : List S) → AllZip R before now
+pub all_kept : {S : Type 0} (R : S → S → Type 0) (P Q : S → Type 0) → ((a b : S) → R a b → P a → Q b)
+    → (before now : List S) → AllZip R before now
     → All P before → All Q now
 all_kept R P Q keep before now zip all k d below =
     let long = length_all_zip R before now zip in
     keep (get_or before k d) (get_or now k d) (AllZip-get_or R before now k d d zip (omega (arith, below, long)))
     (All-get_or P before k d (omega (arith, below, long)) all)
 
-pub zip_weaker : {S : Type 0} (R Q : S → S → Type 0) → ((a b : S) → R a b → Q a b) → (before now : List S) → AllZip R before now → AllZip Q before now
+pub zip_weaker : {S : Type 0} (R Q : S → S → Type 0) → ((a b : S) → R a b → Q a b) → (before now : List S)
+    → AllZip R before now → AllZip Q before now
 zip_weaker R Q weaker [] [] zip = tt
 zip_weaker R Q weaker [] (b ∷ now) zip = absurd zip
 zip_weaker R Q weaker (a ∷ before) [] zip = absurd zip
@@ -84,7 +101,8 @@ meets_keeps old new m =
       tries = m.tries;
     }
 
-pub last_known_of : {S : Type 0} (known : S → Known) (others : List S) (last : S) → last_known (map known (others ++ last ∷ [])) ≡ known last
+pub last_known_of : {S : Type 0} (known : S → Known) (others : List S) (last : S)
+    → last_known (map known (others ++ last ∷ [])) ≡ known last
 last_known_of known [] last = refl
 last_known_of known (one ∷ []) last = refl
 last_known_of known (one ∷ other ∷ others) last = last_known_of known (other ∷ others) last
@@ -98,7 +116,8 @@ module _ {S : Type 0} (known : S → Known) (R : S → S → Type 0) where
     pub whole : All (λ s. Begins (known s).seen old.seen) before
         → (new.seen ≡ old.seen) × AllWithin (λ s. entries_of (known s).number new.seen ≡ (known s).mine) now 0 index
 
-  module _ (itself : (s : S) → R s s) (through : (a b c : S) → R a b → R b c → R a c) (meets : (a b : S) → R a b → MeetsFirst (known a) (known b)) where
+  module _ (itself : (s : S) → R s s) (through : (a b c : S) → R a b → R b c → R a c)
+      (meets : (a b : S) → R a b → MeetsFirst (known a) (known b)) where
     pub no_round : (before : List S) (last : Known) → Round before before last last 0
     no_round before last = record {
       kept = zip_itself R itself before;
@@ -107,7 +126,8 @@ module _ {S : Type 0} (known : S → Known) (R : S → S → Type 0) where
       whole = λ all. (refl, AllWithin-none (λ s. entries_of (known s).number last.seen ≡ (known s).mine) before 0);
     }
 
-    pub next_round : (before now : List S) (first last last' : Known) (index : ℕ) (d new : S) → index < length now → Round before now first last index
+    pub next_round : (before now : List S) (first last last' : Known) (index : ℕ) (d new : S) → index < length now
+        → Round before now first last index
         → R (get_or now index d) new
         → MeetsSecond (known (get_or now index d)) last last' → Round before (set now index new) first last' (index + 1)
     next_round before now first last last' index d new below r step m =
@@ -117,7 +137,8 @@ module _ {S : Type 0} (known : S → Known) (R : S → S → Type 0) where
           last = keeps_again first last last' r.last (met_keeps (known (get_or now index d)) last last' m);
           seen =
               AllWithin-more_set now index new below (λ s. Begins (known s).seen last'.seen)
-              (λ k d low high. begins_through (known (get_or now k d)).seen last.seen last'.seen (r.seen k d low high) m.seen)
+              (λ k d low high. begins_through (known (get_or now k d)).seen last.seen last'.seen
+              (r.seen k d low high) m.seen)
               (subst (λ list. Begins list last'.seen) (sym met.seen) m.whole);
           whole =
               λ all.
@@ -125,7 +146,8 @@ module _ {S : Type 0} (known : S → Known) (R : S → S → Type 0) where
               let from : R (get_or before index d) (get_or now index d) =
               AllZip-get_or R before now index d d r.kept (omega (arith, below, length_all_zip R before now r.kept)) in
               let begun : Begins (known (get_or before index d)).seen first.seen =
-              All-get_or (λ s. Begins (known s).seen first.seen) before index d (omega (arith, below, length_all_zip R before now r.kept)) all in
+              All-get_or (λ s. Begins (known s).seen first.seen) before index d
+              (omega (arith, below, length_all_zip R before now r.kept)) all in
               let short : length (known (get_or now index d)).seen ≤ length last.seen =
               omega (
                 arith,

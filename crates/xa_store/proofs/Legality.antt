@@ -1,5 +1,6 @@
 -- Answers in order: one more of them, and in a longer history.
-use Rattle.std.proofs.Common.{◌≡◌, ◌⊎◌, ℕ, Bool, true, false, cond, ◌+◌, ◌<◌, ◌≤◌, List, [], ◌∷◌, ◌++◌, length, take, refl, ap, sym, ◌∙◌, subst, inl, inr}
+use Rattle.std.proofs.Common.{◌≡◌, ◌⊎◌, ℕ, Bool, true, false, cond, ◌+◌, ◌<◌, ◌≤◌, List, [], ◌∷◌, ◌++◌, length, take}
+use Rattle.std.proofs.Common.{refl, ap, sym, ◌∙◌, subst, inl, inr}
 use Rattle.std.proofs.Common.{⊎_elim, Some, arith, length-append, append-nil}
 use Rattle.std.specs.Prelude.{slice_get}
 use borrow.Author.Count.{below_more}
@@ -17,7 +18,8 @@ use Rattle.xa_session.specs.Answer.{entry_of, AnswersAt, IsAnswered}
 use Rattle.xa_session.specs.declared.answer.Answer.{Answer}
 use Rattle.xa_session.proofs.Replaying.{state_at-begins}
 use Rattle.xa_store.specs.Gathered.{IsTakenIn}
-use Rattle.xa_store.specs.Legal.{next_place, Answered, entered, IsLegal, LetsIn, Halts, IsReachedInRun, GoesNoFurther, Stops}
+use Rattle.xa_store.specs.Legal.{next_place, Answered, entered, IsLegal, LetsIn, Halts, IsReachedInRun, GoesNoFurther}
+use Rattle.xa_store.specs.Legal.{Stops}
 use Rattle.xa_store.specs.declared.race_fault.RaceFault.{RaceFault}
 use Rattle.xa_store.specs.declared.race_fault.RaceFault.TheVariants.{GateShut, Full, NoMemory, ThreadRefused}
 
@@ -33,20 +35,28 @@ reached base history session from (statement ∷ statements) (answer ∷ answers
     reached base history session (next_place base history session statement answer) statements answers
 
 module _ (base : State) (history : List Entry) (session : ℕ) where
-  pub answered_more : (from : ℕ) (statements : List Statement) (answers : List Answer) (statement : Statement) (answer : Answer)
+  pub answered_more : (from : ℕ) (statements : List Statement) (answers : List Answer) (statement : Statement)
+      (answer : Answer)
       → Answered base history session from statements answers
-      → reached base history session from statements answers ≤ answer.place → AnswersAt base history session statement answer.place answer.reply
+      → reached base history session from statements answers ≤ answer.place
+      → AnswersAt base history session statement answer.place answer.reply
       → Answered base history session from (statements ++ statement ∷ []) (answers ++ answer ∷ [])
   unfolding reached
   answered_more from [] [] statement answer before behind at = (behind, at, tt)
   answered_more from [] (a ∷ answers) statement answer before behind at = absurd before
   answered_more from (s ∷ statements) [] statement answer before behind at = absurd before
-  answered_more from (s ∷ statements) (a ∷ answers) statement answer before behind at =
-      (before.0, before.1, answered_more (next_place base history session s a) statements answers statement answer before.2 behind at)
+  answered_more from (s ∷ statements) (a ∷ answers) statement answer before behind at = (
+    before.0,
+    before.1,
+    answered_more (next_place base history session s a) statements answers statement answer
+        before.2 behind at,
+  )
 
-  pub reached_more : (from : ℕ) (statements : List Statement) (answers : List Answer) (statement : Statement) (answer : Answer)
+  pub reached_more : (from : ℕ) (statements : List Statement) (answers : List Answer) (statement : Statement)
+      (answer : Answer)
       → Answered base history session from statements answers
-      → reached base history session from (statements ++ statement ∷ []) (answers ++ answer ∷ []) ≡ next_place base history session statement answer
+      → reached base history session from (statements ++ statement ∷ []) (answers ++ answer ∷ [])
+      ≡ next_place base history session statement answer
   unfolding reached
   reached_more from [] [] statement answer before = refl
   reached_more from [] (a ∷ answers) statement answer before = absurd before
@@ -56,13 +66,16 @@ module _ (base : State) (history : List Entry) (session : ℕ) where
 
   -- what one statement adds, where it enters
   added : Statement → Answer → List Entry
-  added statement answer = cond (enters (state_at base history answer.place) session statement) (entry_of session statement ∷ []) []
+  added statement answer =
+      cond (enters (state_at base history answer.place) session statement) (entry_of session statement ∷ []) []
 
-  cond_front : (b : Bool) (x : Entry) (xs ys : List Entry) → cond b (x ∷ (xs ++ ys)) (xs ++ ys) ≡ cond b (x ∷ xs) xs ++ ys
+  cond_front : (b : Bool) (x : Entry) (xs ys : List Entry)
+      → cond b (x ∷ (xs ++ ys)) (xs ++ ys) ≡ cond b (x ∷ xs) xs ++ ys
   cond_front true x xs ys = refl
   cond_front false x xs ys = refl
 
-  entered_more : (from : ℕ) (statements : List Statement) (answers : List Answer) (statement : Statement) (answer : Answer)
+  entered_more : (from : ℕ) (statements : List Statement) (answers : List Answer) (statement : Statement)
+      (answer : Answer)
       → Answered base history session from statements answers
       → entered base history session (statements ++ statement ∷ []) (answers ++ answer ∷ [])
       ≡ entered base history session statements answers ++ added statement answer
@@ -74,12 +87,14 @@ module _ (base : State) (history : List Entry) (session : ℕ) where
       let enters_there = enters (state_at base history a.place) session s in
       let old = entered base history session statements answers in
       let rest = entered_more (next_place base history session s a) statements answers statement answer before.2 in
-      ap (λ list. cond enters_there (entry_of session s ∷ list) list) rest ∙ cond_front enters_there (entry_of session s) old (added statement answer)
+      ap (λ list. cond enters_there (entry_of session s ∷ list) list) rest
+      ∙ cond_front enters_there (entry_of session s) old (added statement answer)
 
 -- in a longer history
 
 module _ (base : State) (history longer : List Entry) (session : ℕ) (begins : Begins history longer) where
-  answers_longer : (statement : Statement) (answer : Answer) → AnswersAt base history session statement answer.place answer.reply
+  answers_longer : (statement : Statement) (answer : Answer)
+      → AnswersAt base history session statement answer.place answer.reply
       → AnswersAt base longer session statement answer.place answer.reply
   answers_longer statement answer at =
       let same = state_at-begins base history longer answer.place begins at.within in
@@ -91,12 +106,15 @@ module _ (base : State) (history longer : List Entry) (session : ℕ) (begins : 
             (at.next (ap (λ s. enters s session statement) (sym same) ∙ entering));
       }
 
-  next_longer : (statement : Statement) (answer : Answer) → AnswersAt base history session statement answer.place answer.reply
+  next_longer : (statement : Statement) (answer : Answer)
+      → AnswersAt base history session statement answer.place answer.reply
       → next_place base longer session statement answer ≡ next_place base history session statement answer
   next_longer statement answer at =
-      ap (λ s. cond (enters s session statement) (answer.place + 1) answer.place) (state_at-begins base history longer answer.place begins at.within)
+      ap (λ s. cond (enters s session statement) (answer.place + 1) answer.place)
+      (state_at-begins base history longer answer.place begins at.within)
 
-  pub answered_longer : (from : ℕ) (statements : List Statement) (answers : List Answer) → Answered base history session from statements answers
+  pub answered_longer : (from : ℕ) (statements : List Statement) (answers : List Answer)
+      → Answered base history session from statements answers
       → Answered base longer session from statements answers
   answered_longer from [] [] before = tt
   answered_longer from [] (a ∷ answers) before = absurd before
@@ -108,7 +126,8 @@ module _ (base : State) (history longer : List Entry) (session : ℕ) (begins : 
         (answered_longer (next_place base history session s a) statements answers before.2),
   )
 
-  pub reached_longer : (from : ℕ) (statements : List Statement) (answers : List Answer) → Answered base history session from statements answers
+  pub reached_longer : (from : ℕ) (statements : List Statement) (answers : List Answer)
+      → Answered base history session from statements answers
       → reached base longer session from statements answers ≡ reached base history session from statements answers
   unfolding reached
   reached_longer from [] [] before = refl
@@ -118,7 +137,8 @@ module _ (base : State) (history longer : List Entry) (session : ℕ) (begins : 
       ap (λ n. reached base longer session n statements answers) (next_longer s a before.1)
       ∙ reached_longer (next_place base history session s a) statements answers before.2
 
-  pub entered_longer : (from : ℕ) (statements : List Statement) (answers : List Answer) → Answered base history session from statements answers
+  pub entered_longer : (from : ℕ) (statements : List Statement) (answers : List Answer)
+      → Answered base history session from statements answers
       → entered base longer session statements answers ≡ entered base history session statements answers
   entered_longer from [] [] before = refl
   entered_longer from [] (a ∷ answers) before = absurd before
@@ -131,7 +151,8 @@ module _ (base : State) (history longer : List Entry) (session : ℕ) (begins : 
       (entered base history session statements answers)) same
 
 -- one session's answers up to now: legal in what it has seen, and none stands behind that
-pub record IsOnTheWay (base : State) (old now : Known) (statements : List Statement) (answers : List Answer) : Type 0 where
+pub record IsOnTheWay (base : State) (old now : Known) (statements : List Statement)
+    (answers : List Answer) : Type 0 where
   pub number : now.number ≡ old.number
   pub legal : IsLegal base now.seen old statements answers
   pub within : reached base now.seen old.number (length old.seen) statements answers ≤ length now.seen
@@ -144,20 +165,26 @@ sets_out base old part = record {
   within = omega arith;
 }
 
-module _ (base : State) (old now new : Known) (statements : List Statement) (answers : List Answer) (statement : Statement) (answer : Answer) where
+module _ (base : State) (old now new : Known) (statements : List Statement) (answers : List Answer)
+    (statement : Statement) (answer : Answer) where
   -- what the session has added so far
-  mine_more : entries_of now.number now.seen ≡ now.mine → entries_of new.number new.seen ≡ new.mine → IsOnTheWay base old now statements answers
+  mine_more : entries_of now.number now.seen ≡ now.mine → entries_of new.number new.seen ≡ new.mine
+      → IsOnTheWay base old now statements answers
       → IsAnswered base statement answer now new
-      → entries_of old.number new.seen ≡ old.mine ++ entered base new.seen old.number (statements ++ statement ∷ []) (answers ++ answer ∷ [])
+      → entries_of old.number new.seen ≡ old.mine ++ entered base new.seen old.number (statements ++ statement ∷ [])
+      (answers ++ answer ∷ [])
   unfolding added
   mine_more part part' way is =
       let begins = is.advances.seen in
       let number = way.number in
       let number' : new.number ≡ old.number = is.advances.number ∙ way.number in
       let legal = way.legal in
-      let answered' = answered_longer base now.seen new.seen old.number begins (length old.seen) statements answers legal.answered in
-      let more = entered_more base new.seen old.number (length old.seen) statements answers statement answer answered' in
-      let same = entered_longer base now.seen new.seen old.number begins (length old.seen) statements answers legal.answered in
+      let answered' = answered_longer base now.seen new.seen old.number begins
+      (length old.seen) statements answers legal.answered in
+      let more = entered_more base new.seen old.number (length old.seen) statements answers statement answer
+      answered' in
+      let same = entered_longer base now.seen new.seen old.number begins
+      (length old.seen) statements answers legal.answered in
       let had : now.mine ≡ old.mine ++ entered base new.seen old.number statements answers =
       sym part ∙ ap (λ n. entries_of n now.seen) number ∙ legal.mine ∙ ap (λ list. old.mine ++ list) (sym same) in
       let Gets : List Entry → Type 0 = λ list. new.mine ≡ now.mine ++ list in
@@ -168,14 +195,18 @@ module _ (base : State) (old now new : Known) (statements : List Statement) (ans
       ⊎_elim
       (λ entering. subst (λ b. Gets (cond b (entry_of old.number statement ∷ []) [])) (sym entering ∙ there)
       ((is.entered entering).mine ∙ ap (λ n. now.mine ++ entry_of n statement ∷ []) number))
-      (λ other. subst (λ b. Gets (cond b (entry_of old.number statement ∷ []) [])) (sym other ∙ there) ((is.outside other).mine ∙ sym (append-nil now.mine)))
+      (λ other. subst (λ b. Gets (cond b (entry_of old.number statement ∷ []) [])) (sym other ∙ there)
+      ((is.outside other).mine ∙ sym (append-nil now.mine)))
       (either_way enters_there) in
-      ap (λ n. entries_of n new.seen) (sym number') ∙ part' ∙ gets ∙ ap (λ list. list ++ added base new.seen old.number statement answer) had
-      ∙ append_assoc old.mine (entered base new.seen old.number statements answers) (added base new.seen old.number statement answer)
+      ap (λ n. entries_of n new.seen) (sym number') ∙ part' ∙ gets
+      ∙ ap (λ list. list ++ added base new.seen old.number statement answer) had
+      ∙ append_assoc old.mine (entered base new.seen old.number statements answers)
+      (added base new.seen old.number statement answer)
       ∙ ap (λ list. old.mine ++ list) (sym more)
 
   -- an answer doesn't stand behind what is seen after it
-  within_more : IsAnswered base statement answer now new → now.number ≡ old.number → next_place base new.seen old.number statement answer ≤ length new.seen
+  within_more : IsAnswered base statement answer now new → now.number ≡ old.number
+      → next_place base new.seen old.number statement answer ≤ length new.seen
   within_more is number =
       let enters_there = enters (state_at base new.seen answer.place) now.number statement in
       let there : enters_there ≡ enters (state_at base new.seen answer.place) old.number statement =
@@ -192,14 +223,17 @@ module _ (base : State) (old now new : Known) (statements : List Statement) (ans
       (λ other. subst (λ b. cond b (answer.place + 1) answer.place ≤ length new.seen) (sym other ∙ there) is.at.within)
       (either_way enters_there)
 
-  pub goes_on : entries_of now.number now.seen ≡ now.mine → entries_of new.number new.seen ≡ new.mine → IsOnTheWay base old now statements answers
+  pub goes_on : entries_of now.number now.seen ≡ now.mine → entries_of new.number new.seen ≡ new.mine
+      → IsOnTheWay base old now statements answers
       → IsAnswered base statement answer now new
       → IsOnTheWay base old new (statements ++ statement ∷ []) (answers ++ answer ∷ [])
   goes_on part part' way is =
       let begins = is.advances.seen in
       let legal = way.legal in
-      let answered' = answered_longer base now.seen new.seen old.number begins (length old.seen) statements answers legal.answered in
-      let reached' = reached_longer base now.seen new.seen old.number begins (length old.seen) statements answers legal.answered in
+      let answered' = answered_longer base now.seen new.seen old.number begins
+      (length old.seen) statements answers legal.answered in
+      let reached' = reached_longer base now.seen new.seen old.number begins
+      (length old.seen) statements answers legal.answered in
       record {
         number = is.advances.number ∙ way.number;
         legal = record {
@@ -211,31 +245,40 @@ module _ (base : State) (old now new : Known) (statements : List Statement) (ans
           mine = mine_more part part' way is;
         };
         within =
-            subst (λ n. n ≤ length new.seen) (sym (reached_more base new.seen old.number (length old.seen) statements answers statement answer answered'))
+            subst (λ n. n ≤ length new.seen) (sym (reached_more base new.seen old.number
+            (length old.seen) statements answers statement answer answered'))
             (within_more is way.number);
       }
 
 -- what is legal in what the session has seen is so in every history that has all that it knows
-pub legal_longer : (base : State) (history : List Entry) (old new : Known) (statements : List Statement) (answers : List Answer) → new.number ≡ old.number
+pub legal_longer : (base : State) (history : List Entry) (old new : Known) (statements : List Statement)
+    (answers : List Answer) → new.number ≡ old.number
     → entries_of new.number new.seen ≡ new.mine → IsTakenIn history new
     → IsLegal base new.seen old statements answers → IsLegal base history old statements answers
 legal_longer base history old new statements answers number part taken legal = record {
   seen = begins_through old.seen new.seen history legal.seen taken.seen;
-  answered = answered_longer base new.seen history old.number taken.seen (length old.seen) statements answers legal.answered;
+  answered = answered_longer base new.seen history old.number taken.seen
+      (length old.seen) statements answers legal.answered;
   mine =
-      ap (λ n. entries_of n history) (sym number) ∙ taken.mine ∙ sym part ∙ ap (λ n. entries_of n new.seen) number ∙ legal.mine
-      ∙ ap (λ list. old.mine ++ list) (sym (entered_longer base new.seen history old.number taken.seen (length old.seen) statements answers legal.answered));
+      ap (λ n. entries_of n history) (sym number) ∙ taken.mine ∙ sym part ∙ ap (λ n. entries_of n new.seen) number
+      ∙ legal.mine
+      ∙ ap (λ list. old.mine ++ list) (sym (entered_longer base new.seen history old.number taken.seen
+      (length old.seen) statements answers legal.answered));
 }
 
 -- the gate can have let the session in at one statement more
-pub lets_in_more : (gate : ℕ → ℕ → Bool → Type 0) (session count : ℕ) → LetsIn gate session count → gate session count true → LetsIn gate session (count + 1)
+pub lets_in_more : (gate : ℕ → ℕ → Bool → Type 0) (session count : ℕ) → LetsIn gate session count
+    → gate session count true → LetsIn gate session (count + 1)
 lets_in_more gate session count before here = below_more (λ line. gate session line true) count before here
 
 -- a fault at one statement is a fault of the run
-module _ (gate : ℕ → ℕ → Bool → Type 0) (base : State) (capacity : ℕ) (before now new : Known) (statements : List Statement) (answers : List Answer) (place : ℕ)
+module _ (gate : ℕ → ℕ → Bool → Type 0) (base : State) (capacity : ℕ) (before now new : Known)
+    (statements : List Statement) (answers : List Answer) (place : ℕ)
     (statement : Statement) where
-  pub no_further : (fault : RaceFault) → place < length statements → entries_of now.number now.seen ≡ now.mine → entries_of new.number new.seen ≡ new.mine
-      → IsOnTheWay base before now (take place statements) answers → Halts gate base capacity statement place fault now new
+  pub no_further : (fault : RaceFault) → place < length statements → entries_of now.number now.seen ≡ now.mine
+      → entries_of new.number new.seen ≡ new.mine
+      → IsOnTheWay base before now (take place statements) answers
+      → Halts gate base capacity statement place fault now new
       → GoesNoFurther base before statements fault new
   no_further (GateShut session line) below part part' way is =
       subst (λ known. IsReachedInRun base known.seen before statements session line) (sym is.2.same)
@@ -251,7 +294,8 @@ module _ (gate : ℕ → ℕ → Bool → Type 0) (base : State) (capacity : ℕ
         seen = unanswered.advances.seen;
         mine = ap (λ n. entries_of n new.seen) (sym unanswered.advances.number) ∙ part' ∙ unanswered.mine;
       } in
-      let legal = legal_longer base new.seen before now (take place statements) answers way.number part taken way.legal in
+      let legal = legal_longer base new.seen before now (take place statements) answers way.number part taken
+      way.legal in
       record {
         number = is.0 ∙ way.number;
         below = omega (arith, is.1);
@@ -261,12 +305,18 @@ module _ (gate : ℕ → ℕ → Bool → Type 0) (base : State) (capacity : ℕ
   no_further NoMemory below part part' way is = tt
   no_further ThreadRefused below part part' way is = absurd is
 
-  pub stops : (fault : RaceFault) → place < length statements → slice_get statements place ≡ Some statement → entries_of now.number now.seen ≡ now.mine
+  pub stops : (fault : RaceFault) → place < length statements → slice_get statements place ≡ Some statement
+      → entries_of now.number now.seen ≡ now.mine
       → entries_of new.number new.seen ≡ new.mine
-      → IsOnTheWay base before now (take place statements) answers → Halts gate base capacity statement place fault now new
+      → IsOnTheWay base before now (take place statements) answers
+      → Halts gate base capacity statement place fault now new
       → Stops gate base capacity before statements fault
   stops (GateShut session line) below given part part' way is =
-      record { history = new.seen; reached = no_further (GateShut session line) below part part' way is; shut = is.2.shut }
+      record {
+        history = new.seen;
+        reached = no_further (GateShut session line) below part part' way is;
+        shut = is.2.shut;
+      }
   stops (Full session line) below given part part' way is = record {
     history = new.seen;
     reached = no_further (Full session line) below part part' way is;

@@ -18,22 +18,28 @@ use Rattle.xa_store.specs.declared.race_fault.RaceFault.TheVariants.{GateShut, F
 use Rattle.xa_store.proofs.Legality.{legal_longer}
 
 -- what is taken in of a pass was taken in of it before it saw more
-pub taken_before : (history : List Entry) (old new : Known) → AddsNothing old new → IsTakenIn history new → IsTakenIn history old
+pub taken_before : (history : List Entry) (old new : Known) → AddsNothing old new → IsTakenIn history new
+    → IsTakenIn history old
 taken_before history old new keeps taken = record {
   seen = begins_through old.seen new.seen history keeps.seen taken.seen;
   mine = ap (λ n. entries_of n history) (sym keeps.number) ∙ taken.mine ∙ keeps.mine;
 }
 
 -- a run's answers are legal in a history that has all that its pass knows in the end
-pub legal_in : (gate : ℕ → ℕ → Bool → Type 0) (base : State) (history : List Entry) (old new last : Known) (statements : List Statement) (answers : List Answer)
+pub legal_in : (gate : ℕ → ℕ → Bool → Type 0) (base : State) (history : List Entry) (old new last : Known)
+    (statements : List Statement) (answers : List Answer)
     → entries_of new.number new.seen ≡ new.mine → HasAnswered gate base old new statements answers
     → AddsNothing new last → IsTakenIn history last → IsLegal base history old statements answers
 legal_in gate base history old new last statements answers part answered keeps taken =
-    legal_longer base history old new statements answers answered.number part (taken_before history new last keeps taken) answered.legal
+    legal_longer base history old new statements answers answered.number part
+    (taken_before history new last keeps taken) answered.legal
 
-pub blames : (gate : ℕ → ℕ → Bool → Type 0) (base : State) (runs : List Run) (index : ℕ) (run : Run) (fault : RaceFault) → slice_get runs index ≡ Some run
+pub blames : (gate : ℕ → ℕ → Bool → Type 0) (base : State) (runs : List Run) (index : ℕ) (run : Run) (fault : RaceFault)
+    → slice_get runs index ≡ Some run
     → Stops gate base (log_of run.pass).capacity (known_of run.pass) run.lines.items fault → Blames gate base runs fault
-blames gate base runs index run (GateShut session line) found is = record { index = index; run = run; found = found; stops = is }
-blames gate base runs index run (Full session line) found is = record { index = index; run = run; found = found; stops = is }
+blames gate base runs index run (GateShut session line) found is =
+    record { index = index; run = run; found = found; stops = is }
+blames gate base runs index run (Full session line) found is =
+    record { index = index; run = run; found = found; stops = is }
 blames gate base runs index run NoMemory found is = tt
 blames gate base runs index run ThreadRefused found is = tt

@@ -1,5 +1,6 @@
 -- Lists side by side, and a run that is one of more.
-use Rattle.std.proofs.Common.{◌≡◌, ℕ, zero, suc, List, [], ◌∷◌, ◌++◌, length, map, refl, ap, subst, Some, None, Result, Ok, Err}
+use Rattle.std.proofs.Common.{◌≡◌, ℕ, zero, suc, List, [], ◌∷◌, ◌++◌, length, map, refl, ap, subst, Some, None, Result}
+use Rattle.std.proofs.Common.{Ok, Err}
 use Rattle.std.specs.Prelude.{slice_get}
 use Rattle.std.specs.List.{AllZip, AllByRecursion}
 use Rattle.std.specs.Result.{IfOk, IfErr}
@@ -15,27 +16,32 @@ when_err (Ok y) P x is same = absurd (cc)
 when_err (Err e) P x is same = let here : e ≡ x = cc in subst P here is
 
 -- the second becomes a third
-pub zip_chain : {A B C : Type 0} (Z : A → B → Type 0) (R : B → C → Type 0) (Q : A → C → Type 0) → ((a : A) (b : B) (c : C) → Z a b → R b c → Q a c)
+pub zip_chain : {A B C : Type 0} (Z : A → B → Type 0) (R : B → C → Type 0) (Q : A → C → Type 0)
+    → ((a : A) (b : B) (c : C) → Z a b → R b c → Q a c)
     → (xs : List A) (ys : List B) (zs : List C) → AllZip Z xs ys → AllZip R ys zs → AllZip Q xs zs
 zip_chain Z R Q keep [] [] [] zip all = tt
 zip_chain Z R Q keep [] [] (c ∷ zs) zip all = absurd all
 zip_chain Z R Q keep [] (b ∷ ys) zs zip all = absurd zip
 zip_chain Z R Q keep (a ∷ xs) [] zs zip all = absurd zip
 zip_chain Z R Q keep (a ∷ xs) (b ∷ ys) [] zip all = absurd all
-zip_chain Z R Q keep (a ∷ xs) (b ∷ ys) (c ∷ zs) zip all = (keep a b c zip.0 all.0, zip_chain Z R Q keep xs ys zs zip.1 all.1)
+zip_chain Z R Q keep (a ∷ xs) (b ∷ ys) (c ∷ zs) zip all =
+    (keep a b c zip.0 all.0, zip_chain Z R Q keep xs ys zs zip.1 all.1)
 
 -- the second becomes a third, and something of the second is told of the first
 pub zip_ended : {A B C D : Type 0} (H : A → B → Type 0) (W : B → C → Type 0) (Q : A → D → Type 0) (f : B → D)
-    → ((a : A) (b : B) (c : C) → H a b → W b c → Q a (f b)) → (xs : List A) (ys : List B) (zs : List C) → AllZip H xs ys → AllZip W ys zs
+    → ((a : A) (b : B) (c : C) → H a b → W b c → Q a (f b)) → (xs : List A) (ys : List B) (zs : List C) → AllZip H xs ys
+    → AllZip W ys zs
     → AllZip Q xs (map f ys)
 zip_ended H W Q f keep [] [] zs went left = tt
 zip_ended H W Q f keep [] (b ∷ ys) zs went left = absurd went
 zip_ended H W Q f keep (a ∷ xs) [] zs went left = absurd went
 zip_ended H W Q f keep (a ∷ xs) (b ∷ ys) [] went left = absurd left
-zip_ended H W Q f keep (a ∷ xs) (b ∷ ys) (c ∷ zs) went left = (keep a b c went.0 left.0, zip_ended H W Q f keep xs ys zs went.1 left.1)
+zip_ended H W Q f keep (a ∷ xs) (b ∷ ys) (c ∷ zs) went left =
+    (keep a b c went.0 left.0, zip_ended H W Q f keep xs ys zs went.1 left.1)
 
 -- what each place has of its first
-pub zip_first : {A B : Type 0} (K : A → B → Type 0) (P : A → Type 0) → ((a : A) (b : B) → K a b → P a) → (xs : List A) (ys : List B) → AllZip K xs ys
+pub zip_first : {A B : Type 0} (K : A → B → Type 0) (P : A → Type 0) → ((a : A) (b : B) → K a b → P a)
+    → (xs : List A) (ys : List B) → AllZip K xs ys
     → AllByRecursion P xs
 zip_first K P keep [] [] zip = tt
 zip_first K P keep [] (b ∷ ys) zip = absurd zip
@@ -43,14 +49,16 @@ zip_first K P keep (a ∷ xs) [] zip = absurd zip
 zip_first K P keep (a ∷ xs) (b ∷ ys) zip = (keep a b zip.0, zip_first K P keep xs ys zip.1)
 
 -- what holds of each first holds of each second
-pub zip_all : {A B : Type 0} (K : A → B → Type 0) (P : A → Type 0) (Q : B → Type 0) → ((a : A) (b : B) → K a b → P a → Q b) → (xs : List A) (ys : List B)
+pub zip_all : {A B : Type 0} (K : A → B → Type 0) (P : A → Type 0) (Q : B → Type 0)
+    → ((a : A) (b : B) → K a b → P a → Q b) → (xs : List A) (ys : List B)
     → AllZip K xs ys → AllByRecursion P xs → AllByRecursion Q ys
 zip_all K P Q keep [] [] zip is = tt
 zip_all K P Q keep [] (b ∷ ys) zip is = absurd zip
 zip_all K P Q keep (a ∷ xs) [] zip is = absurd zip
 zip_all K P Q keep (a ∷ xs) (b ∷ ys) zip is = (keep a b zip.0 is.0, zip_all K P Q keep xs ys zip.1 is.1)
 
-pub zip_unmapped : {A B C : Type 0} (K : B → C → Type 0) (f : A → B) (xs : List A) (ys : List C) → AllZip K (map f xs) ys → AllZip (λ x y. K (f x) y) xs ys
+pub zip_unmapped : {A B C : Type 0} (K : B → C → Type 0) (f : A → B) (xs : List A) (ys : List C)
+    → AllZip K (map f xs) ys → AllZip (λ x y. K (f x) y) xs ys
 zip_unmapped K f [] [] zip = tt
 zip_unmapped K f [] (b ∷ ys) zip = absurd zip
 zip_unmapped K f (a ∷ xs) [] zip = absurd zip
@@ -58,14 +66,16 @@ zip_unmapped K f (a ∷ xs) (b ∷ ys) zip = (zip.0, zip_unmapped K f xs ys zip.
 
 -- a list and another, element by element
 
-pub zip_mapped : {A B C : Type 0} (K : A → B → Type 0) (Q : A → C → Type 0) (f : B → C) → ((a : A) (b : B) → K a b → Q a (f b)) → (xs : List A) (ys : List B)
+pub zip_mapped : {A B C : Type 0} (K : A → B → Type 0) (Q : A → C → Type 0) (f : B → C)
+    → ((a : A) (b : B) → K a b → Q a (f b)) → (xs : List A) (ys : List B)
     → AllZip K xs ys → AllZip Q xs (map f ys)
 zip_mapped K Q f keep [] [] zip = tt
 zip_mapped K Q f keep [] (b ∷ ys) zip = absurd zip
 zip_mapped K Q f keep (a ∷ xs) [] zip = absurd zip
 zip_mapped K Q f keep (a ∷ xs) (b ∷ ys) zip = (keep a b zip.0, zip_mapped K Q f keep xs ys zip.1)
 
-pub zip_get : {A B : Type 0} (K : A → B → Type 0) (xs : List A) (ys : List B) (place : ℕ) (y : B) → AllZip K xs ys → slice_get ys place ≡ Some y
+pub zip_get : {A B : Type 0} (K : A → B → Type 0) (xs : List A) (ys : List B) (place : ℕ) (y : B) → AllZip K xs ys
+    → slice_get ys place ≡ Some y
     → (x : A) × (slice_get xs place ≡ Some x) × K x y
 zip_get K [] [] place y zip is = absurd (never y is)
   where
@@ -82,7 +92,8 @@ map_twice f g (x ∷ xs) = ap (λ rest. g (f x) ∷ rest) (map_twice f g xs)
 
 -- places of a longer list
 
-pub get_front : {A : Type 0} (xs ys : List A) (place : ℕ) (x : A) → slice_get xs place ≡ Some x → slice_get (xs ++ ys) place ≡ Some x
+pub get_front : {A : Type 0} (xs ys : List A) (place : ℕ) (x : A) → slice_get xs place ≡ Some x
+    → slice_get (xs ++ ys) place ≡ Some x
 get_front [] ys place x is = absurd (never x is)
   where
     never : {A : Type 0} (x : A) → None ≡ Some x → ⊥
@@ -95,7 +106,8 @@ get_end [] x = refl
 get_end (a ∷ xs) x = get_end xs x
 
 -- a run that stops is one of more runs
-module _ {Run : Type 0} (xs : List Run) (x : Run) (all : List Run) (stops : Run → RaceFault → Type 0) (fault : RaceFault) (are : xs ++ x ∷ [] ≡ all) where
+module _ {Run : Type 0} (xs : List Run) (x : Run) (all : List Run) (stops : Run → RaceFault → Type 0)
+    (fault : RaceFault) (are : xs ++ x ∷ [] ≡ all) where
   pub stopped_before : HasStopped stops xs fault → HasStopped stops all fault
   stopped_before at = record {
     index = at.index;
@@ -105,4 +117,11 @@ module _ {Run : Type 0} (xs : List Run) (x : Run) (all : List Run) (stops : Run 
   }
 
   pub stopped_last : stops x fault → HasStopped stops all fault
-  stopped_last is = record { index = length xs; run = x; found = subst (λ list. slice_get list (length xs) ≡ Some x) are (get_end xs x); cause = is }
+  stopped_last is =
+      record {
+        index = length xs;
+        run = x;
+        found = subst (λ list. slice_get list (length xs) ≡ Some x) are
+            (get_end xs x);
+        cause = is;
+      }

@@ -1,5 +1,6 @@
 -- The fault that is told once one more task is taken back, and what it says of a race's runs.
-use Rattle.std.proofs.Common.{◌≡◌, ◌⊎◌, ℕ, zero, suc, Bool, ◌<◌, ◌≤◌, List, [], ◌∷◌, ◌++◌, length, refl, ap, sym, ◌∙◌, subst, inl, inr, ⊎_elim, Some, None}
+use Rattle.std.proofs.Common.{◌≡◌, ◌⊎◌, ℕ, zero, suc, Bool, ◌<◌, ◌≤◌, List, [], ◌∷◌, ◌++◌, length, refl, ap, sym, ◌∙◌}
+use Rattle.std.proofs.Common.{subst, inl, inr, ⊎_elim, Some, None}
 use Rattle.std.proofs.Common.{Result, Ok, Err, Vec, Global, arith}
 use Rattle.std.specs.Prelude.{slice_get}
 use Rattle.std.specs.List.{AllZip}
@@ -7,7 +8,8 @@ use Rattle.std.specs.Result.{IfOk, IfErr}
 use Rattle.xa_server.specs.State.{State}
 use Rattle.xa_store.specs.Passes.{log_of, known_of}
 use Rattle.xa_store.specs.Legal.{IsShutAt, IsFullAt, Stops}
-use Rattle.xa_store.specs.Lowest.{IsOwn, IsOutside, IsLower, Joins, IsOfLowest, IsOfNone, IsTold, IsRunThrough, AreRunThrough, TellsLowest}
+use Rattle.xa_store.specs.Lowest.{IsOwn, IsOutside, IsLower, Joins, IsOfLowest, IsOfNone, IsTold, IsRunThrough}
+use Rattle.xa_store.specs.Lowest.{AreRunThrough, TellsLowest}
 use Rattle.xa_store.specs.declared.first_fault.FirstFault.{FirstFault}
 use Rattle.xa_store.specs.declared.race_fault.RaceFault.{RaceFault}
 use Rattle.xa_store.specs.declared.race_fault.RaceFault.TheVariants.{GateShut, Full, NoMemory, ThreadRefused}
@@ -26,7 +28,8 @@ front_or_end (a ∷ xs) x zero other is = inl is
 front_or_end (a ∷ xs) x (suc place) other is = front_or_end xs x place other is
 
 -- the second at the place of a first
-pub zip_at : {A B : Type 0} (K : A → B → Type 0) (xs : List A) (ys : List B) (place : ℕ) (x : A) → AllZip K xs ys → slice_get xs place ≡ Some x
+pub zip_at : {A B : Type 0} (K : A → B → Type 0) (xs : List A) (ys : List B) (place : ℕ) (x : A) → AllZip K xs ys
+    → slice_get xs place ≡ Some x
     → (y : B) × (slice_get ys place ≡ Some y) × K x y
 zip_at K [] [] place x zip is = absurd (never x is)
 zip_at K [] (b ∷ ys) place x zip is = absurd zip
@@ -41,17 +44,21 @@ some_at : {A : Type 0} (xs : List A) (place : ℕ) (x : A) → slice_get xs plac
 some_at [] place x is = absurd (never x is)
 some_at (a ∷ xs) place x is = omega arith
 
-module _ {Task Gain : Type 0} (number : Task → ℕ) (gains : Task → Gain → Type 0) (stops : Task → RaceFault → Type 0) (xs : List Task) (x : Task)
+module _ {Task Gain : Type 0} (number : Task → ℕ) (gains : Task → Gain → Type 0) (stops : Task → RaceFault → Type 0)
+    (xs : List Task) (x : Task)
     (all : List Task) (are : xs ++ x ∷ [] ≡ all) where
-  among : (place : ℕ) (other : Task) → slice_get all place ≡ Some other → (slice_get xs place ≡ Some other) ⊎ (x ≡ other)
+  among : (place : ℕ) (other : Task) → slice_get all place ≡ Some other
+      → (slice_get xs place ≡ Some other) ⊎ (x ≡ other)
   among place other is = front_or_end xs x place other (subst (λ list. slice_get list place ≡ Some other) (sym are) is)
 
   has_done : (gain : Gain) → gains x gain → (other : Task) → x ≡ other → (gain : Gain) × gains other gain
   has_done gain is other same = (gain, subst (λ task. gains task gain) same is)
 
   -- the last has the fault, and the others of lower sessions have done their part
-  of_last : (told : FirstFault) (fault : RaceFault) → IsOwn (number x) fault told → (fault ≡ ThreadRefused) ⊎ stops x fault
-      → ((place : ℕ) (other : Task) → slice_get xs place ≡ Some other → number other < told.session → (gain : Gain) × gains other gain)
+  of_last : (told : FirstFault) (fault : RaceFault) → IsOwn (number x) fault told
+      → (fault ≡ ThreadRefused) ⊎ stops x fault
+      → ((place : ℕ) (other : Task) → slice_get xs place ≡ Some other → number other < told.session
+      → (gain : Gain) × gains other gain)
       → IsOfLowest number gains stops all told
   of_last told fault own cause lower = record {
     index = length xs;
@@ -67,12 +74,14 @@ module _ {Task Gain : Type 0} (number : Task → ℕ) (gains : Task → Gain →
   }
 
   -- one of the others has it, and the last has done its part, if its session is lower
-  of_others : (told : FirstFault) → IsOfLowest number gains stops xs told → (number x < told.session → (gain : Gain) × gains x gain)
+  of_others : (told : FirstFault) → IsOfLowest number gains stops xs told
+      → (number x < told.session → (gain : Gain) × gains x gain)
       → IsOfLowest number gains stops all told
   of_others told of last = record {
     index = of.index;
     task = of.task;
-    found = subst (λ list. slice_get list of.index ≡ Some of.task) are (get_front xs (x ∷ []) of.index of.task of.found);
+    found = subst (λ list. slice_get list of.index ≡ Some of.task) are
+        (get_front xs (x ∷ []) of.index of.task of.found);
     number_is = of.number_is;
     cause = of.cause;
     lower =
@@ -85,25 +94,32 @@ module _ {Task Gain : Type 0} (number : Task → ℕ) (gains : Task → Gain →
         (among place other is);
   }
 
-  of_none : (told : FirstFault) → IsOutside told → ((place : ℕ) (other : Task) → slice_get xs place ≡ Some other → (gain : Gain) × gains other gain)
+  of_none : (told : FirstFault) → IsOutside told → ((place : ℕ) (other : Task) → slice_get xs place ≡ Some other
+      → (gain : Gain) × gains other gain)
       → (gain : Gain) → gains x gain → IsOfNone gains all told
   of_none told outside rest gain is = record {
     outside = outside;
-    all = λ place other found. ⊎_elim (λ front. rest place other front) (λ same. has_done gain is other same) (among place other found);
+    all = λ place other found. ⊎_elim (λ front. rest place other front) (λ same. has_done gain is other same)
+        (among place other found);
   }
 
-  done_all : (gone : List Gain) → AllZip gains xs gone → (place : ℕ) (other : Task) → slice_get xs place ≡ Some other → (gain : Gain) × gains other gain
+  done_all : (gone : List Gain) → AllZip gains xs gone → (place : ℕ) (other : Task) → slice_get xs place ≡ Some other
+      → (gain : Gain) × gains other gain
   done_all gone zip place other is = let at = zip_at gains xs gone place other zip is in (at.0, at.2)
 
   -- the lower of two
-  of_lower : (other : FirstFault) (fault : RaceFault) (told : FirstFault) → number x ≤ 16 → IsTold number gains stops xs other
-      → (fault ≡ ThreadRefused) ⊎ stops x fault → IsLower other (number x) fault told → IsTold number gains stops all told
+  of_lower : (other : FirstFault) (fault : RaceFault) (told : FirstFault) → number x ≤ 16
+      → IsTold number gains stops xs other
+      → (fault ≡ ThreadRefused) ⊎ stops x fault → IsLower other (number x) fault told
+      → IsTold number gains stops all told
   of_lower other fault told few (inl of) cause is =
       ⊎_elim
       (λ same.
-      let of_told : IsOfLowest number gains stops xs told = subst (λ one. IsOfLowest number gains stops xs one) (sym same) of in
+      let of_told : IsOfLowest number gains stops xs told =
+      subst (λ one. IsOfLowest number gains stops xs one) (sym same) of in
       inl (of_others told of_told (λ below. absurd (omega (arith, below, is.below_own)))))
-      (λ own. inl (of_last told fault own cause (λ place task found below. of.lower place task found (omega (arith, below, is.below_other)))))
+      (λ own. inl (of_last told fault own cause (λ place task found below. of.lower place task found
+      (omega (arith, below, is.below_other)))))
       is.either
   of_lower other fault told few (inr none) cause is =
       ⊎_elim
@@ -113,28 +129,35 @@ module _ {Task Gain : Type 0} (number : Task → ℕ) (gains : Task → Gain →
       (λ own. inl (of_last told fault own cause (λ place task found below. none.all place task found)))
       is.either
 
-  pub told_more : (others : Result (Vec Gain Global) FirstFault) (ended : Result Gain RaceFault) (told : FirstFault) (own : ℕ) → own ≡ number x → own ≤ 16
+  pub told_more : (others : Result (Vec Gain Global) FirstFault) (ended : Result Gain RaceFault) (told : FirstFault)
+      (own : ℕ) → own ≡ number x → own ≤ 16
       → IfOk others (λ gone. AllZip gains xs gone.items) → IfErr others (IsTold number gains stops xs)
       → IfOk ended (gains x) → IfErr ended (λ fault. (fault ≡ ThreadRefused) ⊎ stops x fault)
       → Joins others own ended told → IsTold number gains stops all told
-  told_more (Ok gone) (Ok gain) told own same few went before does stopped is = inr (of_none told is (done_all gone.items went) gain does)
+  told_more (Ok gone) (Ok gain) told own same few went before does stopped is =
+      inr (of_none told is (done_all gone.items went) gain does)
   told_more (Ok gone) (Err fault) told own same few went before does stopped is =
-      inl (of_last told fault (subst (λ n. IsOwn n fault told) same is) stopped (λ place other found below. done_all gone.items went place other found))
+      inl (of_last told fault (subst (λ n. IsOwn n fault told) same is) stopped
+      (λ place other found below. done_all gone.items went place other found))
   told_more (Err other) (Err fault) told own same few went before does stopped is =
-      of_lower other fault told (subst (λ n. n ≤ 16) same few) before stopped (subst (λ n. IsLower other n fault told) same is)
+      of_lower other fault told (subst (λ n. n ≤ 16) same few) before stopped
+      (subst (λ n. IsLower other n fault told) same is)
   told_more (Err other) (Ok gain) told own same few went (inl of) does stopped is =
       inl (of_others told (subst (λ one. IsOfLowest number gains stops xs one) (sym is) of) (λ below. (gain, does)))
   told_more (Err other) (Ok gain) told own same few went (inr none) does stopped is =
       inr (of_none told (subst IsOutside (sym is) none.outside) none.all gain does)
 
 -- what that says of the runs of the tasks
-module _ {Task Gain : Type 0} (number : Task → ℕ) (gains : Task → Gain → Type 0) (stops : Task → RaceFault → Type 0) (gate : ℕ → ℕ → Bool → Type 0)
-    (base : State) (K : Run → Task → Type 0) (numbers : (run : Run) (task : Task) → K run task → number task ≡ (known_of run.pass).number)
+module _ {Task Gain : Type 0} (number : Task → ℕ) (gains : Task → Gain → Type 0) (stops : Task → RaceFault → Type 0)
+    (gate : ℕ → ℕ → Bool → Type 0)
+    (base : State) (K : Run → Task → Type 0) (numbers : (run : Run) (task : Task) → K run task
+    → number task ≡ (known_of run.pass).number)
     (through : (run : Run) (task : Task) (gain : Gain) → K run task → gains task gain → IsRunThrough gate base run)
     (halts : (run : Run) (task : Task) (fault : RaceFault) → K run task → stops task fault
     → Stops gate base (log_of run.pass).capacity (known_of run.pass) run.lines.items fault) where
   pub run_through : (runs : List Run) (tasks : List Task) (session : ℕ) → AllZip K runs tasks
-      → ((place : ℕ) (other : Task) → slice_get tasks place ≡ Some other → number other < session → (gain : Gain) × gains other gain)
+      → ((place : ℕ) (other : Task) → slice_get tasks place ≡ Some other → number other < session
+      → (gain : Gain) × gains other gain)
       → AreRunThrough gate base runs session
   run_through runs tasks session zip lower place run found below =
       let at = zip_at K runs tasks place run zip found in
@@ -142,16 +165,19 @@ module _ {Task Gain : Type 0} (number : Task → ℕ) (gains : Task → Gain →
       let done = lower place at.0 at.1 (omega (arith, same, below)) in
       through run at.0 done.0 at.2 done.1
 
-  pub tells : (runs : List Run) (tasks : List Task) (told : FirstFault) (fault : RaceFault) → told.fault ≡ fault → AllZip K runs tasks
+  pub tells : (runs : List Run) (tasks : List Task) (told : FirstFault) (fault : RaceFault) → told.fault ≡ fault
+      → AllZip K runs tasks
       → IsTold number gains stops tasks told → TellsLowest gate base runs fault
   tells runs tasks told (GateShut session line) same zip (inl of) =
       let at = zip_get K runs tasks of.index of.task zip of.found in
       ⊎_elim (λ refused. let e : GateShut session line ≡ ThreadRefused = sym same ∙ refused in absurd cc)
       (λ stop.
       let is : IsShutAt gate base (known_of at.0.pass) at.0.lines.items session line =
-      subst (λ one. Stops gate base (log_of at.0.pass).capacity (known_of at.0.pass) at.0.lines.items one) same (halts at.0 of.task told.fault at.2 stop) in
+      subst (λ one. Stops gate base (log_of at.0.pass).capacity (known_of at.0.pass) at.0.lines.items one) same
+      (halts at.0 of.task told.fault at.2 stop) in
       let e : session ≡ told.session = is.reached.number ∙ sym (of.number_is ∙ numbers at.0 of.task at.2) in
-      run_through runs tasks session zip (λ place other found below. of.lower place other found (omega (arith, below, e))))
+      run_through runs tasks session zip (λ place other found below. of.lower place other found
+      (omega (arith, below, e))))
       of.cause
   tells runs tasks told (GateShut session line) same zip (inr none) =
       run_through runs tasks session zip (λ place other found below. none.all place other found)
@@ -160,13 +186,16 @@ module _ {Task Gain : Type 0} (number : Task → ℕ) (gains : Task → Gain →
       ⊎_elim (λ refused. let e : Full session line ≡ ThreadRefused = sym same ∙ refused in absurd cc)
       (λ stop.
       let is : IsFullAt base (log_of at.0.pass).capacity (known_of at.0.pass) at.0.lines.items session line =
-      subst (λ one. Stops gate base (log_of at.0.pass).capacity (known_of at.0.pass) at.0.lines.items one) same (halts at.0 of.task told.fault at.2 stop) in
+      subst (λ one. Stops gate base (log_of at.0.pass).capacity (known_of at.0.pass) at.0.lines.items one) same
+      (halts at.0 of.task told.fault at.2 stop) in
       let e : session ≡ told.session = is.reached.number ∙ sym (of.number_is ∙ numbers at.0 of.task at.2) in
-      run_through runs tasks session zip (λ place other found below. of.lower place other found (omega (arith, below, e))))
+      run_through runs tasks session zip (λ place other found below. of.lower place other found
+      (omega (arith, below, e))))
       of.cause
   tells runs tasks told (Full session line) same zip (inr none) =
       run_through runs tasks session zip (λ place other found below. none.all place other found)
   tells runs tasks told NoMemory same zip is = tt
   tells runs tasks told ThreadRefused same zip (inl of) =
       let at = zip_get K runs tasks of.index of.task zip of.found in some_at runs of.index at.0 at.1
-  tells runs tasks told ThreadRefused same zip (inr none) = let e : ThreadRefused ≡ NoMemory = sym same ∙ none.outside.memory in absurd cc
+  tells runs tasks told ThreadRefused same zip (inr none) = let e : ThreadRefused ≡ NoMemory =
+      sym same ∙ none.outside.memory in absurd cc

@@ -17,7 +17,8 @@
 --     IsFullAt        a run's statement has no room in the history
 --     Stops           why a run stops
 --     Blames          why a race fails
-use Rattle.std.specs.Prelude.{◌≡◌, ◌<◌, ◌≤◌, ◌+◌, ℕ, Bool, true, false, cond, List, [], ◌∷◌, ◌++◌, length, map, take, slice_get, Some, Result, Ok, Err}
+use Rattle.std.specs.Prelude.{◌≡◌, ◌<◌, ◌≤◌, ◌+◌, ℕ, Bool, true, false, cond, List, [], ◌∷◌, ◌++◌, length, map, take}
+use Rattle.std.specs.Prelude.{slice_get, Some, Result, Ok, Err}
 use Rattle.std.specs.List.{AllZip}
 use Rattle.xa_xid.specs.declared.statement.Statement.{Statement}
 use Rattle.xa_words.specs.Entry.{Entry}
@@ -40,7 +41,8 @@ use Rattle.xa_store.specs.declared.race_fault.RaceFault.TheVariants.{GateShut, F
 module _ (base : State) (history : List Entry) (session : ℕ) where
   -- after the entry if one was added, else from the same place on
   abbrev pub next_place : Statement → Answer → ℕ
-  next_place statement answer = cond (enters (state_at base history answer.place) session statement) (answer.place + 1) answer.place
+  next_place statement answer =
+      cond (enters (state_at base history answer.place) session statement) (answer.place + 1) answer.place
 
   -- one answer for each statement, in order; no place is before an earlier one, nor before what earlier
   -- statements have added
@@ -49,19 +51,22 @@ module _ (base : State) (history : List Entry) (session : ℕ) where
   Answered from [] (answer ∷ answers) = ⊥
   Answered from (statement ∷ statements) [] = ⊥
   Answered from (statement ∷ statements) (answer ∷ answers) =
-      (from ≤ answer.place) × AnswersAt base history session statement answer.place answer.reply × Answered (next_place statement answer) statements answers
+      (from ≤ answer.place) × AnswersAt base history session statement answer.place answer.reply
+      × Answered (next_place statement answer) statements answers
 
   -- the statements that are logged at the places of their answers
   abbrev pub entered : List Statement → List Answer → List Entry
   entered [] answers = []
   entered (statement ∷ statements) [] = []
   entered (statement ∷ statements) (answer ∷ answers) =
-      cond (enters (state_at base history answer.place) session statement) (entry_of session statement ∷ entered statements answers)
+      cond (enters (state_at base history answer.place) session statement)
+      (entry_of session statement ∷ entered statements answers)
       (entered statements answers)
 
 -- the history begins with what the session had seen and explains its answers; its entries of the session's
 -- number are the old ones and then those that were logged, in order
-pub record IsLegal (base : State) (history : List Entry) (before : Known) (statements : List Statement) (answers : List Answer) : Type 0 where
+pub record IsLegal (base : State) (history : List Entry) (before : Known) (statements : List Statement)
+    (answers : List Answer) : Type 0 where
   pub seen : Begins before.seen history
   pub answered : Answered base history before.number (length before.seen) statements answers
   pub mine : entries_of before.number history ≡ before.mine ++ entered base history before.number statements answers
@@ -94,8 +99,10 @@ pub record IsTurnedAway (gate : ℕ → ℕ → Bool → Type 0) (session line :
 -- the fault names the session and the statement that isn't answered: the gate stopped the run, or the history
 -- is full
 abbrev pub Halts : (ℕ → ℕ → Bool → Type 0) → State → ℕ → Statement → ℕ → RaceFault → Known → Known → Type 0
-Halts gate base capacity statement place (GateShut session line) old new = (session ≡ old.number) × (line ≡ place) × IsTurnedAway gate session line old new
-Halts gate base capacity statement place (Full session line) old new = (session ≡ old.number) × (line ≡ place) × IsFull base capacity statement old new
+Halts gate base capacity statement place (GateShut session line) old new =
+    (session ≡ old.number) × (line ≡ place) × IsTurnedAway gate session line old new
+Halts gate base capacity statement place (Full session line) old new =
+    (session ≡ old.number) × (line ≡ place) × IsFull base capacity statement old new
 Halts gate base capacity statement place NoMemory old new = Unit {0}
 Halts gate base capacity statement place ThreadRefused old new = ⊥
 
@@ -107,17 +114,20 @@ fault_at session line NoMoreMemory = NoMemory
 fault_at session line Busy = NoMemory
 
 -- the gate can have let the session go on, and the statement was answered
-pub record IsLetIn (gate : ℕ → ℕ → Bool → Type 0) (base : State) (statement : Statement) (place : ℕ) (answer : Answer) (old new : Known) : Type 0 where
+pub record IsLetIn (gate : ℕ → ℕ → Bool → Type 0) (base : State) (statement : Statement) (place : ℕ) (answer : Answer)
+    (old new : Known) : Type 0 where
   pub answered : IsAnswered base statement answer old new
   pub opened : gate old.number place true
 
 -- the statement was answered, or the run stops at it
-abbrev pub EndsOne : (ℕ → ℕ → Bool → Type 0) → State → ℕ → Statement → ℕ → Result Answer RaceFault → Known → Known → Type 0
+abbrev pub EndsOne : (ℕ → ℕ → Bool → Type 0) → State → ℕ → Statement → ℕ → Result Answer RaceFault → Known → Known
+    → Type 0
 EndsOne gate base capacity statement place (Ok answer) old new = IsLetIn gate base statement place answer old new
 EndsOne gate base capacity statement place (Err fault) old new = Halts gate base capacity statement place fault old new
 
 -- the run is this session's, and its statements before this line were answered as the history explains
-pub record IsReachedInRun (base : State) (history : List Entry) (before : Known) (statements : List Statement) (session line : ℕ) : Type 0 where
+pub record IsReachedInRun (base : State) (history : List Entry) (before : Known) (statements : List Statement)
+    (session line : ℕ) : Type 0 where
   pub number : session ≡ before.number
   pub below : line < length statements
   pub answers : List Answer
@@ -126,20 +136,24 @@ pub record IsReachedInRun (base : State) (history : List Entry) (before : Known)
 -- in all that the session has seen in the end, the statements before the named one were answered, and none
 -- after it
 abbrev pub GoesNoFurther : State → Known → List Statement → RaceFault → Known → Type 0
-GoesNoFurther base before statements (GateShut session line) after = IsReachedInRun base after.seen before statements session line
-GoesNoFurther base before statements (Full session line) after = IsReachedInRun base after.seen before statements session line
+GoesNoFurther base before statements (GateShut session line) after =
+    IsReachedInRun base after.seen before statements session line
+GoesNoFurther base before statements (Full session line) after =
+    IsReachedInRun base after.seen before statements session line
 GoesNoFurther base before statements NoMemory after = Unit {0}
 GoesNoFurther base before statements ThreadRefused after = ⊥
 
 -- after the statements before this one were answered, the gate can stop the run
-pub record IsShutAt (gate : ℕ → ℕ → Bool → Type 0) (base : State) (before : Known) (statements : List Statement) (session line : ℕ) : Type 0 where
+pub record IsShutAt (gate : ℕ → ℕ → Bool → Type 0) (base : State) (before : Known) (statements : List Statement)
+    (session line : ℕ) : Type 0 where
   pub history : List Entry
   pub reached : IsReachedInRun base history before statements session line
   pub shut : gate session line false
 
 -- after the statements before this one were answered, it is to be logged in a history that is as long as the
 -- log can be
-pub record IsFullAt (base : State) (capacity : ℕ) (before : Known) (statements : List Statement) (session line : ℕ) : Type 0 where
+pub record IsFullAt (base : State) (capacity : ℕ) (before : Known) (statements : List Statement)
+    (session line : ℕ) : Type 0 where
   pub history : List Entry
   pub reached : IsReachedInRun base history before statements session line
   pub statement : Statement

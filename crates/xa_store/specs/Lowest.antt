@@ -9,7 +9,8 @@
 --     IsRunThrough    a run was answered to its end
 --     AreRunThrough   the runs of all lower sessions were answered to their ends
 --     TellsLowest     the fault that a race returns is that of the lowest session
-use Rattle.std.specs.Prelude.{◌≡◌, ◌<◌, ◌≤◌, ◌==◌, ◌⊎◌, ℕ, Bool, not, List, length, slice_get, Some, Result, Ok, Err, vec_len}
+use Rattle.std.specs.Prelude.{◌≡◌, ◌<◌, ◌≤◌, ◌==◌, ◌⊎◌, ℕ, Bool, not, List, length, slice_get, Some, Result, Ok, Err}
+use Rattle.std.specs.Prelude.{vec_len}
 use Rattle.xa_server.specs.State.{State}
 use Rattle.decision_log.specs.declared.known.Known.{Known}
 use Rattle.xa_session.specs.declared.answer.Answer.{Answer}
@@ -48,23 +49,27 @@ Joins (Err other) number (Ok gain) told = told ≡ other
 Joins (Err other) number (Err fault) told = IsLower other number fault told
 
 -- the task stops, or has no thread, and the tasks of all lower sessions have done their part
-pub record IsOfLowest {Task Gain : Type 0} (number : Task → ℕ) (gains : Task → Gain → Type 0) (stops : Task → RaceFault → Type 0) (tasks : List Task)
+pub record IsOfLowest {Task Gain : Type 0} (number : Task → ℕ) (gains : Task → Gain → Type 0)
+    (stops : Task → RaceFault → Type 0) (tasks : List Task)
     (told : FirstFault) : Type 0 where
   pub index : ℕ
   pub task : Task
   pub found : slice_get tasks index ≡ Some task
   pub number_is : told.session ≡ number task
   pub cause : (told.fault ≡ ThreadRefused) ⊎ stops task told.fault
-  pub lower : (place : ℕ) (other : Task) → slice_get tasks place ≡ Some other → number other < told.session → (gain : Gain) × gains other gain
+  pub lower : (place : ℕ) (other : Task) → slice_get tasks place ≡ Some other → number other < told.session
+      → (gain : Gain) × gains other gain
 
 -- memory ran out, and all tasks have done their part
-pub record IsOfNone {Task Gain : Type 0} (gains : Task → Gain → Type 0) (tasks : List Task) (told : FirstFault) : Type 0 where
+pub record IsOfNone {Task Gain : Type 0} (gains : Task → Gain → Type 0) (tasks : List Task)
+    (told : FirstFault) : Type 0 where
   pub outside : IsOutside told
   pub all : (place : ℕ) (other : Task) → slice_get tasks place ≡ Some other → (gain : Gain) × gains other gain
 
 -- the fault is that of the lowest session; want of memory outside of the tasks is returned only if none has a
 -- fault
-abbrev pub IsTold : {Task Gain : Type 0} → (Task → ℕ) → (Task → Gain → Type 0) → (Task → RaceFault → Type 0) → List Task → FirstFault → Type 0
+abbrev pub IsTold : {Task Gain : Type 0} → (Task → ℕ) → (Task → Gain → Type 0) → (Task → RaceFault → Type 0) → List Task
+    → FirstFault → Type 0
 IsTold number gains stops tasks told = IsOfLowest number gains stops tasks told ⊎ IsOfNone gains tasks told
 
 -- all statements of the run were answered
@@ -76,7 +81,8 @@ pub record IsRunThrough (gate : ℕ → ℕ → Bool → Type 0) (base : State) 
 -- all statements of the runs of lower sessions were answered
 abbrev pub AreRunThrough : (ℕ → ℕ → Bool → Type 0) → State → List Run → ℕ → Type 0
 AreRunThrough gate base runs session =
-    (place : ℕ) (run : Run) → slice_get runs place ≡ Some run → (known_of run.pass).number < session → IsRunThrough gate base run
+    (place : ℕ) (run : Run) → slice_get runs place ≡ Some run → (known_of run.pass).number < session
+    → IsRunThrough gate base run
 
 -- a fault that names a session is that of the lowest one that has any, and a thread is refused only to a run
 abbrev pub TellsLowest : (ℕ → ℕ → Bool → Type 0) → State → List Run → RaceFault → Type 0

@@ -22,7 +22,8 @@ disconnected (suc sessions) state = after (disconnected sessions state) (suc ses
 abbrev pub renewed : State → List Entry → ℕ → State
 renewed base history sessions = disconnected sessions (state_after base history)
 
--- passes of this log, at least one, of which the last has seen what each has, and has just the entries of each one's number that this one knows as its own
+-- passes of this log, at least one, of which the last has seen what each has, and has just the entries of each one's
+-- number that this one knows as its own
 pub record AreGathered (identity : LogIdentity) (passes : List Pass) : Type 0 where
   pub some : 0 < length passes
   pub belongs : All (λ pass. log_of pass ≡ identity) passes

@@ -30,7 +30,8 @@ fn answer_one<L: DecisionLog, G: Gate, R: Wait>(
     gate: &G,
 ) -> Result<Answer, RaceFault>
     ensures stays { Stays session.old session.new }
-    ensures ends { EndsOne (G.may_answer gate.now) session.old.base.now (L.belongs_to session.old.pass).capacity statement.now line result
+    ensures ends { EndsOne (G.may_answer gate.now) session.old.base.now
+        (L.belongs_to session.old.pass).capacity statement.now line result
         (L.known session.old.pass) (L.known session.new.pass) }
 {
     let number = session.number();
@@ -58,11 +59,14 @@ pub(crate) fn answers_to<L: DecisionLog, G: Gate, R: Wait>(
     gate: &G,
 ) -> Result<Vec<Answer>, RaceFault>
     ensures ok { IfOk result
-        (λ answers. HasRun L.belongs_to L.known (G.may_answer gate.now) session.old.base.now session.old.pass lines.now session.new.base.now
+        (λ answers. HasRun L.belongs_to L.known (G.may_answer gate.now) session.old.base.now session.old.pass lines.now
+        session.new.base.now
         session.new.pass answers.items) }
     ensures fault { IfErr result
-        (λ fault. Stops (G.may_answer gate.now) session.old.base.now (L.belongs_to session.old.pass).capacity (L.known session.old.pass) lines.now fault) }
-    ensures rest { IfErr result (λ fault. GoesNoFurther session.old.base.now (L.known session.old.pass) lines.now fault (L.known session.new.pass)) }
+        (λ fault. Stops (G.may_answer gate.now) session.old.base.now (L.belongs_to session.old.pass).capacity
+        (L.known session.old.pass) lines.now fault) }
+    ensures rest { IfErr result (λ fault. GoesNoFurther session.old.base.now (L.known session.old.pass) lines.now fault
+        (L.known session.new.pass)) }
 {
     let mut answers = Vec::with_capacity(alloc, lines.len())?;
     for index in 0..lines.len() {

@@ -44,7 +44,8 @@ pub(crate) fn close_all<D: Drop>(
 ) -> Result<Closed<D>, NoMemory>
     requires { All (λ one. log_of one.session.pass ≡ identity_of store.now.log) returned.items }
     ensures closed { IfOk result
-        (λ closed. HasClosed (identity_of store.now.log) (map (λ one. one.session.pass) returned.entry.items) closed.history.items closed.passes.items) }
+        (λ closed. HasClosed (identity_of store.now.log) (map
+        (λ one. one.session.pass) returned.entry.items) closed.history.items closed.passes.items) }
     ensures done { IfOk result (λ closed. closed.done.items ≡ map (λ one. one.done) returned.entry.items) }
 {
     let (sessions, done) = part(alloc, returned)?;

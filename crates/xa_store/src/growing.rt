@@ -8,7 +8,8 @@ pub(crate) fn and_last<T: Drop>(
     others: Result<Vec<T>, NoMemory>,
     last: Result<T, NoMemory>,
 ) -> Result<Vec<T>, NoMemory>
-    ensures { IfOk result (λ all. (before : _) × (one : _) × (others ≡ Ok before) × (last ≡ Ok one) × (all.items ≡ before.items ++ one ∷ [])) }
+    ensures { IfOk result (λ all. (before : _) × (one : _) × (others ≡ Ok before) × (last ≡ Ok one)
+        × (all.items ≡ before.items ++ one ∷ [])) }
 {
     let mut all = others?;
     all.push(last?)?;
@@ -22,7 +23,8 @@ pub(crate) fn and_both<A: Drop, B: Drop>(
     second: B,
 ) -> Result<(Vec<A>, Vec<B>), NoMemory>
     ensures { IfOk result
-        (λ both. (before : _) × (others ≡ Ok before) × (both.0.items ≡ before.0.items ++ first ∷ []) × (both.1.items ≡ before.1.items ++ second ∷ [])) }
+        (λ both. (before : _) × (others ≡ Ok before) × (both.0.items ≡ before.0.items ++ first ∷ [])
+        × (both.1.items ≡ before.1.items ++ second ∷ [])) }
 {
     let (mut firsts, mut seconds) = others?;
     firsts.push(first)?;

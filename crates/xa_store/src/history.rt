@@ -28,11 +28,13 @@ impl Store {
         // Proved (stores, history-keeps): Asking for the history of sessions takes nothing from them and adds
         //   nothing, also without memory.
         ensures keeps { AllZip
-            (λ old new. (new.base.now ≡ old.base.now) × (log_of new.pass ≡ log_of old.pass) × AddsNothing (known_of old.pass) (known_of new.pass))
+            (λ old new. (new.base.now ≡ old.base.now) × (log_of new.pass ≡ log_of old.pass)
+            × AddsNothing (known_of old.pass) (known_of new.pass))
             sessions.old.items sessions.new.items }
         // Proved (stores, history-is-last-seen): The history of a store's sessions is what the last of them
         //   has seen after a look.
-        ensures last { IfOk result (λ list. list.items ≡ (last_known (map (λ session. known_of session.pass) sessions.new.items)).seen) }
+        ensures last { IfOk result (λ list. list.items ≡ (last_known
+            (map (λ session. known_of session.pass) sessions.new.items)).seen) }
         // Proved (stores, history-is-last-seen)
         ensures looked { 0 < length sessions.old.items
             → (last_known (map (λ session. known_of session.pass) sessions.old.items)).looks

@@ -44,7 +44,8 @@ impl Store {
         // Proved (stores, close-passes): Closing sessions returns their passes, in order. Each keeps what it
         //   knew and adds nothing.
         ensures passes { IfOk result
-            (λ ended. AllZip (λ session pass. (log_of pass ≡ log_of session.pass) × AddsNothing (known_of session.pass) (known_of pass)) sessions.entry.items
+            (λ ended. AllZip (λ session pass. (log_of pass ≡ log_of session.pass)
+            × AddsNothing (known_of session.pass) (known_of pass)) sessions.entry.items
             ended.1.items) }
         // Proved (stores, close-history): Of sessions that were closed the last has looked. The history that
         //   is returned is what it has seen; it has all that each of them has seen, with each one's own
@@ -53,17 +54,20 @@ impl Store {
         // Proved (stores, close-history)
         ensures looked { IfOk result
             (λ ended. 0 < length sessions.entry.items
-            → (last_known (map (λ session. known_of session.pass) sessions.entry.items)).looks < (last_known (map known_of ended.1.items)).looks) }
+            → (last_known (map (λ session. known_of session.pass) sessions.entry.items)).looks < (last_known
+            (map known_of ended.1.items)).looks) }
         // Proved (stores, close-history)
         ensures whole { IfOk result (λ ended. All (λ pass. IsTakenIn ended.0.items (known_of pass)) ended.1.items) }
         // Proved (stores, close-for-renewal): If a session was given, the passes that closing returns are
         //   those that a renewal takes.
-        ensures gathered { IfOk result (λ ended. 0 < length sessions.entry.items → AreGathered (identity_of self.now.log) ended.1.items) }
+        ensures gathered { IfOk result (λ ended. 0 < length sessions.entry.items
+            → AreGathered (identity_of self.now.log) ended.1.items) }
         // Proved (stores, close-no-memory): If there is no memory to close sessions, they come back, and have
         //   kept all that they knew.
         ensures err { IfErr result
             (λ refused. AllZip
-            (λ old new. (new.base.now ≡ old.base.now) × (log_of new.pass ≡ log_of old.pass) × AddsNothing (known_of old.pass) (known_of new.pass))
+            (λ old new. (new.base.now ≡ old.base.now) × (log_of new.pass ≡ log_of old.pass)
+            × AddsNothing (known_of old.pass) (known_of new.pass))
             sessions.entry.items refused.0.items) }
     {
         match self.history(alloc, &mut sessions) {

@@ -16,7 +16,8 @@ use xa_xid::NoMemory;
 pub(crate) fn meet_each<L: DecisionLog>(others: &mut Vec<Session<'_, L>>, last: &mut Session<'_, L>)
     requires { All (λ session. L.belongs_to session.pass ≡ L.belongs_to last.old.pass) others.old.items }
     ensures others { AllZip
-        (λ old new. (new.base.now ≡ old.base.now) × (L.belongs_to new.pass ≡ L.belongs_to old.pass) × MeetsFirst (L.known old.pass) (L.known new.pass))
+        (λ old new. (new.base.now ≡ old.base.now) × (L.belongs_to new.pass ≡ L.belongs_to old.pass)
+        × MeetsFirst (L.known old.pass) (L.known new.pass))
         others.old.items others.new.items }
     ensures room { vec_capacity others.new ≡ vec_capacity others.old }
     ensures base { last.new.base.now ≡ last.old.base.now }
@@ -25,7 +26,8 @@ pub(crate) fn meet_each<L: DecisionLog>(others: &mut Vec<Session<'_, L>>, last: 
     ensures seen { All (λ session. Begins (L.known session.pass).seen (L.known last.new.pass).seen) others.new.items }
     ensures whole { All (λ session. Begins (L.known session.pass).seen (L.known last.old.pass).seen) others.old.items
         → ((L.known last.new.pass).seen ≡ (L.known last.old.pass).seen)
-        × All (λ session. entries_of (L.known session.pass).number (L.known last.new.pass).seen ≡ (L.known session.pass).mine) others.new.items }
+        × All (λ session. entries_of (L.known session.pass).number (L.known last.new.pass).seen
+        ≡ (L.known session.pass).mine) others.new.items }
 {
     for index in 0..others.len() {
         others[index].meet(last);
@@ -40,7 +42,8 @@ pub(crate) fn meet_each<L: DecisionLog>(others: &mut Vec<Session<'_, L>>, last: 
 pub(crate) fn meet_all<L: DecisionLog>(others: &mut Vec<Session<'_, L>>, last: &mut Session<'_, L>)
     requires { All (λ session. L.belongs_to session.pass ≡ L.belongs_to last.old.pass) others.old.items }
     ensures others { AllZip
-        (λ old new. (new.base.now ≡ old.base.now) × (L.belongs_to new.pass ≡ L.belongs_to old.pass) × MeetsFirst (L.known old.pass) (L.known new.pass))
+        (λ old new. (new.base.now ≡ old.base.now) × (L.belongs_to new.pass ≡ L.belongs_to old.pass)
+        × MeetsFirst (L.known old.pass) (L.known new.pass))
         others.old.items others.new.items }
     ensures room { vec_capacity others.new ≡ vec_capacity others.old }
     ensures base { last.new.base.now ≡ last.old.base.now }

@@ -31,7 +31,8 @@ impl Store {
     fn reopened(&self, alloc: Global, base: Server) -> Result<(Store, Vec<Pass>), NoMemory>
         ensures base { IfOk result (λ opened. opened.0.base ≡ base) }
         ensures ok { IfOk result
-            (λ opened. Opens log_of known_of (identity_of self.now.log).capacity (identity_of self.now.log).sessions (identity_of opened.0.log)
+            (λ opened. Opens log_of known_of (identity_of self.now.log).capacity (identity_of self.now.log).sessions
+            (identity_of opened.0.log)
             opened.1.items) }
     {
         let Ok((log, passes)) = Log::open(alloc, self.log.capacity(), self.log.sessions()) else {
@@ -46,9 +47,11 @@ impl Store {
         requires { log_of last.old ≡ identity_of self.now.log }
         ensures belongs { log_of last.new ≡ log_of last.old }
         ensures same { known_of last.new ≡ known_of last.old }
-        ensures base { IfOk result (λ opened. opened.0.base ≡ renewed self.now.base (known_of last.old).seen (identity_of self.now.log).sessions) }
+        ensures base { IfOk result (λ opened. opened.0.base
+            ≡ renewed self.now.base (known_of last.old).seen (identity_of self.now.log).sessions) }
         ensures ok { IfOk result
-            (λ opened. Opens log_of known_of (identity_of self.now.log).capacity (identity_of self.now.log).sessions (identity_of opened.0.log)
+            (λ opened. Opens log_of known_of (identity_of self.now.log).capacity (identity_of self.now.log).sessions
+            (identity_of opened.0.log)
             opened.1.items) }
     {
         let server = replayed(&self.log, &self.base, last)?;
@@ -74,14 +77,17 @@ impl Store {
         requires { AreGathered (identity_of self.log) passes.items }
         // Proved (stores, renew-base): A renewed store begins with the old base after all that the last pass
         //   has seen, and after a `DISCONNECT` of each session.
-        ensures base { IfOk result (λ opened. opened.0.base ≡ renewed self.base (last_known (map known_of passes.items)).seen (identity_of self.log).sessions) }
+        ensures base { IfOk result (λ opened. opened.0.base
+            ≡ renewed self.base (last_known (map known_of passes.items)).seen (identity_of self.log).sessions) }
         // Proved (stores, renew-passes): A renewed store has an empty log of the same two sizes, with passes
         //   of all sessions.
         ensures ok { IfOk result
-            (λ opened. Opens log_of known_of (identity_of self.log).capacity (identity_of self.log).sessions (identity_of opened.0.log) opened.1.items) }
+            (λ opened. Opens log_of known_of (identity_of self.log).capacity (identity_of self.log).sessions
+            (identity_of opened.0.log) opened.1.items) }
         // Proved (stores, renew-no-memory): If there is no memory to renew a store, the store and the passes
         //   come back as they were.
-        ensures store { IfErr result (λ kept. (kept.0.base ≡ self.base) × (identity_of kept.0.log ≡ identity_of self.log)) }
+        ensures store { IfErr result (λ kept. (kept.0.base ≡ self.base)
+            × (identity_of kept.0.log ≡ identity_of self.log)) }
         // Proved (stores, renew-no-memory)
         ensures passes { IfErr result (λ kept. AllZip (λ old new. (log_of new ≡ log_of old) × (known_of new ≡ known_of old)) passes.items kept.1.items) }
     {

@@ -29,10 +29,12 @@ where
 
     ghost number_of = { λ run. (L.known run.session.pass).number };
 
-    ghost gains = { λ run gone. HasRun L.belongs_to L.known (G.may_answer run.gate.now) run.session.base.now run.session.pass run.lines.items
+    ghost gains = { λ run gone. HasRun L.belongs_to L.known
+        (G.may_answer run.gate.now) run.session.base.now run.session.pass run.lines.items
         gone.session.base.now gone.session.pass gone.done.items };
 
-    ghost stops = { λ run fault. Stops (G.may_answer run.gate.now) run.session.base.now (L.belongs_to run.session.pass).capacity (L.known run.session.pass)
+    ghost stops = { λ run fault. Stops (G.may_answer run.gate.now) run.session.base.now
+        (L.belongs_to run.session.pass).capacity (L.known run.session.pass)
         run.lines.items fault };
 
     fn number(&self) -> SessionNo {

@@ -24,7 +24,8 @@ impl<T: Task> Promise<Result<T::Gain, RaceFault>> for DoesItsPart<T> {
 /// The fault that is returned if one more task stops.
 fn fault_of<D: Drop>(others: Result<Vec<D>, FirstFault>, own: FirstFault) -> FirstFault
     ensures either { (others ≡ Err result) ⊎ (result ≡ own) }
-    ensures lowest { (result.session ≤ own.session) × IfErr others (λ first_fault. result.session ≤ first_fault.session) }
+    ensures lowest { (result.session ≤ own.session) × IfErr others
+        (λ first_fault. result.session ≤ first_fault.session) }
 {
     if let Err(first_fault) = &others {
         return (*first_fault).or(own);
@@ -39,9 +40,11 @@ fn join_task<D: Drop>(
     ended: Result<D, RaceFault>,
 ) -> Result<Vec<D>, FirstFault>
     ensures ok { IfOk result
-        (λ all. (before : _) × (gain : _) × (others ≡ Ok before) × (ended ≡ Ok gain) × (all.items ≡ before.items ++ gain ∷ [])) }
+        (λ all. (before : _) × (gain : _) × (others ≡ Ok before) × (ended ≡ Ok gain)
+        × (all.items ≡ before.items ++ gain ∷ [])) }
     ensures err { IfErr result
-        (λ first_fault. (others ≡ Err first_fault) ⊎ (ended ≡ Err first_fault.fault) ⊎ (first_fault.fault ≡ RaceFault.NoMemory)) }
+        (λ first_fault. (others ≡ Err first_fault) ⊎ (ended ≡ Err first_fault.fault)
+        ⊎ (first_fault.fault ≡ RaceFault.NoMemory)) }
     ensures lowest { IfErr result (Joins others number ended) }
 {
     let gain = match ended {

@@ -44,7 +44,8 @@ impl Store {
         // Proved (stores, opens-passes): Opening a store returns the passes of sessions 1 to the last, in
         //   order, each with nothing seen.
         ensures ok { IfOk result
-            (λ opened. Opens ⟦<Log as DecisionLog>⟧.belongs_to ⟦<Log as DecisionLog>⟧.known capacity sessions (⟦<Log as DecisionLog>⟧.identity opened.0.log)
+            (λ opened. Opens ⟦<Log as DecisionLog>⟧.belongs_to ⟦<Log as DecisionLog>⟧.known capacity sessions
+            (⟦<Log as DecisionLog>⟧.identity opened.0.log)
             opened.1.items) }
         // Proved (stores, open-fault): If a store can't be opened, the fault is the first whose cause holds.
         ensures err { IfErr result (λ fault. Refuses capacity sessions fault) }

@@ -4,7 +4,8 @@ use Rattle.std.specs.List.{All, AllZip}
 use Rattle.std.proofs.lemmas.List.Elements.{All-get_or, AllZip-get_or, length_all_zip}
 
 -- it stays so where its change keeps it
-pub all_kept : {S : Type 0} (R : S → S → Type 0) (P : S → Type 0) → ((a b : S) → R a b → P a → P b) → (before now : List S) → AllZip R before now → All P before
+pub all_kept : {S : Type 0} (R : S → S → Type 0) (P : S → Type 0) → ((a b : S) → R a b → P a → P b)
+    → (before now : List S) → AllZip R before now → All P before
     → All P now
 all_kept R P keep before now zip all k d below =
     let long = length_all_zip R before now zip in

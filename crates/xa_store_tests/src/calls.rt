@@ -1,12 +1,12 @@
 //! Calls of a transaction manager, whose lines say what they have to be answered. A step that is refused
 //! memory is repeated once.
 
+use crate::{is_answer, split_case};
 use std::alloc::Global;
 use std::process::Abort;
 use std::sync::Wait;
 use xa_coordinator::{Fused, Speak};
 use xa_lines::{Answer, split_line};
-use xa_log_tests::{is_answer, split_case};
 use xa_manager::{Call, Manager, Response, read_call, write_response};
 
 /// What a manager answers to a call. If there was no memory for a transaction, the call is made again.

@@ -7,6 +7,7 @@ ghost use Rattle.xa_store.specs.Passes.{identity_of, log_of};
 use crate::meddled::name;
 use crate::renewal::{Way, gone_on, left};
 use crate::stores::{both, joined, next_session, opened, pushed, two_passes};
+use crate::{is_answer, is_reply};
 use std::alloc::Global;
 use std::process::Abort;
 use std::sync::Wait;
@@ -14,7 +15,6 @@ use xa_coordinator::{
     BeginFault, Cause, Coordinator, Decisions, Ending, Prepared, RecoverFault, Report, Speak,
     Transaction, Vote, WorkFault, xid_of_branch,
 };
-use xa_log_tests::{is_answer, is_reply};
 use xa_server::{Reply, XaError};
 use xa_session::{Fault, Session};
 use xa_statement::read_statement;

@@ -4,13 +4,13 @@ ghost use Rattle.std.specs.List.{All};
 ghost use Rattle.xa_store.specs.Passes.{identity_of, log_of};
 
 use crate::calls::{calls, is_told, told};
+use crate::split_case;
 use crate::stores::{both, opened, pushed};
 use std::alloc::Global;
 use std::process::Abort;
 use std::sync::Wait;
 use xa_coordinator::{Fused, Speak};
 use xa_lines::split_line;
-use xa_log_tests::split_case;
 use xa_manager::Manager;
 use xa_session::Session;
 use xa_store::{Log, Pass, Store};

@@ -4,12 +4,12 @@ ghost use Rattle.std.specs.Prelude.{◌≡◌};
 ghost use Rattle.std.specs.List.{All};
 ghost use Rattle.xa_store.specs.Passes.{identity_of, log_of};
 
+use crate::has_history;
 use crate::renewal::play;
 use crate::stores::{both, next_session, opened, pushed};
 use std::alloc::Global;
 use std::process::Abort;
 use std::sync::Wait;
-use xa_log_tests::has_history;
 use xa_session::Session;
 use xa_store::{Log, Pass, Store};
 use xa_words::Entry;

@@ -1,6 +1,5 @@
 //! Tests of stores and of what stands above them, that the built program can't show: races, renewals,
-//! coordinators, managers, records and lines. The program's are in cases/. The scripts of these tests are
-//! played by `xa_log_tests`.
+//! coordinators, managers, records and lines, and tests of what stands below the store. The program's are in cases/.
 //!
 //! The largest is `src/machine.rt`: it stops a coordinator, or lets it fail or meet another client, at each
 //! of its calls, and compares what a recovery leaves with an account of its own. Read it and
@@ -15,16 +14,35 @@
 //! name them, since the derive that writes them has no contract. `src/named.rt` compares the limits and
 //! numbers that pages of docs/ state.
 //!
+//! `src/playing.rt` plays a script by two sessions whose lines hold their expected answers: `2 GET 'k' = 1 VALUE 0x76`
+//! is a line of session 2 that is answered at place 1. In an expected answer `|` stands for a line feed.
+//!
+//! Of what stands below the store, `src/spellings.rt`, `src/bytes.rt` and `src/servers.rt` say by example what
+//! `xa_xid`, `xa_statement` and `xa_server` mean: the place after a literal or an identifier, numbers of faults,
+//! canonical texts, orders, copies, and the codes and texts of refusals. `src/entries.rt` has entries as words.
+//! `src/scenes.rt` has what every log shows, by itself and below sessions; each scene runs over the log with a turn and
+//! over the chain. `chain_log` has tests of its own, for what it keeps private. Examples that the program can show are
+//! in cases/.
+//!
 //! A test whose name ends in `_survives` passes whether or not one allocation in it fails; `scripts/sweep`
 //! makes each fail in turn.
 #![tactic(auto)]
 
 #[cfg(test)]
+mod adders;
+#[cfg(test)]
+mod bytes;
+#[cfg(test)]
 mod calls;
+mod cases;
 #[cfg(test)]
 mod coordinators;
 #[cfg(test)]
+mod counted_races;
+#[cfg(test)]
 mod courses;
+#[cfg(test)]
+mod entries;
 #[cfg(test)]
 mod events;
 #[cfg(test)]
@@ -34,6 +52,8 @@ mod histories;
 #[cfg(test)]
 mod lines;
 #[cfg(test)]
+mod logs;
+#[cfg(test)]
 mod long_races;
 #[cfg(test)]
 mod machine;
@@ -42,20 +62,44 @@ mod meddled;
 #[cfg(test)]
 mod named;
 #[cfg(test)]
+mod opened;
+mod player_lines;
+mod playing;
+#[cfg(test)]
+mod preparers;
+#[cfg(test)]
 mod races;
 #[cfg(test)]
 mod renewal;
 #[cfg(test)]
 mod replay;
+mod replies;
 #[cfg(test)]
 mod runs;
+#[cfg(test)]
+mod scenes;
+#[cfg(test)]
+mod servers;
+#[cfg(test)]
+mod sessions;
 #[cfg(test)]
 mod sixteen;
 #[cfg(test)]
 mod sizes;
 #[cfg(test)]
+mod spellings;
+#[cfg(test)]
 mod stopped;
 #[cfg(test)]
 mod stores;
 #[cfg(test)]
+mod sweeps;
+#[cfg(test)]
 mod texts;
+#[cfg(test)]
+mod trying;
+
+pub use cases::{is_answer, split_case};
+pub use player_lines::given_in;
+pub use playing::{first_difference, has_history};
+pub use replies::is_reply;

@@ -1,6 +1,6 @@
 //! Races of lists of statements over stores without an end, whose rings are small.
 ghost use Rattle.std.specs.Prelude.{◌≤◌, length, IfSome};
-ghost use Rattle.ring_log.specs.RingOpens.{AreRows};
+ghost use Rattle.chain_log.specs.RingOpens.{AreRows};
 
 use std::alloc::Global;
 use std::process::Abort;

@@ -230,7 +230,8 @@ fn sessions_meet_at_their_first_lines(rt: HostRuntime) {
 /// Two sessions write a row eight times each.
 const WRITES: &[u8] =
     b"1 PUT 'k','a'\n1 PUT 'k','b'\n1 PUT 'k','c'\n1 PUT 'k','d'\n1 PUT 'k','e'\n1 PUT 'k','f'\n1 PUT 'k','g'
-1 PUT 'k','h'\n2 PUT 'k','a'\n2 PUT 'k','b'\n2 PUT 'k','c'\n2 PUT 'k','d'\n2 PUT 'k','e'\n2 PUT 'k','f'\n2 PUT 'k','g'\n2 PUT 'k','h'\n";
+1 PUT 'k','h'\n2 PUT 'k','a'\n2 PUT 'k','b'\n2 PUT 'k','c'\n2 PUT 'k','d'\n2 PUT 'k','e'\n2 PUT 'k','f'\n2 PUT 'k','g'
+2 PUT 'k','h'\n";
 
 /// Whether a write was carried out, at one of 16 places.
 fn is_done(answer: &Answer) -> bool {

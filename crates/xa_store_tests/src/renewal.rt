@@ -5,12 +5,12 @@ ghost use Rattle.std.specs.List.{All};
 ghost use Rattle.xa_store.specs.Passes.{identity_of, log_of};
 ghost use Rattle.xa_store.specs.Renewal.{AreGathered};
 
+use crate::first_difference;
 use crate::stores::{both, opened, pushed};
 use decision_log::OpenFault;
 use std::alloc::Global;
 use std::process::Abort;
 use std::sync::Wait;
-use xa_log_tests::first_difference;
 use xa_session::Session;
 use xa_store::{Log, Pass, Store};
 use xa_words::Entry;

@@ -3,11 +3,11 @@ ghost use Rattle.std.specs.Prelude.{◌≡◌, map};
 ghost use Rattle.std.specs.List.{All};
 ghost use Rattle.xa_store.specs.Passes.{identity_of, log_of};
 
+use crate::given_in;
 use crate::stores::pushed;
 use std::alloc::Global;
 use std::process::Abort;
 use xa_lines::split_line;
-use xa_log_tests::given_in;
 use xa_store::{Pass, Run, Store};
 use xa_xid::{SessionNo, Statement};
 

@@ -132,7 +132,8 @@ fn side_by_side<'a, L: DecisionLog + Sync, R: Threads + Wait + Sync>(
 where
     L::Pass: Send + Drop,
     requires { All (λ session. L.belongs_to session.pass ≡ identity_of store.now.log) sessions.items }
-    ensures { IfSome result (λ all. All (λ worked. L.belongs_to worked.session.pass ≡ identity_of store.now.log) all.items) }
+    ensures { IfSome result (λ all. All (λ worked. L.belongs_to worked.session.pass
+        ≡ identity_of store.now.log) all.items) }
 {
     let _store = store;
     thread::map_vec(rt, sessions, &|session| works(rt, alloc, session)).ok()

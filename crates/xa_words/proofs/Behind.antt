@@ -1,5 +1,6 @@
 -- The words of an entry behind the end of its texts.
-use Rattle.std.proofs.Common.{◌≡◌, ℕ, ◌+◌, ◌-◌, ◌*◌, ◌<◌, ◌≤◌, List, length, get_or, take, drop, refl, ap, sym, ◌∙◌, arith}
+use Rattle.std.proofs.Common.{◌≡◌, ℕ, ◌+◌, ◌-◌, ◌*◌, ◌<◌, ◌≤◌, List, length, get_or, take, drop, refl, ap, sym, ◌∙◌}
+use Rattle.std.proofs.Common.{arith}
 use Rattle.std.proofs.lemmas.List.{get_or-drop, get_or-take}
 use Rattle.xa_words.specs.Entry.{Entry}
 use Rattle.xa_words.specs.Words.{parts_of, text_word, text_words, words_of}
@@ -12,7 +13,8 @@ unfolding words_of
 own_pieces entry = pieces (words_of entry) entry.session (parts_of entry.statement) refl
 
 -- a word among eight that are a text's, which ends before it
-behind : (words text : List ℕ) (start index size : ℕ) → take 8 (drop start words) ≡ text_words text → size ≡ length text → start ≤ index → index < start + 8
+behind : (words text : List ℕ) (start index size : ℕ) → take 8 (drop start words) ≡ text_words text → size ≡ length text
+    → start ≤ index → index < start + 8
     → size ≤ 8 * (index - start) → get_or words index 0 ≡ 0
 behind words text start index size piece is from below past =
     let at : index ≡ start + (index - start) = omega arith in
@@ -25,15 +27,18 @@ behind words text start index size piece is from below past =
     ∙ past_the_end text (8 * (index - start)) (omega (arith, is, past))
 
 -- behind the first text
-pub behind_first : (entry : Entry) (index size : ℕ) → size ≡ get_or (words_of entry) 2 0 → 5 ≤ index → index < 13 → size ≤ 8 * (index - 5)
+pub behind_first : (entry : Entry) (index size : ℕ) → size ≡ get_or (words_of entry) 2 0 → 5 ≤ index → index < 13
+    → size ≤ 8 * (index - 5)
     → get_or (words_of entry) index 0 ≡ 0
 behind_first entry index size is from below past =
     let p = own_pieces entry in
     behind (words_of entry) (parts_of entry.statement).first 5 index size p.first (is ∙ p.first_length) from below past
 
 -- behind the second
-pub behind_second : (entry : Entry) (index size : ℕ) → size ≡ get_or (words_of entry) 3 0 → 13 ≤ index → index < 21 → size ≤ 8 * (index - 13)
+pub behind_second : (entry : Entry) (index size : ℕ) → size ≡ get_or (words_of entry) 3 0 → 13 ≤ index → index < 21
+    → size ≤ 8 * (index - 13)
     → get_or (words_of entry) index 0 ≡ 0
 behind_second entry index size is from below past =
     let p = own_pieces entry in
-    behind (words_of entry) (parts_of entry.statement).second 13 index size p.second (is ∙ p.second_length) from below past
+    behind (words_of entry) (parts_of entry.statement).second 13 index size p.second
+    (is ∙ p.second_length) from below past

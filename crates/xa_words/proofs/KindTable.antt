@@ -1,8 +1,10 @@
 -- A statement and its parts: the parts give the statement back.
-use Rattle.std.proofs.Common.{◌≡◌, ℕ, ◌<◌, ◌≤◌, ◌^◌, true, false, cond, nat_eq, IsTrue, List, [], refl, ap, sym, ◌∙◌, arith, lit<, lit≤}
+use Rattle.std.proofs.Common.{◌≡◌, ℕ, ◌<◌, ◌≤◌, ◌^◌, true, false, cond, nat_eq, IsTrue, List, [], refl, ap, sym, ◌∙◌}
+use Rattle.std.proofs.Common.{arith, lit<, lit≤}
 use Rattle.xa_xid.specs.declared.xid.Xid.{Xid}
 use Rattle.xa_xid.specs.declared.statement.Statement.{Statement}
-use Rattle.xa_xid.specs.declared.statement.Statement.TheVariants.{Start, End, Prepare, Commit, Rollback, Recover, Unsupported, Get, Put, Del, Disconnect}
+use Rattle.xa_xid.specs.declared.statement.Statement.TheVariants.{Start, End, Prepare, Commit, Rollback, Recover}
+use Rattle.xa_xid.specs.declared.statement.Statement.TheVariants.{Unsupported, Get, Put, Del, Disconnect}
 use Rattle.xa_words.specs.Entry.{IsText, IsXid, may_be_entry, KeepsLimits}
 use Rattle.xa_words.specs.Words.{Parts, of_xid, of_texts, parts_of, RowParts}
 
@@ -38,7 +40,8 @@ again (Del key) may = refl
 again Disconnect may = refl
 
 -- statements of the same parts are one
-pub one_statement : (left right : Statement) → IsTrue (may_be_entry left) → IsTrue (may_be_entry right) → parts_of left ≡ parts_of right → left ≡ right
+pub one_statement : (left right : Statement) → IsTrue (may_be_entry left) → IsTrue (may_be_entry right)
+    → parts_of left ≡ parts_of right → left ≡ right
 one_statement left right l r same = sym (again left l) ∙ ap statement_of same ∙ again right r
 
 empty : IsText []
@@ -68,7 +71,8 @@ xid_within kind xid low high k =
     }
 
 -- a kind with two texts
-texts_within : (kind : ℕ) (first second : List ℕ) → IsText first → IsText second → RowParts (of_texts kind first second) → Within (of_texts kind first second)
+texts_within : (kind : ℕ) (first second : List ℕ) → IsText first → IsText second → RowParts (of_texts kind first second)
+    → Within (of_texts kind first second)
 texts_within kind first second one two row =
     record {
       low = omega (arith, row.low);
@@ -91,13 +95,41 @@ within (Recover convert) may k = cc
 within Unsupported may k = cc
 within (Get key) may k =
     texts_within 7 key [] k.text empty
-    (record { low = omega arith; high = omega arith; key = λ b. k.not_empty; no_key = λ e. absurd (omega arith); no_value = λ n. refl })
+    (record {
+      low = omega arith;
+      high = omega arith;
+      key = λ b. k.not_empty;
+      no_key = λ e. absurd
+          (omega arith);
+      no_value = λ n. refl;
+    })
 within (Put key value) may k =
     texts_within 8 key value.items k.0.text k.1
-    (record { low = omega arith; high = omega arith; key = λ b. k.0.not_empty; no_key = λ e. absurd (omega arith); no_value = λ n. absurd (n refl) })
+    (record {
+      low = omega arith;
+      high = omega arith;
+      key = λ b. k.0.not_empty;
+      no_key = λ e. absurd
+          (omega arith);
+      no_value = λ n. absurd (n refl);
+    })
 within (Del key) may k =
     texts_within 9 key [] k.text empty
-    (record { low = omega arith; high = omega arith; key = λ b. k.not_empty; no_key = λ e. absurd (omega arith); no_value = λ n. refl })
+    (record {
+      low = omega arith;
+      high = omega arith;
+      key = λ b. k.not_empty;
+      no_key = λ e. absurd
+          (omega arith);
+      no_value = λ n. refl;
+    })
 within Disconnect may k =
     texts_within 10 [] [] empty empty
-    (record { low = omega arith; high = omega arith; key = λ b. absurd (omega arith); no_key = λ e. refl; no_value = λ n. refl })
+    (record {
+      low = omega arith;
+      high = omega arith;
+      key = λ b. absurd
+          (omega arith);
+      no_key = λ e. refl;
+      no_value = λ n. refl;
+    })

@@ -1,5 +1,6 @@
 -- An entry and its 21 words: each gives the other back.
-use Rattle.std.proofs.Common.{◌≡◌, ℕ, ◌<◌, ◌^◌, List, [], ◌∷◌, ◌++◌, length, get_or, take, drop, refl, ap, sym, ◌∙◌, arith}
+use Rattle.std.proofs.Common.{◌≡◌, ℕ, ◌<◌, ◌^◌, List, [], ◌∷◌, ◌++◌, length, get_or, take, drop, refl, ap, sym, ◌∙◌}
+use Rattle.std.proofs.Common.{arith}
 use Rattle.std.specs.List.{All}
 use Rattle.std.proofs.lemmas.List.{take-append-drop, length-drop, take_all}
 use Rattle.std.proofs.lemmas.List.Elements.{All-from_recursion}
@@ -48,10 +49,12 @@ one_entry left right l r same =
     let same_first : p.first ≡ q.first =
     one_text p.first q.first wl.first wr.first (ap (λ ws. get_or ws 2 0) same) (ap (λ ws. take 8 (drop 5 ws)) same) in
     let same_second : p.second ≡ q.second =
-    one_text p.second q.second wl.second wr.second (ap (λ ws. get_or ws 3 0) same) (ap (λ ws. take 8 (drop 13 ws)) same) in
+    one_text p.second q.second wl.second wr.second (ap (λ ws. get_or ws 3 0) same)
+    (ap (λ ws. take 8 (drop 13 ws)) same) in
     let same_parts : p ≡ q =
     parts_by p q (ap (λ ws. get_or ws 1 0) same) (ap (λ ws. get_or ws 4 0) same) same_first same_second in
-    entry_by left right (ap (λ ws. get_or ws 0 0) same) (one_statement left.statement right.statement l.kind r.kind same_parts)
+    entry_by left right (ap (λ ws. get_or ws 0 0) same)
+    (one_statement left.statement right.statement l.kind r.kind same_parts)
 
 pub length-words_of : (entry : Entry) → length (words_of entry) ≡ 21
 unfolding words_of
@@ -97,7 +100,13 @@ words_of-fit entry is =
                                       text_word-fits _ w.second 24,
                                       (
                                         text_word-fits _ w.second 32,
-                                        (text_word-fits _ w.second 40, (text_word-fits _ w.second 48, (text_word-fits _ w.second 56, tt))),
+                                        (
+                                          text_word-fits _ w.second 40,
+                                          (
+                                            text_word-fits _ w.second 48,
+                                            (text_word-fits _ w.second 56, tt),
+                                          ),
+                                        ),
                                       ),
                                     ),
                                   ),
@@ -117,15 +126,18 @@ words_of-fit entry is =
       ),
     )
 
-pub pieces_of : (words : List ℕ) (entry : Entry) → words ≡ words_of entry → Pieces words entry.session (parts_of entry.statement)
+pub pieces_of : (words : List ℕ) (entry : Entry) → words ≡ words_of entry
+    → Pieces words entry.session (parts_of entry.statement)
 unfolding words_of
 pieces_of words entry same = pieces words entry.session (parts_of entry.statement) same
 
 -- texts that were read from the words of an entry are its texts
 pub parts_read : (words : List ℕ) (entry : Entry) → words ≡ words_of entry → (first second : List ℕ)
     → first ≡ (parts_of entry.statement).first → second ≡ (parts_of entry.statement).second
-    → parts_of entry.statement ≡ record { kind = get_or words 1 0; format_id = get_or words 4 0; first = first; second = second }
+    → parts_of entry.statement
+    ≡ record { kind = get_or words 1 0; format_id = get_or words 4 0; first = first; second = second }
 parts_read words entry same first second one two =
     let p = pieces_of words entry same in
-    parts_by (parts_of entry.statement) (record { kind = get_or words 1 0; format_id = get_or words 4 0; first = first; second = second }) (sym p.kind)
+    parts_by (parts_of entry.statement)
+    (record { kind = get_or words 1 0; format_id = get_or words 4 0; first = first; second = second }) (sym p.kind)
     (sym p.format_id) (sym one) (sym two)

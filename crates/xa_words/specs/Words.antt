@@ -6,11 +6,13 @@
 --     words_of        the numbers of an entry
 --     RowParts        the parts of a statement without an identifier
 --     byte_of         the byte at a place of eight such numbers
-use Rattle.std.specs.Prelude.{◌≡◌, ◌≢◌, ◌<◌, ◌≤◌, ℕ, ◌+◌, ◌/◌, ◌%◌, List, [], ◌∷◌, ◌++◌, length, slice_index, true, false}
+use Rattle.std.specs.Prelude.{◌≡◌, ◌≢◌, ◌<◌, ◌≤◌, ℕ, ◌+◌, ◌/◌, ◌%◌, List, [], ◌∷◌, ◌++◌, length, slice_index, true}
+use Rattle.std.specs.Prelude.{false}
 use Rattle.std.specs.Int.{w64, from_be_bytes, to_be_bytes}
 use Rattle.xa_xid.specs.declared.xid.Xid.{Xid}
 use Rattle.xa_xid.specs.declared.statement.Statement.{Statement}
-use Rattle.xa_xid.specs.declared.statement.Statement.TheVariants.{Start, End, Prepare, Commit, Rollback, Recover, Unsupported, Get, Put, Del, Disconnect}
+use Rattle.xa_xid.specs.declared.statement.Statement.TheVariants.{Start, End, Prepare, Commit, Rollback, Recover}
+use Rattle.xa_xid.specs.declared.statement.Statement.TheVariants.{Unsupported, Get, Put, Del, Disconnect}
 use Rattle.xa_words.specs.Entry.{Entry}
 
 -- a kind, a formatID (0 if the kind has none), and two texts (empty if the kind has none)
@@ -47,7 +49,8 @@ parts_of Unsupported = of_texts 0 [] []
 abbrev pub eight_bytes : List ℕ → ℕ → List ℕ
 eight_bytes text place =
     slice_index text place ∷ slice_index text (place + 1) ∷ slice_index text (place + 2) ∷ slice_index text (place + 3)
-    ∷ slice_index text (place + 4) ∷ slice_index text (place + 5) ∷ slice_index text (place + 6) ∷ slice_index text (place + 7) ∷ []
+    ∷ slice_index text (place + 4) ∷ slice_index text (place + 5) ∷ slice_index text (place + 6) ∷ slice_index text
+    (place + 7) ∷ []
 
 -- the eight bytes from a place on as one number, the highest byte first (own rule)
 unfoldable pub text_word : List ℕ → ℕ → ℕ

@@ -36,7 +36,8 @@ impl Entry {
     pub fn of(session: SessionNo, statement: &Statement) -> Option<Entry>
         // Proved (log, entries): Every session and every statement make an entry, except `XA RECOVER` and
         //   an unsupported statement.
-        ensures { result ≡ (if may_be_entry statement.now then Some (record { session = session; statement = statement.now }) else None) }
+        ensures { result ≡ (if may_be_entry statement.now then Some
+            (record { session = session; statement = statement.now }) else None) }
     {
         match statement {
             Statement::Recover { .. } | Statement::Unsupported => None,

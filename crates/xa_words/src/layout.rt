@@ -35,7 +35,8 @@ impl<'a> Parts<'a> {
     }
 
     fn of_texts(kind: u64, key: &'a [u8], value: &'a [u8]) -> Parts<'a>
-        ensures { (result.kind ≡ kind) × (result.format_id ≡ 0) × (result.first.now ≡ key.now) × (result.second.now ≡ value.now) }
+        ensures { (result.kind ≡ kind) × (result.format_id ≡ 0) × (result.first.now ≡ key.now)
+            × (result.second.now ≡ value.now) }
     {
         Parts {
             kind,

@@ -1,5 +1,6 @@
 //! From the words of an entry back to it.
-ghost use Rattle.std.specs.Prelude.{◌≡◌, ◌<◌, ◌≤◌, ◌+◌, ◌*◌, ◌++◌, ℕ, List, length, slice_index, take, Some, IfSome, IfNone, IsTrue};
+ghost use Rattle.std.specs.Prelude.{◌≡◌, ◌<◌, ◌≤◌, ◌+◌, ◌*◌, ◌++◌, ℕ, List, length, slice_index, take, Some, IfSome};
+ghost use Rattle.std.specs.Prelude.{IfNone, IsTrue};
 ghost use Rattle.xa_xid.specs.Limits.{text_bytes};
 ghost use Rattle.xa_words.specs.Entry.{Entry, IsText, IsEntry, KeepsLimits, may_be_entry};
 ghost use Rattle.xa_words.specs.Words.{parts_of, of_xid, of_texts, text_words, words_of, byte_of, RowParts};
@@ -58,7 +59,8 @@ fn text_of(words: &[u64], size: u64) -> Option<Bytes>
         → length text ≡ size
         → text_words text ≡ words.now
         → found.items ≡ text) }
-    ensures none { IfNone result ((text : List ℕ) → IsText text → length text ≡ size → text_words text ≡ words.now → ⊥) }
+    ensures none { IfNone result ((text : List ℕ) → IsText text → length text ≡ size → text_words text ≡ words.now
+        → ⊥) }
 {
     if size > MOST_BYTES {
         return None;
@@ -69,7 +71,8 @@ fn text_of(words: &[u64], size: u64) -> Option<Bytes>
 /// Returns the statement of a kind with an identifier, or `None` if there is no such kind.
 fn with_xid(kind: u64, xid: Xid) -> Option<Statement>
     requires { kind ≤ 6 }
-    ensures some { IfSome result (λ statement. IsTrue (may_be_entry statement) × (parts_of statement ≡ of_xid kind xid)) }
+    ensures some { IfSome result (λ statement. IsTrue (may_be_entry statement)
+        × (parts_of statement ≡ of_xid kind xid)) }
     ensures none { IfNone result (kind ≡ 0) }
 {
     match kind {
@@ -117,7 +120,8 @@ fn with_texts(kind: u64, first: Bytes, second: Bytes) -> Option<Statement>
 fn statement_of(kind: u64, format_id: u64, first: Bytes, second: Bytes) -> Option<Statement>
     ensures some { IfSome result
         (λ statement. IsTrue (may_be_entry statement)
-        × (parts_of statement ≡ record { kind = kind; format_id = format_id; first = first.items; second = second.items })) }
+        × (parts_of statement
+        ≡ record { kind = kind; format_id = format_id; first = first.items; second = second.items })) }
     ensures none { IfNone result
         ((statement : Statement)
         → IsTrue (may_be_entry statement)

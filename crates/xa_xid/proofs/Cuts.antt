@@ -1,12 +1,14 @@
 -- How a text is cut where a kind of byte ends, place by place.
-use Rattle.std.proofs.Common.{◌≡◌, ℕ, ◌+◌, ◌<◌, ◌≤◌, Bool, true, false, List, [], ◌∷◌, ◌++◌, length, take, drop, get_or, refl, sym, ◌∙◌, add-one, append_assoc}
+use Rattle.std.proofs.Common.{◌≡◌, ℕ, ◌+◌, ◌<◌, ◌≤◌, Bool, true, false, List, [], ◌∷◌, ◌++◌, length, take, drop, get_or}
+use Rattle.std.proofs.Common.{refl, sym, ◌∙◌, add-one, append_assoc}
 use Rattle.std.proofs.Common.{drop-cons, suc}
 use Rattle.std.proofs.Math.Nat.{le_refl}
 use Rattle.std.proofs.Math.Seq.{take-suc}
 use Rattle.std.proofs.lemmas.List.{drop_all, take_all, append-nil}
 use Rattle.xa_xid.specs.Bytes.{front, behind}
 
-pub front-passes : (p : ℕ → Bool) (byte : ℕ) (text : List ℕ) → p byte ≡ true → front p (byte ∷ text) ≡ byte ∷ front p text
+pub front-passes : (p : ℕ → Bool) (byte : ℕ) (text : List ℕ) → p byte ≡ true
+    → front p (byte ∷ text) ≡ byte ∷ front p text
 unfolding front
 front-passes p byte text e = rw e refl
 
@@ -39,7 +41,8 @@ pub passed_more : (p : ℕ → Bool) (text : List ℕ) (place : ℕ) → place <
     → Passed p text place → Passed p text (place + 1)
 passed_more p text place within passes so_far = record {
   before =
-      so_far.before ∙ rw (drop-cons text place 0 within, front-passes p _ _ passes, add-one, take-suc text place 0 within)
+      so_far.before
+      ∙ rw (drop-cons text place 0 within, front-passes p _ _ passes, add-one, take-suc text place 0 within)
       (sym (append_assoc (take place text) (get_or text place 0 ∷ []) (front p (drop (suc place) text))));
   left = so_far.left ∙ rw (drop-cons text place 0 within, behind-passes p _ _ passes, add-one) refl;
 }
@@ -55,6 +58,7 @@ pub passed_all : (p : ℕ → Bool) (text : List ℕ) (place : ℕ) → length t
     → (front p text ≡ take (length text) text) × (behind p text ≡ drop (length text) text)
 passed_all p text place past so_far =
     let none : drop place text ≡ [] = drop_all place text past in (
-      so_far.before ∙ rw (none, front-nil p, append-nil, take_all place text past) (sym (take_all (length text) text (le_refl _))),
+      so_far.before ∙ rw (none, front-nil p, append-nil, take_all place text past)
+          (sym (take_all (length text) text (le_refl _))),
       so_far.left ∙ rw none (behind-nil p ∙ sym (drop_all (length text) text (le_refl _))),
     )

@@ -1,5 +1,6 @@
 -- Texts of two heads stand as the heads do; of one head, where either ends within it, as their lengths do.
-use Rattle.std.proofs.Common.{◌≡◌, ℕ, zero, suc, ◌+◌, ◌*◌, ◌<◌, ◌≤◌, List, [], ◌∷◌, length, get_or, refl, ap, sym, ◌∙◌, ◌⊎◌, inl, inr, arith}
+use Rattle.std.proofs.Common.{◌≡◌, ℕ, zero, suc, ◌+◌, ◌*◌, ◌<◌, ◌≤◌, List, [], ◌∷◌, length, get_or, refl, ap, sym, ◌∙◌}
+use Rattle.std.proofs.Common.{◌⊎◌, inl, inr, arith}
 use Rattle.std.proofs.Math.Nat.{mul-le-mul_right, suc-mul}
 use Rattle.std.specs.Cmp.{nat_cmp_is}
 use Rattle.std.specs.Cmp.Lexicographic.{slice_cmp}
@@ -50,9 +51,11 @@ split x y A less more same =
     dite (dec_lt x y) less (λ not_less. dite (dec_lt y x) more (λ not_more. same (omega (arith, not_less, not_more))))
 
 same_first : (x y : ℕ) (xs ys : List ℕ) → x ≡ y → slice_cmp nat_cmp (x ∷ xs) (y ∷ ys) ≡ slice_cmp nat_cmp xs ys
-same_first x y xs ys same = ap (λ order. ordering_then order (slice_cmp nat_cmp xs ys)) (sym (nat_cmp_is x y Equal same))
+same_first x y xs ys same =
+    ap (λ order. ordering_then order (slice_cmp nat_cmp xs ys)) (sym (nat_cmp_is x y Equal same))
 
-lesser : (n : ℕ) (left right : List ℕ) → Small left → Small right → spelled n left < spelled n right → slice_cmp nat_cmp left right ≡ Less
+lesser : (n : ℕ) (left right : List ℕ) → Small left → Small right → spelled n left < spelled n right
+    → slice_cmp nat_cmp left right ≡ Less
 lesser zero left right l r h = absurd (omega (arith, h))
 lesser (suc n) [] [] l r h = absurd (omega (arith, h))
 lesser (suc n) [] (y ∷ ys) l r h = refl
@@ -64,7 +67,8 @@ lesser (suc n) (x ∷ xs) (y ∷ ys) l r h =
     (λ same. same_first x y xs ys same
     ∙ lesser n xs ys (tail_small x xs l) (tail_small y ys r) (omega (arith, h, ap (λ z. z * weight n) same)))
 
-greater : (n : ℕ) (left right : List ℕ) → Small left → Small right → spelled n right < spelled n left → slice_cmp nat_cmp left right ≡ Greater
+greater : (n : ℕ) (left right : List ℕ) → Small left → Small right → spelled n right < spelled n left
+    → slice_cmp nat_cmp left right ≡ Greater
 greater zero left right l r h = absurd (omega (arith, h))
 greater (suc n) [] [] l r h = absurd (omega (arith, h))
 greater (suc n) [] (y ∷ ys) l r h = absurd (omega (arith, h))
@@ -84,7 +88,8 @@ raised order m n is =
     (λ more. is ∙ sym (nat_cmp_is m n Greater more) ∙ nat_cmp_is (suc m) (suc n) Greater (omega (arith, more)))
     (λ same. is ∙ sym (nat_cmp_is m n Equal same) ∙ nat_cmp_is (suc m) (suc n) Equal (ap suc same))
 
-level : (n : ℕ) (left right : List ℕ) → Small left → Small right → spelled n left ≡ spelled n right → (length left ≤ n) ⊎ (length right ≤ n)
+level : (n : ℕ) (left right : List ℕ) → Small left → Small right → spelled n left ≡ spelled n right
+    → (length left ≤ n) ⊎ (length right ≤ n)
     → slice_cmp nat_cmp left right ≡ nat_cmp (length left) (length right)
 level n [] [] l r h ends = nat_cmp_is 0 0 Equal refl
 level n [] (y ∷ ys) l r h ends = nat_cmp_is 0 (suc (length ys)) Less (omega arith)
@@ -97,7 +102,8 @@ level (suc n) (x ∷ xs) (y ∷ ys) l r h ends =
     (λ more. absurd (omega (arith, h, apart n y x (spelled n ys) (spelled n xs) more (fits n ys (tail_small y ys r)))))
     (λ same. same_first x y xs ys same
     ∙ raised (slice_cmp nat_cmp xs ys) (length xs) (length ys)
-    (level n xs ys (tail_small x xs l) (tail_small y ys r) (omega (arith, h, ap (λ z. z * weight n) same)) (shorter ends)))
+    (level n xs ys (tail_small x xs l) (tail_small y ys r) (omega (arith, h, ap (λ z. z * weight n) same))
+    (shorter ends)))
   where
     shorter : (suc (length xs) ≤ suc n) ⊎ (suc (length ys) ≤ suc n) → (length xs ≤ n) ⊎ (length ys ≤ n)
     shorter (inl a) = inl (omega (arith, a))
@@ -116,12 +122,15 @@ head_is (a ∷ b ∷ c ∷ d ∷ e ∷ f ∷ []) = omega arith
 head_is (a ∷ b ∷ c ∷ d ∷ e ∷ f ∷ g ∷ []) = omega arith
 head_is (a ∷ b ∷ c ∷ d ∷ e ∷ f ∷ g ∷ h ∷ rest) = omega arith
 
-pub head_less : (left right : List ℕ) → Small left → Small right → head_of left < head_of right → slice_cmp nat_cmp left right ≡ Less
+pub head_less : (left right : List ℕ) → Small left → Small right → head_of left < head_of right
+    → slice_cmp nat_cmp left right ≡ Less
 head_less left right l r h = lesser 8 left right l r (omega (arith, h, head_is left, head_is right))
 
-pub head_greater : (left right : List ℕ) → Small left → Small right → head_of right < head_of left → slice_cmp nat_cmp left right ≡ Greater
+pub head_greater : (left right : List ℕ) → Small left → Small right → head_of right < head_of left
+    → slice_cmp nat_cmp left right ≡ Greater
 head_greater left right l r h = greater 8 left right l r (omega (arith, h, head_is left, head_is right))
 
-pub head_level : (left right : List ℕ) → Small left → Small right → head_of left ≡ head_of right → (length left ≤ 8) ⊎ (length right ≤ 8)
+pub head_level : (left right : List ℕ) → Small left → Small right → head_of left ≡ head_of right
+    → (length left ≤ 8) ⊎ (length right ≤ 8)
     → slice_cmp nat_cmp left right ≡ nat_cmp (length left) (length right)
 head_level left right l r h = level 8 left right l r (sym (head_is left) ∙ h ∙ head_is right)

@@ -1,12 +1,14 @@
 -- What is read as an identifier is spelled as one, and the other way round.
-use Rattle.std.proofs.Common.{◌≡◌, ℕ, true, false, ◌==◌, if◌then◌else◌, List, [], ◌∷◌, Option, Some, None, Ok, Err, refl, ◌∙◌, ap}
+use Rattle.std.proofs.Common.{◌≡◌, ℕ, true, false, ◌==◌, if◌then◌else◌, List, [], ◌∷◌, Option, Some, None, Ok, Err}
+use Rattle.std.proofs.Common.{refl, ◌∙◌, ap}
 use Rattle.std.proofs.lemmas.Bool.{eqb-true}
 use Rattle.xa_xid.specs.Bytes.{unblank}
 use Rattle.xa_xid.specs.Literal.{Reading, TextAt, literal_ahead, sized}
 use Rattle.xa_xid.specs.Faults.{FaultyLiteral, FaultyXid, faulty_gtrid, faulty_bqual, faulty_format_id}
 use Rattle.xa_xid.specs.Number.{NumberAt, number_ahead}
 use Rattle.xa_xid.specs.Xid.{Text}
-use Rattle.xa_xid.specs.XidText.{XidAt, gtrid_alone, gtrid_bqual, gtrid_bqual_format, CommaAt, NoCommaAt, Parse, xid_ahead, xid_of, comma_next, after_gtrid}
+use Rattle.xa_xid.specs.XidText.{XidAt, gtrid_alone, gtrid_bqual, gtrid_bqual_format, CommaAt, NoCommaAt, Parse}
+use Rattle.xa_xid.specs.XidText.{xid_ahead, xid_of, comma_next, after_gtrid}
 use Rattle.xa_xid.specs.XidText.{after_bqual}
 use Rattle.xa_xid.specs.declared.literal_fault.LiteralFault.{LiteralFault}
 use Rattle.xa_xid.specs.declared.xid.Xid.{Xid}
@@ -17,21 +19,27 @@ use Rattle.xa_xid.proofs.Texts.{kept-fits}
 use Rattle.xa_xid.proofs.Written.{format_found, bqual_found, gtrid_found}
 
 -- literals of at most 64 bytes
-pub read_text_spelled : (text : List ℕ) (found : Text) (rest : List ℕ) → literal_ahead text ≡ Ok (found, rest) → TextAt text found rest
-read_text_spelled text found rest e = let parts = read_spelled text found rest e in record { literal = parts.0; fits = parts.1 }
+pub read_text_spelled : (text : List ℕ) (found : Text) (rest : List ℕ) → literal_ahead text ≡ Ok (found, rest)
+    → TextAt text found rest
+read_text_spelled text found rest e = let parts = read_spelled text found rest e in
+    record { literal = parts.0; fits = parts.1 }
 
-pub spelled_text_read : (text : List ℕ) (found : Text) (rest : List ℕ) → TextAt text found rest → literal_ahead text ≡ Ok (found, rest)
+pub spelled_text_read : (text : List ℕ) (found : Text) (rest : List ℕ) → TextAt text found rest
+    → literal_ahead text ≡ Ok (found, rest)
 spelled_text_read text found rest form =
     spelled_read text found.items rest form.literal ∙ ap (λ k. sized k rest) (kept-fits found.items form.fits)
 
-text_once : (reading : Reading Text) (found other : Text × List ℕ) → reading ≡ Ok found → reading ≡ Ok other → found ≡ other
+text_once : (reading : Reading Text) (found other : Text × List ℕ) → reading ≡ Ok found → reading ≡ Ok other
+    → found ≡ other
 text_once reading found other e f = cc
 
-pub one_text : (text : List ℕ) (found other : Text) (rest behind : List ℕ) → TextAt text found rest → TextAt text other behind
+pub one_text : (text : List ℕ) (found other : Text) (rest behind : List ℕ) → TextAt text found rest
+    → TextAt text other behind
     → (found ≡ other) × (rest ≡ behind)
 one_text text found other rest behind form again =
     let same =
-    text_once (literal_ahead text) (found, rest) (other, behind) (spelled_text_read text found rest form) (spelled_text_read text other behind again) in
+    text_once (literal_ahead text) (found, rest) (other, behind) (spelled_text_read text found rest form)
+    (spelled_text_read text other behind again) in
     (ap (λ pair. pair.0) same, ap (λ pair. pair.1) same)
 
 -- a comma next, or none
@@ -60,38 +68,49 @@ XidSpelled text (Ok found) = XidAt text found.0 found.1
 XidSpelled text (Err fault) = FaultyXid text fault.0 fault.1
 
 -- from the reading to the spelling, from the last part to the first
-format_spelled : (text second third fourth fifth : List ℕ) (gtrid bqual : Text) → TextAt (unblank text) gtrid second → CommaAt (unblank second) third
+format_spelled : (text second third fourth fifth : List ℕ) (gtrid bqual : Text) → TextAt (unblank text) gtrid second
+    → CommaAt (unblank second) third
     → TextAt (unblank third) bqual fourth → CommaAt (unblank fourth) fifth
-    → (found : Reading ℕ) → number_ahead (unblank fifth) ≡ found → XidSpelled text (format_found gtrid bqual (unblank fifth) found)
+    → (found : Reading ℕ) → number_ahead (unblank fifth) ≡ found
+    → XidSpelled text (format_found gtrid bqual (unblank fifth) found)
 format_spelled text second third fourth fifth gtrid bqual first comma part last (Ok (value, rest)) e =
     gtrid_bqual_format gtrid bqual value first comma part last (read_number_spelled (unblank fifth) value rest e)
 format_spelled text second third fourth fifth gtrid bqual first comma part last (Err fault) e =
-    faulty_format_id text second third fourth fifth gtrid bqual fault first comma part last (read_faulty_number (unblank fifth) fault e)
+    faulty_format_id text second third fourth fifth gtrid bqual fault first comma part last
+    (read_faulty_number (unblank fifth) fault e)
 
-after_bqual_spelled : (text second third fourth : List ℕ) (gtrid bqual : Text) → TextAt (unblank text) gtrid second → CommaAt (unblank second) third
+after_bqual_spelled : (text second third fourth : List ℕ) (gtrid bqual : Text) → TextAt (unblank text) gtrid second
+    → CommaAt (unblank second) third
     → TextAt (unblank third) bqual fourth → (next : Option (List ℕ)) → CommaFound (unblank fourth) next
     → XidSpelled text (after_bqual gtrid bqual fourth next)
-after_bqual_spelled text second third fourth gtrid bqual first comma part None none = gtrid_bqual gtrid bqual first comma part none
+after_bqual_spelled text second third fourth gtrid bqual first comma part None none =
+    gtrid_bqual gtrid bqual first comma part none
 after_bqual_spelled text second third fourth gtrid bqual first comma part (Some fifth) last =
     format_spelled text second third fourth fifth gtrid bqual first comma part last (number_ahead (unblank fifth)) refl
 
-bqual_spelled : (text second third : List ℕ) (gtrid : Text) → TextAt (unblank text) gtrid second → CommaAt (unblank second) third
-    → (found : Reading Text) → literal_ahead (unblank third) ≡ found → XidSpelled text (bqual_found gtrid (unblank third) found)
+bqual_spelled : (text second third : List ℕ) (gtrid : Text) → TextAt (unblank text) gtrid second
+    → CommaAt (unblank second) third
+    → (found : Reading Text) → literal_ahead (unblank third) ≡ found
+    → XidSpelled text (bqual_found gtrid (unblank third) found)
 bqual_spelled text second third gtrid first comma (Ok (bqual, fourth)) e =
-    after_bqual_spelled text second third fourth gtrid bqual first comma (read_text_spelled (unblank third) bqual fourth e)
+    after_bqual_spelled text second third fourth gtrid bqual first comma
+    (read_text_spelled (unblank third) bqual fourth e)
     (comma_next (unblank fourth)) (comma_found (unblank fourth))
 bqual_spelled text second third gtrid first comma (Err fault) e =
     faulty_bqual text second third gtrid fault first comma (read_faulty (unblank third) fault e)
 
-after_gtrid_spelled : (text second : List ℕ) (gtrid : Text) → TextAt (unblank text) gtrid second → (next : Option (List ℕ))
+after_gtrid_spelled : (text second : List ℕ) (gtrid : Text) → TextAt (unblank text) gtrid second
+    → (next : Option (List ℕ))
     → CommaFound (unblank second) next → XidSpelled text (after_gtrid gtrid second next)
 after_gtrid_spelled text second gtrid first None none = gtrid_alone gtrid first none
 after_gtrid_spelled text second gtrid first (Some third) comma =
     bqual_spelled text second third gtrid first comma (literal_ahead (unblank third)) refl
 
-gtrid_spelled : (text : List ℕ) (found : Reading Text) → literal_ahead (unblank text) ≡ found → XidSpelled text (gtrid_found (unblank text) found)
+gtrid_spelled : (text : List ℕ) (found : Reading Text) → literal_ahead (unblank text) ≡ found
+    → XidSpelled text (gtrid_found (unblank text) found)
 gtrid_spelled text (Ok (gtrid, second)) e =
-    after_gtrid_spelled text second gtrid (read_text_spelled (unblank text) gtrid second e) (comma_next (unblank second)) (comma_found (unblank second))
+    after_gtrid_spelled text second gtrid (read_text_spelled (unblank text) gtrid second e)
+    (comma_next (unblank second)) (comma_found (unblank second))
 gtrid_spelled text (Err fault) e = faulty_gtrid text fault (read_faulty (unblank text) fault e)
 
 xid_spelled : (text : List ℕ) → XidSpelled text (xid_ahead text)
@@ -99,36 +118,44 @@ unfolding xid_ahead
 xid_spelled text = gtrid_spelled text (literal_ahead (unblank text)) refl
 
 -- what is read is spelled
-pub read_xid_spelled : (text : List ℕ) (xid : Xid) (rest : List ℕ) → xid_ahead text ≡ Ok (xid, rest) → XidAt text xid rest
+pub read_xid_spelled : (text : List ℕ) (xid : Xid) (rest : List ℕ) → xid_ahead text ≡ Ok (xid, rest)
+    → XidAt text xid rest
 read_xid_spelled text xid rest e = rw e at (xid_spelled text)
 
 -- from the spelling to the reading
 gtrid_read : (text second : List ℕ) (gtrid : Text) → TextAt (unblank text) gtrid second
     → xid_ahead text ≡ after_gtrid gtrid second (comma_next (unblank second))
 unfolding xid_ahead
-gtrid_read text second gtrid first = ap (gtrid_found (unblank text)) (spelled_text_read (unblank text) gtrid second first)
+gtrid_read text second gtrid first =
+    ap (gtrid_found (unblank text)) (spelled_text_read (unblank text) gtrid second first)
 
-bqual_read : (gtrid bqual : Text) (second third fourth : List ℕ) → CommaAt (unblank second) third → TextAt (unblank third) bqual fourth
-    → after_gtrid gtrid second (comma_next (unblank second)) ≡ after_bqual gtrid bqual fourth (comma_next (unblank fourth))
+bqual_read : (gtrid bqual : Text) (second third fourth : List ℕ) → CommaAt (unblank second) third
+    → TextAt (unblank third) bqual fourth
+    → after_gtrid gtrid second (comma_next (unblank second))
+    ≡ after_bqual gtrid bqual fourth (comma_next (unblank fourth))
 bqual_read gtrid bqual second third fourth comma part =
     ap (after_gtrid gtrid second) (comma_read (unblank second) third comma)
     ∙ ap (bqual_found gtrid (unblank third)) (spelled_text_read (unblank third) bqual fourth part)
 
-format_read : (gtrid bqual : Text) (value : ℕ) (fourth fifth rest : List ℕ) → CommaAt (unblank fourth) fifth → NumberAt (unblank fifth) value rest
+format_read : (gtrid bqual : Text) (value : ℕ) (fourth fifth rest : List ℕ) → CommaAt (unblank fourth) fifth
+    → NumberAt (unblank fifth) value rest
     → after_bqual gtrid bqual fourth (comma_next (unblank fourth)) ≡ Ok (xid_of gtrid bqual value, rest)
 format_read gtrid bqual value fourth fifth rest last number =
     ap (after_bqual gtrid bqual fourth) (comma_read (unblank fourth) fifth last)
     ∙ ap (format_found gtrid bqual (unblank fifth)) (spelled_number_read (unblank fifth) value rest number)
 
 -- what is spelled is read
-pub spelled_xid_read : (text : List ℕ) (xid : Xid) (rest : List ℕ) → XidAt text xid rest → xid_ahead text ≡ Ok (xid, rest)
+pub spelled_xid_read : (text : List ℕ) (xid : Xid) (rest : List ℕ) → XidAt text xid rest
+    → xid_ahead text ≡ Ok (xid, rest)
 spelled_xid_read _ _ _ (gtrid_alone gtrid {text} {rest} first none) =
     gtrid_read text rest gtrid first ∙ ap (after_gtrid gtrid rest) (no_comma_read (unblank rest) none)
 spelled_xid_read _ _ _ (gtrid_bqual gtrid bqual {text} {second} {third} {rest} first comma part none) =
     gtrid_read text second gtrid first ∙ bqual_read gtrid bqual second third rest comma part
     ∙ ap (after_bqual gtrid bqual rest) (no_comma_read (unblank rest) none)
-spelled_xid_read _ _ _ (gtrid_bqual_format gtrid bqual value {text} {second} {third} {fourth} {fifth} {rest} first comma part last number) =
-    gtrid_read text second gtrid first ∙ bqual_read gtrid bqual second third fourth comma part ∙ format_read gtrid bqual value fourth fifth rest last number
+spelled_xid_read _ _ _ (gtrid_bqual_format gtrid bqual value {text} {second} {third} {fourth} {fifth}
+    {rest} first comma part last number) =
+    gtrid_read text second gtrid first ∙ bqual_read gtrid bqual second third fourth comma part
+    ∙ format_read gtrid bqual value fourth fifth rest last number
 
 xid_once : (parse : Parse) (found other : Xid × List ℕ) → parse ≡ Ok found → parse ≡ Ok other → found ≡ other
 xid_once parse found other e f = cc
@@ -137,19 +164,23 @@ xid_once parse found other e f = cc
 pub one_xid : (text : List ℕ) (xid other : Xid) (rest behind : List ℕ) → XidAt text xid rest → XidAt text other behind
     → (xid ≡ other) × (rest ≡ behind)
 one_xid text xid other rest behind form again =
-    let same = xid_once (xid_ahead text) (xid, rest) (other, behind) (spelled_xid_read text xid rest form) (spelled_xid_read text other behind again) in
+    let same = xid_once (xid_ahead text) (xid, rest) (other, behind) (spelled_xid_read text xid rest form)
+    (spelled_xid_read text other behind again) in
     (ap (λ pair. pair.0) same, ap (λ pair. pair.1) same)
 
 -- each fault and its place are a row of the table
-pub read_faulty_xid : (text : List ℕ) (fault : LiteralFault) (rest : List ℕ) → xid_ahead text ≡ Err (fault, rest) → FaultyXid text fault rest
+pub read_faulty_xid : (text : List ℕ) (fault : LiteralFault) (rest : List ℕ) → xid_ahead text ≡ Err (fault, rest)
+    → FaultyXid text fault rest
 read_faulty_xid text fault rest e = rw e at (xid_spelled text)
 
-gtrid_told : (text : List ℕ) (fault : LiteralFault) → FaultyLiteral (unblank text) fault → xid_ahead text ≡ Err (fault, unblank text)
+gtrid_told : (text : List ℕ) (fault : LiteralFault) → FaultyLiteral (unblank text) fault
+    → xid_ahead text ≡ Err (fault, unblank text)
 unfolding xid_ahead
 gtrid_told text fault row = ap (gtrid_found (unblank text)) (faulty_read (unblank text) fault row)
 
 -- and a row of the table is told so
-pub faulty_xid_read : (text : List ℕ) (fault : LiteralFault) (rest : List ℕ) → FaultyXid text fault rest → xid_ahead text ≡ Err (fault, rest)
+pub faulty_xid_read : (text : List ℕ) (fault : LiteralFault) (rest : List ℕ) → FaultyXid text fault rest
+    → xid_ahead text ≡ Err (fault, rest)
 faulty_xid_read _ _ _ (faulty_gtrid text fault row) = gtrid_told text fault row
 faulty_xid_read _ _ _ (faulty_bqual text second third gtrid fault first comma row) =
     gtrid_read text second gtrid first ∙ ap (after_gtrid gtrid second) (comma_read (unblank second) third comma)

@@ -1,5 +1,6 @@
 -- The value of digits, read one after another.
-use Rattle.std.proofs.Common.{◌≡◌, ℕ, ◌+◌, ◌*◌, ◌<◌, ◌≤◌, List, [], ◌∷◌, length, drop, get_or, refl, sym, ◌∙◌, ◌^◌, Ok, Err, arith, add-one, drop-cons}
+use Rattle.std.proofs.Common.{◌≡◌, ℕ, ◌+◌, ◌*◌, ◌<◌, ◌≤◌, List, [], ◌∷◌, length, drop, get_or, refl, sym, ◌∙◌, ◌^◌, Ok}
+use Rattle.std.proofs.Common.{Err, arith, add-one, drop-cons}
 use Rattle.std.proofs.Math.Nat.{le_refl, mul-le-mul_left}
 use Rattle.std.proofs.lemmas.List.{drop_all}
 use Rattle.std.specs.Char.{digit_value}
@@ -15,13 +16,15 @@ pub record Reached (base : ℕ) (digits : List ℕ) (place value : ℕ) : Type 0
 pub reached_none : (base : ℕ) (digits : List ℕ) → Reached base digits 0 0
 reached_none base digits = record { same = refl }
 
-pub reached_more : (base : ℕ) (digits : List ℕ) (place value : ℕ) → place < length digits → Reached base digits place value
+pub reached_more : (base : ℕ) (digits : List ℕ) (place value : ℕ) → place < length digits
+    → Reached base digits place value
     → Reached base digits (place + 1) (value * base + digit_value (get_or digits place 0))
 reached_more base digits place value within so_far = record {
   same = so_far.same ∙ rw (drop-cons digits place 0 within, add-one) refl;
 }
 
-pub reached_all : (base : ℕ) (digits : List ℕ) (place value : ℕ) → length digits ≤ place → Reached base digits place value
+pub reached_all : (base : ℕ) (digits : List ℕ) (place value : ℕ) → length digits ≤ place
+    → Reached base digits place value
     → value ≡ digits_value base digits
 reached_all base digits place value past so_far = sym (so_far.same ∙ rw (drop_all place digits past) refl)
 
@@ -34,9 +37,11 @@ grows base value (digit ∷ digits) positive =
     omega (arith, later, more)
 
 -- a value that is too large stays so
-pub reached_past : (base : ℕ) (digits : List ℕ) (place value limit : ℕ) → 1 ≤ base → limit ≤ value → Reached base digits place value
+pub reached_past : (base : ℕ) (digits : List ℕ) (place value limit : ℕ) → 1 ≤ base → limit ≤ value
+    → Reached base digits place value
     → limit ≤ digits_value base digits
-reached_past base digits place value limit positive past so_far = rw so_far.same (omega (arith, grows base value (drop place digits) positive))
+reached_past base digits place value limit positive past so_far =
+    rw so_far.same (omega (arith, grows base value (drop place digits) positive))
 
 pub fitting_small : (value total : ℕ) → value < 2 ^ 64 → value ≡ total → Ok value ≡ fitting total
 unfolding fitting

@@ -1,16 +1,20 @@
 -- What is read as a number is spelled as one, and the other way round; and each fault is a row of the table.
-use Rattle.std.proofs.Common.{◌≡◌, ℕ, ◌^◌, ◌<◌, ◌≤◌, true, false, ◌==◌, ◌&&◌, not, nat_lt, if◌then◌else◌, IsTrue, List, [], ◌∷◌, ◌++◌, length, Some, None}
+use Rattle.std.proofs.Common.{◌≡◌, ℕ, ◌^◌, ◌<◌, ◌≤◌, true, false, ◌==◌, ◌&&◌, not, nat_lt, if◌then◌else◌, IsTrue, List}
+use Rattle.std.proofs.Common.{[], ◌∷◌, ◌++◌, length, Some, None}
 use Rattle.std.proofs.Common.{Result, Ok, Err, refl, sym, ◌∙◌, ap, subst, arith}
 use Rattle.std.proofs.lemmas.Bool.{cond_both, eqb-true, ne_eqb, and_parts, ltb-true, ltb-false}
 use Rattle.std.proofs.lemmas.Bool.Decides.{nat_tests}
 use Rattle.std.specs.Str.Parse.{digits_value}
 use Rattle.xa_xid.specs.Bytes.{belongs, behind, only, run, after_run, StartsNo}
 use Rattle.xa_xid.specs.Literal.{Reading, hex_digits_of}
-use Rattle.xa_xid.specs.Faults.{AreHex, HexRunAt, hex_run_at, NumeralAt, decimal_numeral, hexadecimal_numeral, FaultyNumber, no_number, too_large}
-use Rattle.xa_xid.specs.Number.{NumberAt, decimal_digits, hexadecimal_digits, fitting, hex_number_of, number_ahead, number_in}
+use Rattle.xa_xid.specs.Faults.{AreHex, HexRunAt, hex_run_at, NumeralAt, decimal_numeral, hexadecimal_numeral}
+use Rattle.xa_xid.specs.Faults.{FaultyNumber, no_number, too_large}
+use Rattle.xa_xid.specs.Number.{NumberAt, decimal_digits, hexadecimal_digits, fitting, hex_number_of, number_ahead}
+use Rattle.xa_xid.specs.Number.{number_in}
 use Rattle.xa_xid.specs.declared.byte_class.ByteClass.TheVariants.{Word, Decimal, Hexadecimal}
 use Rattle.xa_xid.specs.declared.literal_fault.LiteralFault.{LiteralFault}
-use Rattle.xa_xid.specs.declared.literal_fault.LiteralFault.TheVariants.{NotALiteral, Unclosed, OddHex, TooLong, NumberTooLarge}
+use Rattle.xa_xid.specs.declared.literal_fault.LiteralFault.TheVariants.{NotALiteral, Unclosed, OddHex, TooLong}
+use Rattle.xa_xid.specs.declared.literal_fault.LiteralFault.TheVariants.{NumberTooLarge}
 use Rattle.xa_xid.proofs.Numbers.{fitting_small, fitting_large}
 use Rattle.xa_xid.proofs.Spelling.{front-behind, only_passes, behind_starts, words_hex}
 use Rattle.xa_xid.proofs.Written.{Passes, front-append, behind-append, number_found, number_at-found}
@@ -24,12 +28,15 @@ NumberSpelled text (Err OddHex) = ⊥
 NumberSpelled text (Err TooLong) = ⊥
 NumberSpelled text (Err NumberTooLarge) = (value : ℕ) × (rest : List ℕ) × NumeralAt text value rest × (2 ^ 64 ≤ value)
 
-value_spelled : (text rest : List ℕ) (value : ℕ) → NumeralAt text value rest → (value < 2 ^ 64 → NumberAt text value rest)
+value_spelled : (text rest : List ℕ) (value : ℕ) → NumeralAt text value rest
+    → (value < 2 ^ 64 → NumberAt text value rest)
     → NumberSpelled text (number_found rest (fitting value))
 unfolding fitting
 value_spelled text rest value numeral form =
-    cond_both (nat_lt value (2 ^ 64)) (Ok value) (Err NumberTooLarge) (λ found. NumberSpelled text (number_found rest found))
-    (λ small. form (ltb-true value (2 ^ 64) small)) (λ large. (value, rest, numeral, omega (arith, ltb-false value (2 ^ 64) large)))
+    cond_both (nat_lt value (2 ^ 64)) (Ok value) (Err NumberTooLarge)
+    (λ found. NumberSpelled text (number_found rest found))
+    (λ small. form (ltb-true value (2 ^ 64) small))
+    (λ large. (value, rest, numeral, omega (arith, ltb-false value (2 ^ 64) large)))
 
 hex_spelled : (written rest : List ℕ) → StartsNo (belongs Word) rest
     → NumberSpelled (written ++ rest) (number_found rest (hex_number_of (hex_digits_of written)))
@@ -44,9 +51,11 @@ hex_spelled (a ∷ b ∷ digit ∷ digits) rest s =
       | true ↦ λ e.
           let outer = and_parts (a == 48 && b == 120) (only (belongs Hexadecimal) all) e in
           let inner = and_parts (a == 48) (b == 120) outer.0 in
-          let run : HexRunAt text all rest = rw (eqb-true a 48 inner.0, eqb-true b 120 inner.1) (hex_run_at digit digits rest outer.1 s) in
+          let run : HexRunAt text all rest = rw (eqb-true a 48 inner.0, eqb-true b 120 inner.1)
+          (hex_run_at digit digits rest outer.1 s) in
           value_spelled text rest (digits_value 16 all) (hexadecimal_numeral text all rest run)
-          (λ small. let form : NumberAt (48 ∷ 120 ∷ digit ∷ digits ++ rest) (digits_value 16 all) rest = hexadecimal_digits digit digits outer.1 refl small s in
+          (λ small. let form : NumberAt (48 ∷ 120 ∷ digit ∷ digits ++ rest)
+          (digits_value 16 all) rest = hexadecimal_digits digit digits outer.1 refl small s in
           rw (eqb-true a 48 inner.0, eqb-true b 120 inner.1) form)
       | false ↦ λ e. tt
     ] refl
@@ -57,7 +66,8 @@ digits_spelled digit digits rest s =
     let all = digit ∷ digits in
     let test = not (length all == 0) && only (belongs Decimal) all in
     elim test as (λ t. test ≡ t
-    → NumberSpelled (all ++ rest) (number_found rest (if t then fitting (digits_value 10 all) else hex_number_of (hex_digits_of all)))) [
+    → NumberSpelled (all ++ rest) (number_found rest (if t then fitting (digits_value 10 all) else hex_number_of
+    (hex_digits_of all)))) [
       | true ↦ λ e.
           let decimal = (and_parts (not (length all == 0)) (only (belongs Decimal) all) e).1 in
           value_spelled (all ++ rest) rest (digits_value 10 all) (decimal_numeral digit digits rest decimal s)
@@ -65,7 +75,8 @@ digits_spelled digit digits rest s =
       | false ↦ λ _. hex_spelled all rest s
     ] refl
 
-run_spelled : (written rest : List ℕ) → StartsNo (belongs Word) rest → NumberSpelled (written ++ rest) (number_found rest (number_in written))
+run_spelled : (written rest : List ℕ) → StartsNo (belongs Word) rest
+    → NumberSpelled (written ++ rest) (number_found rest (number_in written))
 run_spelled [] rest s = tt
 run_spelled (digit ∷ digits) rest s = digits_spelled digit digits rest s
 
@@ -75,11 +86,13 @@ number_spelled text =
     rw (number_at-found text) (rw (front-behind (belongs Word) text) at form)
 
 -- what is read is spelled
-pub read_number_spelled : (text : List ℕ) (value : ℕ) (rest : List ℕ) → number_ahead text ≡ Ok (value, rest) → NumberAt text value rest
+pub read_number_spelled : (text : List ℕ) (value : ℕ) (rest : List ℕ) → number_ahead text ≡ Ok (value, rest)
+    → NumberAt text value rest
 read_number_spelled text value rest e = rw e at (number_spelled text)
 
 -- a run of a known value is read so
-written_read : (written rest : List ℕ) (found : Result ℕ LiteralFault) → Passes (belongs Word) written → StartsNo (belongs Word) rest
+written_read : (written rest : List ℕ) (found : Result ℕ LiteralFault) → Passes (belongs Word) written
+    → StartsNo (belongs Word) rest
     → number_in written ≡ found
     → number_ahead (written ++ rest) ≡ number_found rest found
 written_read written rest found word s e =
@@ -98,7 +111,8 @@ words_decimal : (digits : List ℕ) → Passes (belongs Decimal) digits → Pass
 words_decimal [] all = tt
 words_decimal (digit ∷ digits) all = (word_decimal digit all.0, words_decimal digits all.1)
 
-decimal_read : (digit : ℕ) (digits rest : List ℕ) → IsTrue (only (belongs Decimal) (digit ∷ digits)) → StartsNo (belongs Word) rest
+decimal_read : (digit : ℕ) (digits rest : List ℕ) → IsTrue (only (belongs Decimal) (digit ∷ digits))
+    → StartsNo (belongs Word) rest
     → number_ahead (digit ∷ digits ++ rest) ≡ number_found rest (fitting (digits_value 10 (digit ∷ digits)))
 decimal_read digit digits rest all s =
     let some : (length (digit ∷ digits) == 0) ≡ false = ne_eqb _ _ (λ e. omega arith) in
@@ -116,32 +130,41 @@ hexadecimal_read : (digit : ℕ) (digits rest : List ℕ) → AreHex (digit ∷ 
 unfolding belongs
 hexadecimal_read digit digits rest all s =
     let written = 48 ∷ 120 ∷ digit ∷ digits in
-    let word : Passes (belongs Word) written = (refl, (refl, words_hex (digit ∷ digits) (only_passes (belongs Hexadecimal) (digit ∷ digits) all))) in
+    let word : Passes (belongs Word) written =
+    (refl, (refl, words_hex (digit ∷ digits) (only_passes (belongs Hexadecimal) (digit ∷ digits) all))) in
     let hex : hex_digits_of written ≡ Some (digit ∷ digits) = rw all refl in
     let other : number_in written ≡ hex_number_of (hex_digits_of written) =
-    ap (λ t. if not (length written == 0) && t then fitting (digits_value 10 written) else hex_number_of (hex_digits_of written))
+    ap (λ t. if not (length written == 0) && t then fitting (digits_value 10 written) else hex_number_of
+    (hex_digits_of written))
     (prefixed_not_decimal (digit ∷ digits))
     ∙ rw (ne_eqb (length written) 0 (λ e. omega arith)) refl in
     written_read written rest (fitting (digits_value 16 (digit ∷ digits))) word s (other ∙ ap hex_number_of hex)
 
-run_read : (text digits rest : List ℕ) → HexRunAt text digits rest → number_ahead text ≡ number_found rest (fitting (digits_value 16 digits))
+run_read : (text digits rest : List ℕ) → HexRunAt text digits rest
+    → number_ahead text ≡ number_found rest (fitting (digits_value 16 digits))
 run_read _ _ _ (hex_run_at digit digits rest all s) = hexadecimal_read digit digits rest all s
 
 -- what has a number's form is read, or is too large
-numeral_read : (text : List ℕ) (value : ℕ) (rest : List ℕ) → NumeralAt text value rest → number_ahead text ≡ number_found rest (fitting value)
+numeral_read : (text : List ℕ) (value : ℕ) (rest : List ℕ) → NumeralAt text value rest
+    → number_ahead text ≡ number_found rest (fitting value)
 numeral_read _ _ _ (decimal_numeral digit digits rest all s) = decimal_read digit digits rest all s
 numeral_read _ _ _ (hexadecimal_numeral text digits rest form) = run_read text digits rest form
 
 -- what is spelled has that form, and a value that fits
-number_numeral : (text : List ℕ) (value : ℕ) (rest : List ℕ) → NumberAt text value rest → NumeralAt text value rest × (value < 2 ^ 64)
+number_numeral : (text : List ℕ) (value : ℕ) (rest : List ℕ) → NumberAt text value rest
+    → NumeralAt text value rest × (value < 2 ^ 64)
 number_numeral _ _ _ (decimal_digits digit digits {value} {rest} all e small s) =
     (subst (λ v. NumeralAt (digit ∷ digits ++ rest) v rest) e (decimal_numeral digit digits rest all s), small)
 number_numeral _ _ _ (hexadecimal_digits digit digits {value} {rest} all e small s) =
-    let text = 48 ∷ 120 ∷ digit ∷ digits ++ rest in
-    (subst (λ v. NumeralAt text v rest) e (hexadecimal_numeral text (digit ∷ digits) rest (hex_run_at digit digits rest all s)), small)
+    let text = 48 ∷ 120 ∷ digit ∷ digits ++ rest in (
+      subst (λ v. NumeralAt text v rest) e (hexadecimal_numeral text (digit ∷ digits) rest
+          (hex_run_at digit digits rest all s)),
+      small,
+    )
 
 -- what is spelled is read
-pub spelled_number_read : (text : List ℕ) (value : ℕ) (rest : List ℕ) → NumberAt text value rest → number_ahead text ≡ Ok (value, rest)
+pub spelled_number_read : (text : List ℕ) (value : ℕ) (rest : List ℕ) → NumberAt text value rest
+    → number_ahead text ≡ Ok (value, rest)
 spelled_number_read text value rest form =
     let parts = number_numeral text value rest form in
     numeral_read text value rest parts.0 ∙ ap (number_found rest) (sym (fitting_small value value parts.1 refl))
@@ -150,20 +173,24 @@ number_once : (reading : Reading ℕ) (found other : ℕ × List ℕ) → readin
 number_once reading found other e f = cc
 
 -- and nothing else is spelled there
-pub one_number : (text : List ℕ) (value other : ℕ) (rest behind : List ℕ) → NumberAt text value rest → NumberAt text other behind
+pub one_number : (text : List ℕ) (value other : ℕ) (rest behind : List ℕ) → NumberAt text value rest
+    → NumberAt text other behind
     → (value ≡ other) × (rest ≡ behind)
 one_number text value other rest behind form again =
     let same =
-    number_once (number_ahead text) (value, rest) (other, behind) (spelled_number_read text value rest form) (spelled_number_read text other behind again) in
+    number_once (number_ahead text) (value, rest) (other, behind) (spelled_number_read text value rest form)
+    (spelled_number_read text other behind again) in
     (ap (λ pair. pair.0) same, ap (λ pair. pair.1) same)
 
 -- each fault is a row of the table
 fitting_told : (rest : List ℕ) (value : ℕ) → number_found rest (fitting value) ≡ Err NotALiteral → ⊥
 unfolding fitting
 fitting_told rest value =
-    cond_both (nat_lt value (2 ^ 64)) (Ok value) (Err NumberTooLarge) (λ found. number_found rest found ≡ Err NotALiteral → ⊥) (λ _ e. cc) (λ _ e. cc)
+    cond_both (nat_lt value (2 ^ 64)) (Ok value) (Err NumberTooLarge)
+    (λ found. number_found rest found ≡ Err NotALiteral → ⊥) (λ _ e. cc) (λ _ e. cc)
 
-fault_row : (text : List ℕ) (fault : LiteralFault) → number_ahead text ≡ Err fault → NumberSpelled text (Err fault) → FaultyNumber text fault
+fault_row : (text : List ℕ) (fault : LiteralFault) → number_ahead text ≡ Err fault → NumberSpelled text (Err fault)
+    → FaultyNumber text fault
 fault_row text NotALiteral e s =
     no_number text (λ value rest form. fitting_told rest value (sym (numeral_read text value rest form) ∙ e))
 fault_row text Unclosed e s = absurd s
@@ -171,11 +198,13 @@ fault_row text OddHex e s = absurd s
 fault_row text TooLong e s = absurd s
 fault_row text NumberTooLarge e s = too_large text s.0 s.1 s.2 s.3
 
-pub read_faulty_number : (text : List ℕ) (fault : LiteralFault) → number_ahead text ≡ Err fault → FaultyNumber text fault
+pub read_faulty_number : (text : List ℕ) (fault : LiteralFault) → number_ahead text ≡ Err fault
+    → FaultyNumber text fault
 read_faulty_number text fault e = fault_row text fault e (rw e at (number_spelled text))
 
 -- and a row of the table is told as its fault
-none_told : (text : List ℕ) → ((value : ℕ) (rest : List ℕ) → NumeralAt text value rest → ⊥) → (found : Reading ℕ) → number_ahead text ≡ found
+none_told : (text : List ℕ) → ((value : ℕ) (rest : List ℕ) → NumeralAt text value rest → ⊥) → (found : Reading ℕ)
+    → number_ahead text ≡ found
     → NumberSpelled text found → found ≡ Err NotALiteral
 none_told text refused (Ok found) e s = absurd (refused found.0 found.1 (number_numeral text found.0 found.1 s).0)
 none_told text refused (Err NotALiteral) e s = refl
@@ -184,7 +213,8 @@ none_told text refused (Err OddHex) e s = absurd s
 none_told text refused (Err TooLong) e s = absurd s
 none_told text refused (Err NumberTooLarge) e s = absurd (refused s.0 s.1 s.2)
 
-pub faulty_number_read : (text : List ℕ) (fault : LiteralFault) → FaultyNumber text fault → number_ahead text ≡ Err fault
+pub faulty_number_read : (text : List ℕ) (fault : LiteralFault) → FaultyNumber text fault
+    → number_ahead text ≡ Err fault
 faulty_number_read _ _ (no_number text refused) = none_told text refused (number_ahead text) refl (number_spelled text)
 faulty_number_read _ _ (too_large text value rest form large) =
     numeral_read text value rest form ∙ ap (number_found rest) (sym (fitting_large value large))

@@ -18,7 +18,8 @@ exact_texts = exact_bytes
 
 pub xids_total : IsTotalOrder xid_cmp
 xids_total =
-    then_total (on_total (λ x. x.format_id) nat_cmp_total) (then_total (on_total (λ x. x.gtrid.items) bytes_total) (on_total (λ x. x.bqual.items) bytes_total))
+    then_total (on_total (λ x. x.format_id) nat_cmp_total)
+    (then_total (on_total (λ x. x.gtrid.items) bytes_total) (on_total (λ x. x.bqual.items) bytes_total))
 
 -- the three parts of an identifier
 parts : Xid → ℕ × (List ℕ × List ℕ)
@@ -32,10 +33,12 @@ pub exact_xids : CmpEqualImpliesEq xid_cmp
 unfolding parts whole
 exact_xids a b h =
     ap whole
-    (exact_pairs nat_cmp (λ (x y : List ℕ × List ℕ). ordering_then (bytes_cmp x.0 y.0) (bytes_cmp x.1 y.1)) exact_unsigned
+    (exact_pairs nat_cmp (λ (x y : List ℕ × List ℕ). ordering_then (bytes_cmp x.0 y.0)
+    (bytes_cmp x.1 y.1)) exact_unsigned
     (exact_pairs bytes_cmp bytes_cmp exact_bytes exact_bytes) (parts a) (parts b) h)
 
 -- in such an order exactly the equal values tie
-pub ties_exactly : {K : Type 0} (R : K → K → Ordering) → IsTotalOrder R → CmpEqualImpliesEq R → (r : Ordering) (a b : K) → r ≡ R a b
+pub ties_exactly : {K : Type 0} (R : K → K → Ordering) → IsTotalOrder R → CmpEqualImpliesEq R → (r : Ordering) (a b : K)
+    → r ≡ R a b
     → (r ≡ Equal → a ≡ b) × (a ≡ b → r ≡ Equal)
 ties_exactly R total exact r a b is = (λ e. exact a b (sym is ∙ e), λ e. is ∙ rw (← e) (tied_itself total a))

@@ -1,18 +1,22 @@
 -- What a token leaves of a text is an end of it, so a place says it too.
-use Rattle.std.proofs.Common.{◌≡◌, ℕ, ◌-◌, ◌+◌, ◌≤◌, ◌↔◌, List, [], ◌∷◌, ◌++◌, length, take, drop, Result, Ok, Err, refl, sym, ◌∙◌, ap, arith, append_assoc}
+use Rattle.std.proofs.Common.{◌≡◌, ℕ, ◌-◌, ◌+◌, ◌≤◌, ◌↔◌, List, [], ◌∷◌, ◌++◌, length, take, drop, Result, Ok, Err}
+use Rattle.std.proofs.Common.{refl, sym, ◌∙◌, ap, arith, append_assoc}
 use Rattle.std.proofs.Common.{length-append}
 use Rattle.std.proofs.Math.Seq.{drop-append_seam}
 use Rattle.std.proofs.lemmas.List.{take-append-drop, length-drop}
 use Rattle.xa_xid.specs.Bytes.{belongs, front, unblank}
-use Rattle.xa_xid.specs.Literal.{Reading, LiteralAt, text_literal, hex_in_quotes, hex_run, TextAt, Between, literal_ahead, placed}
+use Rattle.xa_xid.specs.Literal.{Reading, LiteralAt, text_literal, hex_in_quotes, hex_run, TextAt, Between}
+use Rattle.xa_xid.specs.Literal.{literal_ahead, placed}
 use Rattle.xa_xid.specs.Faults.{FaultyLiteral, FaultyNumber, FaultyXid, faulty_gtrid, faulty_bqual, faulty_format_id}
 use Rattle.xa_xid.specs.Number.{NumberAt, decimal_digits, hexadecimal_digits, number_ahead}
 use Rattle.xa_xid.specs.Xid.{Text}
-use Rattle.xa_xid.specs.XidText.{XidAt, gtrid_alone, gtrid_bqual, gtrid_bqual_format, CommaAt, Parse, xid_ahead, gtrid_next, places}
+use Rattle.xa_xid.specs.XidText.{XidAt, gtrid_alone, gtrid_bqual, gtrid_bqual_format, CommaAt, Parse, xid_ahead}
+use Rattle.xa_xid.specs.XidText.{gtrid_next, places}
 use Rattle.xa_xid.specs.declared.byte_class.ByteClass.TheVariants.{Blank}
 use Rattle.xa_xid.specs.declared.literal_fault.LiteralFault.{LiteralFault}
 use Rattle.xa_xid.specs.declared.xid.Xid.{Xid}
-use Rattle.xa_xid.proofs.Identifiers.{read_text_spelled, spelled_text_read, read_xid_spelled, spelled_xid_read, read_faulty_xid, faulty_xid_read}
+use Rattle.xa_xid.proofs.Identifiers.{read_text_spelled, spelled_text_read, read_xid_spelled, spelled_xid_read}
+use Rattle.xa_xid.proofs.Identifiers.{read_faulty_xid, faulty_xid_read}
 use Rattle.xa_xid.proofs.Numerals.{read_number_spelled, spelled_number_read, read_faulty_number, faulty_number_read}
 use Rattle.xa_xid.proofs.Spelled.{read_faulty, faulty_read}
 use Rattle.xa_xid.proofs.Spelling.{front-behind}
@@ -40,26 +44,32 @@ end_comma text rest e = end_of_end text (unblank text) rest (end_unblank text) (
 
 -- behind a literal
 end_literal : (text bytes rest : List ℕ) → LiteralAt text bytes rest → EndOf text rest
-end_literal _ _ _ (text_literal quote {text} {bytes} {rest} is q) = record { before = quote ∷ q.written; cut = ap (λ t. quote ∷ t) q.cut }
+end_literal _ _ _ (text_literal quote {text} {bytes} {rest} is q) =
+    record { before = quote ∷ q.written; cut = ap (λ t. quote ∷ t) q.cut }
 end_literal _ _ _ (hex_in_quotes letter digits {bytes} {rest} is e all) = record {
   before = letter ∷ 39 ∷ (digits ++ (39 ∷ []));
   cut = ap (λ t. letter ∷ 39 ∷ t) (sym (append_assoc digits (39 ∷ []) rest));
 }
-end_literal _ _ _ (hex_run digit digits {bytes} {rest} e all s) = record { before = 48 ∷ 120 ∷ digit ∷ digits; cut = refl }
+end_literal _ _ _ (hex_run digit digits {bytes} {rest} e all s) =
+    record { before = 48 ∷ 120 ∷ digit ∷ digits; cut = refl }
 
 pub end_text : (text : List ℕ) (found : Text) (rest : List ℕ) → TextAt text found rest → EndOf text rest
 end_text text found rest form = end_literal text found.items rest form.literal
 
 end_part : (text : List ℕ) (found : Text) (rest : List ℕ) → TextAt (unblank text) found rest → EndOf text rest
-end_part text found rest form = end_of_end text (unblank text) rest (end_unblank text) (end_text (unblank text) found rest form)
+end_part text found rest form =
+    end_of_end text (unblank text) rest (end_unblank text) (end_text (unblank text) found rest form)
 
 -- behind a number
 pub end_number : (text : List ℕ) (value : ℕ) (rest : List ℕ) → NumberAt text value rest → EndOf text rest
-end_number _ _ _ (decimal_digits digit digits {value} {rest} all e small s) = record { before = digit ∷ digits; cut = refl }
-end_number _ _ _ (hexadecimal_digits digit digits {value} {rest} all e small s) = record { before = 48 ∷ 120 ∷ digit ∷ digits; cut = refl }
+end_number _ _ _ (decimal_digits digit digits {value} {rest} all e small s) =
+    record { before = digit ∷ digits; cut = refl }
+end_number _ _ _ (hexadecimal_digits digit digits {value} {rest} all e small s) =
+    record { before = 48 ∷ 120 ∷ digit ∷ digits; cut = refl }
 
 -- behind an identifier
-end_second : (text second third rest : List ℕ) (gtrid bqual : Text) → TextAt (unblank text) gtrid second → CommaAt (unblank second) third
+end_second : (text second third rest : List ℕ) (gtrid bqual : Text) → TextAt (unblank text) gtrid second
+    → CommaAt (unblank second) third
     → TextAt (unblank third) bqual rest → EndOf text rest
 end_second text second third rest gtrid bqual first comma part =
     end_of_end text second rest (end_part text gtrid second first)
@@ -67,8 +77,10 @@ end_second text second third rest gtrid bqual first comma part =
 
 pub end_xid : (text : List ℕ) (xid : Xid) (rest : List ℕ) → XidAt text xid rest → EndOf text rest
 end_xid _ _ _ (gtrid_alone gtrid {text} {rest} first none) = end_part text gtrid rest first
-end_xid _ _ _ (gtrid_bqual gtrid bqual {text} {second} {third} {rest} first comma part none) = end_second text second third rest gtrid bqual first comma part
-end_xid _ _ _ (gtrid_bqual_format gtrid bqual value {text} {second} {third} {fourth} {fifth} {rest} first comma part last number) =
+end_xid _ _ _ (gtrid_bqual gtrid bqual {text} {second} {third} {rest} first comma part none) =
+    end_second text second third rest gtrid bqual first comma part
+end_xid _ _ _ (gtrid_bqual_format gtrid bqual value {text} {second} {third} {fourth} {fifth}
+    {rest} first comma part last number) =
     end_of_end text fourth rest (end_second text second third fourth gtrid bqual first comma part)
     (end_of_end fourth fifth rest (end_comma fourth fifth last)
     (end_of_end fifth (unblank fifth) rest (end_unblank fifth) (end_number (unblank fifth) value rest number)))
@@ -80,8 +92,10 @@ end_place text rest end =
     let place : length text - length rest ≡ length end.before = omega (arith, sizes) in
     rw place (ap (drop (length end.before)) end.cut ∙ drop-append_seam end.before rest)
 
-between : {Value : Type 0} (Spelled : List ℕ → Value → List ℕ → Type 0) (text : List ℕ) (at : ℕ) (value : Value) (rest : List ℕ)
-    → Spelled (drop at text) value rest → EndOf (drop at text) rest → Between Spelled text at value (length text - length rest)
+between : {Value : Type 0} (Spelled : List ℕ → Value → List ℕ → Type 0) (text : List ℕ) (at : ℕ) (value : Value)
+    (rest : List ℕ)
+    → Spelled (drop at text) value rest → EndOf (drop at text) rest
+    → Between Spelled text at value (length text - length rest)
 between Spelled text at value rest form end = record {
   within = omega arith;
   spelled = rw (end_place text rest (end_of_end text (drop at text) rest (end_from text at) end)) form;
@@ -91,61 +105,78 @@ next_place : (text : List ℕ) (next : ℕ) → next ≤ length text → length 
 next_place text next within = rw (length-drop next text) (omega arith)
 
 -- a literal or a number at a place, from its reading and back
-placed_spelled : {Value : Type 0} (Spelled : List ℕ → Value → List ℕ → Type 0) (text : List ℕ) (at : ℕ) (found : Reading Value) (value : Value) (next : ℕ)
+placed_spelled : {Value : Type 0} (Spelled : List ℕ → Value → List ℕ → Type 0) (text : List ℕ) (at : ℕ)
+    (found : Reading Value) (value : Value) (next : ℕ)
     → ((rest : List ℕ) → Spelled (drop at text) value rest → found ≡ Ok (value, rest))
     → Between Spelled text at value next → placed text found ≡ Ok (value, next)
 placed_spelled Spelled text at found value next read form =
     ap (placed text) (read (drop next text) form.spelled) ∙ ap (λ n. Ok (value, n)) (next_place text next form.within)
 
-err_is_ok : {Value : Type 0} (reading : Reading Value) (fault : LiteralFault) (found : Value × List ℕ) → reading ≡ Err fault → reading ≡ Ok found → ⊥
+err_is_ok : {Value : Type 0} (reading : Reading Value) (fault : LiteralFault) (found : Value × List ℕ)
+    → reading ≡ Err fault → reading ≡ Ok found → ⊥
 err_is_ok reading fault found err ok = cc
 
-pub text_between : (text : List ℕ) (at : ℕ) (found : Text) (rest : List ℕ) → literal_ahead (drop at text) ≡ Ok (found, rest)
+pub text_between : (text : List ℕ) (at : ℕ) (found : Text) (rest : List ℕ)
+    → literal_ahead (drop at text) ≡ Ok (found, rest)
     → Between TextAt text at found (length text - length rest)
 text_between text at found rest e =
-    let form = read_text_spelled (drop at text) found rest e in between TextAt text at found rest form (end_text (drop at text) found rest form)
+    let form = read_text_spelled (drop at text) found rest e in
+    between TextAt text at found rest form (end_text (drop at text) found rest form)
 
-pub between_text : (text : List ℕ) (at : ℕ) (found : Reading Text) → literal_ahead (drop at text) ≡ found → (bytes : Text) (next : ℕ)
+pub between_text : (text : List ℕ) (at : ℕ) (found : Reading Text) → literal_ahead (drop at text) ≡ found
+    → (bytes : Text) (next : ℕ)
     → Between TextAt text at bytes next → placed text found ≡ Ok (bytes, next)
 between_text text at found e bytes next =
-    placed_spelled TextAt text at found bytes next (λ rest form. sym e ∙ spelled_text_read (drop at text) bytes rest form)
+    placed_spelled TextAt text at found bytes next (λ rest form. sym e
+    ∙ spelled_text_read (drop at text) bytes rest form)
 
-pub no_text_between : (text : List ℕ) (at : ℕ) (fault : LiteralFault) → literal_ahead (drop at text) ≡ Err fault → (bytes : Text) (next : ℕ)
+pub no_text_between : (text : List ℕ) (at : ℕ) (fault : LiteralFault) → literal_ahead (drop at text) ≡ Err fault
+    → (bytes : Text) (next : ℕ)
     → Between TextAt text at bytes next → ⊥
 no_text_between text at fault e bytes next form =
-    err_is_ok (literal_ahead (drop at text)) fault (bytes, drop next text) e (spelled_text_read (drop at text) bytes (drop next text) form.spelled)
+    err_is_ok (literal_ahead (drop at text)) fault (bytes, drop next text) e
+    (spelled_text_read (drop at text) bytes (drop next text) form.spelled)
 
 pub number_between : (text : List ℕ) (at value : ℕ) (rest : List ℕ) → number_ahead (drop at text) ≡ Ok (value, rest)
     → Between NumberAt text at value (length text - length rest)
 number_between text at value rest e =
-    let form = read_number_spelled (drop at text) value rest e in between NumberAt text at value rest form (end_number (drop at text) value rest form)
+    let form = read_number_spelled (drop at text) value rest e in
+    between NumberAt text at value rest form (end_number (drop at text) value rest form)
 
-pub between_number : (text : List ℕ) (at : ℕ) (found : Reading ℕ) → number_ahead (drop at text) ≡ found → (value next : ℕ)
+pub between_number : (text : List ℕ) (at : ℕ) (found : Reading ℕ) → number_ahead (drop at text) ≡ found
+    → (value next : ℕ)
     → Between NumberAt text at value next → placed text found ≡ Ok (value, next)
 between_number text at found e value next =
-    placed_spelled NumberAt text at found value next (λ rest form. sym e ∙ spelled_number_read (drop at text) value rest form)
+    placed_spelled NumberAt text at found value next (λ rest form. sym e
+    ∙ spelled_number_read (drop at text) value rest form)
 
-pub no_number_between : (text : List ℕ) (at : ℕ) (fault : LiteralFault) → number_ahead (drop at text) ≡ Err fault → (value next : ℕ)
+pub no_number_between : (text : List ℕ) (at : ℕ) (fault : LiteralFault) → number_ahead (drop at text) ≡ Err fault
+    → (value next : ℕ)
     → Between NumberAt text at value next → ⊥
 no_number_between text at fault e value next form =
-    err_is_ok (number_ahead (drop at text)) fault (value, drop next text) e (spelled_number_read (drop at text) value (drop next text) form.spelled)
+    err_is_ok (number_ahead (drop at text)) fault (value, drop next text) e
+    (spelled_number_read (drop at text) value (drop next text) form.spelled)
 
 -- a fault at a place, from its reading and back
-told_fault : {Value : Type 0} (reading : Result Value LiteralFault) (told fault : LiteralFault) → reading ≡ Err told → reading ≡ Err fault → told ≡ fault
+told_fault : {Value : Type 0} (reading : Result Value LiteralFault) (told fault : LiteralFault) → reading ≡ Err told
+    → reading ≡ Err fault → told ≡ fault
 told_fault reading told fault e f = cc
 
-placed_fault : {Value : Type 0} (text : List ℕ) (found : Reading Value) (fault : LiteralFault) → placed text found ≡ Err fault → found ≡ Err fault
+placed_fault : {Value : Type 0} (text : List ℕ) (found : Reading Value) (fault : LiteralFault)
+    → placed text found ≡ Err fault → found ≡ Err fault
 placed_fault text (Ok (value, rest)) fault e = cc e
 placed_fault text (Err told) fault e = ap Err (told_fault (placed text (Err told)) told fault refl e)
 
-pub literal_fault_from : (text : List ℕ) (at : ℕ) (found : Reading Text) → literal_ahead (drop at text) ≡ found → (fault : LiteralFault)
+pub literal_fault_from : (text : List ℕ) (at : ℕ) (found : Reading Text) → literal_ahead (drop at text) ≡ found
+    → (fault : LiteralFault)
     → (placed text found ≡ Err fault) ↔ FaultyLiteral (drop at text) fault
 literal_fault_from text at found e fault = (
   λ told. read_faulty (drop at text) fault (e ∙ placed_fault text found fault told),
   λ row. ap (placed text) (sym e ∙ faulty_read (drop at text) fault row),
 )
 
-pub number_fault_from : (text : List ℕ) (at : ℕ) (found : Reading ℕ) → number_ahead (drop at text) ≡ found → (fault : LiteralFault)
+pub number_fault_from : (text : List ℕ) (at : ℕ) (found : Reading ℕ) → number_ahead (drop at text) ≡ found
+    → (fault : LiteralFault)
     → (placed text found ≡ Err fault) ↔ FaultyNumber (drop at text) fault
 number_fault_from text at found e fault = (
   λ told. read_faulty_number (drop at text) fault (e ∙ placed_fault text found fault told),
@@ -157,17 +188,20 @@ xid_at-unblank : (text tail : List ℕ) → tail ≡ unblank text → xid_ahead 
 unfolding xid_ahead
 xid_at-unblank text tail e = ap gtrid_next (sym e)
 
-pub xid_between : (text tail : List ℕ) (at : ℕ) (xid : Xid) (rest : List ℕ) → tail ≡ unblank (drop at text) → gtrid_next tail ≡ Ok (xid, rest)
+pub xid_between : (text tail : List ℕ) (at : ℕ) (xid : Xid) (rest : List ℕ) → tail ≡ unblank (drop at text)
+    → gtrid_next tail ≡ Ok (xid, rest)
     → Between XidAt text at xid (length text - length rest)
 xid_between text tail at xid rest blank e =
     let form = read_xid_spelled (drop at text) xid rest (xid_at-unblank (drop at text) tail blank ∙ e) in
     between XidAt text at xid rest form (end_xid (drop at text) xid rest form)
 
-pub between_xid : (text tail : List ℕ) (at : ℕ) (found : Parse) → tail ≡ unblank (drop at text) → gtrid_next tail ≡ found → (xid : Xid) (next : ℕ)
+pub between_xid : (text tail : List ℕ) (at : ℕ) (found : Parse) → tail ≡ unblank (drop at text)
+    → gtrid_next tail ≡ found → (xid : Xid) (next : ℕ)
     → Between XidAt text at xid next → places text found ≡ Ok (xid, next)
 between_xid text tail at found blank e xid next form =
     let read : found ≡ Ok (xid, drop next text) =
-    sym (xid_at-unblank (drop at text) tail blank ∙ e) ∙ spelled_xid_read (drop at text) xid (drop next text) form.spelled in
+    sym (xid_at-unblank (drop at text) tail blank ∙ e) ∙ spelled_xid_read (drop at text) xid
+    (drop next text) form.spelled in
     ap (places text) read ∙ ap (λ n. Ok (xid, n)) (next_place text next form.within)
 
 -- from the faulty token of an identifier on
@@ -180,16 +214,20 @@ end_faulty _ _ _ (faulty_format_id text second third fourth fifth gtrid bqual fa
     end_of_end text fourth (unblank fifth) (end_second text second third fourth gtrid bqual first comma part)
     (end_of_end fourth fifth (unblank fifth) (end_comma fourth fifth last) (end_unblank fifth))
 
-pub xid_fault_between : (text tail : List ℕ) (at : ℕ) (fault : LiteralFault) (rest : List ℕ) → tail ≡ unblank (drop at text)
+pub xid_fault_between : (text tail : List ℕ) (at : ℕ) (fault : LiteralFault) (rest : List ℕ)
+    → tail ≡ unblank (drop at text)
     → gtrid_next tail ≡ Err (fault, rest)
     → Between FaultyXid text at fault (length text - length rest)
 xid_fault_between text tail at fault rest blank e =
     let row = read_faulty_xid (drop at text) fault rest (xid_at-unblank (drop at text) tail blank ∙ e) in
     between FaultyXid text at fault rest row (end_faulty (drop at text) fault rest row)
 
-pub between_xid_fault : (text tail : List ℕ) (at : ℕ) (found : Parse) → tail ≡ unblank (drop at text) → gtrid_next tail ≡ found
-    → (fault : LiteralFault) (place : ℕ) → Between FaultyXid text at fault place → places text found ≡ Err (fault, place)
+pub between_xid_fault : (text tail : List ℕ) (at : ℕ) (found : Parse) → tail ≡ unblank (drop at text)
+    → gtrid_next tail ≡ found
+    → (fault : LiteralFault) (place : ℕ) → Between FaultyXid text at fault place
+    → places text found ≡ Err (fault, place)
 between_xid_fault text tail at found blank e fault place row =
     let told : found ≡ Err (fault, drop place text) =
-    sym (xid_at-unblank (drop at text) tail blank ∙ e) ∙ faulty_xid_read (drop at text) fault (drop place text) row.spelled in
+    sym (xid_at-unblank (drop at text) tail blank ∙ e) ∙ faulty_xid_read (drop at text) fault
+    (drop place text) row.spelled in
     ap (places text) told ∙ ap (λ n. Err (fault, n)) (next_place text place row.within)

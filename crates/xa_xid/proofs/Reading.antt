@@ -1,5 +1,6 @@
 -- A text literal, read byte by byte.
-use Rattle.std.proofs.Common.{◌≡◌, ℕ, ◌+◌, ◌<◌, ◌≤◌, List, [], ◌∷◌, ◌++◌, length, drop, get_or, Option, Some, None, refl, sym, ◌∙◌, ap, add-one, drop-cons}
+use Rattle.std.proofs.Common.{◌≡◌, ℕ, ◌+◌, ◌<◌, ◌≤◌, List, [], ◌∷◌, ◌++◌, length, drop, get_or, Option, Some, None}
+use Rattle.std.proofs.Common.{refl, sym, ◌∙◌, ap, add-one, drop-cons}
 use Rattle.std.proofs.Common.{append_assoc}
 use Rattle.std.proofs.lemmas.Bool.{eq-eqb, ne_eqb}
 use Rattle.std.proofs.lemmas.List.{drop_all, append-nil}
@@ -17,7 +18,8 @@ onto-onto : (xs ys : List ℕ) (found : Option (List ℕ × List ℕ)) → onto 
 onto-onto xs ys None = refl
 onto-onto xs ys (Some (bytes, rest)) = ap (λ zs. Some (zs, rest)) (sym (append_assoc xs ys bytes))
 
-pub plain_quote : (quote byte : ℕ) (text : List ℕ) → byte ≡ quote → read_in_quotes quote Plain (byte ∷ text) ≡ read_in_quotes quote Quote text
+pub plain_quote : (quote byte : ℕ) (text : List ℕ) → byte ≡ quote
+    → read_in_quotes quote Plain (byte ∷ text) ≡ read_in_quotes quote Quote text
 unfolding read_in_quotes
 plain_quote quote byte text e = rw (eq-eqb byte quote e) refl
 
@@ -31,7 +33,8 @@ pub plain_byte : (quote byte : ℕ) (text : List ℕ) → (byte ≡ quote → �
 unfolding read_in_quotes
 plain_byte quote byte text other none = rw (ne_eqb byte quote other, ne_eqb byte 92 none) refl
 
-pub escape_letter : (quote byte : ℕ) (text : List ℕ) → read_in_quotes quote Escape (byte ∷ text) ≡ onto (escaped byte) (read_in_quotes quote Plain text)
+pub escape_letter : (quote byte : ℕ) (text : List ℕ) → read_in_quotes quote Escape (byte ∷ text)
+    ≡ onto (escaped byte) (read_in_quotes quote Plain text)
 unfolding read_in_quotes
 escape_letter quote byte text = refl
 
@@ -40,7 +43,8 @@ pub quote_again : (quote byte : ℕ) (text : List ℕ) → byte ≡ quote
 unfolding read_in_quotes
 quote_again quote byte text e = rw (eq-eqb byte quote e) refl
 
-pub quote_closes : (quote byte : ℕ) (text : List ℕ) → (byte ≡ quote → ⊥) → read_in_quotes quote Quote (byte ∷ text) ≡ Some ([], byte ∷ text)
+pub quote_closes : (quote byte : ℕ) (text : List ℕ) → (byte ≡ quote → ⊥)
+    → read_in_quotes quote Quote (byte ∷ text) ≡ Some ([], byte ∷ text)
 unfolding read_in_quotes
 quote_closes quote byte text other = rw (ne_eqb byte quote other) refl
 
@@ -76,8 +80,10 @@ read_mark quote text mode next held place within step so_far = record {
 }
 
 -- one byte with which the literal stands for more
-pub read_more : (quote : ℕ) (text : List ℕ) (mode next : Mode) (old new : Option Text) (place : ℕ) (bytes : List ℕ) → place < length text
-    → ((rest : List ℕ) → read_in_quotes quote mode (get_or text place 0 ∷ rest) ≡ onto bytes (read_in_quotes quote next rest))
+pub read_more : (quote : ℕ) (text : List ℕ) (mode next : Mode) (old new : Option Text) (place : ℕ) (bytes : List ℕ)
+    → place < length text
+    → ((rest : List ℕ) → read_in_quotes quote mode (get_or text place 0 ∷ rest)
+    ≡ onto bytes (read_in_quotes quote next rest))
     → ((xs : List ℕ) → old ≡ kept xs → new ≡ kept (xs ++ bytes))
     → ReadTo quote text mode old place → ReadTo quote text next new (place + 1)
 read_more quote text mode next old new place bytes within step grows so_far = record {
@@ -86,16 +92,20 @@ read_more quote text mode next old new place bytes within step grows so_far = re
   same = so_far.same ∙ rw (drop-cons text place 0 within, step, add-one) (onto-onto so_far.so_far bytes _);
 }
 
-closed : (quote : ℕ) (text rest : List ℕ) (mode : Mode) (held : Option Text) (place : ℕ) → read_in_quotes quote mode (drop place text) ≡ Some ([], rest)
+closed : (quote : ℕ) (text rest : List ℕ) (mode : Mode) (held : Option Text) (place : ℕ)
+    → read_in_quotes quote mode (drop place text) ≡ Some ([], rest)
     → ReadTo quote text mode held place → text_literal_of (read_in_quotes quote Plain text) ≡ sized held rest
 closed quote text rest mode held place e so_far =
     rw (so_far.same, e, append-nil so_far.so_far, ← so_far.held_is) refl
 
 -- the byte before was the closing quote
-pub read_closed : (quote : ℕ) (text : List ℕ) (held : Option Text) (place : ℕ) → place < length text → (get_or text place 0 ≡ quote → ⊥)
-    → ReadTo quote text Quote held place → text_literal_of (read_in_quotes quote Plain text) ≡ sized held (drop place text)
+pub read_closed : (quote : ℕ) (text : List ℕ) (held : Option Text) (place : ℕ) → place < length text
+    → (get_or text place 0 ≡ quote → ⊥)
+    → ReadTo quote text Quote held place → text_literal_of (read_in_quotes quote Plain text)
+    ≡ sized held (drop place text)
 read_closed quote text held place within other so_far =
-    closed quote text (drop place text) Quote held place (rw (drop-cons text place 0 within) (quote_closes quote _ _ other)) so_far
+    closed quote text (drop place text) Quote held place (rw (drop-cons text place 0 within)
+    (quote_closes quote _ _ other)) so_far
 
 -- the last byte was the closing quote
 pub read_ended : (quote : ℕ) (text : List ℕ) (held : Option Text) (place : ℕ) → length text ≤ place
@@ -103,15 +113,18 @@ pub read_ended : (quote : ℕ) (text : List ℕ) (held : Option Text) (place : �
 read_ended quote text held place past so_far =
     closed quote text [] Quote held place (rw (drop_all place text past) (quoted-nil-quote quote)) so_far
 
-unclosed : (quote : ℕ) (text : List ℕ) (mode : Mode) (held : Option Text) (place : ℕ) → read_in_quotes quote mode (drop place text) ≡ None
+unclosed : (quote : ℕ) (text : List ℕ) (mode : Mode) (held : Option Text) (place : ℕ)
+    → read_in_quotes quote mode (drop place text) ≡ None
     → ReadTo quote text mode held place → read_in_quotes quote Plain text ≡ None
 unclosed quote text mode held place e so_far = so_far.same ∙ rw e refl
 
 -- the text ended before a closing quote
 pub read_plain_end : (quote : ℕ) (text : List ℕ) (held : Option Text) (place : ℕ) → length text ≤ place
     → ReadTo quote text Plain held place → read_in_quotes quote Plain text ≡ None
-read_plain_end quote text held place past so_far = unclosed quote text Plain held place (rw (drop_all place text past) (quoted-nil-plain quote)) so_far
+read_plain_end quote text held place past so_far =
+    unclosed quote text Plain held place (rw (drop_all place text past) (quoted-nil-plain quote)) so_far
 
 pub read_escape_end : (quote : ℕ) (text : List ℕ) (held : Option Text) (place : ℕ) → length text ≤ place
     → ReadTo quote text Escape held place → read_in_quotes quote Plain text ≡ None
-read_escape_end quote text held place past so_far = unclosed quote text Escape held place (rw (drop_all place text past) (quoted-nil-escape quote)) so_far
+read_escape_end quote text held place past so_far =
+    unclosed quote text Escape held place (rw (drop_all place text past) (quoted-nil-escape quote)) so_far

@@ -1,11 +1,13 @@
 -- What stands behind a token is shorter than the text.
-use Rattle.std.proofs.Common.{◌≡◌, ℕ, ◌≤◌, suc, Bool, true, false, not, nat_lt, ◌%◌, if◌then◌else◌, ◌||◌, ◌==◌, List, [], ◌∷◌, length, drop, Option, Some, None}
+use Rattle.std.proofs.Common.{◌≡◌, ℕ, ◌≤◌, suc, Bool, true, false, not, nat_lt, ◌%◌, if◌then◌else◌, ◌||◌, ◌==◌, List}
+use Rattle.std.proofs.Common.{[], ◌∷◌, length, drop, Option, Some, None}
 use Rattle.std.proofs.Common.{Ok, Err, sym, ◌∙◌, arith}
 use Rattle.std.proofs.Math.Nat.{le_refl}
 use Rattle.std.proofs.lemmas.Bool.{cond_both, or_from, true≢false}
 use Rattle.hex.specs.Hex.{decode_of}
 use Rattle.xa_xid.specs.Bytes.{belongs, front, behind}
-use Rattle.xa_xid.specs.Literal.{Reading, literal_ahead, opens_text, opens_hex, text_literal_of, sized, kept, hex_in_quotes_of, decoded}
+use Rattle.xa_xid.specs.Literal.{Reading, literal_ahead, opens_text, opens_hex, text_literal_of, sized, kept}
+use Rattle.xa_xid.specs.Literal.{hex_in_quotes_of, decoded}
 use Rattle.xa_xid.specs.Quoted.{read_in_quotes, onto, escaped}
 use Rattle.xa_xid.specs.Xid.{Text}
 use Rattle.xa_xid.specs.declared.byte_class.ByteClass.TheVariants.{Hexadecimal}
@@ -19,14 +21,16 @@ unfolding behind
 behind-short p [] = le_refl 0
 behind-short p (byte ∷ text) =
     let shorter : length (behind p text) ≤ length text = behind-short p text in
-    cond_both (p byte) (behind p text) (byte ∷ text) (λ left. length left ≤ suc (length text)) (λ _. omega arith) (λ _. omega arith)
+    cond_both (p byte) (behind p text) (byte ∷ text) (λ left. length left ≤ suc (length text)) (λ _. omega arith)
+    (λ _. omega arith)
 
 -- what is left is at most so long
 abbrev Short : ℕ → Option (List ℕ × List ℕ) → Type 0
 Short most None = Unit {0}
 Short most (Some found) = length found.1 ≤ most
 
-short-onto : (most : ℕ) (first : List ℕ) (found : Option (List ℕ × List ℕ)) → Short most found → Short (suc most) (onto first found)
+short-onto : (most : ℕ) (first : List ℕ) (found : Option (List ℕ × List ℕ)) → Short most found
+    → Short (suc most) (onto first found)
 short-onto most first None short = tt
 short-onto most first (Some (bytes, rest)) short = omega arith
 
@@ -44,7 +48,8 @@ quoted-short quote Plain (byte ∷ text) =
     (λ _. short-more (length text) (read_in_quotes quote Escape text) (quoted-short quote Escape text))
     (λ _. short-onto (length text) (byte ∷ []) (read_in_quotes quote Plain text) (quoted-short quote Plain text)))
 quoted-short quote Escape [] = tt
-quoted-short quote Escape (byte ∷ text) = short-onto (length text) (escaped byte) (read_in_quotes quote Plain text) (quoted-short quote Plain text)
+quoted-short quote Escape (byte ∷ text) =
+    short-onto (length text) (escaped byte) (read_in_quotes quote Plain text) (quoted-short quote Plain text)
 quoted-short quote Quote [] = le_refl 0
 quoted-short quote Quote (byte ∷ text) =
     cond_both (byte == quote) _ _ (Short (suc (length text)))
@@ -60,13 +65,15 @@ short-sized : (most : ℕ) (text : Option Text) (rest : List ℕ) → length res
 short-sized most None rest short = tt
 short-sized most (Some text) rest short = short
 
-short-text : (most : ℕ) (found : Option (List ℕ × List ℕ)) → Short most found → ShortReading most (text_literal_of found)
+short-text : (most : ℕ) (found : Option (List ℕ × List ℕ)) → Short most found
+    → ShortReading most (text_literal_of found)
 short-text most None short = tt
 short-text most (Some (bytes, rest)) short = short-sized most (kept bytes) rest short
 
 short-decoded : (most : ℕ) (digits rest : List ℕ) → length rest ≤ most → ShortReading most (decoded digits rest)
 short-decoded most digits rest short =
-    elim (decode_of digits) as (λ found. ShortReading most (elim found [ Ok bytes ↦ Ok (record { items = bytes }, rest) | Err _ ↦ Err NotALiteral ])) [
+    elim (decode_of digits) as (λ found. ShortReading most
+    (elim found [ Ok bytes ↦ Ok (record { items = bytes }, rest) | Err _ ↦ Err NotALiteral ])) [
       | Ok bytes ↦ short
       | Err fault ↦ tt
     ]
@@ -84,7 +91,8 @@ short-hex most digits (byte ∷ rest) short =
     let shorter : length rest ≤ most = omega arith in
     short-guard most (not (byte == 39)) NotALiteral odd
     (short-guard most (length digits % 2 == 1) OddHex long
-    (short-guard most (nat_lt 128 (length digits)) TooLong (decoded digits rest) (short-decoded most digits rest shorter)))
+    (short-guard most (nat_lt 128 (length digits)) TooLong (decoded digits rest)
+    (short-decoded most digits rest shorter)))
 
 length-drop-2 : (byte : ℕ) (text : List ℕ) → length (drop 2 (byte ∷ text)) ≤ length text
 length-drop-2 byte [] = le_refl 0

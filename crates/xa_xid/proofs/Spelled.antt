@@ -1,7 +1,10 @@
 -- What is read as a literal is spelled as one, and each fault is a row of the table.
-use Rattle.std.proofs.Common.{◌≡◌, ℕ, ◌+◌, ◌*◌, ◌%◌, ◌<◌, ◌≤◌, Bool, true, false, ◌==◌, ◌&&◌, not, nat_lt, if◌then◌else◌, IsTrue, List, [], ◌∷◌, ◌++◌, length}
-use Rattle.std.proofs.Common.{drop, slice_index, Option, Some, None, Result, Ok, Err, refl, sym, ◌∙◌, subst, arith, inl, inr}
-use Rattle.std.proofs.lemmas.Bool.{cond_both, eqb-true, eqb-false, ne_eqb, and_parts, cases_lt, lt-ltb, ltb-true, ltb-false, not-false, true≢false}
+use Rattle.std.proofs.Common.{◌≡◌, ℕ, ◌+◌, ◌*◌, ◌%◌, ◌<◌, ◌≤◌, Bool, true, false, ◌==◌, ◌&&◌, not, nat_lt}
+use Rattle.std.proofs.Common.{if◌then◌else◌, IsTrue, List, [], ◌∷◌, ◌++◌, length}
+use Rattle.std.proofs.Common.{drop, slice_index, Option, Some, None, Result, Ok, Err, refl, sym, ◌∙◌, subst, arith, inl}
+use Rattle.std.proofs.Common.{inr}
+use Rattle.std.proofs.lemmas.Bool.{cond_both, eqb-true, eqb-false, ne_eqb, and_parts, cases_lt, lt-ltb, ltb-true}
+use Rattle.std.proofs.lemmas.Bool.{ltb-false, not-false, true≢false}
 use Rattle.std.proofs.lemmas.Bool.Decides.{nat_tests}
 use Rattle.std.proofs.lemmas.List.{append-nil}
 use Rattle.std.proofs.lemmas.List.Elements.{All-nil, All-cons}
@@ -10,10 +13,12 @@ use Rattle.hex.specs.Hex.{decode_of, is_hex_digit}
 use Rattle.hex.proofs.HexLemmas.{decode_of-digits}
 use Rattle.hex.specs.declared.error.FromHexError.{FromHexError}
 use Rattle.xa_xid.specs.Bytes.{belongs, front, behind, only, run, after_run, StartsNo}
-use Rattle.xa_xid.specs.Literal.{Reading, LiteralAt, text_literal, hex_in_quotes, hex_run, literal_ahead, opens_text, opens_hex, is_quote, is_x}
+use Rattle.xa_xid.specs.Literal.{Reading, LiteralAt, text_literal, hex_in_quotes, hex_run, literal_ahead, opens_text}
+use Rattle.xa_xid.specs.Literal.{opens_hex, is_quote, is_x}
 use Rattle.xa_xid.specs.Literal.{text_literal_of}
 use Rattle.xa_xid.specs.Literal.{sized, kept, decoded, evened, hex_in_quotes_of, hex_run_of, hex_digits_of}
-use Rattle.xa_xid.specs.Faults.{AreHex, HexRunAt, hex_run_at, FaultyLiteral, no_closing_quote, too_many_bytes, digits_without_end, digits_and_another_byte}
+use Rattle.xa_xid.specs.Faults.{AreHex, HexRunAt, hex_run_at, FaultyLiteral, no_closing_quote, too_many_bytes}
+use Rattle.xa_xid.specs.Faults.{digits_without_end, digits_and_another_byte}
 use Rattle.xa_xid.specs.Faults.{odd_digits, too_many_digits, too_long_run, no_form}
 use Rattle.xa_xid.specs.Quoted.{QuotedAt, read_in_quotes}
 use Rattle.xa_xid.specs.Xid.{Text}
@@ -23,8 +28,10 @@ use Rattle.xa_xid.specs.declared.literal_fault.LiteralFault.TheVariants.{NotALit
 use Rattle.xa_xid.specs.declared.quoted.Mode.TheVariants.{Plain}
 use Rattle.xa_xid.proofs.Texts.{kept-fits, kept-past}
 use Rattle.xa_xid.proofs.Written.{Passes, decoded_found}
-use Rattle.xa_xid.proofs.Spelling.{Spelled, read_quoted, quoted_found, opened_at, text_read, hex_quoted_at, quote_no_hex, hex_run_cut, literal_at-run}
-use Rattle.xa_xid.proofs.Spelling.{front_passes, front-behind, passes_only, only_passes, behind_starts, long_digits, evened_length}
+use Rattle.xa_xid.proofs.Spelling.{Spelled, read_quoted, quoted_found, opened_at, text_read, hex_quoted_at}
+use Rattle.xa_xid.proofs.Spelling.{quote_no_hex, hex_run_cut, literal_at-run}
+use Rattle.xa_xid.proofs.Spelling.{front_passes, front-behind, passes_only, only_passes, behind_starts, long_digits}
+use Rattle.xa_xid.proofs.Spelling.{evened_length}
 
 -- the reading is of a literal that the text begins with
 abbrev SpelledAs : List ℕ → Reading Text → Type 0
@@ -34,7 +41,8 @@ SpelledAs text (Err fault) = FaultyLiteral text fault
 none_is_some : {A : Type 0} (value : A) → None ≡ Some value → ⊥
 none_is_some value e = cc
 
-err_is_ok : (fault : FromHexError) (bytes : List ℕ) (found : Result (List ℕ) FromHexError) → found ≡ Err fault → found ≡ Ok bytes → ⊥
+err_is_ok : (fault : FromHexError) (bytes : List ℕ) (found : Result (List ℕ) FromHexError) → found ≡ Err fault
+    → found ≡ Ok bytes → ⊥
 err_is_ok fault bytes found e f = cc
 
 not_true : (b : Bool) → not b ≡ true → b ≡ false
@@ -49,22 +57,27 @@ quoted_spelled quote text bytes rest is q =
       | inr fits ↦ rw (kept-fits bytes fits) (text_literal quote is q, fits)
     ]
 
-text_spelled : (quote : ℕ) (text : List ℕ) (found : Option (List ℕ × List ℕ)) → IsTrue (is_quote quote) → read_in_quotes quote Plain text ≡ found
+text_spelled : (quote : ℕ) (text : List ℕ) (found : Option (List ℕ × List ℕ)) → IsTrue (is_quote quote)
+    → read_in_quotes quote Plain text ≡ found
     → Spelled quote text found → SpelledAs (quote ∷ text) (text_literal_of found)
 text_spelled quote text None is e s =
-    no_closing_quote quote text is (λ bytes rest q. none_is_some (bytes, rest) (sym e ∙ quoted_found quote text bytes rest is q))
+    no_closing_quote quote text is (λ bytes rest q. none_is_some (bytes, rest)
+    (sym e ∙ quoted_found quote text bytes rest is q))
 text_spelled quote text (Some (bytes, rest)) is e s = quoted_spelled quote text bytes rest is s
 
-unless_fault : (text : List ℕ) (test : Bool) (fault : LiteralFault) (other : Reading Text) → (test ≡ true → FaultyLiteral text fault)
+unless_fault : (text : List ℕ) (test : Bool) (fault : LiteralFault) (other : Reading Text)
+    → (test ≡ true → FaultyLiteral text fault)
     → (test ≡ false → SpelledAs text other) → SpelledAs text (if test then Err fault else other)
 unless_fault text true fault other row each = row refl
 unless_fault text false fault other row each = each refl
 
 decoded_spelled : (text digits rest : List ℕ) (found : Result (List ℕ) FromHexError) → decode_of digits ≡ found
     → (bytes : List ℕ) × (decode_of digits ≡ Ok bytes)
-    → ((bytes : List ℕ) → decode_of digits ≡ Ok bytes → LiteralAt text bytes rest × (length bytes ≤ 64)) → SpelledAs text (decoded_found rest found)
+    → ((bytes : List ℕ) → decode_of digits ≡ Ok bytes → LiteralAt text bytes rest × (length bytes ≤ 64))
+    → SpelledAs text (decoded_found rest found)
 decoded_spelled text digits rest (Ok bytes) e decodes each = each bytes e
-decoded_spelled text digits rest (Err fault) e decodes each = absurd (err_is_ok fault decodes.0 (decode_of digits) e decodes.1)
+decoded_spelled text digits rest (Err fault) e decodes each =
+    absurd (err_is_ok fault decodes.0 (decode_of digits) e decodes.1)
 
 -- an even number of digits decodes
 hex_is_hex : (byte : ℕ) → belongs Hexadecimal byte ≡ true → is_hex_digit byte ≡ true
@@ -73,9 +86,11 @@ hex_is_hex byte is = grind (arith, nat_tests)
 
 all_hex : (digits : List ℕ) → Passes (belongs Hexadecimal) digits → AllPass is_hex_digit digits
 all_hex [] all = All-nil (λ digit. is_hex_digit digit ≡ true)
-all_hex (digit ∷ digits) all = All-cons (λ digit. is_hex_digit digit ≡ true) digit digits (hex_is_hex digit all.0) (all_hex digits all.1)
+all_hex (digit ∷ digits) all =
+    All-cons (λ digit. is_hex_digit digit ≡ true) digit digits (hex_is_hex digit all.0) (all_hex digits all.1)
 
-digits_decode : (digits : List ℕ) → length digits % 2 ≡ 0 → Passes (belongs Hexadecimal) digits → (bytes : List ℕ) × (decode_of digits ≡ Ok bytes)
+digits_decode : (digits : List ℕ) → length digits % 2 ≡ 0 → Passes (belongs Hexadecimal) digits
+    → (bytes : List ℕ) × (decode_of digits ≡ Ok bytes)
 digits_decode digits even all = decode_of-digits digits even (all_hex digits all)
 
 zero_is_hex : belongs Hexadecimal 48 ≡ true
@@ -84,11 +99,13 @@ zero_is_hex = refl
 
 evened_decode : (digits : List ℕ) (odd : Bool) → (length digits % 2 == 1) ≡ odd → Passes (belongs Hexadecimal) digits
     → (bytes : List ℕ) × (decode_of (if odd then 48 ∷ digits else digits) ≡ Ok bytes)
-evened_decode digits true e all = digits_decode (48 ∷ digits) (omega (arith, eqb-true (length digits % 2) 1 e)) (zero_is_hex, all)
+evened_decode digits true e all =
+    digits_decode (48 ∷ digits) (omega (arith, eqb-true (length digits % 2) 1 e)) (zero_is_hex, all)
 evened_decode digits false e all = digits_decode digits (omega (arith, eqb-false (length digits % 2) 1 e)) all
 
 -- digits behind X'
-hex_quoted_spelled : (letter : ℕ) (digits rest : List ℕ) → IsTrue (is_x letter) → Passes (belongs Hexadecimal) digits → StartsNo (belongs Hexadecimal) rest
+hex_quoted_spelled : (letter : ℕ) (digits rest : List ℕ) → IsTrue (is_x letter) → Passes (belongs Hexadecimal) digits
+    → StartsNo (belongs Hexadecimal) rest
     → SpelledAs (letter ∷ 39 ∷ digits ++ rest) (hex_in_quotes_of digits rest)
 hex_quoted_spelled letter digits [] is all stops =
     rw (append-nil digits) (digits_without_end letter digits is (passes_only (belongs Hexadecimal) digits all))
@@ -99,7 +116,8 @@ hex_quoted_spelled letter digits (byte ∷ rest) is all stops =
     let long : Reading Text = if nat_lt 128 (length digits) then Err TooLong else read in
     let odd : Reading Text = if length digits % 2 == 1 then Err OddHex else long in
     unless_fault text (not (byte == 39)) NotALiteral odd
-    (λ other. digits_and_another_byte letter byte digits rest is hex stops (eqb-false byte 39 (not_true (byte == 39) other)))
+    (λ other. digits_and_another_byte letter byte digits rest is hex stops
+    (eqb-false byte 39 (not_true (byte == 39) other)))
     (λ closes. let same : byte ≡ 39 = eqb-true byte 39 (not-false (byte == 39) closes) in
     unless_fault text (length digits % 2 == 1) OddHex long
     (λ is_odd. rw same (odd_digits letter digits rest is hex (eqb-true (length digits % 2) 1 is_odd)))
@@ -113,20 +131,24 @@ hex_quoted_spelled letter digits (byte ∷ rest) is all stops =
     (rw same form, omega (arith, ltb-false 128 (length digits) short, twice))))))
 
 opens_parts : (letter second : ℕ) → (is_x letter && second == 39) ≡ true → IsTrue (is_x letter) × (second ≡ 39)
-opens_parts letter second e = let parts = and_parts (is_x letter) (second == 39) e in (parts.0, eqb-true second 39 parts.1)
+opens_parts letter second e = let parts = and_parts (is_x letter) (second == 39) e in
+    (parts.0, eqb-true second 39 parts.1)
 
 hex_opened_spelled : (text : List ℕ) → opens_hex text ≡ true
-    → SpelledAs text (hex_in_quotes_of (front (belongs Hexadecimal) (drop 2 text)) (behind (belongs Hexadecimal) (drop 2 text)))
+    → SpelledAs text (hex_in_quotes_of (front (belongs Hexadecimal) (drop 2 text))
+    (behind (belongs Hexadecimal) (drop 2 text)))
 hex_opened_spelled [] e = absurd (true≢false (sym e))
 hex_opened_spelled (letter ∷ []) e = absurd (true≢false (sym e))
 hex_opened_spelled (letter ∷ second ∷ text) e =
     let hex = belongs Hexadecimal in
     let parts = opens_parts letter second e in
-    let spelled = hex_quoted_spelled letter (front hex text) (behind hex text) parts.0 (front_passes hex text) (behind_starts hex text) in
+    let spelled = hex_quoted_spelled letter (front hex text) (behind hex text) parts.0 (front_passes hex text)
+    (behind_starts hex text) in
     rw parts.1 (rw (front-behind hex text) at spelled)
 
 -- a run
-run_spelled : (written rest : List ℕ) → StartsNo (belongs Word) rest → (hex_digits_of written ≡ None → FaultyLiteral (written ++ rest) NotALiteral)
+run_spelled : (written rest : List ℕ) → StartsNo (belongs Word) rest
+    → (hex_digits_of written ≡ None → FaultyLiteral (written ++ rest) NotALiteral)
     → SpelledAs (written ++ rest) (hex_run_of (hex_digits_of written) rest)
 run_spelled [] rest s none = none refl
 run_spelled (a ∷ []) rest s none = none refl
@@ -140,7 +162,8 @@ run_spelled (a ∷ b ∷ digit ∷ digits) rest s none =
       | true ↦ λ e.
           let outer = and_parts (a == 48 && b == 120) (only hex all) e in
           let inner = and_parts (a == 48) (b == 120) outer.0 in
-          let at : HexRunAt text all rest = rw (eqb-true a 48 inner.0, eqb-true b 120 inner.1) (hex_run_at digit digits rest outer.1 s) in
+          let at : HexRunAt text all rest = rw (eqb-true a 48 inner.0, eqb-true b 120 inner.1)
+          (hex_run_at digit digits rest outer.1 s) in
           unless_fault text (nat_lt 128 (length all)) TooLong (decoded (evened all) rest)
           (λ past. too_long_run text all rest at (ltb-true 128 (length all) past))
           (λ short. decoded_spelled text (evened all) rest (decode_of (evened all)) refl
@@ -149,17 +172,23 @@ run_spelled (a ∷ b ∷ digit ∷ digits) rest s none =
           let twice : length (evened all) ≡ 2 * length bytes = (long_digits (evened all) bytes d).1 in
           let near = evened_length all (length all % 2 == 1) refl in
           let high : length (evened all) ≤ length all + 1 = near.1 in
-          let form : LiteralAt (48 ∷ 120 ∷ digit ∷ digits ++ rest) bytes rest = hex_run digit digits d outer.1 s in
-          (rw (eqb-true a 48 inner.0, eqb-true b 120 inner.1) form, omega (arith, ltb-false 128 (length all) short, twice, high))))
+          let form : LiteralAt (48 ∷ 120 ∷ digit ∷ digits ++ rest) bytes rest = hex_run digit digits d outer.1 s in (
+            rw (eqb-true a 48 inner.0, eqb-true b 120 inner.1) form,
+            omega
+                (arith, ltb-false 128 (length all) short, twice, high),
+          )))
       | false ↦ λ e. none (rw e refl)
     ] refl
 
 -- a run that is `0x` and digits is found
 run_found : (text digits rest : List ℕ) → HexRunAt text digits rest → hex_digits_of (run text) ≡ Some digits
-run_found _ _ _ (hex_run_at digit digits rest hex s) = (hex_run_cut digit digits rest (only_passes (belongs Hexadecimal) (digit ∷ digits) hex) s).0
+run_found _ _ _ (hex_run_at digit digits rest hex s) =
+    (hex_run_cut digit digits rest (only_passes (belongs Hexadecimal) (digit ∷ digits) hex) s).0
 
-no_run : (text : List ℕ) → opens_text text ≡ false → opens_hex text ≡ false → hex_digits_of (run text) ≡ None → FaultyLiteral text NotALiteral
-no_run text no_text no_hex e = no_form text no_text no_hex (λ digits rest form. none_is_some digits (sym e ∙ run_found text digits rest form))
+no_run : (text : List ℕ) → opens_text text ≡ false → opens_hex text ≡ false → hex_digits_of (run text) ≡ None
+    → FaultyLiteral text NotALiteral
+no_run text no_text no_hex e =
+    no_form text no_text no_hex (λ digits rest form. none_is_some digits (sym e ∙ run_found text digits rest form))
 
 run_read_spelled : (text : List ℕ) → opens_text text ≡ false → opens_hex text ≡ false
     → SpelledAs text (hex_run_of (hex_digits_of (run text)) (after_run text))
@@ -168,12 +197,14 @@ run_read_spelled text no_text no_hex =
     let none : hex_digits_of (run text) ≡ None → FaultyLiteral (run text ++ after_run text) NotALiteral =
     λ e. rw whole (no_run text no_text no_hex e) in
     let read : Reading Text = hex_run_of (hex_digits_of (run text)) (after_run text) in
-    subst (λ t. SpelledAs t read) whole (run_spelled (run text) (after_run text) (behind_starts (belongs Word) text) none)
+    subst (λ t. SpelledAs t read) whole (run_spelled (run text) (after_run text)
+    (behind_starts (belongs Word) text) none)
 
 text_opened_spelled : (text : List ℕ) (quote : ℕ) → opens_text text ≡ true → quote ≡ slice_index text 0
     → SpelledAs text (text_literal_of (read_in_quotes (slice_index text 0) Plain (drop 1 text)))
 text_opened_spelled [] quote e is = absurd (true≢false (sym e))
-text_opened_spelled (first ∷ text) quote e is = text_spelled first text (read_in_quotes first Plain text) e refl (read_quoted first Plain text)
+text_opened_spelled (first ∷ text) quote e is =
+    text_spelled first text (read_in_quotes first Plain text) e refl (read_quoted first Plain text)
 
 literal_spelled : (text : List ℕ) → SpelledAs text (literal_ahead text)
 unfolding literal_ahead
@@ -184,7 +215,8 @@ literal_spelled text =
     let as_text : Reading Text = text_literal_of (read_in_quotes (slice_index text 0) Plain (drop 1 text)) in
     cond_both (opens_text text) as_text (if opens_hex text then as_hex else as_run) (SpelledAs text)
     (λ e. text_opened_spelled text (slice_index text 0) e refl)
-    (λ no_text. cond_both (opens_hex text) as_hex as_run (SpelledAs text) (λ e. hex_opened_spelled text e) (λ no_hex. run_read_spelled text no_text no_hex))
+    (λ no_text. cond_both (opens_hex text) as_hex as_run (SpelledAs text) (λ e. hex_opened_spelled text e)
+    (λ no_hex. run_read_spelled text no_text no_hex))
 
 -- what is read is spelled, and is few enough bytes
 pub read_spelled : (text : List ℕ) (found : Text) (rest : List ℕ) → literal_ahead text ≡ Ok (found, rest)
@@ -196,7 +228,8 @@ pub read_faulty : (text : List ℕ) (fault : LiteralFault) → literal_ahead tex
 read_faulty text fault e = rw e at (literal_spelled text)
 
 -- a text that holds no run of `0x` and digits
-run_none : (written rest : List ℕ) → StartsNo (belongs Word) rest → ((digits behind : List ℕ) → HexRunAt (written ++ rest) digits behind → ⊥)
+run_none : (written rest : List ℕ) → StartsNo (belongs Word) rest
+    → ((digits behind : List ℕ) → HexRunAt (written ++ rest) digits behind → ⊥)
     → hex_digits_of written ≡ None
 run_none [] rest s refused = refl
 run_none (a ∷ []) rest s refused = refl
@@ -208,34 +241,43 @@ run_none (a ∷ b ∷ digit ∷ digits) rest s refused =
       | true ↦ λ e.
           let outer = and_parts (a == 48 && b == 120) (only (belongs Hexadecimal) all) e in
           let inner = and_parts (a == 48) (b == 120) outer.0 in
-          absurd (refused all rest (rw (eqb-true a 48 inner.0, eqb-true b 120 inner.1) (hex_run_at digit digits rest outer.1 s)))
+          absurd (refused all rest (rw (eqb-true a 48 inner.0, eqb-true b 120 inner.1)
+          (hex_run_at digit digits rest outer.1 s)))
       | false ↦ λ e. refl
     ] refl
 
-no_run_read : (text : List ℕ) → opens_text text ≡ false → opens_hex text ≡ false → hex_digits_of (run text) ≡ None → literal_ahead text ≡ Err NotALiteral
+no_run_read : (text : List ℕ) → opens_text text ≡ false → opens_hex text ≡ false → hex_digits_of (run text) ≡ None
+    → literal_ahead text ≡ Err NotALiteral
 unfolding literal_ahead
 no_run_read text no_text no_hex e = rw (no_text, no_hex, e) refl
 
-unclosed_read : (quote : ℕ) (text : List ℕ) (found : Option (List ℕ × List ℕ)) → ((bytes rest : List ℕ) → QuotedAt quote text bytes rest → ⊥)
+unclosed_read : (quote : ℕ) (text : List ℕ) (found : Option (List ℕ × List ℕ))
+    → ((bytes rest : List ℕ) → QuotedAt quote text bytes rest → ⊥)
     → Spelled quote text found → text_literal_of found ≡ Err Unclosed
 unclosed_read quote text None refused s = refl
 unclosed_read quote text (Some (bytes, rest)) refused s = absurd (refused bytes rest s)
 
-long_run_read : (text digits rest : List ℕ) → HexRunAt text digits rest → 128 < length digits → literal_ahead text ≡ Err TooLong
+long_run_read : (text digits rest : List ℕ) → HexRunAt text digits rest → 128 < length digits
+    → literal_ahead text ≡ Err TooLong
 long_run_read _ _ _ (hex_run_at digit digits rest hex s) long =
-    literal_at-run digit digits rest (only_passes (belongs Hexadecimal) (digit ∷ digits) hex) s ∙ rw (lt-ltb 128 (length (digit ∷ digits)) long) refl
+    literal_at-run digit digits rest (only_passes (belongs Hexadecimal) (digit ∷ digits) hex) s
+    ∙ rw (lt-ltb 128 (length (digit ∷ digits)) long) refl
 
 -- a row of the table is told as its fault
 pub faulty_read : (text : List ℕ) (fault : LiteralFault) → FaultyLiteral text fault → literal_ahead text ≡ Err fault
 faulty_read _ _ (no_closing_quote quote text is refused) =
-    opened_at quote text is ∙ unclosed_read quote text (read_in_quotes quote Plain text) refused (read_quoted quote Plain text)
-faulty_read _ _ (too_many_bytes quote text bytes rest is q past) = text_read quote text bytes rest is q ∙ rw (kept-past bytes past) refl
+    opened_at quote text is ∙ unclosed_read quote text (read_in_quotes quote Plain text) refused
+    (read_quoted quote Plain text)
+faulty_read _ _ (too_many_bytes quote text bytes rest is q past) =
+    text_read quote text bytes rest is q ∙ rw (kept-past bytes past) refl
 faulty_read _ _ (digits_without_end letter digits is hex) =
     rw (append-nil digits) at (hex_quoted_at letter digits [] is (only_passes (belongs Hexadecimal) digits hex) tt)
 faulty_read _ _ (digits_and_another_byte letter byte digits rest is hex stops other) =
-    hex_quoted_at letter digits (byte ∷ rest) is (only_passes (belongs Hexadecimal) digits hex) stops ∙ rw (ne_eqb byte 39 other) refl
+    hex_quoted_at letter digits (byte ∷ rest) is (only_passes (belongs Hexadecimal) digits hex) stops
+    ∙ rw (ne_eqb byte 39 other) refl
 faulty_read _ _ (odd_digits letter digits rest is hex odd) =
-    hex_quoted_at letter digits (39 ∷ rest) is (only_passes (belongs Hexadecimal) digits hex) (quote_no_hex rest) ∙ rw odd refl
+    hex_quoted_at letter digits (39 ∷ rest) is (only_passes (belongs Hexadecimal) digits hex) (quote_no_hex rest)
+    ∙ rw odd refl
 faulty_read _ _ (too_many_digits letter digits rest is hex even long) =
     hex_quoted_at letter digits (39 ∷ rest) is (only_passes (belongs Hexadecimal) digits hex) (quote_no_hex rest)
     ∙ rw (even, lt-ltb 128 (length digits) long) refl
@@ -243,4 +285,5 @@ faulty_read _ _ (too_long_run text digits rest form long) = long_run_read text d
 faulty_read _ _ (no_form text no_text no_hex refused) =
     let whole : run text ++ after_run text ≡ text = front-behind (belongs Word) text in
     no_run_read text no_text no_hex
-    (run_none (run text) (after_run text) (behind_starts (belongs Word) text) (λ digits rest form. refused digits rest (rw whole at form)))
+    (run_none (run text) (after_run text) (behind_starts (belongs Word) text)
+    (λ digits rest form. refused digits rest (rw whole at form)))

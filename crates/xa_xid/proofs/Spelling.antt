@@ -1,12 +1,14 @@
 -- What is spelled as a literal is read as one; and what is read between quotes is spelled there.
-use Rattle.std.proofs.Common.{◌≡◌, ℕ, ◌+◌, ◌*◌, ◌%◌, ◌<◌, ◌≤◌, Bool, true, false, ◌==◌, nat_lt, if◌then◌else◌, IsTrue, List, [], ◌∷◌, ◌++◌, length, Option}
+use Rattle.std.proofs.Common.{◌≡◌, ℕ, ◌+◌, ◌*◌, ◌%◌, ◌<◌, ◌≤◌, Bool, true, false, ◌==◌, nat_lt, if◌then◌else◌, IsTrue}
+use Rattle.std.proofs.Common.{List, [], ◌∷◌, ◌++◌, length, Option}
 use Rattle.std.proofs.Common.{Some, None, Ok, Err, refl, sym, ◌∙◌, ap, arith, ◌⊎◌, inl, inr}
 use Rattle.std.proofs.lemmas.Bool.{cond_both, eqb-true, eqb-false, or_cases, ltb-true, ltb-false}
 use Rattle.std.proofs.lemmas.Bool.Decides.{nat_tests}
 use Rattle.hex.specs.Hex.{decode_of}
 use Rattle.hex.proofs.HexLemmas.{decode_of-ok}
 use Rattle.xa_xid.specs.Bytes.{belongs, front, behind, only, run, after_run, StartsNo}
-use Rattle.xa_xid.specs.Literal.{LiteralAt, text_literal, hex_in_quotes, hex_run, literal_ahead, is_quote, is_x, text_literal_of, sized, kept, decoded, evened}
+use Rattle.xa_xid.specs.Literal.{LiteralAt, text_literal, hex_in_quotes, hex_run, literal_ahead, is_quote, is_x}
+use Rattle.xa_xid.specs.Literal.{text_literal_of, sized, kept, decoded, evened}
 use Rattle.xa_xid.specs.Literal.{hex_in_quotes_of, hex_run_of, hex_digits_of}
 use Rattle.xa_xid.specs.Quoted.{Quoted, close, doubled, escape, plain, QuotedAt, read_in_quotes, onto, escaped}
 use Rattle.xa_xid.specs.declared.byte_class.ByteClass.TheVariants.{Word, Hexadecimal}
@@ -14,16 +16,19 @@ use Rattle.xa_xid.specs.declared.literal_fault.LiteralFault.TheVariants.{TooLong
 use Rattle.xa_xid.specs.declared.quoted.Mode.{Mode}
 use Rattle.xa_xid.specs.declared.quoted.Mode.TheVariants.{Plain, Escape, Quote}
 use Rattle.xa_xid.proofs.Cuts.{front-passes, front-stops, front-nil, behind-passes, behind-stops, behind-nil}
-use Rattle.xa_xid.proofs.Reading.{plain_quote, plain_backslash, plain_byte, escape_letter, quote_again, quote_closes, quoted-nil-quote}
+use Rattle.xa_xid.proofs.Reading.{plain_quote, plain_backslash, plain_byte, escape_letter, quote_again, quote_closes}
+use Rattle.xa_xid.proofs.Reading.{quoted-nil-quote}
 use Rattle.xa_xid.proofs.Texts.{kept-fits, kept-past}
 use Rattle.xa_xid.proofs.Written.{Passes, front-append, behind-append, decoded_found}
 
 -- from the spelling to the reading of a text literal
-ends_read : (quote : ℕ) (rest : List ℕ) → StartsNo (λ byte. byte == quote) rest → read_in_quotes quote Quote rest ≡ Some ([], rest)
+ends_read : (quote : ℕ) (rest : List ℕ) → StartsNo (λ byte. byte == quote) rest
+    → read_in_quotes quote Quote rest ≡ Some ([], rest)
 ends_read quote [] last = quoted-nil-quote quote
 ends_read quote (byte ∷ rest) last = quote_closes quote byte rest (eqb-false byte quote last)
 
-spelled_quoted : (quote : ℕ) (written bytes rest : List ℕ) → (quote ≡ 92 → ⊥) → StartsNo (λ byte. byte == quote) rest → Quoted quote written bytes
+spelled_quoted : (quote : ℕ) (written bytes rest : List ℕ) → (quote ≡ 92 → ⊥) → StartsNo (λ byte. byte == quote) rest
+    → Quoted quote written bytes
     → read_in_quotes quote Plain (written ++ rest) ≡ Some (bytes, rest)
 spelled_quoted quote _ _ rest other last close = plain_quote quote quote rest refl ∙ ends_read quote rest last
 spelled_quoted quote _ _ rest other last (doubled {written} {bytes} form) =
@@ -48,7 +53,8 @@ abbrev pub Spelled : ℕ → List ℕ → Option (List ℕ × List ℕ) → Type
 Spelled quote text None = Unit {0}
 Spelled quote text (Some found) = QuotedAt quote text found.0 found.1
 
-more_plain : (quote byte : ℕ) (text : List ℕ) (found : Option (List ℕ × List ℕ)) → (byte ≡ quote → ⊥) → (byte ≡ 92 → ⊥) → Spelled quote text found
+more_plain : (quote byte : ℕ) (text : List ℕ) (found : Option (List ℕ × List ℕ)) → (byte ≡ quote → ⊥) → (byte ≡ 92 → ⊥)
+    → Spelled quote text found
     → Spelled quote (byte ∷ text) (onto (byte ∷ []) found)
 more_plain quote byte text None differs unescaped s = tt
 more_plain quote byte text (Some (bytes, rest)) differs unescaped s = record {
@@ -78,7 +84,8 @@ more_doubled quote text (Some (bytes, rest)) s = record {
   last = s.last;
 }
 
-pub read_quoted : (quote : ℕ) (mode : Mode) (text : List ℕ) → Spelled quote (before quote mode text) (read_in_quotes quote mode text)
+pub read_quoted : (quote : ℕ) (mode : Mode) (text : List ℕ)
+    → Spelled quote (before quote mode text) (read_in_quotes quote mode text)
 unfolding read_in_quotes
 read_quoted quote Plain [] = tt
 read_quoted quote Plain (byte ∷ text) =
@@ -86,16 +93,21 @@ read_quoted quote Plain (byte ∷ text) =
     (if byte == 92 then read_in_quotes quote Escape text else onto (byte ∷ []) (read_in_quotes quote Plain text))
     (Spelled quote (byte ∷ text))
     (λ e. rw (eqb-true byte quote e) (read_quoted quote Quote text))
-    (λ differs. cond_both (byte == 92) (read_in_quotes quote Escape text) (onto (byte ∷ []) (read_in_quotes quote Plain text)) (Spelled quote (byte ∷ text))
+    (λ differs. cond_both (byte == 92) (read_in_quotes quote Escape text)
+    (onto (byte ∷ []) (read_in_quotes quote Plain text)) (Spelled quote (byte ∷ text))
     (λ e. rw (eqb-true byte 92 e) (read_quoted quote Escape text))
-    (λ unescaped. more_plain quote byte text (read_in_quotes quote Plain text) (eqb-false byte quote differs) (eqb-false byte 92 unescaped)
+    (λ unescaped. more_plain quote byte text (read_in_quotes quote Plain text) (eqb-false byte quote differs)
+    (eqb-false byte 92 unescaped)
     (read_quoted quote Plain text)))
 read_quoted quote Escape [] = tt
-read_quoted quote Escape (letter ∷ text) = more_escaped quote letter text (read_in_quotes quote Plain text) (read_quoted quote Plain text)
+read_quoted quote Escape (letter ∷ text) =
+    more_escaped quote letter text (read_in_quotes quote Plain text) (read_quoted quote Plain text)
 read_quoted quote Quote [] = record { written = quote ∷ []; form = close; cut = refl; last = tt }
 read_quoted quote Quote (byte ∷ text) =
-    cond_both (byte == quote) (onto (quote ∷ []) (read_in_quotes quote Plain text)) (Some ([], byte ∷ text)) (Spelled quote (quote ∷ byte ∷ text))
-    (λ e. rw (eqb-true byte quote e) (more_doubled quote text (read_in_quotes quote Plain text) (read_quoted quote Plain text)))
+    cond_both (byte == quote) (onto (quote ∷ []) (read_in_quotes quote Plain text)) (Some ([], byte ∷ text))
+    (Spelled quote (quote ∷ byte ∷ text))
+    (λ e. rw (eqb-true byte quote e) (more_doubled quote text (read_in_quotes quote Plain text)
+    (read_quoted quote Plain text)))
     (λ differs. record { written = quote ∷ []; form = close; cut = refl; last = differs })
 
 -- bytes that pass
@@ -109,7 +121,8 @@ pub front-behind : (p : ℕ → Bool) (text : List ℕ) → front p text ++ behi
 front-behind p [] = rw (front-nil p, behind-nil p) refl
 front-behind p (byte ∷ text) =
     elim (p byte) as (λ b. p byte ≡ b → front p (byte ∷ text) ++ behind p (byte ∷ text) ≡ byte ∷ text) [
-      | true ↦ λ e. rw (front-passes p byte text e, behind-passes p byte text e) (ap (λ t. byte ∷ t) (front-behind p text))
+      | true ↦ λ e. rw (front-passes p byte text e, behind-passes p byte text e)
+          (ap (λ t. byte ∷ t) (front-behind p text))
       | false ↦ λ e. rw (front-stops p byte text e, behind-stops p byte text e) refl
     ] refl
 
@@ -132,7 +145,8 @@ behind_starts p (byte ∷ text) =
     cond_both (p byte) (behind p text) (byte ∷ text) (StartsNo p) (λ _. behind_starts p text) (λ e. e)
 
 -- bytes that are read, where they are few enough
-pub long_digits : (digits bytes : List ℕ) → decode_of digits ≡ Ok bytes → (length digits % 2 ≡ 0) × (length digits ≡ 2 * length bytes)
+pub long_digits : (digits bytes : List ℕ) → decode_of digits ≡ Ok bytes
+    → (length digits % 2 ≡ 0) × (length digits ≡ 2 * length bytes)
 long_digits digits bytes e = let ok = decode_of-ok digits bytes e in (ok.0, ok.2)
 
 quote_other : (quote : ℕ) → IsTrue (is_quote quote) → quote ≡ 92 → ⊥
@@ -150,20 +164,23 @@ x_cases letter is =
     ]
 
 -- digits of few bytes are decoded, and of more are too long
-digits_sized : (digits bytes rest : List ℕ) → decode_of digits ≡ Ok bytes → (long : Bool) → (long ≡ true → 64 < length bytes)
+digits_sized : (digits bytes rest : List ℕ) → decode_of digits ≡ Ok bytes → (long : Bool)
+    → (long ≡ true → 64 < length bytes)
     → (long ≡ false → length bytes ≤ 64)
     → (if long then Err TooLong else decoded digits rest) ≡ sized (kept bytes) rest
 digits_sized digits bytes rest e true past fits = ap (λ k. sized k rest) (sym (kept-past bytes (past refl)))
 digits_sized digits bytes rest e false past fits =
     ap (decoded_found rest) e ∙ ap (λ k. sized k rest) (sym (kept-fits bytes (fits refl)))
 
-quoted_sized : (digits bytes rest : List ℕ) → decode_of digits ≡ Ok bytes → hex_in_quotes_of digits (39 ∷ rest) ≡ sized (kept bytes) rest
+quoted_sized : (digits bytes rest : List ℕ) → decode_of digits ≡ Ok bytes
+    → hex_in_quotes_of digits (39 ∷ rest) ≡ sized (kept bytes) rest
 quoted_sized digits bytes rest e =
     let facts = long_digits digits bytes e in
     let odd : (length digits % 2 == 1) ≡ false = ap (λ n. n == 1) facts.0 in
     let twice : length digits ≡ 2 * length bytes = facts.1 in
     rw odd (digits_sized digits bytes rest e (nat_lt 128 (length digits))
-    (λ long. omega (arith, ltb-true 128 (length digits) long)) (λ short. omega (arith, ltb-false 128 (length digits) short)))
+    (λ long. omega (arith, ltb-true 128 (length digits) long))
+    (λ short. omega (arith, ltb-false 128 (length digits) short)))
 
 -- an odd number of digits has one more in front
 pub evened_length : (digits : List ℕ) → (odd : Bool) → (length digits % 2 == 1) ≡ odd
@@ -171,7 +188,8 @@ pub evened_length : (digits : List ℕ) → (odd : Bool) → (length digits % 2 
 evened_length digits true e = rw e (omega arith, omega arith)
 evened_length digits false e = rw e (omega arith, omega arith)
 
-run_sized : (digits bytes rest : List ℕ) → decode_of (evened digits) ≡ Ok bytes → hex_run_of (Some digits) rest ≡ sized (kept bytes) rest
+run_sized : (digits bytes rest : List ℕ) → decode_of (evened digits) ≡ Ok bytes
+    → hex_run_of (Some digits) rest ≡ sized (kept bytes) rest
 run_sized digits bytes rest e =
     let facts = long_digits (evened digits) bytes e in
     let twice : length (evened digits) ≡ 2 * length bytes = facts.1 in
@@ -179,25 +197,30 @@ run_sized digits bytes rest e =
     let low : length digits ≤ length (evened digits) = near.0 in
     let high : length (evened digits) ≤ length digits + 1 = near.1 in
     digits_sized (evened digits) bytes rest e (nat_lt 128 (length digits))
-    (λ long. omega (arith, ltb-true 128 (length digits) long, twice, low)) (λ short. omega (arith, ltb-false 128 (length digits) short, twice, high))
+    (λ long. omega (arith, ltb-true 128 (length digits) long, twice, low))
+    (λ short. omega (arith, ltb-false 128 (length digits) short, twice, high))
 
 -- from the spelling to the reading
-pub opened_at : (quote : ℕ) (text : List ℕ) → IsTrue (is_quote quote) → literal_ahead (quote ∷ text) ≡ text_literal_of (read_in_quotes quote Plain text)
+pub opened_at : (quote : ℕ) (text : List ℕ) → IsTrue (is_quote quote)
+    → literal_ahead (quote ∷ text) ≡ text_literal_of (read_in_quotes quote Plain text)
 unfolding literal_ahead
 opened_at quote text is = rw is refl
 
 pub quoted_found : (quote : ℕ) (text bytes rest : List ℕ) → IsTrue (is_quote quote) → QuotedAt quote text bytes rest
     → read_in_quotes quote Plain text ≡ Some (bytes, rest)
 quoted_found quote text bytes rest is q =
-    ap (read_in_quotes quote Plain) q.cut ∙ spelled_quoted quote q.written bytes rest (quote_other quote is) q.last q.form
+    ap (read_in_quotes quote Plain) q.cut ∙ spelled_quoted quote q.written bytes rest
+    (quote_other quote is) q.last q.form
 
 pub text_read : (quote : ℕ) (text bytes rest : List ℕ) → IsTrue (is_quote quote) → QuotedAt quote text bytes rest
     → literal_ahead (quote ∷ text) ≡ sized (kept bytes) rest
-text_read quote text bytes rest is q = opened_at quote text is ∙ ap text_literal_of (quoted_found quote text bytes rest is q)
+text_read quote text bytes rest is q =
+    opened_at quote text is ∙ ap text_literal_of (quoted_found quote text bytes rest is q)
 
 -- digits behind an X and a quote
 hex_opened_at : (letter : ℕ) (text : List ℕ) → letter ≡ 88 ⊎ letter ≡ 120
-    → literal_ahead (letter ∷ 39 ∷ text) ≡ hex_in_quotes_of (front (belongs Hexadecimal) text) (behind (belongs Hexadecimal) text)
+    → literal_ahead (letter ∷ 39 ∷ text) ≡ hex_in_quotes_of (front (belongs Hexadecimal) text)
+    (behind (belongs Hexadecimal) text)
 unfolding literal_ahead
 hex_opened_at letter text which =
     let read = hex_in_quotes_of (front (belongs Hexadecimal) text) (behind (belongs Hexadecimal) text) in
@@ -206,7 +229,8 @@ hex_opened_at letter text which =
       | inr small ↦ rw small refl
     ]
 
-pub hex_quoted_at : (letter : ℕ) (digits rest : List ℕ) → IsTrue (is_x letter) → Passes (belongs Hexadecimal) digits → StartsNo (belongs Hexadecimal) rest
+pub hex_quoted_at : (letter : ℕ) (digits rest : List ℕ) → IsTrue (is_x letter) → Passes (belongs Hexadecimal) digits
+    → StartsNo (belongs Hexadecimal) rest
     → literal_ahead (letter ∷ 39 ∷ digits ++ rest) ≡ hex_in_quotes_of digits rest
 hex_quoted_at letter digits rest is all stops =
     let hex = belongs Hexadecimal in
@@ -220,7 +244,8 @@ pub quote_no_hex : (rest : List ℕ) → StartsNo (belongs Hexadecimal) (39 ∷ 
 unfolding belongs
 quote_no_hex rest = refl
 
-hex_quoted_read : (letter : ℕ) (digits bytes rest : List ℕ) → IsTrue (is_x letter) → decode_of digits ≡ Ok bytes → Passes (belongs Hexadecimal) digits
+hex_quoted_read : (letter : ℕ) (digits bytes rest : List ℕ) → IsTrue (is_x letter) → decode_of digits ≡ Ok bytes
+    → Passes (belongs Hexadecimal) digits
     → literal_ahead (letter ∷ 39 ∷ digits ++ 39 ∷ rest) ≡ sized (kept bytes) rest
 hex_quoted_read letter digits bytes rest is e all =
     hex_quoted_at letter digits (39 ∷ rest) is all (quote_no_hex rest) ∙ quoted_sized digits bytes rest e
@@ -234,16 +259,23 @@ words_hex [] all = tt
 words_hex (digit ∷ digits) all = (word_hex digit all.0, words_hex digits all.1)
 
 -- a run of `0x` and digits, whole
-pub hex_run_cut : (digit : ℕ) (digits rest : List ℕ) → Passes (belongs Hexadecimal) (digit ∷ digits) → StartsNo (belongs Word) rest
-    → (hex_digits_of (run (48 ∷ 120 ∷ digit ∷ digits ++ rest)) ≡ Some (digit ∷ digits)) × (after_run (48 ∷ 120 ∷ digit ∷ digits ++ rest) ≡ rest)
+pub hex_run_cut : (digit : ℕ) (digits rest : List ℕ) → Passes (belongs Hexadecimal) (digit ∷ digits)
+    → StartsNo (belongs Word) rest
+    → (hex_digits_of (run (48 ∷ 120 ∷ digit ∷ digits ++ rest)) ≡ Some (digit ∷ digits))
+    × (after_run (48 ∷ 120 ∷ digit ∷ digits ++ rest) ≡ rest)
 unfolding belongs
 hex_run_cut digit digits rest all s =
     let written = 48 ∷ 120 ∷ digit ∷ digits in
     let word : Passes (belongs Word) written = (refl, (refl, words_hex (digit ∷ digits) all)) in
-    let hex : hex_digits_of written ≡ Some (digit ∷ digits) = rw (passes_only (belongs Hexadecimal) (digit ∷ digits) all) refl in
-    (ap hex_digits_of (front-append (belongs Word) written rest word s) ∙ hex, behind-append (belongs Word) written rest word s)
+    let hex : hex_digits_of written ≡ Some (digit ∷ digits) =
+    rw (passes_only (belongs Hexadecimal) (digit ∷ digits) all) refl in (
+      ap hex_digits_of (front-append (belongs Word) written rest word s)
+          ∙ hex,
+      behind-append (belongs Word) written rest word s,
+    )
 
-pub literal_at-run : (digit : ℕ) (digits rest : List ℕ) → Passes (belongs Hexadecimal) (digit ∷ digits) → StartsNo (belongs Word) rest
+pub literal_at-run : (digit : ℕ) (digits rest : List ℕ) → Passes (belongs Hexadecimal) (digit ∷ digits)
+    → StartsNo (belongs Word) rest
     → literal_ahead (48 ∷ 120 ∷ digit ∷ digits ++ rest) ≡ hex_run_of (Some (digit ∷ digits)) rest
 unfolding literal_ahead
 literal_at-run digit digits rest all s =
@@ -251,9 +283,11 @@ literal_at-run digit digits rest all s =
     let cut = hex_run_cut digit digits rest all s in
     ap (λ d. hex_run_of d (after_run text)) cut.0 ∙ ap (hex_run_of (Some (digit ∷ digits))) cut.1
 
-hex_run_read : (digit : ℕ) (digits bytes rest : List ℕ) → decode_of (evened (digit ∷ digits)) ≡ Ok bytes → Passes (belongs Hexadecimal) (digit ∷ digits)
+hex_run_read : (digit : ℕ) (digits bytes rest : List ℕ) → decode_of (evened (digit ∷ digits)) ≡ Ok bytes
+    → Passes (belongs Hexadecimal) (digit ∷ digits)
     → StartsNo (belongs Word) rest → literal_ahead (48 ∷ 120 ∷ digit ∷ digits ++ rest) ≡ sized (kept bytes) rest
-hex_run_read digit digits bytes rest e all s = literal_at-run digit digits rest all s ∙ run_sized (digit ∷ digits) bytes rest e
+hex_run_read digit digits bytes rest e all s =
+    literal_at-run digit digits rest all s ∙ run_sized (digit ∷ digits) bytes rest e
 
 -- what begins with a literal is read as its bytes, or is too long
 pub spelled_read : (text bytes rest : List ℕ) → LiteralAt text bytes rest → literal_ahead text ≡ sized (kept bytes) rest

@@ -1,5 +1,6 @@
 -- Bytes that are kept while they are few enough.
-use Rattle.std.proofs.Common.{◌≡◌, ℕ, ◌<◌, ◌≤◌, List, [], ◌∷◌, ◌++◌, length, Some, None, refl, sym, ◌∙◌, ap, arith, length-append, inl, inr}
+use Rattle.std.proofs.Common.{◌≡◌, ℕ, ◌<◌, ◌≤◌, List, [], ◌∷◌, ◌++◌, length, Some, None, refl, sym, ◌∙◌, ap, arith}
+use Rattle.std.proofs.Common.{length-append, inl, inr}
 use Rattle.std.proofs.lemmas.Bool.{le-leb, lt-leb, cases_lt}
 use Rattle.xa_xid.specs.Literal.{kept}
 use Rattle.xa_xid.specs.Xid.{Text}
@@ -32,15 +33,18 @@ pub kept_none : (text : Text) → text.items ≡ [] → Some text ≡ kept []
 unfolding kept
 kept_none text e = ap (λ bytes. Some (record { items = bytes })) e
 
-pub kept_grown : (bytes : List ℕ) (byte : ℕ) (old new : Text) → Some old ≡ kept bytes → (length old.items ≡ 64 → ⊥) → length old.items ≤ 64
+pub kept_grown : (bytes : List ℕ) (byte : ℕ) (old new : Text) → Some old ≡ kept bytes → (length old.items ≡ 64 → ⊥)
+    → length old.items ≤ 64
     → new.items ≡ old.items ++ byte ∷ [] → Some new ≡ kept (bytes ++ byte ∷ [])
 kept_grown bytes byte old new is room most grown =
     let same : old.items ≡ bytes = (items_of bytes old is).0 in
     let longer : new.items ≡ bytes ++ byte ∷ [] = grown ∙ rw same refl in
-    let short : length (bytes ++ byte ∷ []) ≤ 64 = omega (arith, ap length same, length-append bytes (byte ∷ []), room) in
+    let short : length (bytes ++ byte ∷ []) ≤ 64 =
+    omega (arith, ap length same, length-append bytes (byte ∷ []), room) in
     ap (λ items. Some (record { items = items })) longer ∙ sym (kept-fits _ short)
 
-pub kept_full : (bytes : List ℕ) (byte : ℕ) (old : Text) → Some old ≡ kept bytes → length old.items ≡ 64 → None ≡ kept (bytes ++ byte ∷ [])
+pub kept_full : (bytes : List ℕ) (byte : ℕ) (old : Text) → Some old ≡ kept bytes → length old.items ≡ 64
+    → None ≡ kept (bytes ++ byte ∷ [])
 kept_full bytes byte old is full =
     let same : old.items ≡ bytes = (items_of bytes old is).0 in
     sym (kept-past _ (omega (arith, ap length same, length-append bytes (byte ∷ []))))

@@ -1,5 +1,6 @@
 -- What is written in canonical form is read back.
-use Rattle.std.proofs.Common.{◌≡◌, ℕ, ◌*◌, ◌/◌, ◌%◌, ◌^◌, ◌<◌, ◌≤◌, suc, Bool, true, false, ◌==◌, List, [], ◌∷◌, ◌++◌, length, Some, Result, Ok, Err, get_or}
+use Rattle.std.proofs.Common.{◌≡◌, ℕ, ◌*◌, ◌/◌, ◌%◌, ◌^◌, ◌<◌, ◌≤◌, suc, Bool, true, false, ◌==◌, List, [], ◌∷◌, ◌++◌}
+use Rattle.std.proofs.Common.{length, Some, Result, Ok, Err, get_or}
 use Rattle.std.proofs.Common.{refl, sym, ◌∙◌, ap, arith, append_assoc, decimal}
 use Rattle.std.proofs.lemmas.Bool.{agree_below_at, lt-ltb, le-ltb, ne_eqb}
 use Rattle.std.proofs.lemmas.Bool.Decides.{nat_tests}
@@ -13,7 +14,8 @@ use Rattle.xa_xid.specs.Bytes.{belongs, front, behind, run, after_run, unblank, 
 use Rattle.xa_xid.specs.Literal.{Reading, literal_ahead, hex_run_of, hex_digits_of, evened, decoded}
 use Rattle.xa_xid.specs.Number.{number_ahead, number_in}
 use Rattle.xa_xid.specs.Xid.{Text}
-use Rattle.xa_xid.specs.XidText.{Parse, xid_ahead, part_text, xid_text, xid_of, gtrid_next, bqual_next, format_id_next, after_gtrid, after_bqual, comma_next}
+use Rattle.xa_xid.specs.XidText.{Parse, xid_ahead, part_text, xid_text, xid_of, gtrid_next, bqual_next, format_id_next}
+use Rattle.xa_xid.specs.XidText.{after_gtrid, after_bqual, comma_next}
 use Rattle.xa_xid.specs.XidText.{IsWritable}
 use Rattle.xa_xid.specs.declared.byte_class.ByteClass.TheVariants.{Blank, Word, Decimal, Hexadecimal}
 use Rattle.xa_xid.specs.declared.literal_fault.LiteralFault.{LiteralFault}
@@ -42,7 +44,8 @@ front-append p [] rest all s = front-starts p rest s
 front-append p (byte ∷ text) rest all s =
     front-passes p byte (text ++ rest) all.0 ∙ ap (λ t. byte ∷ t) (front-append p text rest all.1 s)
 
-pub behind-append : (p : ℕ → Bool) (text rest : List ℕ) → Passes p text → StartsNo p rest → behind p (text ++ rest) ≡ rest
+pub behind-append : (p : ℕ → Bool) (text rest : List ℕ) → Passes p text → StartsNo p rest
+    → behind p (text ++ rest) ≡ rest
 behind-append p [] rest all s = behind-starts p rest s
 behind-append p (byte ∷ text) rest all s = behind-passes p byte (text ++ rest) all.0 ∙ behind-append p text rest all.1 s
 
@@ -62,7 +65,8 @@ digit_is_hex i small = agree_below_at (λ n. belongs Hexadecimal (get_or lower_d
 bytes_tail : (byte : ℕ) (bytes : List ℕ) → IsBytes (byte ∷ bytes) → IsBytes bytes
 bytes_tail byte bytes all i = all (suc i)
 
-digits_pass : (p : ℕ → Bool) → ((i : ℕ) → i < 16 → p (get_or lower_digits i 0) ≡ true) → (bytes : List ℕ) → IsBytes bytes → Passes p (encode_lower bytes)
+digits_pass : (p : ℕ → Bool) → ((i : ℕ) → i < 16 → p (get_or lower_digits i 0) ≡ true) → (bytes : List ℕ)
+    → IsBytes bytes → Passes p (encode_lower bytes)
 unfolding encode_with
 digits_pass p each [] all = tt
 digits_pass p each (byte ∷ bytes) all =
@@ -77,7 +81,8 @@ hex_digits_back : (digit : ℕ) (digits : List ℕ) → behind (belongs Hexadeci
 hex_digits_back digit digits e = rw e refl
 
 even_digits : (bytes : List ℕ) → length (encode_lower bytes) % 2 ≡ 0
-even_digits bytes = let twice : length (encode_lower bytes) ≡ 2 * length bytes = length-encode_with lower_digits bytes in omega arith
+even_digits bytes = let twice : length (encode_lower bytes) ≡ 2 * length bytes =
+    length-encode_with lower_digits bytes in omega arith
 
 abbrev pub decoded_found : List ℕ → Result (List ℕ) FromHexError → Reading Text
 decoded_found rest (Ok bytes) = Ok (record { items = bytes }, rest)
@@ -89,21 +94,27 @@ hex_run_back bytes rest all fits =
     let digits = encode_lower bytes in
     let twice : length digits ≡ 2 * length bytes = length-encode_with lower_digits bytes in
     let odd : (length digits % 2 == 1) ≡ false = ap (λ n. n == 1) (even_digits bytes) in
-    let short : hex_run_of (Some digits) rest ≡ decoded (evened digits) rest = rw (le-ltb 128 (length digits) (omega arith)) refl in
+    let short : hex_run_of (Some digits) rest ≡ decoded (evened digits) rest =
+    rw (le-ltb 128 (length digits) (omega arith)) refl in
     let even : evened digits ≡ digits = rw odd refl in
     short ∙ ap (λ d. decoded d rest) even ∙ ap (decoded_found rest) (decode_of-encode_lower bytes all)
 
 -- a part that isn't empty
-filled_back : (byte : ℕ) (bytes rest : List ℕ) → IsBytes (byte ∷ bytes) → length (byte ∷ bytes) ≤ 64 → StartsNo (belongs Word) rest
+filled_back : (byte : ℕ) (bytes rest : List ℕ) → IsBytes (byte ∷ bytes) → length (byte ∷ bytes) ≤ 64
+    → StartsNo (belongs Word) rest
     → literal_ahead (48 ∷ 120 ∷ encode_lower (byte ∷ bytes) ++ rest) ≡ Ok (record { items = byte ∷ bytes }, rest)
 unfolding literal_ahead belongs encode_with
 filled_back byte bytes rest all fits s =
     let digits = encode_lower (byte ∷ bytes) in
-    let word : Passes (belongs Word) (48 ∷ 120 ∷ digits) = (refl, (refl, digits_pass (belongs Word) digit_is_word (byte ∷ bytes) all)) in
-    let cut : run (48 ∷ 120 ∷ digits ++ rest) ≡ 48 ∷ 120 ∷ digits = front-append (belongs Word) (48 ∷ 120 ∷ digits) rest word s in
-    let left : after_run (48 ∷ 120 ∷ digits ++ rest) ≡ rest = behind-append (belongs Word) (48 ∷ 120 ∷ digits) rest word s in
+    let word : Passes (belongs Word) (48 ∷ 120 ∷ digits) =
+    (refl, (refl, digits_pass (belongs Word) digit_is_word (byte ∷ bytes) all)) in
+    let cut : run (48 ∷ 120 ∷ digits ++ rest) ≡ 48 ∷ 120 ∷ digits =
+    front-append (belongs Word) (48 ∷ 120 ∷ digits) rest word s in
+    let left : after_run (48 ∷ 120 ∷ digits ++ rest) ≡ rest =
+    behind-append (belongs Word) (48 ∷ 120 ∷ digits) rest word s in
     let hex : hex_digits_of (48 ∷ 120 ∷ digits) ≡ Some digits =
-    hex_digits_back _ _ (only_passes (belongs Hexadecimal) digits (digits_pass (belongs Hexadecimal) digit_is_hex (byte ∷ bytes) all)) in
+    hex_digits_back _ _ (only_passes (belongs Hexadecimal) digits
+    (digits_pass (belongs Hexadecimal) digit_is_hex (byte ∷ bytes) all)) in
     ap (λ r. hex_run_of (hex_digits_of r) (after_run (48 ∷ 120 ∷ digits ++ rest))) cut
     ∙ ap (λ d. hex_run_of d (after_run (48 ∷ 120 ∷ digits ++ rest))) hex
     ∙ ap (λ r. hex_run_of (Some digits) r) left
@@ -126,7 +137,13 @@ decimal_byte byte small = digit_from_value byte small
 digit_not_blank : (byte : ℕ) → 48 ≤ byte → belongs Blank byte ≡ false
 unfolding belongs
 digit_not_blank byte low =
-    rw (ne_eqb byte 32 (λ e. omega arith), ne_eqb byte 9 (λ e. omega arith), ne_eqb byte 10 (λ e. omega arith), ne_eqb byte 13 (λ e. omega arith)) refl
+    rw (
+      ne_eqb byte 32 (λ e. omega arith),
+      ne_eqb byte 9 (λ e. omega arith),
+      ne_eqb byte 10
+          (λ e. omega arith),
+      ne_eqb byte 13 (λ e. omega arith),
+    ) refl
 
 word_digit : (byte : ℕ) → 48 ≤ byte → byte ≤ 57 → belongs Word byte ≡ true
 unfolding belongs
@@ -142,10 +159,12 @@ unfolding belongs
 digits_decimal [] all = tt
 digits_decimal (digit ∷ digits) all = (lt-ltb (digit_value digit) 10 all.0, digits_decimal digits all.1)
 
-number_in_back : (n : ℕ) → n < 2 ^ 64 → (digits : List ℕ) → IsNumeral 10 digits → digits_value 10 digits ≡ n → number_in digits ≡ Ok n
+number_in_back : (n : ℕ) → n < 2 ^ 64 → (digits : List ℕ) → IsNumeral 10 digits → digits_value 10 digits ≡ n
+    → number_in digits ≡ Ok n
 number_in_back n small [] is e = absurd (omega (arith, is.0))
 number_in_back n small (digit ∷ digits) is e =
-    let decimal : behind (belongs Decimal) (digit ∷ digits) ≡ [] = only_passes (belongs Decimal) (digit ∷ digits) (digits_decimal (digit ∷ digits) is.1) in
+    let decimal : behind (belongs Decimal) (digit ∷ digits) ≡ [] =
+    only_passes (belongs Decimal) (digit ∷ digits) (digits_decimal (digit ∷ digits) is.1) in
     let some : (length (digit ∷ digits) == 0) ≡ false = ne_eqb _ _ (λ e. omega (arith, is.0, e)) in
     rw (some, decimal) (sym (fitting_small n (digits_value 10 (digit ∷ digits)) small (sym e)))
 
@@ -157,13 +176,15 @@ pub number_at-found : (text : List ℕ) → number_ahead text ≡ number_found (
 unfolding number_ahead
 number_at-found text = refl
 
-pub number_back : (n : ℕ) (rest : List ℕ) → n < 2 ^ 64 → StartsNo (belongs Word) rest → number_ahead (decimal n ++ rest) ≡ Ok (n, rest)
+pub number_back : (n : ℕ) (rest : List ℕ) → n < 2 ^ 64 → StartsNo (belongs Word) rest
+    → number_ahead (decimal n ++ rest) ≡ Ok (n, rest)
 number_back n rest small s =
     let is = decimal_is_IsNumeral n small in
     let word : Passes (belongs Word) (decimal n) = digits_word (decimal n) is.0.1 in
     let cut : run (decimal n ++ rest) ≡ decimal n = front-append (belongs Word) (decimal n) rest word s in
     let left : after_run (decimal n ++ rest) ≡ rest = behind-append (belongs Word) (decimal n) rest word s in
-    let value : number_in (run (decimal n ++ rest)) ≡ Ok n = ap number_in cut ∙ number_in_back n small (decimal n) is.0 is.1 in
+    let value : number_in (run (decimal n ++ rest)) ≡ Ok n =
+    ap number_in cut ∙ number_in_back n small (decimal n) is.0 is.1 in
     number_at-found (decimal n ++ rest)
     ∙ ap (number_found (after_run (decimal n ++ rest))) value
     ∙ ap (λ r. Ok (n, r)) left
@@ -206,21 +227,26 @@ gtrid_found text (Err fault) = Err (fault, text)
 -- a part, a comma and more
 third_back : (gtrid bqual : Text) (n : ℕ) (text rest : List ℕ) → unblank text ≡ text → number_ahead text ≡ Ok (n, rest)
     → format_id_next gtrid bqual (unblank text) ≡ Ok (xid_of gtrid bqual n, rest)
-third_back gtrid bqual n text rest blank e = ap (format_id_next gtrid bqual) blank ∙ ap (format_found gtrid bqual text) e
+third_back gtrid bqual n text rest blank e =
+    ap (format_id_next gtrid bqual) blank ∙ ap (format_found gtrid bqual text) e
 
-second_back : (gtrid : Text) (bqual text next : List ℕ) (answer : Parse) → text ≡ part_text bqual ++ (44 ∷ next) → IsBytes bqual → length bqual ≤ 64
+second_back : (gtrid : Text) (bqual text next : List ℕ) (answer : Parse) → text ≡ part_text bqual ++ (44 ∷ next)
+    → IsBytes bqual → length bqual ≤ 64
     → format_id_next gtrid (record { items = bqual }) (unblank next) ≡ answer → bqual_next gtrid (unblank text) ≡ answer
 second_back gtrid bqual text next answer e all fits more =
     let blank : unblank text ≡ text = rw e (part_unblank bqual (44 ∷ next)) in
-    let part : literal_ahead text ≡ Ok (record { items = bqual }, 44 ∷ next) = ap literal_ahead e ∙ part_back bqual (44 ∷ next) all fits (comma_no_word next) in
+    let part : literal_ahead text ≡ Ok (record { items = bqual }, 44 ∷ next) =
+    ap literal_ahead e ∙ part_back bqual (44 ∷ next) all fits (comma_no_word next) in
     ap (bqual_next gtrid) blank ∙ ap (bqual_found gtrid text) part
     ∙ ap (λ t. after_bqual gtrid (record { items = bqual }) (44 ∷ next) (comma_next t)) (comma_unblank next) ∙ more
 
-first_back : (gtrid text next : List ℕ) (answer : Parse) → text ≡ part_text gtrid ++ (44 ∷ next) → IsBytes gtrid → length gtrid ≤ 64
+first_back : (gtrid text next : List ℕ) (answer : Parse) → text ≡ part_text gtrid ++ (44 ∷ next) → IsBytes gtrid
+    → length gtrid ≤ 64
     → bqual_next (record { items = gtrid }) (unblank next) ≡ answer → gtrid_next (unblank text) ≡ answer
 first_back gtrid text next answer e all fits more =
     let blank : unblank text ≡ text = rw e (part_unblank gtrid (44 ∷ next)) in
-    let part : literal_ahead text ≡ Ok (record { items = gtrid }, 44 ∷ next) = ap literal_ahead e ∙ part_back gtrid (44 ∷ next) all fits (comma_no_word next) in
+    let part : literal_ahead text ≡ Ok (record { items = gtrid }, 44 ∷ next) =
+    ap literal_ahead e ∙ part_back gtrid (44 ∷ next) all fits (comma_no_word next) in
     ap gtrid_next blank ∙ ap (gtrid_found text) part
     ∙ ap (λ t. after_gtrid (record { items = gtrid }) (44 ∷ next) (comma_next t)) (comma_unblank next) ∙ more
 
@@ -234,18 +260,21 @@ xid_text-append xid rest =
     ∙ ap (λ t. part_text xid.gtrid.items ++ (44 ∷ t)) (append_assoc bqual (44 ∷ number) rest)
 
 -- an identifier, read back from its parts
-pub xid_back : (xid : Xid) (rest : List ℕ) → IsWritable xid → StartsNo (belongs Word) rest → xid_ahead (xid_text xid ++ rest) ≡ Ok (xid, rest)
+pub xid_back : (xid : Xid) (rest : List ℕ) → IsWritable xid → StartsNo (belongs Word) rest
+    → xid_ahead (xid_text xid ++ rest) ≡ Ok (xid, rest)
 unfolding xid_ahead
 xid_back xid rest is s =
     let number = decimal xid.format_id ++ rest in
     let third = part_text xid.bqual.items ++ (44 ∷ number) in
-    first_back xid.gtrid.items (xid_text xid ++ rest) third (Ok (xid, rest)) (xid_text-append xid rest) is.gtrid_bytes is.gtrid_fits
+    first_back xid.gtrid.items (xid_text xid ++ rest) third (Ok (xid, rest))
+    (xid_text-append xid rest) is.gtrid_bytes is.gtrid_fits
     (second_back xid.gtrid xid.bqual.items third number (Ok (xid, rest)) refl is.bqual_bytes is.bqual_fits
     (third_back xid.gtrid xid.bqual xid.format_id number rest (number_unblank xid.format_id rest is.format_fits)
     (number_back xid.format_id rest is.format_fits s)))
 
 -- the digits of a part are word bytes
-pub part_word : (byte : ℕ) (bytes : List ℕ) → IsBytes (byte ∷ bytes) → Passes (belongs Word) (48 ∷ 120 ∷ encode_lower (byte ∷ bytes))
+pub part_word : (byte : ℕ) (bytes : List ℕ) → IsBytes (byte ∷ bytes)
+    → Passes (belongs Word) (48 ∷ 120 ∷ encode_lower (byte ∷ bytes))
 unfolding belongs
 part_word byte bytes all = (refl, (refl, digits_pass (belongs Word) digit_is_word (byte ∷ bytes) all))
 

@@ -7,5 +7,6 @@ use Rattle.std.specs.Int.{w64, from_be_bytes}
 unfoldable pub head_of : List ℕ → ℕ
 head_of text =
     from_be_bytes w64
-    (slice_index text 0 ∷ slice_index text 1 ∷ slice_index text 2 ∷ slice_index text 3 ∷ slice_index text 4 ∷ slice_index text 5 ∷ slice_index text 6
+    (slice_index text 0 ∷ slice_index text 1 ∷ slice_index text 2 ∷ slice_index text 3 ∷ slice_index text 4
+    ∷ slice_index text 5 ∷ slice_index text 6
     ∷ slice_index text 7 ∷ [])

@@ -5,7 +5,8 @@
 --     literal_ahead text             the literal that a text begins with, and the text after it, or its fault
 --     literal_from text at           the same at a place, and the place after the literal
 --     evened digits                  an odd number of digits with a 0 in front
-use Rattle.std.specs.Prelude.{◌≡◌, ℕ, ◌-◌, ◌≤◌, ◌%◌, Bool, false, ◌==◌, ◌||◌, ◌&&◌, not, nat_le, nat_lt, if◌then◌else◌, IsTrue, List, [], ◌∷◌, ◌++◌, length}
+use Rattle.std.specs.Prelude.{◌≡◌, ℕ, ◌-◌, ◌≤◌, ◌%◌, Bool, false, ◌==◌, ◌||◌, ◌&&◌, not, nat_le, nat_lt, if◌then◌else◌}
+use Rattle.std.specs.Prelude.{IsTrue, List, [], ◌∷◌, ◌++◌, length}
 use Rattle.std.specs.Prelude.{drop, slice_index, Option, Some, None, Result, Ok, Err}
 use Rattle.hex.specs.Hex.{decode_of}
 use Rattle.xa_xid.specs.Bytes.{belongs, front, behind, only, run, after_run, StartsNo}
@@ -43,11 +44,13 @@ opens_hex _ = false
 abbrev pub evened : List ℕ → List ℕ
 evened digits = if length digits % 2 == 1 then 48 ∷ digits else digits
 
--- which literal a text begins with, and which bytes it stands for (manual, 'String Literals' and 'Hexadecimal Literals')
+-- which literal a text begins with, and which bytes it stands for (manual, 'String Literals' and 'Hexadecimal
+-- Literals')
 pub data LiteralAt : List ℕ → List ℕ → List ℕ → Type 0 where
   text_literal : (quote : ℕ) {text bytes rest : List ℕ} → IsTrue (is_quote quote) → QuotedAt quote text bytes rest
       → LiteralAt (quote ∷ text) bytes rest
-  hex_in_quotes : (letter : ℕ) (digits : List ℕ) {bytes rest : List ℕ} → IsTrue (is_x letter) → decode_of digits ≡ Ok bytes
+  hex_in_quotes : (letter : ℕ) (digits : List ℕ) {bytes rest : List ℕ} → IsTrue (is_x letter)
+      → decode_of digits ≡ Ok bytes
       → IsTrue (only (belongs Hexadecimal) digits) → LiteralAt (letter ∷ 39 ∷ digits ++ 39 ∷ rest) bytes rest
   hex_run : (digit : ℕ) (digits : List ℕ) {bytes rest : List ℕ} → decode_of (evened (digit ∷ digits)) ≡ Ok bytes
       → IsTrue (only (belongs Hexadecimal) (digit ∷ digits)) → StartsNo (belongs Word) rest
@@ -59,7 +62,8 @@ pub record TextAt (text : List ℕ) (found : Text) (rest : List ℕ) : Type 0 wh
   pub fits : length found.items ≤ text_bytes
 
 -- a spelling, between two places in one text
-pub record Between {Value : Type 0} (Spelled : List ℕ → Value → List ℕ → Type 0) (text : List ℕ) (at : ℕ) (value : Value) (next : ℕ) : Type 0 where
+pub record Between {Value : Type 0} (Spelled : List ℕ → Value → List ℕ → Type 0) (text : List ℕ) (at : ℕ)
+    (value : Value) (next : ℕ) : Type 0 where
   pub within : next ≤ length text
   pub spelled : Spelled (drop at text) value (drop next text)
 
@@ -79,7 +83,8 @@ text_literal_of (Some (bytes, rest)) = sized (kept bytes) rest
 
 -- the bytes of an even number of hexadecimal digits, which always decode
 abbrev pub decoded : List ℕ → List ℕ → Reading Text
-decoded digits rest = elim (decode_of digits) [ Ok bytes ↦ Ok (record { items = bytes }, rest) | Err _ ↦ Err NotALiteral ]
+decoded digits rest =
+    elim (decode_of digits) [ Ok bytes ↦ Ok (record { items = bytes }, rest) | Err _ ↦ Err NotALiteral ]
 
 -- the digits after `X'`, and the text after them; or the first fault that holds
 abbrev pub hex_in_quotes_of : List ℕ → List ℕ → Reading Text
@@ -93,7 +98,8 @@ hex_in_quotes_of digits (byte ∷ rest) =
 -- the digits of a run that is `0x` and one or more hexadecimal digits
 abbrev pub hex_digits_of : List ℕ → Option (List ℕ)
 hex_digits_of (zero_digit ∷ letter ∷ digit ∷ digits) =
-    if zero_digit == 48 && letter == 120 && only (belongs Hexadecimal) (digit ∷ digits) then Some (digit ∷ digits) else None
+    if zero_digit == 48 && letter == 120 && only (belongs Hexadecimal) (digit ∷ digits) then Some
+    (digit ∷ digits) else None
 hex_digits_of _ = None
 
 -- such a run as a literal, and the text after it
@@ -105,7 +111,8 @@ hex_run_of (Some digits) rest = if nat_lt text_digits (length digits) then Err T
 unfoldable pub literal_ahead : List ℕ → Reading Text
 literal_ahead text =
     if opens_text text then text_literal_of (read_in_quotes (slice_index text 0) Plain (drop 1 text)) else
-    if opens_hex text then hex_in_quotes_of (front (belongs Hexadecimal) (drop 2 text)) (behind (belongs Hexadecimal) (drop 2 text)) else
+    if opens_hex text then hex_in_quotes_of (front (belongs Hexadecimal) (drop 2 text))
+    (behind (belongs Hexadecimal) (drop 2 text)) else
     hex_run_of (hex_digits_of (run text)) (after_run text)
 
 -- what was read at a place, and the place after it

@@ -3,7 +3,8 @@
 --     number_in run        the value of a run that is a number
 --     number_ahead text    the number that a text begins with, and the text after it, or its fault
 --     number_from text at  the same at a place, and the place after it
-use Rattle.std.specs.Prelude.{◌≡◌, ℕ, ◌^◌, ◌<◌, ◌==◌, ◌&&◌, nat_lt, not, if◌then◌else◌, IsTrue, List, ◌∷◌, ◌++◌, length, drop, Option, Some, None, Result, Ok}
+use Rattle.std.specs.Prelude.{◌≡◌, ℕ, ◌^◌, ◌<◌, ◌==◌, ◌&&◌, nat_lt, not, if◌then◌else◌, IsTrue, List, ◌∷◌, ◌++◌, length}
+use Rattle.std.specs.Prelude.{drop, Option, Some, None, Result, Ok}
 use Rattle.std.specs.Prelude.{Err}
 use Rattle.std.specs.Str.Parse.{digits_value}
 use Rattle.xa_xid.specs.Bytes.{belongs, only, run, after_run, StartsNo}
@@ -14,10 +15,12 @@ use Rattle.xa_xid.specs.declared.literal_fault.LiteralFault.TheVariants.{NotALit
 
 -- which number a text begins with: digits of a value below 2^64, no word byte after them (own rule)
 pub data NumberAt : List ℕ → ℕ → List ℕ → Type 0 where
-  decimal_digits : (digit : ℕ) (digits : List ℕ) {value : ℕ} {rest : List ℕ} → IsTrue (only (belongs Decimal) (digit ∷ digits))
+  decimal_digits : (digit : ℕ) (digits : List ℕ) {value : ℕ} {rest : List ℕ}
+      → IsTrue (only (belongs Decimal) (digit ∷ digits))
       → digits_value 10 (digit ∷ digits) ≡ value → value < 2 ^ 64 → StartsNo (belongs Word) rest
       → NumberAt (digit ∷ digits ++ rest) value rest
-  hexadecimal_digits : (digit : ℕ) (digits : List ℕ) {value : ℕ} {rest : List ℕ} → IsTrue (only (belongs Hexadecimal) (digit ∷ digits))
+  hexadecimal_digits : (digit : ℕ) (digits : List ℕ) {value : ℕ} {rest : List ℕ}
+      → IsTrue (only (belongs Hexadecimal) (digit ∷ digits))
       → digits_value 16 (digit ∷ digits) ≡ value → value < 2 ^ 64 → StartsNo (belongs Word) rest
       → NumberAt (48 ∷ 120 ∷ digit ∷ digits ++ rest) value rest
 
@@ -33,7 +36,8 @@ hex_number_of (Some digits) = fitting (digits_value 16 digits)
 -- only one or more decimal digits, or `0x` and one or more hexadecimal digits (own rule)
 abbrev pub number_in : List ℕ → Result ℕ LiteralFault
 number_in run =
-    if not (length run == 0) && only (belongs Decimal) run then fitting (digits_value 10 run) else hex_number_of (hex_digits_of run)
+    if not (length run == 0) && only (belongs Decimal) run then fitting (digits_value 10 run) else hex_number_of
+    (hex_digits_of run)
 
 -- the number that a text begins with
 unfoldable pub number_ahead : List ℕ → Reading ℕ

@@ -24,9 +24,12 @@ escaped letter =
 -- the text up to and with the closing quote, and the bytes that it stands for
 pub data Quoted (quote : ℕ) : List ℕ → List ℕ → Type 0 where
   close : Quoted quote (quote ∷ []) []
-  doubled : {written bytes : List ℕ} → Quoted quote written bytes → Quoted quote (quote ∷ quote ∷ written) (quote ∷ bytes)
-  escape : (letter : ℕ) {written bytes : List ℕ} → Quoted quote written bytes → Quoted quote (92 ∷ letter ∷ written) (escaped letter ++ bytes)
-  plain : (byte : ℕ) {written bytes : List ℕ} → byte ≢ quote → byte ≢ 92 → Quoted quote written bytes → Quoted quote (byte ∷ written) (byte ∷ bytes)
+  doubled : {written bytes : List ℕ} → Quoted quote written bytes
+      → Quoted quote (quote ∷ quote ∷ written) (quote ∷ bytes)
+  escape : (letter : ℕ) {written bytes : List ℕ} → Quoted quote written bytes
+      → Quoted quote (92 ∷ letter ∷ written) (escaped letter ++ bytes)
+  plain : (byte : ℕ) {written bytes : List ℕ} → byte ≢ quote → byte ≢ 92 → Quoted quote written bytes
+      → Quoted quote (byte ∷ written) (byte ∷ bytes)
 
 -- how it ends in a longer text: the closing quote isn't the first of two
 pub record QuotedAt (quote : ℕ) (text bytes rest : List ℕ) : Type 0 where

@@ -1,9 +1,11 @@
 -- The spelling of an identifier: gtrid [, bqual [, formatID]], blanks before each token.
 --     XidAt text xid rest    the text begins with the identifier, and `rest` comes after its last token
---     xid_ahead text         the identifier that a text begins with and the text after it, or its fault and the text from there
+--     xid_ahead text         the identifier that a text begins with and the text after it, or its fault and the text
+--                            from there
 --     xid_from text at       the same at a place, with places for texts
 --     part_text, xid_text    the canonical text of a gtrid or bqual, and of an identifier
-use Rattle.std.specs.Prelude.{◌≡◌, ℕ, ◌-◌, ◌≤◌, ◌<◌, ◌^◌, ◌==◌, if◌then◌else◌, List, [], ◌∷◌, ◌++◌, length, drop, codes, decimal, Option, Some, None, Result}
+use Rattle.std.specs.Prelude.{◌≡◌, ℕ, ◌-◌, ◌≤◌, ◌<◌, ◌^◌, ◌==◌, if◌then◌else◌, List, [], ◌∷◌, ◌++◌, length, drop, codes}
+use Rattle.std.specs.Prelude.{decimal, Option, Some, None, Result}
 use Rattle.std.specs.Prelude.{Ok, Err}
 use Rattle.hex.specs.Hex.{encode_lower, IsBytes}
 use Rattle.xa_xid.specs.Limits.{text_bytes}
@@ -35,10 +37,12 @@ NoCommaAt text = StartsNo (λ byte. byte == 44) text
 pub data XidAt : List ℕ → Xid → List ℕ → Type 0 where
   gtrid_alone : (gtrid : Text) {text rest : List ℕ} → TextAt (unblank text) gtrid rest → NoCommaAt (unblank rest)
       → XidAt text (xid_of gtrid no_text 1) rest
-  gtrid_bqual : (gtrid bqual : Text) {text second third rest : List ℕ} → TextAt (unblank text) gtrid second → CommaAt (unblank second) third
+  gtrid_bqual : (gtrid bqual : Text) {text second third rest : List ℕ} → TextAt (unblank text) gtrid second
+      → CommaAt (unblank second) third
       → TextAt (unblank third) bqual rest → NoCommaAt (unblank rest)
       → XidAt text (xid_of gtrid bqual 1) rest
-  gtrid_bqual_format : (gtrid bqual : Text) (format_id : ℕ) {text second third fourth fifth rest : List ℕ} → TextAt (unblank text) gtrid second
+  gtrid_bqual_format : (gtrid bqual : Text) (format_id : ℕ) {text second third fourth fifth rest : List ℕ}
+      → TextAt (unblank text) gtrid second
       → CommaAt (unblank second) third → TextAt (unblank third) bqual fourth → CommaAt (unblank fourth) fifth
       → NumberAt (unblank fifth) format_id rest
       → XidAt text (xid_of gtrid bqual format_id) rest

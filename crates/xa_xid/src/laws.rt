@@ -65,9 +65,11 @@ pub fn literals_are_read_as_spelled()
     ensures sound { (text : List ℕ) (found : Text) (rest : List ℕ) → literal_ahead text ≡ Ok (found, rest)
         → LiteralAt text found.items rest × (length found.items ≤ text_bytes) }
     // Proved (statements, readers-are-the-grammar)
-    ensures complete { (text bytes rest : List ℕ) → LiteralAt text bytes rest → literal_ahead text ≡ sized (kept bytes) rest }
+    ensures complete { (text bytes rest : List ℕ) → LiteralAt text bytes rest
+        → literal_ahead text ≡ sized (kept bytes) rest }
     // Proved (statements, readers-are-the-grammar)
-    ensures only_one { (text : List ℕ) (found other : Text) (rest behind : List ℕ) → TextAt text found rest → TextAt text other behind
+    ensures only_one { (text : List ℕ) (found other : Text) (rest behind : List ℕ) → TextAt text found rest
+        → TextAt text other behind
         → (found ≡ other) × (rest ≡ behind) }
 {}
 
@@ -77,11 +79,14 @@ pub fn literals_are_read_as_spelled()
 /// Takes no memory. Doesn't wait.
 pub fn numbers_are_read_as_spelled()
     // Proved (statements, readers-are-the-grammar)
-    ensures sound { (text : List ℕ) (value : ℕ) (rest : List ℕ) → number_ahead text ≡ Ok (value, rest) → NumberAt text value rest }
+    ensures sound { (text : List ℕ) (value : ℕ) (rest : List ℕ) → number_ahead text ≡ Ok (value, rest)
+        → NumberAt text value rest }
     // Proved (statements, readers-are-the-grammar)
-    ensures complete { (text : List ℕ) (value : ℕ) (rest : List ℕ) → NumberAt text value rest → number_ahead text ≡ Ok (value, rest) }
+    ensures complete { (text : List ℕ) (value : ℕ) (rest : List ℕ) → NumberAt text value rest
+        → number_ahead text ≡ Ok (value, rest) }
     // Proved (statements, readers-are-the-grammar)
-    ensures only_one { (text : List ℕ) (value other : ℕ) (rest behind : List ℕ) → NumberAt text value rest → NumberAt text other behind
+    ensures only_one { (text : List ℕ) (value other : ℕ) (rest behind : List ℕ) → NumberAt text value rest
+        → NumberAt text other behind
         → (value ≡ other) × (rest ≡ behind) }
 {}
 
@@ -90,11 +95,14 @@ pub fn numbers_are_read_as_spelled()
 /// It also states that a text begins with at most one identifier. Takes no memory. Doesn't wait.
 pub fn xids_are_read_as_spelled()
     // Proved (statements, readers-are-the-grammar)
-    ensures sound { (text : List ℕ) (xid : Xid) (rest : List ℕ) → xid_ahead text ≡ Ok (xid, rest) → XidAt text xid rest }
+    ensures sound { (text : List ℕ) (xid : Xid) (rest : List ℕ) → xid_ahead text ≡ Ok (xid, rest)
+        → XidAt text xid rest }
     // Proved (statements, readers-are-the-grammar)
-    ensures complete { (text : List ℕ) (xid : Xid) (rest : List ℕ) → XidAt text xid rest → xid_ahead text ≡ Ok (xid, rest) }
+    ensures complete { (text : List ℕ) (xid : Xid) (rest : List ℕ) → XidAt text xid rest
+        → xid_ahead text ≡ Ok (xid, rest) }
     // Proved (statements, readers-are-the-grammar)
-    ensures only_one { (text : List ℕ) (xid other : Xid) (rest behind : List ℕ) → XidAt text xid rest → XidAt text other behind
+    ensures only_one { (text : List ℕ) (xid other : Xid) (rest behind : List ℕ) → XidAt text xid rest
+        → XidAt text other behind
         → (xid ≡ other) × (rest ≡ behind) }
 {}
 
@@ -104,11 +112,14 @@ pub fn xids_are_read_as_spelled()
 pub fn faults_are_the_table()
     // Proved (statements, faults-are-the-table): The functions by which literals, numbers and identifiers
     //   are read return exactly the faults of the table of faults.
-    ensures literal { (text : List ℕ) (fault : LiteralFault) → (literal_ahead text ≡ Err fault) ↔ FaultyLiteral text fault }
+    ensures literal { (text : List ℕ) (fault : LiteralFault)
+        → (literal_ahead text ≡ Err fault) ↔ FaultyLiteral text fault }
     // Proved (statements, faults-are-the-table)
-    ensures number { (text : List ℕ) (fault : LiteralFault) → (number_ahead text ≡ Err fault) ↔ FaultyNumber text fault }
+    ensures number { (text : List ℕ) (fault : LiteralFault)
+        → (number_ahead text ≡ Err fault) ↔ FaultyNumber text fault }
     // Proved (statements, faults-are-the-table)
-    ensures xid { (text : List ℕ) (fault : LiteralFault) (rest : List ℕ) → (xid_ahead text ≡ Err (fault, rest)) ↔ FaultyXid text fault rest }
+    ensures xid { (text : List ℕ) (fault : LiteralFault) (rest : List ℕ)
+        → (xid_ahead text ≡ Err (fault, rest)) ↔ FaultyXid text fault rest }
 {}
 
 /// States that the canonical text of an identifier is read as that identifier.
@@ -117,7 +128,8 @@ pub fn faults_are_the_table()
 pub fn written_xid_is_read_back(xid: &Xid)
     // Proved (statements, written-xid-is-read-back): A written identifier is read back as the same
     //   identifier, if no letter, digit, `_`, `$` or byte from 128 to 255 follows it.
-    ensures { (rest : List ℕ) → StartsNo (belongs ByteClass.Word) rest → xid_ahead (xid_text xid.now ++ rest) ≡ Ok (xid.now, rest) }
+    ensures { (rest : List ℕ) → StartsNo (belongs ByteClass.Word) rest
+        → xid_ahead (xid_text xid.now ++ rest) ≡ Ok (xid.now, rest) }
 {
     is_writable(xid);
 }

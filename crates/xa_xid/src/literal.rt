@@ -4,7 +4,8 @@ ghost use Rattle.xa_xid.specs.Bytes.{belongs, front, behind, run, after_run};
 ghost use Rattle.xa_xid.specs.Xid.{Text};
 ghost use Rattle.xa_xid.specs.Faults.{FaultyLiteral};
 ghost use Rattle.xa_xid.specs.Limits.{text_digits};
-ghost use Rattle.xa_xid.specs.Literal.{TextAt, Between, decoded, evened, hex_digits_of, hex_in_quotes_of, hex_run_of, literal_ahead, literal_from, opens_text};
+ghost use Rattle.xa_xid.specs.Literal.{TextAt, Between, decoded, evened, hex_digits_of, hex_in_quotes_of, hex_run_of};
+ghost use Rattle.xa_xid.specs.Literal.{literal_ahead, literal_from, opens_text};
 ghost use Rattle.xa_xid.specs.Literal.{opens_hex};
 
 use crate::byte_class::text_from;

@@ -1,6 +1,7 @@
 //! A statement of a session.
 ghost use Rattle.std.specs.Prelude.{◌≡◌};
-ghost use Rattle.xa_xid.specs.declared.statement.Statement.TheVariants.{Start, End, Prepare, Commit, Rollback, Get, Put, Del};
+ghost use Rattle.xa_xid.specs.declared.statement.Statement.TheVariants.{Start, End, Prepare, Commit, Rollback, Get};
+ghost use Rattle.xa_xid.specs.declared.statement.Statement.TheVariants.{Put, Del};
 
 use crate::{Bytes, Key, Xid, copy_of};
 

@@ -6,7 +6,8 @@ ghost use Rattle.xa_xid.specs.Faults.{FaultyXid};
 ghost use Rattle.xa_xid.specs.Limits.{text_bytes};
 ghost use Rattle.xa_xid.specs.Literal.{Between};
 ghost use Rattle.xa_xid.specs.declared.xid.Xid.{Xid};
-ghost use Rattle.xa_xid.specs.XidText.{XidAt, xid_ahead, xid_from, gtrid_next, bqual_next, format_id_next, comma_next, part_text, xid_text};
+ghost use Rattle.xa_xid.specs.XidText.{XidAt, xid_ahead, xid_from, gtrid_next, bqual_next, format_id_next, comma_next};
+ghost use Rattle.xa_xid.specs.XidText.{part_text, xid_text};
 
 use crate::byte_class::text_from;
 use crate::literal::literal_of;
@@ -38,7 +39,8 @@ pub fn read_xid(text: &[u8], at: usize) -> Result<(Xid, usize), (LiteralFault, u
     //   token at that place is the first faulty one, and has this fault.
     ensures faulty { IfErr result (λ found. Between FaultyXid text.now at found.0 found.1) }
     // Proved (statements, xid-faults)
-    ensures told { (fault : LiteralFault) (place : ℕ) → Between FaultyXid text.now at fault place → result ≡ Err (fault, place) }
+    ensures told { (fault : LiteralFault) (place : ℕ) → Between FaultyXid text.now at fault place
+        → result ≡ Err (fault, place) }
 {
     match read_gtrid(skip_blanks(text_from(text, at))) {
         Ok((xid, rest)) => Ok((xid, text.len() - rest.len())),

@@ -51,7 +51,8 @@ impl<R: LogWords> LogTable<R> {
         ensures first { pass_view seat.new ≡ pass_view seat.old }
         ensures met { (seen : List Entry)
             × (second seat.new ≡ met (second seat.old) seen)
-            × (length (second seat.old).known.seen < length (pass_view seat.old).known.seen → result ≡ R.newest (met (second seat.old) seen))
+            × (length (second seat.old).known.seen < length (pass_view seat.old).known.seen
+            → result ≡ R.newest (met (second seat.old) seen))
             × MetAt (pass_view seat.old) (second seat.old) seen }
     {
         // Both passes have seen prefixes of one history, which only grew since.
@@ -101,7 +102,8 @@ impl<R: LogWords> LogTable<R> {
         ensures same { pass_view first.new ≡ pass_view first.old }
         ensures met { (seen : List Entry)
             × (pass_view second.new ≡ met (pass_view second.old) seen)
-            × (length (pass_view second.old).known.seen < length (pass_view first.old).known.seen → result ≡ R.newest (met (pass_view second.old) seen))
+            × (length (pass_view second.old).known.seen < length (pass_view first.old).known.seen
+            → result ≡ R.newest (met (pass_view second.old) seen))
             × MetAt (pass_view first.old) (pass_view second.old) seen }
     {
         let empty = self.split_empty(first);

@@ -20,7 +20,8 @@ impl<R: LogWords> LogTable<R> {
         requires table { seat.old.table_id ≡ self.now.inner.shared.table_id }
         requires held { seat.old.me ≡ seated (pass_view seat.old) }
         requires word { word < self.now.inner.shared.table_id.words }
-        requires allowed { Allows (R.holds self.now.inner.shared.key) self.now.inner.shared.table_id.slots seat.old.id (seated (pass_view seat.old)) word
+        requires allowed { Allows (R.holds self.now.inner.shared.key) self.now.inner.shared.table_id.slots seat.old.id
+            (seated (pass_view seat.old)) word
             (λ n. n) (Tells (M.then (Load word) (pass_view seat.old))) }
         ensures table { seat.new.table_id ≡ seat.old.table_id }
         ensures held { seat.new.me ≡ seated (pass_view seat.new) }
@@ -46,7 +47,8 @@ impl<R: LogWords> LogTable<R> {
         requires table { seat.old.table_id ≡ self.now.inner.shared.table_id }
         requires held { seat.old.me ≡ seated (pass_view seat.old) }
         requires word { word < self.now.inner.shared.table_id.words }
-        requires allowed { Allows (R.holds self.now.inner.shared.key) self.now.inner.shared.table_id.slots seat.old.id (seated (pass_view seat.old)) word
+        requires allowed { Allows (R.holds self.now.inner.shared.key) self.now.inner.shared.table_id.slots seat.old.id
+            (seated (pass_view seat.old)) word
             (λ n. new) (λ n. Tells (M.then (Store word new) (pass_view seat.old)) new) }
         ensures table { seat.new.table_id ≡ seat.old.table_id }
         ensures held { seat.new.me ≡ seated (pass_view seat.new) }
@@ -71,13 +73,15 @@ impl<R: LogWords> LogTable<R> {
         requires table { seat.old.table_id ≡ self.now.inner.shared.table_id }
         requires held { seat.old.me ≡ seated (pass_view seat.old) }
         requires word { word < self.now.inner.shared.table_id.words }
-        requires allowed { Allows (R.holds self.now.inner.shared.key) self.now.inner.shared.table_id.slots seat.old.id (seated (pass_view seat.old)) word
+        requires allowed { Allows (R.holds self.now.inner.shared.key) self.now.inner.shared.table_id.slots seat.old.id
+            (seated (pass_view seat.old)) word
             (λ n. either (n == old) new n) (Tells (M.then (Exchange word old new none) (pass_view seat.old))) }
         ensures table { seat.new.table_id ≡ seat.old.table_id }
         ensures held { seat.new.me ≡ seated (pass_view seat.new) }
         ensures told { M.then (Exchange word old new none) (pass_view seat.old) result (pass_view seat.new) }
         // Proved (log, counts)
-        ensures counted { Counts R.newest R.tried (Exchange word old new none) result (pass_view seat.old) (pass_view seat.new) }
+        ensures counted { Counts R.newest R.tried (Exchange word old new none) result (pass_view seat.old)
+            (pass_view seat.new) }
     {
         // Comments at the log's own steps say why earlier loads still hold.
         self.inner
@@ -99,13 +103,15 @@ impl<R: LogWords> LogTable<R> {
         requires table { seat.old.table_id ≡ self.now.inner.shared.table_id }
         requires held { seat.old.me ≡ seated (pass_view seat.old) }
         requires word { word < self.now.inner.shared.table_id.words }
-        requires allowed { Allows (R.holds self.now.inner.shared.key) self.now.inner.shared.table_id.slots seat.old.id (seated (pass_view seat.old)) word
+        requires allowed { Allows (R.holds self.now.inner.shared.key) self.now.inner.shared.table_id.slots seat.old.id
+            (seated (pass_view seat.old)) word
             (λ n. either (n == old) new n) (Tells (M.then (Exchange word old new (some said.now)) (pass_view seat.old))) }
         ensures table { seat.new.table_id ≡ seat.old.table_id }
         ensures held { seat.new.me ≡ seated (pass_view seat.new) }
         ensures told { M.then (Exchange word old new (some said.now)) (pass_view seat.old) result (pass_view seat.new) }
         // Proved (log, counts)
-        ensures counted { Counts R.newest R.tried (Exchange word old new (some said.now)) result (pass_view seat.old) (pass_view seat.new) }
+        ensures counted { Counts R.newest R.tried (Exchange word old new (some said.now)) result (pass_view seat.old)
+            (pass_view seat.new) }
     {
         // Comments at the log's own steps say why earlier loads still hold.
         self.inner

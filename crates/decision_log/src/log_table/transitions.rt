@@ -31,7 +31,8 @@ pub(super) struct Exchanged<R, M> {
 }
 
 impl<R: LogWords, M: LogTransition<R>> Play<Entry, SeatView> for Exchanged<R, M> {
-    ghost then = { λ step me found after. Tells (M.then (Exchange step.word step.first step.second step.said) (pass_view_of me.0)) found after };
+    ghost then = { λ step me found after. Tells (M.then (Exchange step.word step.first step.second step.said)
+        (pass_view_of me.0)) found after };
 }
 
 /// A load of word 0 at a seat with two passes.

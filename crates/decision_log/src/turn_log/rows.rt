@@ -21,7 +21,8 @@ impl TurnLog {
         requires within { length (pass_view seat.old).known.seen ≤ self.now.capacity }
         ensures seat { IsSeat self.now seat.new }
         ensures same { pass_view seat.new ≡ pass_view seat.old }
-        ensures read { (entry : Entry) → slice_get (pass_view seat.old).known.seen place ≡ Some entry → IsEntry entry × (result ≡ words_of entry) }
+        ensures read { (entry : Entry) → slice_get (pass_view seat.old).known.seen place ≡ Some entry
+            → IsEntry entry × (result ≡ words_of entry) }
     {
         let row = ROWS + place as usize * WORDS;
         let mut words = [0; WORDS];

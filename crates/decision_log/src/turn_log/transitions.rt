@@ -1,7 +1,8 @@
 //! How each step changes what the pass knows. These types are only for proofs.
 ghost use Rattle.decision_log.specs.Atomic.{AtLoad, AtStore, AtExchange};
 ghost use Rattle.decision_log.specs.TurnTransitions.{Sees, Reads, Takes, Drafts, Publishes, Releases};
-ghost use Rattle.decision_log.specs.TurnCounts.{see_counts, read_counts, take_counts, draft_counts, publish_counts, release_counts};
+ghost use Rattle.decision_log.specs.TurnCounts.{see_counts, read_counts, take_counts, draft_counts, publish_counts};
+ghost use Rattle.decision_log.specs.TurnCounts.{release_counts};
 
 use super::Turns;
 use crate::LogTransition;

@@ -3,4 +3,10 @@ use Rattle.xa_script.proofs.opened_each.Goals as goal
 
 pub loop-name-preserved : goal.loop-name-preserved
 loop-name-preserved g c =
-    omega (arith, ap length c.in_ok-push.ensures.items, length-append c.loop-name.inputs.items (c.of_history.result ∷ []), c.loop-name.invariant)
+    omega (
+      arith,
+      ap length c.in_ok-push.ensures.items,
+      length-append c.loop-name.inputs.items
+          (c.of_history.result ∷ []),
+      c.loop-name.invariant,
+    )

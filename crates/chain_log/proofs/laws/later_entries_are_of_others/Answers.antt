@@ -3,4 +3,5 @@ use Rattle.chain_log.proofs.laws.later_entries_are_of_others.Goals as goal
 
 pub returns : goal.returns
 returns c sizes words views rule pass knows row entry long is =
-    later_other pass.known.number pass.known.seen rule.log pass.known.mine row entry knows.seen knows.mine knows.part long is
+    later_other pass.known.number pass.known.seen rule.log pass.known.mine row entry knows.seen knows.mine knows.part
+    long is

@@ -2,7 +2,8 @@ use Rattle.chain_log.proofs.Names.{length_by_newest, length_by_zero}
 use Rattle.chain_log.proofs.layout.row_count.Goals as goal
 
 pub returns-then-newest-eq0 : goal.returns-then-newest-eq0
-returns-then-newest-eq0 c seen all same = length_by_zero c.args.sessions c.args.newest seen all same c.if-newest-eq0.true
+returns-then-newest-eq0 c seen all same =
+    length_by_zero c.args.sessions c.args.newest seen all same c.if-newest-eq0.true
 
 pub returns : goal.returns
 returns c seen all same = length_by_newest c.args.sessions c.args.newest seen all same c.if-newest-eq0.false

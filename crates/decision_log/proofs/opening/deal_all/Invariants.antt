@@ -11,6 +11,8 @@ invariant-loop-index g l = record {
   rest : KnowsRest l.table.inner.shared.table_id l.rest;
   next : pass_view l.rest ≡ newcomer_view l.sizes.sessions l.sizes.capacity (l.index + 1);
   count : length l.passes.items ≡ l.index;
-  belongs : All (λ pass. g.P.SeatedPass.belongs_to pass ≡ identity_at l.table.inner.shared.table_id l.sizes) l.passes.items;
-  numbers : (index : ℕ) (pass : _) → slice_get l.passes.items index ≡ Some pass → g.P.SeatedPass.known pass ≡ newcomer (index + 1);
+  belongs : All (λ pass. g.P.SeatedPass.belongs_to pass ≡ identity_at l.table.inner.shared.table_id l.sizes)
+      l.passes.items;
+  numbers : (index : ℕ) (pass : _) → slice_get l.passes.items index ≡ Some pass
+      → g.P.SeatedPass.known pass ≡ newcomer (index + 1);
 }

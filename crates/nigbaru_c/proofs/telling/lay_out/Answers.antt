@@ -11,11 +11,13 @@ loop-index-preserved c =
     let xids = c.args.xids.now in
     let index = c.loop-index.index in
     let xid = c.index-xids-index.result in
-    let room : index < length parts = omega (arith, c.loop-index-test.true, c.min-index-end.ensures, c.loop-index.invariant.0) in
+    let room : index < length parts =
+    omega (arith, c.loop-index-test.true, c.min-index-end.ensures, c.loop-index.invariant.0) in
     let there : index < length xids = omega (arith, c.loop-index-test.true, c.min-index-end.ensures) in (
       length-set parts index c.of.result ∙ c.loop-index.invariant.0,
       laid_more xids parts index c.of.result room
-          (λ d. subst (λ (other : Xid). IsLaid other c.of.result) (c.index-xids-index.is ∙ get_or_default xids index xid d there) c.of.ensures)
+          (λ d. subst (λ (other : Xid). IsLaid other c.of.result)
+          (c.index-xids-index.is ∙ get_or_default xids index xid d there) c.of.ensures)
           c.loop-index.invariant.1,
       kept_more parts c.args.parts.now index c.of.result c.loop-index.invariant.2,
     )

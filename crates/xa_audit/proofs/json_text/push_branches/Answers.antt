@@ -4,11 +4,14 @@ use Rattle.xa_audit.proofs.json_text.push_branches.Goals as goal
 
 pub loop-branch-preserved : goal.loop-branch-preserved
 loop-branch-preserved c =
-    json_step branch_json c.loop-branch.first c.args.branches.now c.loop-branch.branch-index c.branch-item.result c.branch-item.result _
-    c.loop-branch.text.items c.push_comma.new.text.items c.push_branch.new.text.items c.loop-branch-test.true c.branch-item.is
+    json_step branch_json c.loop-branch.first c.args.branches.now c.loop-branch.branch-index c.branch-item.result
+    c.branch-item.result _
+    c.loop-branch.text.items c.push_comma.new.text.items c.push_branch.new.text.items c.loop-branch-test.true
+    c.branch-item.is
     c.in_ok-push_comma.ensures c.in_ok-push_branch.ensures c.loop-branch.invariant
 
 pub returns : goal.returns
 returns c =
-    json_end branch_json c.loop-branch.first c.args.branches.now c.loop-branch.branch-index _ c.loop-branch.text.items c.loop-branch-test.false
+    json_end branch_json c.loop-branch.first c.args.branches.now c.loop-branch.branch-index _ c.loop-branch.text.items
+    c.loop-branch-test.false
     c.loop-branch.invariant

@@ -9,8 +9,10 @@ pub loop-rest-preserved : goal.loop-rest-preserved
 loop-rest-preserved c = record {
   owned = c.in_ok-take_line.ensures.owned;
   lives = λ xid.
-      line_more c.split_line.result.0.now (lines_of c.split_line.result.1.now) (lines_of c.loop-rest.rest.now) c.loop-rest.store.server _
-      c.loop-rest.store.lives _ (lives_in c.args.history.now xid) xid c.split_line.ensures.lines c.in_ok-take_line.ensures.server
+      line_more c.split_line.result.0.now (lines_of c.split_line.result.1.now)
+      (lines_of c.loop-rest.rest.now) c.loop-rest.store.server _
+      c.loop-rest.store.lives _ (lives_in c.args.history.now xid) xid c.split_line.ensures.lines
+      c.in_ok-take_line.ensures.server
       c.in_ok-take_line.ensures.lives (c.loop-rest.invariant.lives xid);
 }
 

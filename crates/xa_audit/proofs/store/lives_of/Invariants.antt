@@ -14,7 +14,8 @@ abbrev pub invariant-loop-rest : goal.invariant-loop-rest
 invariant-loop-rest l = record {
   owned : IsFollowed l.store.owned l.store.server;
   lives : (xid : Xid) →
-      lives_after (get xid_cmp l.store.lives xid) (deeds_about xid (deeds_from l.store.server (statements_in (lines_of l.rest)))) ≡ lives_in l.history xid;
+      lives_after (get xid_cmp l.store.lives xid) (deeds_about xid
+      (deeds_from l.store.server (statements_in (lines_of l.rest)))) ≡ lives_in l.history xid;
 }
 
 abbrev pub decreases-loop-rest : goal.decreases-loop-rest

@@ -7,5 +7,6 @@ use Rattle.xa_audit.proofs.verdict.last_of.Goals as goal
 
 pub loop-end-preserved : goal.loop-end-preserved
 loop-end-preserved c =
-    sym (last_more (take c.loop-end.end-index c.args.ends.now) (slice_index_or c.args.ends.now c.loop-end.end-index Committed))
+    sym (last_more (take c.loop-end.end-index c.args.ends.now)
+    (slice_index_or c.args.ends.now c.loop-end.end-index Committed))
     ∙ ap last_end (sym (take_more c.args.ends.now c.loop-end.end-index Committed c.loop-end-test.true))

@@ -6,7 +6,8 @@ use Rattle.xa_coordinator.proofs.Telling.{is_undone}
 use Rattle.xa_coordinator.proofs.listing.let_go.Goals as goal
 
 pub returns-clause-done : goal.returns-clause-done
-returns-clause-done g c = disconnected_as _ _ _ (g.met.S.Speak.lawful c.execute.new.self) c.in_ok-execute.ensures.stays c.in_ok-execute.ensures.answered
+returns-clause-done g c = disconnected_as _ _ _ (g.met.S.Speak.lawful c.execute.new.self) c.in_ok-execute.ensures.stays
+    c.in_ok-execute.ensures.answered
 
 pub returns-in_err-execute-clause-undone : goal.returns-in_err-execute-clause-undone
 returns-in_err-execute-clause-undone g c =

@@ -1,8 +1,8 @@
 use Rattle.std.proofs.Common.{◌≡◌, ap, sym, subst, ◌∙◌, ◌+◌, ◌∷◌, [], length, length-append}
 use Rattle.std.specs.List.{All}
 use Rattle.std.proofs.lemmas.List.Elements.{All-push}
-use Rattle.ring_log.specs.RingPass.{identity_of}
-use Rattle.ring_log.specs.declared.ring.RingLog.{RingLog}
+use Rattle.chain_log.specs.RingPass.{identity_of}
+use Rattle.chain_log.specs.declared.ring.RingLog.{RingLog}
 use Rattle.xa_endless.specs.declared.resting.RestingMember.{RestingMember}
 use Rattle.xa_endless.specs.declared.slot.Slot.{Slot}
 use Rattle.xa_endless.proofs.opening.place_all.Goals as goal

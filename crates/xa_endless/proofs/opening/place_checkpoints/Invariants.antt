@@ -1,7 +1,8 @@
-use Rattle.std.proofs.Common.{◌≡◌}
+use Rattle.std.proofs.Common.{◌≡◌, length}
 use Rattle.std.specs.List.{All}
-use Rattle.ring_log.specs.RingPass.{identity_of}
+use Rattle.chain_log.specs.RingPass.{identity_of}
 use Rattle.xa_endless.proofs.opening.place_checkpoints.Given as goal
 
 abbrev pub invariant-loop-spare : goal.invariant-loop-spare
 invariant-loop-spare l = All (λ slot. identity_of slot.value ≡ identity_of l.log) l.places.items
+    × (length l.places.items ≡ length l.yielded)

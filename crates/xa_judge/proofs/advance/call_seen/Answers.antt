@@ -6,7 +6,10 @@ use Rattle.xa_judge.proofs.advance.call_seen.Goals as goal
 
 pub returns-then-none_unheard : goal.returns-then-none_unheard
 returns-then-none_unheard c =
-    IfOk-weaker c.seen.result (IsSeenFrom c.args.known.items c.new.result.items c.args.event.now) (IsAdvance c.args.known.items c.args.event.now c.args.limit)
-    (λ next seen. advance_call c.args.known.items c.new.result.items c.args.calling c.args.event.now c.args.limit next c.requires
-    (subst (λ l. NoneUnheard l c.args.calling) c.as_slice.ensures.value (c.none_unheard.ensures c.if-none_unheard.true)) c.new.ensures.items seen)
+    IfOk-weaker c.seen.result (IsSeenFrom c.args.known.items c.new.result.items c.args.event.now)
+    (IsAdvance c.args.known.items c.args.event.now c.args.limit)
+    (λ next seen. advance_call c.args.known.items c.new.result.items c.args.calling c.args.event.now c.args.limit next
+    c.requires
+    (subst (λ l. NoneUnheard l c.args.calling) c.as_slice.ensures.value
+    (c.none_unheard.ensures c.if-none_unheard.true)) c.new.ensures.items seen)
     c.seen.ensures

@@ -7,7 +7,8 @@ use Rattle.xa_judge.specs.Found.{config_of}
 use Rattle.xa_judge.proofs.closing.add_seen.Goals as goal
 
 -- the path that led to what was found
-path_to : (one next : Configuration) (found : Option Configuration) → found ≡ Some next → IfSome found (λ n. n.path ≡ one.path ++ Seeing ∷ [])
+path_to : (one next : Configuration) (found : Option Configuration) → found ≡ Some next
+    → IfSome found (λ n. n.path ≡ one.path ++ Seeing ∷ [])
     → next.path ≡ one.path ++ Seeing ∷ []
 path_to one next found is path = subst (λ o. IfSome o (λ n. n.path ≡ one.path ++ Seeing ∷ [])) is path
 

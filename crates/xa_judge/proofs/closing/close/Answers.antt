@@ -13,7 +13,8 @@ loop-place-preserved c =
       grows = grows_more c.args.known.now.items now new c.loop-place.invariant.grows grows;
       closed =
           closed_more c.loop-place.place c.args.returning.now now new
-          (omega (arith, c.loop-place-test.true, c.len.ensures, c.loop-place.known.ok.0)) c.loop-place.invariant.closed grows c.in_ok-expand.ensures.all;
+          (omega (arith, c.loop-place-test.true, c.len.ensures, c.loop-place.known.ok.0)) c.loop-place.invariant.closed
+          grows c.in_ok-expand.ensures.all;
       within =
           omega (
             arith,

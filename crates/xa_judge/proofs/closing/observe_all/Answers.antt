@@ -12,6 +12,8 @@ loop-one-preserved c =
     let new = c.add_seen.new.list.items in
     let seen = subst (λ one. IsSeenAdded c.args.event.now one list new) c.in_ok-one.ensures c.in_ok-add_seen.ensures in
     record {
-      has = sees_step c.args.event.now first known rest list new c.in-Some.one c.in-Some.ensures.items seen c.loop-one.invariant.has;
-      reach = sees_reach c.args.event.now first known rest list new c.in-Some.one c.in-Some.ensures.items seen c.loop-one.invariant.reach;
+      has = sees_step c.args.event.now first known rest list new c.in-Some.one c.in-Some.ensures.items seen
+          c.loop-one.invariant.has;
+      reach = sees_reach c.args.event.now first known rest list new c.in-Some.one c.in-Some.ensures.items seen
+          c.loop-one.invariant.reach;
     }

@@ -13,15 +13,24 @@ loop-one-preserved c =
     let new = c.push.new.self.items in
     record {
       has =
-          settles_step c.args.session first known rest list new c.in-Some.one c.in_ok-settled.field-0 c.in-Some.ensures.items c.in_ok-push.ensures.items
+          settles_step c.args.session first known rest list new c.in-Some.one c.in_ok-settled.field-0
+          c.in-Some.ensures.items c.in_ok-push.ensures.items
           c.in_ok-settled.ensures.config c.loop-one.invariant.has;
       reach =
-          settles_reach c.args.session first known rest list new c.in-Some.one c.in_ok-settled.field-0 c.in-Some.ensures.items c.in_ok-push.ensures.items
+          settles_reach c.args.session first known rest list new c.in-Some.one c.in_ok-settled.field-0
+          c.in-Some.ensures.items c.in_ok-push.ensures.items
           c.in_ok-settled.ensures.reach c.loop-one.invariant.reach;
     }
 
 pub returns-clause-has : goal.returns-clause-has
 returns-clause-has c = λ one has. elim (c.loop-one.invariant.has one has) [
-  | inl rest ↦ absurd (omega (arith, rest.1, length_map config_of c.loop-one.known.items, c.in_default.ensures.cases.0, c.loop-one.known.ok.0))
+  | inl rest ↦ absurd
+      (omega (
+        arith,
+        rest.1,
+        length_map config_of c.loop-one.known.items,
+        c.in_default.ensures.cases.0,
+        c.loop-one.known.ok.0,
+      ))
   | inr done ↦ done
 ]

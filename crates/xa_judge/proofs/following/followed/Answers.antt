@@ -16,15 +16,18 @@ loop-by-preserved c =
     let by = c.by-item.result in
     let later = drop (place + 1) moves in
     let within : place < length moves = omega (arith, c.loop-by-test.true) in
-    let parts : drop place moves ≡ by ∷ later = drop_more moves place by within ∙ ap (λ m. m ∷ later) (sym c.by-item.is) in
+    let parts : drop place moves ≡ by ∷ later = drop_more moves place by within
+    ∙ ap (λ m. m ∷ later) (sym c.by-item.is) in
     λ end.
     let step : LeadsOn events (Some here) (by ∷ later) end ↔ LeadsOn events (Some c.in-Some.next) later end =
-    subst (λ f. LeadsOn events (Some here) (by ∷ later) end ↔ LeadsOn events f later end) c.in-Some.is (c.in_ok-after.ensures later end) in (
+    subst (λ f. LeadsOn events (Some here) (by ∷ later) end ↔ LeadsOn events f later end) c.in-Some.is
+    (c.in_ok-after.ensures later end) in (
       λ runs.
           (c.loop-by.invariant end).0
           (subst (λ m. LeadsThrough (config_of here.one) (drop here.seen events) m end) (sym parts) (step.1 runs)),
       λ whole.
-          step.0 (subst (λ m. LeadsThrough (config_of here.one) (drop here.seen events) m end) parts ((c.loop-by.invariant end).1 whole)),
+          step.0 (subst (λ m. LeadsThrough (config_of here.one) (drop here.seen events) m end) parts
+          ((c.loop-by.invariant end).1 whole)),
     )
 
 pub returns-then-here-events-clause-missing : goal.returns-then-here-events-clause-missing
@@ -47,8 +50,11 @@ returns-in-None-clause-missing c =
     let by = c.by-item.result in
     let later = drop (place + 1) moves in
     let within : place < length moves = omega (arith, c.loop-by-test.true) in
-    let parts : drop place moves ≡ by ∷ later = drop_more moves place by within ∙ ap (λ m. m ∷ later) (sym c.by-item.is) in
+    let parts : drop place moves ≡ by ∷ later = drop_more moves place by within
+    ∙ ap (λ m. m ∷ later) (sym c.by-item.is) in
     λ none end runs.
     let step : LeadsOn events (Some here) (by ∷ later) end ↔ LeadsOn events None later end =
-    subst (λ f. LeadsOn events (Some here) (by ∷ later) end ↔ LeadsOn events f later end) c.in-None.is (c.in_ok-after.ensures later end) in
-    step.0 (subst (λ m. LeadsThrough (config_of here.one) (drop here.seen events) m end) parts ((c.loop-by.invariant end).1 runs))
+    subst (λ f. LeadsOn events (Some here) (by ∷ later) end ↔ LeadsOn events f later end) c.in-None.is
+    (c.in_ok-after.ensures later end) in
+    step.0 (subst (λ m. LeadsThrough (config_of here.one) (drop here.seen events) m end) parts
+    ((c.loop-by.invariant end).1 runs))

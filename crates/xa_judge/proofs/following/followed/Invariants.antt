@@ -7,4 +7,5 @@ use Rattle.xa_judge.proofs.following.followed.Given as goal
 abbrev pub invariant-loop-by : goal.invariant-loop-by
 invariant-loop-by l =
     (end : Config)
-    → LeadsThrough (config_of l.here.one) (drop l.here.seen l.events) (drop l.by-index l.moves) end ↔ LeadsThrough (opening_config l.base) l.events l.moves end
+    → LeadsThrough (config_of l.here.one) (drop l.here.seen l.events) (drop l.by-index l.moves) end
+    ↔ LeadsThrough (opening_config l.base) l.events l.moves end

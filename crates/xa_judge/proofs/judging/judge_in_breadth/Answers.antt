@@ -3,7 +3,8 @@ use Rattle.std.proofs.lemmas.Option.{slice_get_read}
 use Rattle.std.specs.List.{All}
 use Rattle.xa_judge.specs.Found.{Reaches, IsPathOf}
 use Rattle.xa_judge.specs.Advances.{IsAdvance}
-use Rattle.xa_judge.proofs.Verdicts.{complete_more, reach_more, legal, refuted, answers_given, wide, opens_reached, opens_complete, continues_shortened, some_shortened}
+use Rattle.xa_judge.proofs.Verdicts.{complete_more, reach_more, legal, refuted, answers_given, wide, opens_reached}
+use Rattle.xa_judge.proofs.Verdicts.{opens_complete, continues_shortened, some_shortened}
 use Rattle.xa_judge.proofs.judging.judge_in_breadth.Goals as goal
 
 pub loop-place-init : goal.loop-place-init
@@ -12,7 +13,8 @@ loop-place-init g c =
     let known = c.in_ok-known.known.items in
     record {
       some = omega (arith, ap length is.1);
-      reach = subst (λ trunk. All (Reaches c.args.base.now [] trunk) known) (sym c.new-trunk.ensures.items) (opens_reached c.args.base.now known is);
+      reach = subst (λ trunk. All (Reaches c.args.base.now [] trunk) known) (sym c.new-trunk.ensures.items)
+          (opens_reached c.args.base.now known is);
       complete = opens_complete c.args.base.now known is;
     }
 
@@ -22,10 +24,13 @@ returns-in-Impossible g c =
     let known = c.loop-place.known.items in
     let none = subst (λ a. IsAdvance known event c.args.limit a) c.in-Impossible.is c.in_ok-next.ensures in
     let within : c.loop-place.place < length c.args.events.now = omega (arith, c.loop-place-test.true) in (
-      refuted c.args.base.now c.args.events.now c.loop-place.place event c.loop-place.trunk.items known within c.index-events-place.is
+      refuted c.args.base.now c.args.events.now c.loop-place.place event c.loop-place.trunk.items known within
+          c.index-events-place.is
           c.loop-place.invariant.some c.loop-place.invariant.reach c.loop-place.invariant.complete none.0,
-      answers_given c.args.base.now c.args.events.now c.loop-place.place event c.loop-place.trunk.items known c.in-Impossible.answers.items
-          (slice_get_read c.args.events.now (length c.args.events.now) c.loop-place.place event refl within c.index-events-place.is)
+      answers_given c.args.base.now c.args.events.now c.loop-place.place event c.loop-place.trunk.items known
+          c.in-Impossible.answers.items
+          (slice_get_read c.args.events.now (length c.args.events.now) c.loop-place.place event refl within
+          c.index-events-place.is)
           c.loop-place.invariant.reach c.loop-place.invariant.complete none.1,
     )
 
@@ -54,10 +59,12 @@ loop-place-preserved g c =
       some = some_shortened trunk longer next new c.in_ok-share.ensures (omega (arith, leads.0, c.in-Known.next.ok.0));
       reach =
           c.in_ok-share.ensures.reach base (take (place + 1) events)
-          (reach_more base events place event trunk known next within c.index-events-place.is c.loop-place.invariant.reach leads.2);
+          (reach_more base events place event trunk known next within c.index-events-place.is
+          c.loop-place.invariant.reach leads.2);
       complete = λ more moves end runs.
           continues_shortened trunk longer next new more end c.in_ok-share.ensures
-          (complete_more base events place event known next within c.index-events-place.is c.loop-place.invariant.complete leads.1 more moves end runs);
+          (complete_more base events place event known next within c.index-events-place.is
+          c.loop-place.invariant.complete leads.1 more moves end runs);
     }
 
 pub returns : goal.returns
@@ -66,6 +73,8 @@ returns g c =
     let events = c.args.events.now in
     let trunk = c.loop-place.trunk.items in
     let known = c.loop-place.known.items in
-    let end : c.loop-place.place ≡ length events = omega (arith, c.loop-place-test.false, c.loop-place.auto.place-end) in
-    legal base events trunk c.in_ok-path_of.field-0.items known (subst (λ n. All (Reaches base (take n events) trunk) known) end c.loop-place.invariant.reach)
+    let end : c.loop-place.place ≡ length events =
+    omega (arith, c.loop-place-test.false, c.loop-place.auto.place-end) in
+    legal base events trunk c.in_ok-path_of.field-0.items known
+    (subst (λ n. All (Reaches base (take n events) trunk) known) end c.loop-place.invariant.reach)
     (subst (λ l. IsPathOf trunk l c.in_ok-path_of.field-0.items) c.as_slice.ensures.value c.in_ok-path_of.ensures)

@@ -10,6 +10,7 @@ loop-number-preserved c =
     record {
       grows = grows_more old now new c.loop-number.invariant.grows c.in_ok-add_others.ensures.grows;
       all = λ one at.
-          others_more old now new c.args.place c.loop-number.number c.args.returning.now one c.loop-number.invariant.grows c.in_ok-add_others.ensures.grows at
+          others_more old now new c.args.place c.loop-number.number c.args.returning.now one
+          c.loop-number.invariant.grows c.in_ok-add_others.ensures.grows at
           (c.loop-number.invariant.all one at) c.in_ok-add_others.ensures.has;
     }

@@ -8,5 +8,6 @@ use Rattle.xa_judge.proofs.known.add_all.Given as goal
 abbrev pub invariant-loop-number : goal.invariant-loop-number
 invariant-loop-number l = record {
   grows : Grows l.initial.known.items l.known.items;
-  all : (one : Configuration) → slice_get l.initial.known.items l.place ≡ Some one → IsExpandedBelow l.number one l.returning l.known.items;
+  all : (one : Configuration) → slice_get l.initial.known.items l.place ≡ Some one
+      → IsExpandedBelow l.number one l.returning l.known.items;
 }

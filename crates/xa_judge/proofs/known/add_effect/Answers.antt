@@ -9,28 +9,37 @@ use Rattle.xa_judge.proofs.known.add_effect.Goals as goal
 
 pub returns-in_ok-add_next-in-Some-clause-grows : goal.returns-in_ok-add_next-in-Some-clause-grows
 returns-in_ok-add_next-in-Some-clause-grows c =
-    (effect_added c.args.known.now.items c.add_next.new.known.items c.args.place c.index.result.now c.in-Some.next c.in_ok-effected.field-0 c.args.session
-    c.args.act (stands_at c.args.known.now.items c.args.place c.index.result.now (omega (arith, c.requires, c.args.known.now.ok.0)) c.index.ensures)
-    c.in_ok-effected.ensures.session c.in_ok-effected.ensures.config c.in_ok-effected.ensures.path c.in-Some.is c.in_ok-add_next-in-Some.ensures).0
+    (effect_added c.args.known.now.items c.add_next.new.known.items c.args.place c.index.result.now c.in-Some.next
+    c.in_ok-effected.field-0 c.args.session
+    c.args.act (stands_at c.args.known.now.items c.args.place c.index.result.now
+    (omega (arith, c.requires, c.args.known.now.ok.0)) c.index.ensures)
+    c.in_ok-effected.ensures.session c.in_ok-effected.ensures.config c.in_ok-effected.ensures.path c.in-Some.is
+    c.in_ok-add_next-in-Some.ensures).0
 
 pub returns-in_ok-add_next-in-Some-clause-has : goal.returns-in_ok-add_next-in-Some-clause-has
 returns-in_ok-add_next-in-Some-clause-has c =
-    (effect_added c.args.known.now.items c.add_next.new.known.items c.args.place c.index.result.now c.in-Some.next c.in_ok-effected.field-0 c.args.session
-    c.args.act (stands_at c.args.known.now.items c.args.place c.index.result.now (omega (arith, c.requires, c.args.known.now.ok.0)) c.index.ensures)
-    c.in_ok-effected.ensures.session c.in_ok-effected.ensures.config c.in_ok-effected.ensures.path c.in-Some.is c.in_ok-add_next-in-Some.ensures).1
+    (effect_added c.args.known.now.items c.add_next.new.known.items c.args.place c.index.result.now c.in-Some.next
+    c.in_ok-effected.field-0 c.args.session
+    c.args.act (stands_at c.args.known.now.items c.args.place c.index.result.now
+    (omega (arith, c.requires, c.args.known.now.ok.0)) c.index.ensures)
+    c.in_ok-effected.ensures.session c.in_ok-effected.ensures.config c.in_ok-effected.ensures.path c.in-Some.is
+    c.in_ok-add_next-in-Some.ensures).1
 
 pub add_next-requires-clause-leads : goal.add_next-requires-clause-leads
 add_next-requires-clause-leads c = record {
   before = c.index.result.now;
-  at = stands_at c.args.known.now.items c.args.place c.index.result.now (omega (arith, c.requires, c.args.known.now.ok.0)) c.index.ensures;
+  at = stands_at c.args.known.now.items c.args.place c.index.result.now
+      (omega (arith, c.requires, c.args.known.now.ok.0)) c.index.ensures;
   leads = sym c.in_ok-effected.ensures.config ∙ ap (option_map config_of) c.in-Some.is;
 }
 
 pub returns-in-None-clause-has : goal.returns-in-None-clause-has
 returns-in-None-clause-has c = λ one new at leads.
     let there =
-    stands_at c.args.known.now.items c.args.place c.index.result.now (omega (arith, c.requires, c.args.known.now.ok.0)) c.index.ensures in
+    stands_at c.args.known.now.items c.args.place c.index.result.now
+    (omega (arith, c.requires, c.args.known.now.ok.0)) c.index.ensures in
     let same : c.index.result.now ≡ one = same_Some c.index.result.now one (sym there ∙ at) in
     let none : None ≡ effect_of (config_of one) c.args.session c.args.act =
-    sym (ap (option_map config_of) c.in-None.is) ∙ c.in_ok-effected.ensures.config ∙ ap (λ o. effect_of (config_of o) c.args.session c.args.act) same in
+    sym (ap (option_map config_of) c.in-None.is) ∙ c.in_ok-effected.ensures.config
+    ∙ ap (λ o. effect_of (config_of o) c.args.session c.args.act) same in
     absurd (none-some new (none ∙ leads))

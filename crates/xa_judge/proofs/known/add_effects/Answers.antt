@@ -4,11 +4,13 @@ use Rattle.xa_judge.proofs.known.add_effects.Goals as goal
 
 pub returns-clause-grows : goal.returns-clause-grows
 returns-clause-grows c =
-    grows_more c.args.known.now.items c.add_effect.new.known.items c.add_effect-2.new.known.items c.in_ok-add_effect.ensures.grows
+    grows_more c.args.known.now.items c.add_effect.new.known.items c.add_effect-2.new.known.items
+    c.in_ok-add_effect.ensures.grows
     c.in_ok-add_effect-2.ensures.grows
 
 pub returns-clause-has : goal.returns-clause-has
 returns-clause-has c =
-    effects_added c.args.known.now.items c.add_effect.new.known.items c.add_effect-2.new.known.items c.args.place c.args.session
+    effects_added c.args.known.now.items c.add_effect.new.known.items c.add_effect-2.new.known.items c.args.place
+    c.args.session
     c.in_ok-add_effect.ensures.grows c.in_ok-add_effect-2.ensures.grows
     c.in_ok-add_effect.ensures.has c.in_ok-add_effect-2.ensures.has

@@ -10,11 +10,13 @@ returns-in_ok-out-in-Put c = λ out near before.
     let named = named_in c.args.keys.now in
     let server = c.args.server.now in
     subst (λ (s : Statement). AreNear named (after server c.args.session s) near) (sym c.in-Put.is)
-    (near_put named server near c.args.session _ _ before (c.in_ok-out-in-Put.ensures.free out) (c.in_ok-out-in-Put.ensures.other out))
+    (near_put named server near c.args.session _ _ before (c.in_ok-out-in-Put.ensures.free out)
+    (c.in_ok-out-in-Put.ensures.other out))
 
 pub returns-in_ok-out-in-Del : goal.returns-in_ok-out-in-Del
 returns-in_ok-out-in-Del c = λ out near before.
     let named = named_in c.args.keys.now in
     let server = c.args.server.now in
     subst (λ (s : Statement). AreNear named (after server c.args.session s) near) (sym c.in-Del.is)
-    (near_del named server near c.args.session _ before (c.in_ok-out-in-Del.ensures.free out) (c.in_ok-out-in-Del.ensures.other out))
+    (near_del named server near c.args.session _ before (c.in_ok-out-in-Del.ensures.free out)
+    (c.in_ok-out-in-Del.ensures.other out))

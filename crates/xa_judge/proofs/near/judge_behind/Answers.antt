@@ -6,6 +6,7 @@ use Rattle.xa_judge.proofs.near.judge_behind.Goals as goal
 pub judge_later-requires-clause-near : goal.judge_later-requires-clause-near
 judge_later-requires-clause-near g c =
     let keys = c.in_ok-keys.keys in
-    let found = subst (λ (o : Option State). IfSome o (λ near. (full : State) × IsLoadedTo c.args.base.now c.split_at.result.0.now full × AreNear (named_in keys) full near))
+    let found = subst (λ (o : Option State). IfSome o (λ near. (full : State)
+    × IsLoadedTo c.args.base.now c.split_at.result.0.now full × AreNear (named_in keys) full near))
     c.in-Some.is c.in_ok-found.ensures in
     (keys, found.0, found.1, found.2, c.all_named.ensures (search rules))

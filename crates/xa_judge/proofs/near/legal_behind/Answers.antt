@@ -4,4 +4,5 @@ use Rattle.xa_judge.proofs.near.legal_behind.Goals as goal
 
 pub returns-then-leads : goal.returns-then-leads
 returns-then-leads c =
-    subst (λ moves. Leads c.args.base.now c.args.events.now moves) c.as_slice.ensures.value (c.in_ok-leads.ensures.0 c.if-leads.true)
+    subst (λ moves. Leads c.args.base.now c.args.events.now moves) c.as_slice.ensures.value
+    (c.in_ok-leads.ensures.0 c.if-leads.true)

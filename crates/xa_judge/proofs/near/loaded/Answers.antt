@@ -14,7 +14,8 @@ loop-rest-preserved c =
       seen.0 ++ head,
       seen.1 ∙ ap (λ l. seen.0 ++ l) c.in-Some.ensures ∙ sym (append_assoc seen.0 head call.later.now),
       subst (IsLoadedTo c.args.base.now (seen.0 ++ head)) (sym c.in_ok-shows.ensures.state)
-          (loaded_more c.args.base.now c.loop-rest.full seen.0 call.session call.request.now call.seen.now c.in_ok-shows.ensures.session seen.2
+          (loaded_more c.args.base.now c.loop-rest.full seen.0 call.session call.request.now call.seen.now
+          c.in_ok-shows.ensures.session seen.2
           (sym c.in_ok-shows.ensures.shows ∙ c.if-not-shows.false)),
       c.in_ok-shows.ensures.near seen.3,
     )

@@ -5,7 +5,8 @@ use Rattle.xa_lines.proofs.conversation.answer_last.Goals as goal
 
 pub returns-then-is_empty-clause-ok : goal.returns-then-is_empty-clause-ok
 returns-then-is_empty-clause-ok g c =
-    last_nothing g.S.LineServer.begins g.S.LineServer.answers (g.P.Client.exchange c.args.client.now) (held_by c.args.line.now) c.args.server.now
+    last_nothing g.S.LineServer.begins g.S.LineServer.answers (g.P.Client.exchange c.args.client.now)
+    (held_by c.args.line.now) c.args.server.now
     (sym c.is_empty.ensures ∙ c.if-is_empty.true)
 
 pub returns-clause-ok : goal.returns-clause-ok

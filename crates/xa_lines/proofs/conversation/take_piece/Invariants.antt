@@ -10,6 +10,8 @@ abbrev pub invariant-loop-byte : goal.invariant-loop-byte
 invariant-loop-byte g l = record {
   can : IfSome (g.P.Client.exchange l.client) CanBeTold;
   under : (reads : ℕ)
-      → UnderWay g.S.LineServer.begins g.S.LineServer.answers Open reads (g.P.Client.exchange l.fn.client) l.piece (held_by l.fn.line) l.fn.server
-      → UnderWay g.S.LineServer.begins g.S.LineServer.answers Open reads (g.P.Client.exchange l.client) (drop l.byte-index l.piece) (held_by l.line) l.server;
+      → UnderWay g.S.LineServer.begins g.S.LineServer.answers Open reads (g.P.Client.exchange l.fn.client) l.piece
+      (held_by l.fn.line) l.fn.server
+      → UnderWay g.S.LineServer.begins g.S.LineServer.answers Open reads (g.P.Client.exchange l.client)
+      (drop l.byte-index l.piece) (held_by l.line) l.server;
 }

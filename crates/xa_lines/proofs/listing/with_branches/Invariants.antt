@@ -4,4 +4,5 @@ use Rattle.xa_lines.specs.Listing.{branch_lines}
 use Rattle.xa_lines.proofs.listing.with_branches.Given as goal
 
 abbrev pub invariant-loop-branch : goal.invariant-loop-branch
-invariant-loop-branch l = l.longer.items ≡ l.initial.longer.items ++ flat_map (branch_lines l.server) (take l.branch-index l.branches)
+invariant-loop-branch l =
+    l.longer.items ≡ l.initial.longer.items ++ flat_map (branch_lines l.server) (take l.branch-index l.branches)

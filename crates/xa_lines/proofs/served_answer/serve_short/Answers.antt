@@ -6,7 +6,8 @@ use Rattle.xa_lines.proofs.served_answer.serve_short.Goals as goal
 pub returns-in-Ok-clause-answered : goal.returns-in-Ok-clause-answered
 returns-in-Ok-clause-answered c =
     inl (
-      reply_answers c.args.server.now c.args.session c.args.statement.now c.args.reply.now (bytes_of c.reply_told.result) c.requires.reply c.reply_told.ensures.bytes,
+      reply_answers c.args.server.now c.args.session c.args.statement.now c.args.reply.now
+          (bytes_of c.reply_told.result) c.requires.reply c.reply_told.ensures.bytes,
       c.in-Ok.ensures.after,
     )
 

@@ -7,6 +7,7 @@ pub returns-clause-short : goal.returns-clause-short
 returns-clause-short c =
     let range = c.get.ensures.in_range in
     let below : c.get.result ≤ 16 = omega (arith, range) in
-    let digits : length (decimal c.get.result) ≤ 2 = length-decimal-le 2 c.get.result (omega arith) (omega (arith, below)) (omega (arith, below)) in
+    let digits : length (decimal c.get.result) ≤ 2 = length-decimal-le 2 c.get.result (omega arith)
+    (omega (arith, below)) (omega (arith, below)) in
     let who = ap length (c.as_bytes.ensures.value ∙ c.format.ensures.text) in
     grind (arith, common_steps)

@@ -5,7 +5,9 @@ use Rattle.xa_lines.proofs.shown.show_unread.Goals as goal
 
 pub returns : goal.returns
 returns c = λ text is.
-    given_shown c.args.server.now c.args.server.now c.args.session text (Err c.args.place) (bytes_of c.serve_unread-answer.result)
+    given_shown c.args.server.now c.args.server.now c.args.session text (Err c.args.place)
+    (bytes_of c.serve_unread-answer.result)
     (bytes_of c.with_shown.result) [] is refl
-    (given_answer c.args.server.now c.args.server.now c.args.session text (Err c.args.place) (bytes_of c.serve_unread-answer.result) is
+    (given_answer c.args.server.now c.args.server.now c.args.session text (Err c.args.place)
+    (bytes_of c.serve_unread-answer.result) is
     c.serve_unread-answer.ensures.answered) c.with_shown.ensures

@@ -16,10 +16,13 @@ loop-written-init g c = record {
 pub loop-written-preserved : goal.loop-written-preserved
 loop-written-preserved g c = record {
   within = omega (arith, c.in_ok-count.ensures.bound, length-take {A = ℕ}, length-drop {A = ℕ});
-  appended = Appends-more _ _ _ c.args.bytes.now c.loop-written.written c.in_ok-count.count c.loop-written.invariant.appended c.in_ok-count.ensures.bytes;
-  calls = written_next g.W.PieceWriter.takes c.args.writer.now c.loop-written.writer c.write_once.new.writer c.args.bytes.now c.loop-written.written
+  appended = Appends-more _ _ _ c.args.bytes.now c.loop-written.written c.in_ok-count.count
+      c.loop-written.invariant.appended c.in_ok-count.ensures.bytes;
+  calls = written_next g.W.PieceWriter.takes c.args.writer.now c.loop-written.writer c.write_once.new.writer
+      c.args.bytes.now c.loop-written.written
       c.in_ok-count.count
-      c.loop-written.invariant.calls c.in_ok-count.ensures.taken c.in_ok-count.ensures.some (omega (arith, c.in_ok-count.ensures.bound));
+      c.loop-written.invariant.calls c.in_ok-count.ensures.taken c.in_ok-count.ensures.some
+      (omega (arith, c.in_ok-count.ensures.bound));
 }
 
 pub returns-in_err-count-clause-calls : goal.returns-in_err-count-clause-calls
@@ -28,6 +31,7 @@ returns-in_err-count-clause-calls g c =
     writing_stopped _ _ c.from_residual.result p.0 p.1 (record {
       left = drop c.loop-written.written c.args.bytes.now;
       last = c.loop-written.writer;
-      calls = written_front g.W.PieceWriter.takes c.args.writer.now c.loop-written.writer c.args.bytes.now c.loop-written.written c.loop-written.invariant.calls;
+      calls = written_front g.W.PieceWriter.takes c.args.writer.now c.loop-written.writer c.args.bytes.now
+          c.loop-written.written c.loop-written.invariant.calls;
       refused = c.in_err-count.ensures.refused;
     })

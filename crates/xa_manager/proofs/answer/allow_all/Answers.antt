@@ -7,5 +7,6 @@ loop-store-preserved g c = (
   c.allow.ensures.name ∙ c.loop-store.invariant.0,
   c.allow.ensures.sessions ∙ c.loop-store.invariant.1,
   passes_grown c.loop-store.store
-      (2 ^ 64 - 1) c.loop-store.coordinator.stores.items c.allow.new.self.stores.items c.loop-store.invariant.2 c.allow.ensures.left c.allow.ensures.others,
+      (2 ^ 64 - 1) c.loop-store.coordinator.stores.items c.allow.new.self.stores.items c.loop-store.invariant.2
+      c.allow.ensures.left c.allow.ensures.others,
 )

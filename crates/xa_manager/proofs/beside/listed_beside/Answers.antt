@@ -1,5 +1,5 @@
-use Rattle.std.proofs.Common.{◌≡◌, ◌∙◌, ◌+◌, ℕ, length, ap, sym, subst, arith}
-use Rattle.xa_coordinator.proofs.Walk.{Reached, reached_all}
+use Rattle.std.proofs.Common.{◌∙◌, ◌+◌, ℕ, ap, sym, subst, arith}
+use Rattle.xa_coordinator.proofs.Walk.{Reached}
 use Rattle.xa_manager.specs.Beside.{within}
 use Rattle.xa_manager.specs.Said.{IsListed}
 use Rattle.xa_manager.proofs.Besides.{listed_beside, leaves_next}
@@ -20,8 +20,10 @@ loop-store-preserved g c =
     record {
       name = said.name ∙ so_far.name;
       branches = said.branches ∙ so_far.branches;
-      listed = subst (λ answers. Reached other (IsListed answers) (store + 1) old next) (sym c.push_reserved.ensures.items) more;
-      alone = leaves_next g.S.Speak.view store old now next so_far.listed.count so_far.alone said.others said.alone said.left;
+      listed = subst (λ answers. Reached other (IsListed answers) (store + 1) old next)
+          (sym c.push_reserved.ensures.items) more;
+      alone = leaves_next g.S.Speak.view store old now next so_far.listed.count so_far.alone said.others said.alone
+          said.left;
       count = c.push_reserved.ensures.len ∙ ap (λ n. n + 1) so_far.count;
       room = omega (arith, so_far.room, c.push_reserved.ensures.capacity);
     }

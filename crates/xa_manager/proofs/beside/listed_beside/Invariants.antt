@@ -8,7 +8,8 @@ abbrev pub invariant-loop-store : goal.invariant-loop-store
 invariant-loop-store g l = record {
   name : l.coordinator.name ≡ l.fn.coordinator.name;
   branches : l.coordinator.branches ≡ l.fn.coordinator.branches;
-  listed : Reached (within g.S.Beside.other) (IsListed l.answers.items) l.store l.fn.coordinator.stores.items l.coordinator.stores.items;
+  listed : Reached (within g.S.Beside.other) (IsListed l.answers.items) l.store l.fn.coordinator.stores.items
+      l.coordinator.stores.items;
   alone : LeavesAlone g.S.Speak.view l.fn.coordinator.stores.items l.coordinator.stores.items;
   count : vec_len l.answers ≡ l.store;
   room : vec_len l.fn.coordinator.stores ≤ vec_capacity l.answers;

@@ -5,10 +5,12 @@ use Rattle.xa_manager.proofs.print.push_numbers.Goals.{then-stands+in_ok-push_nu
 
 pub loop-place-preserved : goal.loop-place-preserved
 loop-place-preserved c =
-    numbers_grown_if c.args.wanted c.args.decisions.now c.loop-place.place _ c.stands.result c.args.text.now.items c.loop-place.text.items
+    numbers_grown_if c.args.wanted c.args.decisions.now c.loop-place.place _ c.stands.result c.args.text.now.items
+    c.loop-place.text.items
     c.if-stands.text.items
     c.loop-place-test.true c.stands.ensures c.loop-place.invariant
     (elim c.if-stands.branch [
-      | then-stands+in_ok-push_numbered w ↦ inl (w.if-stands.true, ap (λ (text : Vec ℕ Global). text.items) w.text-is ∙ w.in_ok-push_numbered.ensures)
+      | then-stands+in_ok-push_numbered w ↦ inl
+          (w.if-stands.true, ap (λ (text : Vec ℕ Global). text.items) w.text-is ∙ w.in_ok-push_numbered.ensures)
       | else-stands w ↦ inr (w.if-stands.false, ap (λ (text : Vec ℕ Global). text.items) w.text-is)
     ])

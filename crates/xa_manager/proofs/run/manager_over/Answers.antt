@@ -12,7 +12,8 @@ pub returns-clause-sessions : goal.returns-clause-sessions
 returns-clause-sessions c =
     let fused = c.in_ok-sessions-2.sessions.items in
     let made : c.new.result.coordinator.stores.items ≡ fused = ap (λ stores. stores.items) c.new.ensures.sessions in
-    ap (map (λ session. session.inner.pass)) made ∙ map_within (λ session. session.inner) (λ session. session.pass) fused
+    ap (map (λ session. session.inner.pass)) made ∙ map_within (λ session. session.inner)
+    (λ session. session.pass) fused
     ∙ ap (map (λ session. session.pass)) c.in_ok-sessions-2.ensures.within ∙ c.in_ok-sessions.ensures.passes
 
 pub returns-clause-begins : goal.returns-clause-begins
@@ -25,19 +26,24 @@ returns-clause-begins c = λ new.
     let First : List Pass → Type 0 = λ passes. AllByRecursion (λ p. known_of p ≡ newcomer 1) passes in
     let Second : List Pass → Type 0 = λ passes. AllByRecursion (λ p. known_of p ≡ newcomer 2) passes in
     let pairs =
-    pairs_of false stores sessions others (λ session. session.pass) (λ session. session.base.now) (λ session. session.pass) (λ session. session.base.now)
+    pairs_of false stores sessions others (λ session. session.pass) (λ session. session.base.now)
+    (λ session. session.pass) (λ session. session.base.now)
     (subst Own (sym c.in_ok-sessions.ensures.passes) c.requires.first)
     (subst Own (sym c.in_ok-other_clients.ensures.passes) c.requires.second)
     c.in_ok-sessions.ensures.bases c.in_ok-other_clients.ensures.bases
     (recursion_from_All (λ store. store.base ≡ no_state) stores new.empty)
-    (subst First (sym c.in_ok-sessions.ensures.passes) (recursion_from_All (λ p. known_of p ≡ newcomer 1) c.args.firsts.items new.first))
-    (subst Second (sym c.in_ok-other_clients.ensures.passes) (recursion_from_All (λ p. known_of p ≡ newcomer 2) c.args.seconds.items new.second)) in
+    (subst First (sym c.in_ok-sessions.ensures.passes) (recursion_from_All
+    (λ p. known_of p ≡ newcomer 1) c.args.firsts.items new.first))
+    (subst Second (sym c.in_ok-other_clients.ensures.passes)
+    (recursion_from_All (λ p. known_of p ≡ newcomer 2) c.args.seconds.items new.second)) in
     record {
       decisions = c.new.ensures.decisions;
       stages = c.new.ensures.ledger;
       anew = search rules;
       pairs =
           fused_pairs sessions others c.new.result.other_clients.items fused c.new.result.coordinator.stores.items
-          (λ session other. IsPair (seen_as false session.pass session.base.now) (seen_as false other.pass other.base.now))
-          c.in_ok-sessions-2.ensures.within (ap (λ stores. stores.items) c.new.ensures.sessions) (ap (λ list. list.items) c.new.ensures.other_clients) pairs;
+          (λ session other. IsPair (seen_as false session.pass session.base.now)
+          (seen_as false other.pass other.base.now))
+          c.in_ok-sessions-2.ensures.within (ap (λ stores. stores.items) c.new.ensures.sessions)
+          (ap (λ list. list.items) c.new.ensures.other_clients) pairs;
     }

@@ -27,14 +27,19 @@ loop-alloc-preserved c =
       within = omega (arith, grown, below, counted);
       first =
           rw (c.in_ok-push.ensures.items, c.in_ok-push-2.ensures.items)
-          (all_zipped_more IsOwn stores c.loop-alloc.firsts.items c.in_ok-store.store c.in_ok-store.first c.loop-alloc.invariant.first opened.logs.0);
+          (all_zipped_more IsOwn stores c.loop-alloc.firsts.items c.in_ok-store.store c.in_ok-store.first
+          c.loop-alloc.invariant.first opened.logs.0);
       second =
           rw (c.in_ok-push.ensures.items, c.in_ok-push-3.ensures.items)
-          (all_zipped_more IsOwn stores c.loop-alloc.seconds.items c.in_ok-store.store c.in_ok-store.second c.loop-alloc.invariant.second opened.logs.1);
-      capacity = subst Roomy (sym c.in_ok-push.ensures.items) (All-push HasRoom stores c.in_ok-store.store c.loop-alloc.invariant.capacity opened.capacity);
+          (all_zipped_more IsOwn stores c.loop-alloc.seconds.items c.in_ok-store.store c.in_ok-store.second
+          c.loop-alloc.invariant.second opened.logs.1);
+      capacity = subst Roomy (sym c.in_ok-push.ensures.items)
+          (All-push HasRoom stores c.in_ok-store.store c.loop-alloc.invariant.capacity opened.capacity);
       new = record {
-        empty = subst Empty (sym c.in_ok-push.ensures.items) (All-push HoldsNothing stores c.in_ok-store.store so_far.empty opened.empty);
-        first = subst First (sym c.in_ok-push-2.ensures.items) (All-push (IsNewcomer 1) c.loop-alloc.firsts.items c.in_ok-store.first so_far.first opened.known.0);
+        empty = subst Empty (sym c.in_ok-push.ensures.items)
+            (All-push HoldsNothing stores c.in_ok-store.store so_far.empty opened.empty);
+        first = subst First (sym c.in_ok-push-2.ensures.items)
+            (All-push (IsNewcomer 1) c.loop-alloc.firsts.items c.in_ok-store.first so_far.first opened.known.0);
         second = subst Second (sym c.in_ok-push-3.ensures.items)
             (All-push (IsNewcomer 2) c.loop-alloc.seconds.items c.in_ok-store.second so_far.second opened.known.1);
       };

@@ -9,7 +9,8 @@ returns-then-is_listed c =
     let Found : List ℕ → List Outcome → Type 0 = λ text list. Any (λ one. one.text.items ≡ text) list in
     inl (
       subst (λ text. Found text c.args.outcomes.now.items) c.as_slice-2.ensures.value
-          (subst (Found c.as_slice-2.result.now) c.as_slice.ensures.value (c.is_listed.ensures.listed c.if-is_listed.true)),
+          (subst (Found c.as_slice-2.result.now) c.as_slice.ensures.value
+          (c.is_listed.ensures.listed c.if-is_listed.true)),
       refl,
     )
 
@@ -22,6 +23,7 @@ returns c =
       c.in_ok-order.ensures.items ∙ c.as_slice-3.ensures.value,
       refl,
       subst (λ text. Other text c.args.outcomes.now.items) c.as_slice-2.ensures.value
-          (subst (Other c.as_slice-2.result.now) c.as_slice.ensures.value (c.is_listed.ensures.other c.if-is_listed.false)),
+          (subst (Other c.as_slice-2.result.now) c.as_slice.ensures.value
+          (c.is_listed.ensures.other c.if-is_listed.false)),
       c.in_ok-push.ensures.items,
     )

@@ -18,9 +18,11 @@ loop-rest-preserved c =
     record {
       read =
           c.loop-rest.invariant.read
-          ∙ read_lines_cut (read_kept c.loop-rest.script) number c.loop-rest.rest.now c.split_line.result.0.now c.split_line.result.1.now
+          ∙ read_lines_cut (read_kept c.loop-rest.script) number c.loop-rest.rest.now c.split_line.result.0.now
+          c.split_line.result.1.now
           c.split_line.ensures.lines
-          ∙ ap (λ (r : Reading). read_lines r (number + 1) (lines_of c.split_line.result.1.now)) (sym c.in_ok-take.ensures);
+          ∙ ap (λ (r : Reading). read_lines r (number + 1) (lines_of c.split_line.result.1.now))
+          (sym c.in_ok-take.ensures);
       short = omega (arith, c.loop-rest.invariant.short, c.split_line.ensures.shorter);
     }
 
@@ -28,4 +30,5 @@ pub returns : goal.returns
 returns c =
     sym
     (c.loop-rest.invariant.read
-    ∙ read_lines_end (read_kept c.loop-rest.script) (c.loop-rest.number + 1) c.loop-rest.rest.now (sym c.is_empty.ensures ∙ c.loop-rest-test.false))
+    ∙ read_lines_end (read_kept c.loop-rest.script) (c.loop-rest.number + 1) c.loop-rest.rest.now
+    (sym c.is_empty.ensures ∙ c.loop-rest-test.false))

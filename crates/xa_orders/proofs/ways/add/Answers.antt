@@ -5,4 +5,8 @@ use Rattle.xa_orders.proofs.ways.add.Goals as goal
 
 pub returns-then-is_there : goal.returns-then-is_there
 returns-then-is_there c =
-    inl (subst (Any (λ way. config_of way ≡ config_of c.args.one)) c.as_slice.ensures.value (c.in_ok-is_there.ensures c.if-is_there.true), refl)
+    inl (
+      subst (Any (λ way. config_of way ≡ config_of c.args.one)) c.as_slice.ensures.value
+          (c.in_ok-is_there.ensures c.if-is_there.true),
+      refl,
+    )

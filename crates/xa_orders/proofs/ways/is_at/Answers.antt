@@ -11,4 +11,5 @@ returns-in_ok-is_same-in-Some c =
     let within : c.args.place < length c.args.known.now = omega arith in
     let found : slice_get c.args.known.now c.args.place ≡ Some c.in-Some.other.now =
     slice_get-get_or c.args.known.now c.args.place _ within ∙ ap Some (sym look.lookup.1) in
-    λ same. any_at (λ way. config_of way ≡ config_of c.args.one.now) c.args.known.now c.args.place c.in-Some.other.now found (c.in_ok-is_same-in-Some.ensures same)
+    λ same. any_at (λ way. config_of way ≡ config_of c.args.one.now) c.args.known.now c.args.place c.in-Some.other.now
+    found (c.in_ok-is_same-in-Some.ensures same)

@@ -14,11 +14,14 @@ loop-added-preserved c =
     let list = c.in-Some.added in
     let yielded = c.loop-added.yielded in
     let turn : (length yielded < length c.args.lists.items) × (list ≡ get_or c.args.lists.items (length yielded) list) =
-    YieldsList-turn (YieldsList-from_vec {s = c.into_iter-added-iterator.result} c.args.lists.items from.0 (from.1 ∙ c.args.lists.ok.0)) yielded
-    c.loop-added.added-iterator c.loop-added.yielded_by c.next.result c.next.new.self list c.in-Some.is c.next.ensures.steps in (
+    YieldsList-turn (YieldsList-from_vec {s = c.into_iter-added-iterator.result} c.args.lists.items from.0
+    (from.1 ∙ c.args.lists.ok.0)) yielded
+    c.loop-added.added-iterator c.loop-added.yielded_by c.next.result c.next.new.self list c.in-Some.is
+    c.next.ensures.steps in (
       c.place_each.ensures.count ∙ c.loop-added.invariant.0,
       λ entries limit only all.
           c.place_each.ensures.only entries limit (c.loop-added.invariant.1 entries limit only all)
           (subst (λ (l : Vec Added Global). All (IsWithin entries limit c.args.from) l.items) (sym turn.1)
-          (All-get_or (λ (l : Vec Added Global). All (IsWithin entries limit c.args.from) l.items) c.args.lists.items (length yielded) list turn.0 all)),
+          (All-get_or (λ (l : Vec Added Global). All (IsWithin entries limit c.args.from) l.items) c.args.lists.items
+          (length yielded) list turn.0 all)),
     )

@@ -8,4 +8,5 @@ abbrev pub invariant-loop-added : goal.invariant-loop-added
 invariant-loop-added l =
     (length l.places.items ≡ length l.fn.places.items)
     × ((list : List Entry) (limit : ℕ) → HasOnly list limit l.fn.places.items
-    → All (λ added. All (IsWithin list limit l.fn.from) added.items) l.fn.lists.items → HasOnly list limit l.places.items)
+    → All (λ added. All (IsWithin list limit l.fn.from) added.items) l.fn.lists.items
+    → HasOnly list limit l.places.items)

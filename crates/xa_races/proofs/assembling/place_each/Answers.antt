@@ -1,5 +1,4 @@
 use Rattle.std.proofs.Common.{◌≡◌, ◌-◌, ◌<◌, Some, length, get_or, sym, subst, ◌∙◌}
-use Rattle.std.specs.List.{All}
 use Rattle.std.proofs.lemmas.Iterator.Adapters.{YieldsList-from_vec}
 use Rattle.std.proofs.lemmas.Iterator.Consumers.{YieldsList-turn}
 use Rattle.std.proofs.lemmas.List.{length-set}
@@ -15,13 +14,15 @@ loop-one-preserved-then-place-from-2 c =
     let one = c.in-Some.one in
     let yielded = c.loop-one.yielded in
     let turn : (length yielded < length c.args.added.items) × (one ≡ get_or c.args.added.items (length yielded) one) =
-    YieldsList-turn (YieldsList-from_vec {s = c.into_iter-one-iterator.result} c.args.added.items from.0 (from.1 ∙ c.args.added.ok.0)) yielded
+    YieldsList-turn (YieldsList-from_vec {s = c.into_iter-one-iterator.result} c.args.added.items from.0
+    (from.1 ∙ c.args.added.ok.0)) yielded
     c.loop-one.one-iterator c.loop-one.yielded_by c.next.result c.next.new.self one c.in-Some.is c.next.ensures.steps in (
       length-set c.loop-one.places.items (one.place - c.args.from) (Some one.entry) ∙ c.loop-one.invariant.0,
       λ list limit only all.
           let within : IsWithin list limit c.args.from one =
           subst (λ (added : Added). IsWithin list limit c.args.from added) (sym turn.1)
           (All-get_or (IsWithin list limit c.args.from) c.args.added.items (length yielded) one turn.0 all) in
-          only_set list limit c.loop-one.places.items (one.place - c.args.from) one.entry (c.loop-one.invariant.1 list limit only all)
+          only_set list limit c.loop-one.places.items (one.place - c.args.from) one.entry
+          (c.loop-one.invariant.1 list limit only all)
           (within c.if-place-from.true),
     )

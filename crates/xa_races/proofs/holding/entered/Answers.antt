@@ -16,7 +16,8 @@ returns-clause-belongs c =
     let opened = c.in-Ok.ensures.ok in
     let kept : length passes ≡ max greatest 1 = omega (arith, opened.count, c.max.ensures) in
     let front : length taken ≡ length (take greatest passes) = ap length c.truncate.ensures.items in
-    let enough : length taken ≤ length lists = omega (arith, front, length-take greatest passes, c.requires.all, c.requires.within, c.args.lists.ok.0) in
+    let enough : length taken ≤ length lists =
+    omega (arith, front, length-take greatest passes, c.requires.all, c.requires.within, c.args.lists.ok.0) in
     let are : map (λ run. run.pass) runs ≡ taken = passes_of runs taken lists c.in_ok-runs.ensures enough in
     runs_belong identity greatest passes taken runs opened.belongs c.truncate.ensures.items are
 
@@ -31,7 +32,8 @@ returns-clause-sessions c =
     let opened = c.in-Ok.ensures.ok in
     let kept : length passes ≡ max greatest 1 = omega (arith, opened.count, c.max.ensures) in
     let front : length taken ≡ length (take greatest passes) = ap length c.truncate.ensures.items in
-    let enough : length taken ≤ length lists = omega (arith, front, length-take greatest passes, c.requires.all, c.requires.within, c.args.lists.ok.0) in
+    let enough : length taken ≤ length lists =
+    omega (arith, front, length-take greatest passes, c.requires.all, c.requires.within, c.args.lists.ok.0) in
     let are : map (λ run. run.pass) runs ≡ taken = passes_of runs taken lists c.in_ok-runs.ensures enough in
     let count : length runs ≡ greatest = runs_count greatest passes taken runs kept c.truncate.ensures.items are in
     omega (arith, opened.sessions_is, c.max.ensures, count)
@@ -47,12 +49,14 @@ returns-clause-runs c = λ lines last given.
     let opened = c.in-Ok.ensures.ok in
     let kept : length passes ≡ max greatest 1 = omega (arith, opened.count, c.max.ensures) in
     let front : length taken ≡ length (take greatest passes) = ap length c.truncate.ensures.items in
-    let enough : length taken ≤ length lists = omega (arith, front, length-take greatest passes, c.requires.all, c.requires.within, c.args.lists.ok.0) in
+    let enough : length taken ≤ length lists =
+    omega (arith, front, length-take greatest passes, c.requires.all, c.requires.within, c.args.lists.ok.0) in
     let are : map (λ run. run.pass) runs ≡ taken = passes_of runs taken lists c.in_ok-runs.ensures enough in
     let count : length runs ≡ greatest = runs_count greatest passes taken runs kept c.truncate.ensures.items are in
     record {
       count = count ∙ last;
       each = runs_from 1 lines runs taken lists c.in_ok-runs.ensures
           (λ index pass is. opened.numbers index pass
-          (get_taken greatest passes index pass (ap (λ list. slice_get list index) (sym c.truncate.ensures.items) ∙ is))) given;
+          (get_taken greatest passes index pass (ap (λ list. slice_get list index) (sym c.truncate.ensures.items)
+          ∙ is))) given;
     }

@@ -30,19 +30,24 @@ returns-in-Ok-clause-held g c lines last given =
       held = record {
         explained = subst P both.empty raced;
         within = omega (arith, room, both.room);
-        own = own_sessions identity outcome.history.items runs outcome.passes.items both.sessions both.belongs raced.passes raced.history;
+        own = own_sessions identity outcome.history.items runs outcome.passes.items both.sessions both.belongs
+            raced.passes raced.history;
       };
       text_is = c.in_ok-text-in-Ok.ensures lines
-          (λ index. ap (λ list. part_at list index) (ap (map (λ (list : Vec Bool Global). list.items)) c.as_slice-in-Ok.ensures.value ∙ c.in_ok-asked.ensures
+          (λ index. ap (λ list. part_at list index) (ap (map
+          (λ (list : Vec Bool Global). list.items)) c.as_slice-in-Ok.ensures.value ∙ c.in_ok-asked.ensures
           ∙ ap (map (λ (list : Vec Statement Global). map converts list.items)) c.as_slice.ensures.value)
           ∙ part_at-map (λ list. list.items) converts c.args.lists.items index ∙ ap (map converts) (given index))
-          ∙ ap (λ entries. outcome_text lines entries (map (λ answers. answers.items) c.as_slice-answers.result.now)) c.as_slice-history.ensures.value
-          ∙ ap (λ (l : List (Vec Answer Global)). outcome_text lines c.in-Ok.outcome.history.items (map (λ answers. answers.items) l)) c.as_slice-answers.ensures.value;
+          ∙ ap (λ entries. outcome_text lines entries (map (λ answers. answers.items) c.as_slice-answers.result.now))
+          c.as_slice-history.ensures.value
+          ∙ ap (λ (l : List (Vec Answer Global)). outcome_text lines c.in-Ok.outcome.history.items
+          (map (λ answers. answers.items) l)) c.as_slice-answers.ensures.value;
     }
 
 pub returns-in-Ok-clause-raced : goal.returns-in-Ok-clause-raced
 returns-in-Ok-clause-raced g c lines last given =
-    raced_in_log (g.G.Gate.may_answer c.args.gate.now) c.args.capacity lines c.in_ok-text-in-Ok.text.items (returns-in-Ok-clause-held g c lines last given)
+    raced_in_log (g.G.Gate.may_answer c.args.gate.now) c.args.capacity lines c.in_ok-text-in-Ok.text.items
+    (returns-in-Ok-clause-held g c lines last given)
 
 pub returns-clause-cause : goal.returns-clause-cause
 returns-clause-cause g c lines last given =

@@ -16,6 +16,8 @@ returns c =
     let b : into_iter_len (zip_first s) ≡ length passes = search rules in
     let d : into_iter_items (zip_second s) ≡ lists = search rules in
     let e : into_iter_len (zip_second s) ≡ length lists = search rules in
-    let all = YieldsList-from_zip {s = s} (YieldsList-from_vec {s = zip_first s} passes a b) (YieldsList-from_vec {s = zip_second s} lists d e) in
-    let done = YieldsList-end all c.loop-pass.yielded c.loop-pass.pass-iterator c.loop-pass.yielded_by c.next.result c.next.new.self c.in-None.is c.next.ensures.steps in
+    let all = YieldsList-from_zip {s = s} (YieldsList-from_vec {s = zip_first s} passes a b)
+    (YieldsList-from_vec {s = zip_second s} lists d e) in
+    let done = YieldsList-end all c.loop-pass.yielded c.loop-pass.pass-iterator c.loop-pass.yielded_by c.next.result
+    c.next.new.self c.in-None.is c.next.ensures.steps in
     c.loop-pass.invariant ∙ sym (map_same c.loop-pass.yielded) ∙ done.0

@@ -1,4 +1,4 @@
-use Rattle.std.proofs.Common.{◌≡◌, List, None, Some, ap, sym, subst, ◌∙◌}
+use Rattle.std.proofs.Common.{◌≡◌, List, None, ap, sym, subst, ◌∙◌}
 use Rattle.std.specs.Prelude.{slice_get}
 use Rattle.std.specs.List.{All, AllZip}
 use Rattle.xa_xid.specs.declared.statement.Statement.{Statement}
@@ -52,5 +52,6 @@ returns-clause-outcome g c =
     (subst (λ (session : EndlessSession). HasRaced (may racer.gate.now) session racer.lines.items one) is.0 was)))
     runs c.in_ok-racers.racers.items raced c.in_ok-racers.ensures c.in_ok-raced.ensures.ok in
     let none : All (λ (one : Raced). one.fault ≡ None) raced =
-    subst (λ (l : List Raced). All (λ (one : Raced). one.fault ≡ None) l) c.as_slice-2.ensures.value (c.first_fault.ensures.none c.in_default.is) in
+    subst (λ (l : List Raced). All (λ (one : Raced). one.fault ≡ None) l) c.as_slice-2.ensures.value
+    (c.first_fault.ensures.none c.in_default.is) in
     is_outcome (may c.args.gate.now) c.args.from runs raced c.in_ok-outcome.outcome went none c.in_ok-outcome.ensures

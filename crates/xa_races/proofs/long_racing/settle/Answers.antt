@@ -1,4 +1,4 @@
-use Rattle.std.proofs.Common.{◌≡◌, ◌-◌, List, length, map, drop, ap, sym, subst, ◌∙◌, Vec, Global}
+use Rattle.std.proofs.Common.{◌≡◌, ◌-◌, List, length, drop, ap, sym, subst, ◌∙◌, Vec, Global}
 use Rattle.std.specs.List.{All, AllZip}
 use Rattle.xa_endless.specs.declared.session.EndlessSession.{EndlessSession}
 use Rattle.xa_store.specs.Gathered.{IsTakenIn}
@@ -21,7 +21,8 @@ returns c =
     record {
       taken =
           all_of_mapped (λ (session : EndlessSession). IsTakenIn whole (known_in session)) (λ one. one.session) raced
-          (subst (λ (l : List EndlessSession). All (λ session. IsTakenIn whole (known_in session)) l) parts.sessions c.gather.ensures.taken);
+          (subst (λ (l : List EndlessSession). All (λ session. IsTakenIn whole (known_in session)) l) parts.sessions
+          c.gather.ensures.taken);
       keeps =
           zip_unmapped Keeps (λ one. one.session) raced sessions
           (subst (λ (l : List EndlessSession). AllZip Keeps l sessions) parts.sessions c.gather.ensures.keeps);
@@ -29,7 +30,9 @@ returns c =
       answers = parts.answers;
       history = λ limit listed.
           c.in_ok-history.ensures (drop from whole) limit (length_drop from whole ∙ ap (λ n. n - from) (sym count))
-          (subst (λ (l : List (Vec Added Global)). All (λ added. All (IsWithin (drop from whole) limit from) added.items) l) (sym parts.added)
-          (all_mapped (λ (added : Vec Added Global). All (IsWithin (drop from whole) limit from) added.items) (λ one. one.said.added) raced
+          (subst (λ (l : List (Vec Added Global)). All (λ added. All
+          (IsWithin (drop from whole) limit from) added.items) l) (sym parts.added)
+          (all_mapped (λ (added : Vec Added Global). All (IsWithin (drop from whole) limit from) added.items)
+          (λ one. one.said.added) raced
           (lists_within whole limit from raced listed)));
     }

@@ -1,6 +1,6 @@
 use Rattle.std.proofs.Common.{◌≡◌, length, vec_capacity}
 use Rattle.std.specs.List.{All}
-use Rattle.ring_log.specs.RingPass.{log_of}
+use Rattle.chain_log.specs.RingPass.{log_of}
 use Rattle.xa_store.proofs.Gathering.{Round}
 use Rattle.xa_races.specs.Long.{known_in}
 use Rattle.xa_races.proofs.Gathering.{Meets}

@@ -1,13 +1,13 @@
-use Rattle.std.proofs.Common.{◌≡◌, ◌+◌, ◌<◌, ◌≤◌, List, [], ◌∷◌, ◌++◌, true, length, take, refl, ap, sym, ◌∙◌, subst, rules, arith}
+use Rattle.std.proofs.Common.{◌≡◌, ◌+◌, ◌<◌, List, [], ◌∷◌, ◌++◌, true, length, take, refl, ap, sym, ◌∙◌, subst}
+use Rattle.std.proofs.Common.{rules, arith}
 use Rattle.std.specs.List.{All}
-use Rattle.std.proofs.lemmas.List.{take_all, take_more, length-append}
+use Rattle.std.proofs.lemmas.List.{take_more, length-append}
 use Rattle.std.proofs.lemmas.List.Elements.{All-nil, All-append}
 use Rattle.std.proofs.lemmas.Option.{slice_get_read}
 use Rattle.xa_server.specs.State.{no_state}
 use Rattle.xa_session.specs.declared.answer.Answer.{Answer}
-use Rattle.xa_store.specs.Legal.{IsLegal}
 use Rattle.xa_store.proofs.Legality.{IsOnTheWay, sets_out, goes_on, lets_in_more}
-use Rattle.xa_races.specs.Long.{known_in, IsAddedBy, StopsAt, HaltsAt}
+use Rattle.xa_races.specs.Long.{known_in, IsAddedBy, StopsAt}
 use Rattle.xa_races.specs.declared.added.Added.{Added}
 use Rattle.xa_races.specs.declared.said.Said.{Said}
 use Rattle.xa_races.proofs.Statements.{added_longer, own_part, stops_at, halts_begins}
@@ -17,8 +17,10 @@ pub loop-index-init : goal.loop-index-init
 loop-index-init g c =
     let known = known_in c.args.session.now in (
       refl,
-      subst (λ items. IsOnTheWay no_state known known [] items) (sym c.requires.none) (sets_out no_state known (own_part c.args.session.now)),
-      subst (λ items. All (IsAddedBy known.seen known.number) items) (sym c.requires.nothing) (All-nil (IsAddedBy known.seen known.number)),
+      subst (λ items. IsOnTheWay no_state known known [] items) (sym c.requires.none)
+          (sets_out no_state known (own_part c.args.session.now)),
+      subst (λ items. All (IsAddedBy known.seen known.number) items) (sym c.requires.nothing)
+          (All-nil (IsAddedBy known.seen known.number)),
       ap length c.requires.none,
       (let none : length c.args.said.now.added.items ≡ 0 = ap length c.requires.nothing in omega (arith, none)),
       refl,
@@ -39,18 +41,25 @@ loop-index-preserved g c =
     ∙ ap (λ one. take c.loop-index.index c.args.lines.now ++ one ∷ []) (sym c.index-lines-index.is) in
     let said = c.in_ok-say_one.ensures.ok in
     let way =
-    goes_on no_state before now new (take c.loop-index.index c.args.lines.now) c.loop-index.said.answers.items statement said.answer
+    goes_on no_state before now new (take c.loop-index.index c.args.lines.now) c.loop-index.said.answers.items statement
+    said.answer
     (own_part c.loop-index.session) (own_part c.say_one.new.session) inv.1 said.let_in.answered in
-    let own : All (IsAddedBy new.seen before.number) said.added = subst (λ n. All (IsAddedBy new.seen n) said.added) inv.1.number said.own in
+    let own : All (IsAddedBy new.seen before.number) said.added =
+    subst (λ n. All (IsAddedBy new.seen n) said.added) inv.1.number said.own in
     let all : All (IsAddedBy new.seen before.number) (c.loop-index.said.added.items ++ said.added) =
     All-append (IsAddedBy new.seen before.number) c.loop-index.said.added.items said.added
-    (added_longer now.seen new.seen before.number c.loop-index.said.added.items said.let_in.answered.advances.seen inv.2) own in (
+    (added_longer now.seen new.seen before.number c.loop-index.said.added.items said.let_in.answered.advances.seen
+    inv.2) own in (
       c.in_ok-say_one.ensures.store ∙ inv.0,
-      subst (λ items. IsOnTheWay no_state before new (take (c.loop-index.index + 1) c.args.lines.now) items) (sym {A = List Answer} said.answers)
-          (subst (λ lines. IsOnTheWay no_state before new lines (c.loop-index.said.answers.items ++ said.answer ∷ [])) (sym taken) way),
+      subst (λ items. IsOnTheWay no_state before new (take (c.loop-index.index + 1) c.args.lines.now) items)
+          (sym {A = List Answer} said.answers)
+          (subst (λ lines. IsOnTheWay no_state before new lines (c.loop-index.said.answers.items ++ said.answer ∷ []))
+          (sym taken) way),
       subst (λ items. All (IsAddedBy new.seen before.number) items) (sym {A = List Added} said.more) all,
-      (let long = ap length said.answers ∙ length-append c.loop-index.said.answers.items (said.answer ∷ []) in omega (arith, long, inv.3)),
-      (let long = ap length said.more ∙ length-append c.loop-index.said.added.items said.added in omega (arith, long, inv.4, said.few)),
+      (let long = ap length said.answers ∙ length-append c.loop-index.said.answers.items (said.answer ∷ []) in
+          omega (arith, long, inv.3)),
+      (let long = ap length said.more ∙ length-append c.loop-index.said.added.items said.added in
+          omega (arith, long, inv.4, said.few)),
       c.in_ok-say_one.ensures.answers ∙ inv.5,
       c.in_ok-say_one.ensures.added ∙ inv.6,
       lets_in_more (g.G.Gate.may_answer c.args.gate.now) before.number c.loop-index.index inv.7
@@ -64,7 +73,8 @@ returns-in_err-say_one-clause-own g c =
     let new = known_in c.say_one.new.session in
     let before = known_in c.args.session.now in
     let begins =
-    halts_begins (g.G.Gate.may_answer c.args.gate.now) c.loop-index.index c.index-lines-index.result c.in_err-say_one.field-0.0 c.loop-index.session
+    halts_begins (g.G.Gate.may_answer c.args.gate.now) c.loop-index.index c.index-lines-index.result
+    c.in_err-say_one.field-0.0 c.loop-index.session
     c.say_one.new.session c.in_err-say_one.ensures.fault in
     subst (λ (s : Said). All (IsAddedBy new.seen before.number) s.added.items) (sym c.in_err-say_one.ensures.kept)
     (added_longer now.seen new.seen before.number c.loop-index.said.added.items begins inv.2)
@@ -79,7 +89,9 @@ returns-in_err-say_one-clause-fault g c =
     let fault = c.in_err-say_one.field-0.0 in
     let below : place < length lines = omega (arith, c.loop-index-test.true) in
     let stopped : StopsAt may (known_in c.args.session.now) lines fault c.say_one.new.session =
-    stops_at may (known_in c.args.session.now) c.loop-index.session c.say_one.new.session lines c.loop-index.said.answers.items place statement fault below
-    (slice_get_read lines (length lines) place statement refl below c.index-lines-index.is) c.in_err-say_one.ensures.store inv.1
+    stops_at may (known_in c.args.session.now) c.loop-index.session c.say_one.new.session lines
+    c.loop-index.said.answers.items place statement fault below
+    (slice_get_read lines (length lines) place statement refl below c.index-lines-index.is)
+    c.in_err-say_one.ensures.store inv.1
     c.in_err-say_one.ensures.fault in
     search rules

@@ -14,4 +14,5 @@ entering-entry-requires g c =
     let answered = c.in_ok-answer.ensures.ends.answered in
     ap may_be_entry c.copy.ensures
     ∙ entering_makes_entry (state_at no_state new.seen c.in_ok-answer.answer.place) old.number c.args.statement.now
-    (entered_where_longer c.args.statement.now c.in_ok-answer.answer old new answered (omega (arith, c.if-seen-place.true, c.seen.ensures)))
+    (entered_where_longer c.args.statement.now c.in_ok-answer.answer old new answered
+    (omega (arith, c.if-seen-place.true, c.seen.ensures)))

@@ -6,7 +6,8 @@ use Rattle.xa_record.proofs.json_text.write_lines.Given as goal
 
 abbrev pub invariant-loop-rest : goal.invariant-loop-rest
 invariant-loop-rest l = record {
-  tokens : l.fn.writer.tokens ++ json_tokens (texts_value (lines_of l.text)) ≡ l.writer.tokens ++ items_tokens (values_of (lines_of l.rest));
+  tokens : l.fn.writer.tokens ++ json_tokens (texts_value (lines_of l.text)) ≡ l.writer.tokens
+      ++ items_tokens (values_of (lines_of l.rest));
   before : l.writer.before ≡ l.fn.writer.before;
 }
 

@@ -19,7 +19,8 @@ returns g c =
     let some : (length notes.numbered.items == 0) ≡ false = grind (arith, common_steps) in
     let are : AreEvents c.args.allowances.now told c.as_slice.result.now =
     subst (λ (l : List Event). AreEvents c.args.allowances.now told l) (sym c.as_slice.ensures.value)
-    (subst (λ (l : List NumberedEvent). AreEvents c.args.allowances.now l c.in_ok-events.events.items) told_is c.in_ok-events.ensures.are) in
+    (subst (λ (l : List NumberedEvent). AreEvents c.args.allowances.now l c.in_ok-events.events.items) told_is
+    c.in_ok-events.ensures.are) in
     let judged = judged_with c.verdict_on.result c.args.base.now c.args.allowances.now told c.args.asked
     c.as_slice.result.now c.verdict_on.ensures are in
     subst (λ (n : Notes). IfOk c.verdict_on.result

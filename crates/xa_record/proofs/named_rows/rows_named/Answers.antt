@@ -6,5 +6,6 @@ loop-event-init c = named-none c.args.events.now c.new-keys.result.keys c.new-ke
 
 pub loop-event-preserved : goal.loop-event-preserved
 loop-event-preserved c =
-    named-more c.args.events.now c.loop-event.keys.keys c.put_in_row_called.new.keys.keys c.loop-event.event-index c.event-item.result
+    named-more c.args.events.now c.loop-event.keys.keys c.put_in_row_called.new.keys.keys c.loop-event.event-index
+    c.event-item.result
     c.loop-event-test.true c.event-item.is c.loop-event.invariant c.in_ok-put_in_row_called.ensures

@@ -30,8 +30,10 @@ returns-in-None c =
 pub returns-then-place-events : goal.returns-then-place-events
 returns-then-place-events c =
     let numbered = c.args.numbered.now in
-    let within : c.in-Some.place < length numbered = omega (arith, calls-length numbered c.args.events.now c.requires) in
-    let P : List ℕ → Type 0 = λ t. OnOk c.push_called.result (c.push_called.new.out.items ≡ c.args.out.now.items ++ call_text t) in
+    let within : c.in-Some.place < length numbered = omega
+    (arith, calls-length numbered c.args.events.now c.requires) in
+    let P : List ℕ → Type 0 = λ t. OnOk c.push_called.result
+    (c.push_called.new.out.items ≡ c.args.out.now.items ++ call_text t) in
     subst P
     (ap (λ (n : NumberedEvent). text_told (told_kept n.line_event)) (sym c.index-numbered-place.is)
     ∙ text_at-kept numbered c.in-Some.place c.index-numbered-place.result within c.index-numbered-place.is

@@ -13,7 +13,8 @@ returns-in_ok-push_effect-in-Effect c = λ moves.
     let calls = calls_kept all c.args.calls.now in
     let left = drop c.args.place all in
     ap (λ (s : Move). out ++ order_text calls left (s ∷ moves)) c.in-Effect.is
-    ∙ moved_effect out c.push_effect.new.out.items calls left c.in-Effect.session c.in-Effect.act moves c.in_ok-push_effect-in-Effect.ensures
+    ∙ moved_effect out c.push_effect.new.out.items calls left c.in-Effect.session c.in-Effect.act moves
+    c.in_ok-push_effect-in-Effect.ensures
 
 pub returns-then-place-numbered : goal.returns-then-place-numbered
 returns-then-place-numbered c = λ moves.
@@ -24,7 +25,8 @@ returns-then-place-numbered c = λ moves.
     ap (λ (s : Move). out ++ order_text (calls_kept all old) left (s ∷ moves)) c.in-Event.is
     ∙ moved_event_at out old c.follow.new.self c.args.numbered.now c.args.place c.index-numbered-place.result moves
     (omega arith) c.index-numbered-place.is
-    (c.follow.ensures ∙ ap (λ (n : NumberedEvent). with_place c.args.place (told_kept n.line_event) old.places) (sym c.index-numbered-place.is))
+    (c.follow.ensures ∙ ap (λ (n : NumberedEvent). with_place c.args.place (told_kept n.line_event) old.places)
+    (sym c.index-numbered-place.is))
 
 pub returns-else-place-numbered : goal.returns-else-place-numbered
 returns-else-place-numbered c = λ moves.
@@ -32,4 +34,5 @@ returns-else-place-numbered c = λ moves.
     let all = map numbered_kept c.args.numbered.now in
     let calls = calls_kept all c.args.calls.now in
     let left = drop c.args.place all in
-    ap (λ (s : Move). out ++ order_text calls left (s ∷ moves)) c.in-Event.is ∙ moved_over_at out calls c.args.numbered.now c.args.place moves (omega arith)
+    ap (λ (s : Move). out ++ order_text calls left (s ∷ moves)) c.in-Event.is
+    ∙ moved_over_at out calls c.args.numbered.now c.args.place moves (omega arith)

@@ -11,9 +11,11 @@ loop-rest-preserved c =
     record {
       read =
           c.loop-rest.invariant.read
-          ∙ noted_lines-line (notes_kept c.loop-rest.notes) number c.loop-rest.rest.now c.split_line.result.0.now c.split_line.result.1.now
+          ∙ noted_lines-line (notes_kept c.loop-rest.notes) number c.loop-rest.rest.now c.split_line.result.0.now
+          c.split_line.result.1.now
           c.split_line.ensures.lines
-          ∙ ap (λ (n : Notes). noted_lines n (number + 1) (lines_of c.split_line.result.1.now)) (sym c.in_ok-take.ensures);
+          ∙ ap (λ (n : Notes). noted_lines n (number + 1) (lines_of c.split_line.result.1.now))
+          (sym c.in_ok-take.ensures);
       short = omega (arith, c.loop-rest.invariant.short, c.split_line.ensures.shorter);
     }
 
@@ -22,5 +24,6 @@ unfolding notes_of
 returns c =
     let whole =
     c.loop-rest.invariant.read
-    ∙ noted_lines-end (notes_kept c.loop-rest.notes) (c.loop-rest.number + 1) c.loop-rest.rest.now (sym c.is_empty.ensures ∙ c.loop-rest-test.false) in
+    ∙ noted_lines-end (notes_kept c.loop-rest.notes) (c.loop-rest.number + 1) c.loop-rest.rest.now
+    (sym c.is_empty.ensures ∙ c.loop-rest-test.false) in
     c.in_ok-end.ensures ∙ ap (λ (n : Notes). ended_by n.awaited n) (sym whole)

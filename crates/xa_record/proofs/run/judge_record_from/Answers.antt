@@ -26,16 +26,20 @@ returns-clause-fault g c =
 pub returns-in_err-text-clause-cause : goal.returns-in_err-text-clause-cause
 returns-in_err-text-clause-cause g c =
     let p = err_from_is_err_and c.from_residual.result c.from_residual.ensures.1 in
-    stopped_reading g.W.PieceWriter.takes g.W.PieceWriter.refuses g.R.PieceReader.gives g.R.PieceReader.fails record_reads record_bytes
+    stopped_reading g.W.PieceWriter.takes g.W.PieceWriter.refuses g.R.PieceReader.gives g.R.PieceReader.fails
+    record_reads record_bytes
     (IsJudgedTextFrom c.args.base.now c.args.allowances.now c.args.asked) IsFaultOfJudging
-    c.from_residual.result p.0 _ c.args.reader.now c.read_within.new.reader c.args.writer.now p.1 p.2 c.in_err-text.ensures.cause
+    c.from_residual.result p.0 _ c.args.reader.now c.read_within.new.reader c.args.writer.now p.1 p.2
+    c.in_err-text.ensures.cause
 
 pub returns-in_err-judged-clause-cause : goal.returns-in_err-judged-clause-cause
 returns-in_err-judged-clause-cause g c =
     let p = err_from_is_err_and c.from_residual-in_err-judged.result c.from_residual-in_err-judged.ensures.1 in
-    stopped_making g.W.PieceWriter.takes g.W.PieceWriter.refuses g.R.PieceReader.gives g.R.PieceReader.fails record_reads record_bytes
+    stopped_making g.W.PieceWriter.takes g.W.PieceWriter.refuses g.R.PieceReader.gives g.R.PieceReader.fails
+    record_reads record_bytes
     (IsJudgedTextFrom c.args.base.now c.args.allowances.now c.args.asked) IsFaultOfJudging
-    c.from_residual-in_err-judged.result p.0 p.0 c.in_ok-text.text.items c.args.reader.now c.read_within.new.reader c.args.writer.now p.1 refl
+    c.from_residual-in_err-judged.result p.0 p.0 c.in_ok-text.text.items c.args.reader.now c.read_within.new.reader
+    c.args.writer.now p.1 refl
     c.in_ok-text.ensures.calls p.2
 
 pub returns-clause-calls : goal.returns-clause-calls
@@ -43,9 +47,11 @@ returns-clause-calls g c =
     let judged = c.in_ok-judged.judged in
     let right = subst (λ (t : List ℕ). IsJudgedFrom c.args.base.now t c.args.allowances.now c.args.asked
     judged.outcome judged.text.items) c.as_slice.ensures.value c.in_ok-judged.ensures in
-    completed g.W.PieceWriter.takes g.W.PieceWriter.refuses g.R.PieceReader.gives g.R.PieceReader.fails record_reads record_bytes
+    completed g.W.PieceWriter.takes g.W.PieceWriter.refuses g.R.PieceReader.gives g.R.PieceReader.fails record_reads
+    record_bytes
     (IsJudgedTextFrom c.args.base.now c.args.allowances.now c.args.asked) IsFaultOfJudging
-    c.write_judged.result c.in_ok-text.text.items judged.text.items c.args.reader.now c.read_within.new.reader c.args.writer.now c.write_judged.new.writer
+    c.write_judged.result c.in_ok-text.text.items judged.text.items c.args.reader.now c.read_within.new.reader
+    c.args.writer.now c.write_judged.new.writer
     c.in_ok-text.ensures.calls (judged.outcome, right) c.write_judged.ensures.calls
 
 pub returns-clause-cause : goal.returns-clause-cause
@@ -53,7 +59,9 @@ returns-clause-cause g c =
     let judged = c.in_ok-judged.judged in
     let right = subst (λ (t : List ℕ). IsJudgedFrom c.args.base.now t c.args.allowances.now c.args.asked
     judged.outcome judged.text.items) c.as_slice.ensures.value c.in_ok-judged.ensures in
-    stopped_writing g.W.PieceWriter.takes g.W.PieceWriter.refuses g.R.PieceReader.gives g.R.PieceReader.fails record_reads record_bytes
+    stopped_writing g.W.PieceWriter.takes g.W.PieceWriter.refuses g.R.PieceReader.gives g.R.PieceReader.fails
+    record_reads record_bytes
     (IsJudgedTextFrom c.args.base.now c.args.allowances.now c.args.asked) IsFaultOfJudging
-    c.write_judged.result c.in_ok-text.text.items judged.text.items c.args.reader.now c.read_within.new.reader c.args.writer.now c.write_judged.new.writer
+    c.write_judged.result c.in_ok-text.text.items judged.text.items c.args.reader.now c.read_within.new.reader
+    c.args.writer.now c.write_judged.new.writer
     c.in_ok-text.ensures.calls (judged.outcome, right) c.write_judged.ensures.fault c.write_judged.ensures.calls

@@ -9,9 +9,11 @@ pub loop-event-preserved : goal.loop-event-preserved
 loop-event-preserved c =
     let before = take c.loop-event.event-index c.args.events.now in
     subst (All IsWrittenCall)
-    (sym (take_more c.args.events.now c.loop-event.event-index c.event-item.result c.loop-event-test.true ∙ ap (λ x. before ++ x ∷ []) (sym c.event-item.is)))
+    (sym (take_more c.args.events.now c.loop-event.event-index c.event-item.result c.loop-event-test.true
+    ∙ ap (λ x. before ++ x ∷ []) (sym c.event-item.is)))
     (All-push IsWrittenCall before c.event-item.result c.loop-event.invariant c.is_written_call.ensures)
 
 pub returns : goal.returns
 returns c =
-    subst (All IsWrittenCall) (take_all c.loop-event.event-index c.args.events.now (omega (arith, c.loop-event-test.false))) c.loop-event.invariant
+    subst (All IsWrittenCall) (take_all c.loop-event.event-index c.args.events.now
+    (omega (arith, c.loop-event-test.false))) c.loop-event.invariant

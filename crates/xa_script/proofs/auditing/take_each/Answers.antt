@@ -15,8 +15,10 @@ pub take_next-requires : goal.take_next-requires
 take_next-requires g c =
     let from = c.into_iter-input-iterator.ensures.into_iter_gives in
     let turn =
-    YieldsList-turn (YieldsList-from_vec {s = c.into_iter-input-iterator.result} c.args.inputs.items from.0 (from.1 ∙ c.args.inputs.ok.0)) c.loop-input.yielded
-    c.loop-input.input-iterator c.loop-input.yielded_by c.next.result c.next.new.self c.in-Some.input c.in-Some.is c.next.ensures.steps in
+    YieldsList-turn (YieldsList-from_vec {s = c.into_iter-input-iterator.result} c.args.inputs.items from.0
+    (from.1 ∙ c.args.inputs.ok.0)) c.loop-input.yielded
+    c.loop-input.input-iterator c.loop-input.yielded_by c.next.result c.next.new.self c.in-Some.input c.in-Some.is
+    c.next.ensures.steps in
     omega (arith, turn.0, c.requires, c.loop-input.invariant.stores)
 
 pub loop-input-preserved : goal.loop-input-preserved
@@ -27,7 +29,8 @@ loop-input-preserved g c =
     record {
       stores = omega (arith, so_far.stores, c.in_ok-take_next.ensures.stores, length-append yielded (input ∷ []));
       taken =
-          taken_more yielded input (λ source. g.I.Read.remaining source.inner) (λ texts. IsAuditOf texts c.loop-input.audit)
+          taken_more yielded input (λ source. g.I.Read.remaining source.inner)
+          (λ texts. IsAuditOf texts c.loop-input.audit)
           (λ texts. IsAuditOf texts c.take_next.new.audit) so_far.taken c.in_ok-take_next.ensures.taken;
     }
 
@@ -35,7 +38,10 @@ pub returns-clause-taken : goal.returns-clause-taken
 returns-clause-taken g c =
     let from = c.into_iter-input-iterator.ensures.into_iter_gives in
     let end =
-    YieldsList-end (YieldsList-from_vec {s = c.into_iter-input-iterator.result} c.args.inputs.items from.0 (from.1 ∙ c.args.inputs.ok.0)) c.loop-input.yielded
-    c.loop-input.input-iterator c.loop-input.yielded_by c.next.result c.next.new.self c.in-None.is c.next.ensures.steps in
-    taken_all c.loop-input.yielded c.args.inputs.items (λ source. g.I.Read.remaining source.inner) (λ texts. IsAuditOf texts c.loop-input.audit) end.0
+    YieldsList-end (YieldsList-from_vec {s = c.into_iter-input-iterator.result} c.args.inputs.items from.0
+    (from.1 ∙ c.args.inputs.ok.0)) c.loop-input.yielded
+    c.loop-input.input-iterator c.loop-input.yielded_by c.next.result c.next.new.self c.in-None.is
+    c.next.ensures.steps in
+    taken_all c.loop-input.yielded c.args.inputs.items (λ source. g.I.Read.remaining source.inner)
+    (λ texts. IsAuditOf texts c.loop-input.audit) end.0
     c.loop-input.invariant.taken

@@ -7,10 +7,12 @@ pub returns-in_err-matches-clause-fault : goal.returns-in_err-matches-clause-fau
 returns-in_err-matches-clause-fault g c =
     let p = err_from_is_err_and c.from_residual.result c.from_residual.ensures.1 in
     refused_as (map g.S.AsStr.text c.args.words.now) c.from_residual.result p.0 c.in_err-matches.field-0.0 p.1 p.2
-    (kind_of_script _ (map g.S.AsStr.text c.args.words.now) c.in_err-matches.field-0.0 c.requires c.in_err-matches.ensures.kinds)
+    (kind_of_script _ (map g.S.AsStr.text c.args.words.now) c.in_err-matches.field-0.0 c.requires
+    c.in_err-matches.ensures.kinds)
 
 pub returns-in-Some-clause-fault : goal.returns-in-Some-clause-fault
-returns-in-Some-clause-fault g c = no_fault_of_script _ (map g.S.AsStr.text c.args.words.now) c.requires c.in_ok-matches.ensures.kinds
+returns-in-Some-clause-fault g c =
+    no_fault_of_script _ (map g.S.AsStr.text c.args.words.now) c.requires c.in_ok-matches.ensures.kinds
 
 pub returns-clause-fault : goal.returns-clause-fault
 returns-clause-fault g c =

@@ -4,4 +4,5 @@ use Rattle.xa_script.proofs.Values.{runs_of}
 use Rattle.xa_script.proofs.command.runs_in.Goals as goal
 
 pub returns : goal.returns
-returns c = runs_of (one_text (found_of c.args.found.now) (codes "runs")) c.limit_in.result c.limit_in.ensures.some c.limit_in.ensures.none
+returns c = runs_of (one_text (found_of c.args.found.now)
+    (codes "runs")) c.limit_in.result c.limit_in.ensures.some c.limit_in.ensures.none

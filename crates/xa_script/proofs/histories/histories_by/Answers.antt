@@ -11,5 +11,7 @@ returns-clause-named g c =
     let matches = c.in_ok-matches.matches in
     let is = found_as_named _ words matches c.requires c.in_ok-matches.ensures.ok.2 in
     let found = c.in-Some.found in
-    let rows = rows_are matches c.in-Some.field-0-0.now (rows_of (found_of found.now)) c.in-Some.ensures.name c.in-Some.ensures.rows in
-    histories_by_words words found.now c.in-Some.field-0-0.now c.in_ok-histories.histories (sym is ∙ rows) c.in_ok-histories.ensures
+    let rows = rows_are matches c.in-Some.field-0-0.now (rows_of
+    (found_of found.now)) c.in-Some.ensures.name c.in-Some.ensures.rows in
+    histories_by_words words found.now c.in-Some.field-0-0.now c.in_ok-histories.histories
+    (sym is ∙ rows) c.in_ok-histories.ensures

@@ -8,7 +8,9 @@ pub returns : goal.returns
 returns c =
     let given = one_text (found_of c.args.found.now) c.args.name.now in
     flag_of given c.unwrap_or.result
-    (λ is. flag_read (λ bs r. ParsesBool bs r) (λ text r gives. gives) given c.get_one.result c.get_one.ensures.none c.get_one.ensures.value
+    (λ is. flag_read (λ bs r. ParsesBool bs r) (λ text r gives. gives) given c.get_one.result c.get_one.ensures.none
+    c.get_one.ensures.value
     (sym c.unwrap_or.ensures ∙ is))
-    (λ is. no_flag_read (λ bs r. ParsesBool bs r) (λ text r gives. gives) given c.get_one.result c.get_one.ensures.none c.get_one.ensures.value
+    (λ is. no_flag_read (λ bs r. ParsesBool bs r) (λ text r gives. gives) given c.get_one.result c.get_one.ensures.none
+    c.get_one.ensures.value
     (sym c.unwrap_or.ensures ∙ is))

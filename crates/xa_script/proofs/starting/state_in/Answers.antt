@@ -1,5 +1,5 @@
 use Rattle.std.proofs.Common.{ℕ, List, IfSome, subst}
-use Rattle.xa_state.specs.States.{IsStateOf}
+use Rattle.xa_record.specs.States.{IsStateOf}
 use Rattle.xa_script.proofs.Allowed.{read_whole}
 use Rattle.xa_script.proofs.starting.state_in.Goals as goal
 

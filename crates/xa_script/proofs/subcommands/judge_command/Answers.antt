@@ -5,10 +5,13 @@ use Rattle.xa_script.proofs.subcommands.judge_command.Goals as goal
 
 pub returns-clause-app : goal.returns-clause-app
 returns-clause-app c =
-    let one = c.in_ok-arg.ensures.shape c.limit_option.ensures.global ∙ ap₂ with_rule c.plain_command.ensures.app c.limit_option.ensures.rule in
+    let one = c.in_ok-arg.ensures.shape c.limit_option.ensures.global
+    ∙ ap₂ with_rule c.plain_command.ensures.app c.limit_option.ensures.rule in
     let two = c.in_ok-arg-2.ensures.shape c.flag_option.ensures.global ∙ ap₂ with_rule one c.flag_option.ensures.rule in
-    let three = c.in_ok-arg-3.ensures.shape c.flag_option-2.ensures.global ∙ ap₂ with_rule two c.flag_option-2.ensures.rule in
-    let four = c.in_ok-arg-4.ensures.shape c.flag_option-3.ensures.global ∙ ap₂ with_rule three c.flag_option-3.ensures.rule in
+    let three = c.in_ok-arg-3.ensures.shape c.flag_option-2.ensures.global
+    ∙ ap₂ with_rule two c.flag_option-2.ensures.rule in
+    let four = c.in_ok-arg-4.ensures.shape c.flag_option-3.ensures.global
+    ∙ ap₂ with_rule three c.flag_option-3.ensures.rule in
     let five = c.in_ok-arg-5.ensures.shape c.file_option.ensures.global
     ∙ ap₂ with_rule four c.file_option.ensures.rule in
     IfOk-weaker c.arg-6.result _ _

@@ -6,10 +6,13 @@ use Rattle.xa_script.proofs.subcommands.with_common.Goals as goal
 pub returns-clause-app : goal.returns-clause-app
 returns-clause-app c =
     let one = c.in_ok-arg.ensures.shape c.file_option.ensures.global ∙ ap₂ with_rule refl c.file_option.ensures.rule in
-    let two = c.in_ok-arg-2.ensures.shape c.verbose_option.ensures.global ∙ ap₂ with_rule one c.verbose_option.ensures.rule in
-    let three = c.in_ok-arg-3.ensures.shape c.flag_option.ensures.global ∙ ap₂ with_rule two c.flag_option.ensures.rule in
+    let two = c.in_ok-arg-2.ensures.shape c.verbose_option.ensures.global
+    ∙ ap₂ with_rule one c.verbose_option.ensures.rule in
+    let three = c.in_ok-arg-3.ensures.shape c.flag_option.ensures.global
+    ∙ ap₂ with_rule two c.flag_option.ensures.rule in
     IfOk-weaker c.arg-4.result _ _
-    (λ command added. added.shape c.text_option.ensures.global ∙ ap₂ with_rule three c.text_option.ensures.rule) c.arg-4.ensures
+    (λ command added. added.shape c.text_option.ensures.global
+    ∙ ap₂ with_rule three c.text_option.ensures.rule) c.arg-4.ensures
 
 pub returns-clause-local : goal.returns-clause-local
 returns-clause-local c = IfOk-weaker c.arg-4.result _ _ (λ command added. search rules) c.arg-4.ensures

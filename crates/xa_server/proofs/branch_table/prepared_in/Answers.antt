@@ -10,15 +10,19 @@ loop-xid-init c =
 
 pub loop-xid-preserved-in-Continue-1 : goal.loop-xid-preserved-in-Continue-1
 loop-xid-preserved-in-Continue-1 c =
-    ap (λ xs. xs ++ prepared_keys c.next.new.self) (c.in_ok-push.ensures.items ∙ ap (λ x. c.loop-xid.xids.items ++ x ∷ []) c.copy.ensures)
-    ∙ goes_in c.loop-xid.xids.items _ c.loop-xid.xid-iterator c.next.new.self c.in-Some.xid.now c.in-Some.branch.now c.loop-xid.invariant
+    ap (λ xs. xs ++ prepared_keys c.next.new.self) (c.in_ok-push.ensures.items
+    ∙ ap (λ x. c.loop-xid.xids.items ++ x ∷ []) c.copy.ensures)
+    ∙ goes_in c.loop-xid.xids.items _ c.loop-xid.xid-iterator c.next.new.self c.in-Some.xid.now c.in-Some.branch.now
+    c.loop-xid.invariant
     c.in-Some.ensures.steps (sym c.if-is_prepared.ensures)
 
 pub loop-xid-preserved : goal.loop-xid-preserved
 loop-xid-preserved c =
-    stays_out c.loop-xid.xids.items _ c.loop-xid.xid-iterator c.next.new.self c.in-Some.xid.now c.in-Some.branch.now c.loop-xid.invariant
+    stays_out c.loop-xid.xids.items _ c.loop-xid.xid-iterator c.next.new.self c.in-Some.xid.now c.in-Some.branch.now
+    c.loop-xid.invariant
     c.in-Some.ensures.steps (sym c.if-is_prepared.ensures)
 
 pub returns-clause-listed : goal.returns-clause-listed
 returns-clause-listed c =
-    sym (append-nil c.loop-xid.xids.items) ∙ ap (λ es. c.loop-xid.xids.items ++ prepared_keys es) (sym c.in-None.ensures.steps.0) ∙ c.loop-xid.invariant
+    sym (append-nil c.loop-xid.xids.items) ∙ ap (λ es. c.loop-xid.xids.items ++ prepared_keys es)
+    (sym c.in-None.ensures.steps.0) ∙ c.loop-xid.invariant

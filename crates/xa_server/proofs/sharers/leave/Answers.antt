@@ -11,12 +11,14 @@ returns-in-Nobody c = rw c.in-Nobody.is (listed_left [] c.args.xid.now)
 
 pub returns-then-is_same : goal.returns-then-is_same
 returns-then-is_same c =
-    ap (λ b. cond b set.empty (listed (c.in-One.own ∷ []))) (c.if-is_same.ensures ∙ ap (λ own. same_xid own c.args.xid.now) c.xid.ensures)
+    ap (λ b. cond b set.empty (listed (c.in-One.own ∷ [])))
+    (c.if-is_same.ensures ∙ ap (λ own. same_xid own c.args.xid.now) c.xid.ensures)
     ∙ one_left c.in-One.own c.args.xid.now
     ∙ ap (λ branches. set.remove (set_of branches) c.args.xid.now) (sym c.in-One.is)
 
 pub returns-else-is_same : goal.returns-else-is_same
 returns-else-is_same c =
-    ap (λ b. cond b set.empty (listed (c.in-One.own ∷ []))) (c.if-is_same.ensures ∙ ap (λ own. same_xid own c.args.xid.now) c.xid.ensures)
+    ap (λ b. cond b set.empty (listed (c.in-One.own ∷ [])))
+    (c.if-is_same.ensures ∙ ap (λ own. same_xid own c.args.xid.now) c.xid.ensures)
     ∙ one_left c.in-One.own c.args.xid.now
     ∙ ap (λ branches. set.remove (set_of branches) c.args.xid.now) (sym c.in-One.is)

@@ -1,4 +1,5 @@
-use Rattle.xa_statement.proofs.Canon.{start_spelled, end_spelled, prepare_spelled, commit_spelled, rollback_spelled, recover_spelled, get_spelled, put_spelled}
+use Rattle.xa_statement.proofs.Canon.{start_spelled, end_spelled, prepare_spelled, commit_spelled, rollback_spelled}
+use Rattle.xa_statement.proofs.Canon.{recover_spelled, get_spelled, put_spelled}
 use Rattle.xa_statement.proofs.Canon.{del_spelled, disconnect_spelled}
 use Rattle.xa_statement.proofs.laws.canonical_text_is_spelled.Goals as goal
 
@@ -12,7 +13,8 @@ pub returns-in-Prepare : goal.returns-in-Prepare
 returns-in-Prepare c = rw c.in-Prepare.is (prepare_spelled c.in-Prepare.xid c.is_writable-in-Prepare.ensures)
 
 pub returns-in-Commit : goal.returns-in-Commit
-returns-in-Commit c = rw c.in-Commit.is (commit_spelled c.in-Commit.xid c.in-Commit.one_phase c.is_writable-in-Commit.ensures)
+returns-in-Commit c =
+    rw c.in-Commit.is (commit_spelled c.in-Commit.xid c.in-Commit.one_phase c.is_writable-in-Commit.ensures)
 
 pub returns-in-Rollback : goal.returns-in-Rollback
 returns-in-Rollback c = rw c.in-Rollback.is (rollback_spelled c.in-Rollback.xid c.is_writable-in-Rollback.ensures)

@@ -12,7 +12,8 @@ pub returns-in-None : goal.returns-in-None
 returns-in-None c =
     let rest = c.loop-rest.rest.now in
     read_stop c.args.text.now rest c.loop-rest.state (some_left rest c.loop-rest-test.ensures)
-    (ap (λ t. after_token c.loop-rest.state t) (sym (ap (λ cut. cut.0) c.token_of-token.ensures)) ∙ sym c.step.ensures ∙ c.in-None.is)
+    (ap (λ t. after_token c.loop-rest.state t) (sym (ap (λ cut. cut.0) c.token_of-token.ensures)) ∙ sym c.step.ensures
+    ∙ c.in-None.is)
     c.loop-rest.invariant
 
 pub loop-rest-smaller : goal.loop-rest-smaller
@@ -25,12 +26,15 @@ loop-rest-smaller c =
 pub loop-rest-preserved : goal.loop-rest-preserved
 loop-rest-preserved c =
     let rest = c.loop-rest.rest.now in
-    read_step c.args.text.now rest c.skip_blanks-rest-in-loop-rest.result.now c.loop-rest.state c.in-Some.next (some_left rest c.loop-rest-test.ensures)
-    (ap (λ t. after_token c.loop-rest.state t) (sym (ap (λ cut. cut.0) c.token_of-token.ensures)) ∙ sym c.step.ensures ∙ c.in-Some.is)
+    read_step c.args.text.now rest c.skip_blanks-rest-in-loop-rest.result.now c.loop-rest.state c.in-Some.next
+    (some_left rest c.loop-rest-test.ensures)
+    (ap (λ t. after_token c.loop-rest.state t) (sym (ap (λ cut. cut.0) c.token_of-token.ensures)) ∙ sym c.step.ensures
+    ∙ c.in-Some.is)
     (c.skip_blanks-rest-in-loop-rest.ensures.value ∙ ap (λ cut. unblank cut.1) c.token_of-token.ensures)
     c.loop-rest.invariant
 
 pub returns : goal.returns
 returns c =
     c.ok_or.ensures.value ∙ ap (λ o. ok_or o (record { at = length c.args.text.now })) c.finish.ensures
-    ∙ read_finish c.args.text.now c.loop-rest.rest.now c.loop-rest.state (none_left c.loop-rest.rest.now c.loop-rest-test.ensures) c.loop-rest.invariant
+    ∙ read_finish c.args.text.now c.loop-rest.rest.now c.loop-rest.state
+    (none_left c.loop-rest.rest.now c.loop-rest-test.ensures) c.loop-rest.invariant

@@ -11,5 +11,6 @@ returns-in-Some-of c =
     let end = c.in-Some.end.now in
     let bytes = c.take_literal.new.bytes in
     let some : 0 < length bytes.items = search rules in
-    told_so c.args.text.now rest end (WantsKey Deletes) (Del bytes.items) (Del c.in-Some-of.key) (ap Del c.in-Some-of.ensures.bytes)
+    told_so c.args.text.now rest end (WantsKey Deletes) (Del bytes.items) (Del c.in-Some-of.key)
+    (ap Del c.in-Some-of.ensures.bytes)
     c.requires (del_leads rest end bytes c.in-Some.ensures some) (c.ends.ensures c.if-ends.true)

@@ -10,5 +10,7 @@ returns-in-Some-of c =
     let bytes = c.take_row.new.key in
     let value = c.take_row.new.value in
     let some : 0 < length bytes.items = search rules in
-    told_so c.args.text.now c.args.rest.now c.in-Some.end.now (WantsKey Puts) (Put bytes.items value) (Put c.in-Some-of.key value)
-    (ap (λ (key : List ℕ). Put key value) c.in-Some-of.ensures.bytes) c.requires (c.in-Some.ensures some) (c.ends.ensures c.if-ends.true)
+    told_so c.args.text.now c.args.rest.now c.in-Some.end.now (WantsKey Puts) (Put bytes.items value)
+    (Put c.in-Some-of.key value)
+    (ap (λ (key : List ℕ). Put key value) c.in-Some-of.ensures.bytes) c.requires (c.in-Some.ensures some)
+    (c.ends.ensures c.if-ends.true)

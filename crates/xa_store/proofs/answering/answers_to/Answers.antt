@@ -1,4 +1,5 @@
-use Rattle.std.proofs.Common.{◌+◌, ◌<◌, ◌≤◌, true, List, [], ◌∷◌, ◌++◌, length, take, refl, ap, sym, ◌∙◌, subst, rules, arith}
+use Rattle.std.proofs.Common.{◌+◌, ◌<◌, ◌≤◌, true, List, [], ◌∷◌, ◌++◌, length, take, refl, ap, sym, ◌∙◌, subst, rules}
+use Rattle.std.proofs.Common.{arith}
 use Rattle.std.proofs.lemmas.List.{take_all, take_more}
 use Rattle.std.proofs.lemmas.Option.{slice_get_read}
 use Rattle.xa_session.specs.Answer.{IsAnswered}
@@ -34,11 +35,14 @@ loop-index-preserved g c =
     goes_on base (known c.args.session.now.pass) (known c.loop-index.session.pass) (known c.answer_one.new.session.pass)
     (take c.loop-index.index c.args.lines.now) c.loop-index.answers.items
     statement c.in_ok-answer.answer
-    (g.met.L.DecisionLog.own_part c.loop-index.session.pass) (g.met.L.DecisionLog.own_part c.answer_one.new.session.pass) inv.2
-    (subst (λ b. IsAnswered b statement c.in_ok-answer.answer (known c.loop-index.session.pass) (known c.answer_one.new.session.pass)) inv.0 told.ends.answered) in (
+    (g.met.L.DecisionLog.own_part c.loop-index.session.pass)
+    (g.met.L.DecisionLog.own_part c.answer_one.new.session.pass) inv.2
+    (subst (λ b. IsAnswered b statement c.in_ok-answer.answer (known c.loop-index.session.pass)
+    (known c.answer_one.new.session.pass)) inv.0 told.ends.answered) in (
       told.stays.base ∙ inv.0,
       told.stays.belongs ∙ inv.1,
-      subst (λ items. IsOnTheWay base (known c.args.session.now.pass) (known c.answer_one.new.session.pass) (take (c.loop-index.index + 1) c.args.lines.now) items)
+      subst (λ items. IsOnTheWay base (known c.args.session.now.pass) (known c.answer_one.new.session.pass)
+          (take (c.loop-index.index + 1) c.args.lines.now) items)
           (sym {A = List Answer} c.push_reserved.ensures.items)
           (subst (λ lines. IsOnTheWay base (known c.args.session.now.pass) (known c.answer_one.new.session.pass) lines
           (c.loop-index.answers.items ++ c.in_ok-answer.answer ∷ [])) (sym taken) way),
@@ -64,7 +68,8 @@ returns-clause-ok g c =
       answered = record {
         number = inv.2.number;
         legal =
-            subst (λ given. IsLegal base (g.L.DecisionLog.known c.loop-index.session.pass).seen old given c.loop-index.answers.items)
+            subst (λ given. IsLegal base (g.L.DecisionLog.known c.loop-index.session.pass).seen old given
+            c.loop-index.answers.items)
             (take_all c.loop-index.index lines past) inv.2.legal;
         opened = λ line below. inv.5 line (omega (arith, below, past));
       };
@@ -82,14 +87,19 @@ returns-in_err-answer-clause-fault g c =
     let now = known c.loop-index.session.pass in
     let new = known c.answer_one.new.session.pass in
     let below : place < length lines = omega (arith, c.loop-index-test.true) in
-    let halts : Halts may c.args.session.now.base.now (g.L.DecisionLog.belongs_to c.args.session.now.pass).capacity statement place fault now new =
-    subst (λ base. Halts may base (g.L.DecisionLog.belongs_to c.args.session.now.pass).capacity statement place fault now new) inv.0
-    (subst (λ identity. Halts may c.loop-index.session.base.now identity.capacity statement place fault now new) inv.1 c.in_err-answer.ensures.ends) in
-    let stopped : Stops may c.args.session.now.base.now (g.L.DecisionLog.belongs_to c.args.session.now.pass).capacity (known c.args.session.now.pass) lines fault =
+    let halts : Halts may c.args.session.now.base.now (g.L.DecisionLog.belongs_to c.args.session.now.pass).capacity
+    statement place fault now new =
+    subst (λ base. Halts may base (g.L.DecisionLog.belongs_to c.args.session.now.pass).capacity statement place fault
+    now new) inv.0
+    (subst (λ identity. Halts may c.loop-index.session.base.now identity.capacity statement place fault now new) inv.1
+    c.in_err-answer.ensures.ends) in
+    let stopped : Stops may c.args.session.now.base.now (g.L.DecisionLog.belongs_to c.args.session.now.pass).capacity
+    (known c.args.session.now.pass) lines fault =
     stops may c.args.session.now.base.now (g.L.DecisionLog.belongs_to c.args.session.now.pass).capacity
     (known c.args.session.now.pass) now new lines c.loop-index.answers.items place statement fault below
     (slice_get_read lines (length lines) place statement refl below c.index-lines-index.is)
-    (g.met.L.DecisionLog.own_part c.loop-index.session.pass) (g.met.L.DecisionLog.own_part c.answer_one.new.session.pass) inv.2 halts in
+    (g.met.L.DecisionLog.own_part c.loop-index.session.pass)
+    (g.met.L.DecisionLog.own_part c.answer_one.new.session.pass) inv.2 halts in
     search rules
 
 pub returns-in_err-answer-clause-rest : goal.returns-in_err-answer-clause-rest
@@ -108,8 +118,11 @@ returns-in_err-answer-clause-rest g c =
     let below : place < length lines = omega (arith, c.loop-index-test.true) in
     let halts : Halts may base identity.capacity statement place fault now new =
     subst (λ b. Halts may b identity.capacity statement place fault now new) inv.0
-    (subst (λ i. Halts may c.loop-index.session.base.now i.capacity statement place fault now new) inv.1 c.in_err-answer.ensures.ends) in
+    (subst (λ i. Halts may c.loop-index.session.base.now i.capacity statement place fault now new) inv.1
+    c.in_err-answer.ensures.ends) in
     let further : GoesNoFurther base (known c.args.session.now.pass) lines fault new =
-    no_further may base identity.capacity (known c.args.session.now.pass) now new lines c.loop-index.answers.items place statement fault below
-    (g.met.L.DecisionLog.own_part c.loop-index.session.pass) (g.met.L.DecisionLog.own_part c.answer_one.new.session.pass) inv.2 halts in
+    no_further may base identity.capacity (known c.args.session.now.pass) now new lines c.loop-index.answers.items place
+    statement fault below
+    (g.met.L.DecisionLog.own_part c.loop-index.session.pass)
+    (g.met.L.DecisionLog.own_part c.answer_one.new.session.pass) inv.2 halts in
     search rules

@@ -8,18 +8,23 @@ use Rattle.xa_store.proofs.closing.+part.Goals as goal
 pub returns-clause-sessions : goal.returns-clause-sessions
 returns-clause-sessions g t c =
     IfOk-weaker c.and_both.result _ _
-    (λ both is. is.2 ∙ ap (λ list. list ++ c.in-Some.last.session ∷ []) (when_ok c.part-others.result _ is.0 c.part-others.ensures.sessions is.1)
-    ∙ sym (map-append (λ one. one.session) c.pop.new.self.items (c.in-Some.last ∷ [])) ∙ ap (map (λ one. one.session)) (sym c.in-Some.ensures.items))
+    (λ both is. is.2 ∙ ap (λ list. list ++ c.in-Some.last.session ∷ [])
+    (when_ok c.part-others.result _ is.0 c.part-others.ensures.sessions is.1)
+    ∙ sym (map-append (λ one. one.session) c.pop.new.self.items (c.in-Some.last ∷ []))
+    ∙ ap (map (λ one. one.session)) (sym c.in-Some.ensures.items))
     c.and_both.ensures
 
 pub returns-clause-done : goal.returns-clause-done
 returns-clause-done g t c =
     IfOk-weaker c.and_both.result _ _
-    (λ both is. is.3 ∙ ap (λ list. list ++ c.in-Some.last.done ∷ []) (when_ok c.part-others.result _ is.0 c.part-others.ensures.done is.1)
-    ∙ sym (map-append (λ one. one.done) c.pop.new.self.items (c.in-Some.last ∷ [])) ∙ ap (map (λ one. one.done)) (sym c.in-Some.ensures.items))
+    (λ both is. is.3 ∙ ap (λ list. list ++ c.in-Some.last.done ∷ [])
+    (when_ok c.part-others.result _ is.0 c.part-others.ensures.done is.1)
+    ∙ sym (map-append (λ one. one.done) c.pop.new.self.items (c.in-Some.last ∷ []))
+    ∙ ap (map (λ one. one.done)) (sym c.in-Some.ensures.items))
     c.and_both.ensures
 
-none_popped : {S : Type 0} (popped : Option S) (A : Type 0) (B : S → Type 0) → ((x : S) → popped ≡ Some x → ⊥) → MatchOption popped A B → A
+none_popped : {S : Type 0} (popped : Option S) (A : Type 0) (B : S → Type 0) → ((x : S) → popped ≡ Some x → ⊥)
+    → MatchOption popped A B → A
 none_popped None A B none is = is
 none_popped (Some x) A B none is = absurd (none x refl)
 

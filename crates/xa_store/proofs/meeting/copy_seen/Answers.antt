@@ -9,10 +9,12 @@ loop-at-preserved g c =
     let known = inv.2 in
     let seen = (g.L.DecisionLog.known c.args.session.now.pass).seen in
     let next : suc c.loop-at.at ≡ c.loop-at.at + 1 = omega arith in
-    let here : slice_get seen c.loop-at.at ≡ Some c.entry.result = ap (λ k. slice_get k.seen c.loop-at.at) (sym known) ∙ told.entry in (
+    let here : slice_get seen c.loop-at.at ≡ Some c.entry.result =
+    ap (λ k. slice_get k.seen c.loop-at.at) (sym known) ∙ told.entry in (
       told.base ∙ inv.0,
       told.belongs ∙ inv.1,
       told.same ∙ known,
-      c.in_ok-push.ensures.items ∙ ap (λ list. list ++ c.entry.result ∷ []) inv.3 ∙ sym (take-next seen c.loop-at.at c.entry.result here)
+      c.in_ok-push.ensures.items ∙ ap (λ list. list ++ c.entry.result ∷ []) inv.3
+          ∙ sym (take-next seen c.loop-at.at c.entry.result here)
           ∙ ap (λ n. take n seen) next,
     )

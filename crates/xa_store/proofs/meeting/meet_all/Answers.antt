@@ -6,7 +6,8 @@ use Rattle.xa_store.proofs.meeting.meet_all.Goals as goal
 
 pub meet_each-requires-2 : goal.meet_each-requires-2
 meet_each-requires-2 g c =
-    all_kept (λ old new. (new.base.now ≡ old.base.now) × (g.L.DecisionLog.belongs_to new.pass ≡ g.L.DecisionLog.belongs_to old.pass)
+    all_kept (λ old new. (new.base.now ≡ old.base.now) × (g.L.DecisionLog.belongs_to new.pass
+    ≡ g.L.DecisionLog.belongs_to old.pass)
     × MeetsFirst (g.L.DecisionLog.known old.pass) (g.L.DecisionLog.known new.pass))
     (λ session. g.L.DecisionLog.belongs_to session.pass ≡ g.L.DecisionLog.belongs_to c.args.last.now.pass)
     (λ session. g.L.DecisionLog.belongs_to session.pass ≡ g.L.DecisionLog.belongs_to c.meet_each.new.last.pass)
@@ -15,14 +16,17 @@ meet_each-requires-2 g c =
 
 pub returns-clause-others : goal.returns-clause-others
 returns-clause-others g c =
-    zip_through (λ old new. (new.base.now ≡ old.base.now) × (g.L.DecisionLog.belongs_to new.pass ≡ g.L.DecisionLog.belongs_to old.pass)
+    zip_through (λ old new. (new.base.now ≡ old.base.now)
+    × (g.L.DecisionLog.belongs_to new.pass ≡ g.L.DecisionLog.belongs_to old.pass)
     × MeetsFirst (g.L.DecisionLog.known old.pass) (g.L.DecisionLog.known new.pass))
     (λ old now new s t. (
       t.0 ∙ s.0,
       t.1 ∙ s.1,
-      meets_again (g.L.DecisionLog.known old.pass) (g.L.DecisionLog.known now.pass) (g.L.DecisionLog.known new.pass) s.2 t.2,
+      meets_again (g.L.DecisionLog.known old.pass) (g.L.DecisionLog.known now.pass)
+          (g.L.DecisionLog.known new.pass) s.2 t.2,
     ))
-    c.args.others.now.items c.meet_each.new.others.items c.meet_each-2.new.others.items c.meet_each.ensures.others c.meet_each-2.ensures.others
+    c.args.others.now.items c.meet_each.new.others.items c.meet_each-2.new.others.items c.meet_each.ensures.others
+    c.meet_each-2.ensures.others
 
 pub meet_each-requires : goal.meet_each-requires
 meet_each-requires g c = λ k d below. c.requires k d below ∙ sym c.look.ensures.belongs
@@ -42,10 +46,12 @@ returns-clause-last g c =
     let looked = g.L.DecisionLog.known c.look.new.self.pass in
     let once = g.L.DecisionLog.known c.meet_each.new.last.pass in
     let twice = g.L.DecisionLog.known c.meet_each-2.new.last.pass in
-    keeps_again old once twice (keeps_again old looked once (looks_keeps old looked c.look.ensures.looked) c.meet_each.ensures.last) c.meet_each-2.ensures.last
+    keeps_again old once twice (keeps_again old looked once
+    (looks_keeps old looked c.look.ensures.looked) c.meet_each.ensures.last) c.meet_each-2.ensures.last
 
 pub returns-clause-looked : goal.returns-clause-looked
-returns-clause-looked g c = omega (arith, c.look.ensures.looked.looks, c.meet_each.ensures.last.looks, c.meet_each-2.ensures.last.looks)
+returns-clause-looked g c =
+    omega (arith, c.look.ensures.looked.looks, c.meet_each.ensures.last.looks, c.meet_each-2.ensures.last.looks)
 
 pub returns-clause-taken_in : goal.returns-clause-taken_in
 returns-clause-taken_in g c =

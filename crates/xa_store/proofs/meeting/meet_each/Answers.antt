@@ -8,13 +8,15 @@ use Rattle.xa_store.proofs.meeting.meet_each.Goals as goal
 pub loop-index-init : goal.loop-index-init
 loop-index-init g c = (
   no_round (λ session. g.L.DecisionLog.known session.pass)
-      (λ old new. (new.base.now ≡ old.base.now) × (g.L.DecisionLog.belongs_to new.pass ≡ g.L.DecisionLog.belongs_to old.pass)
+      (λ old new. (new.base.now ≡ old.base.now) × (g.L.DecisionLog.belongs_to new.pass
+      ≡ g.L.DecisionLog.belongs_to old.pass)
       × MeetsFirst (g.L.DecisionLog.known old.pass) (g.L.DecisionLog.known new.pass))
       (λ session. (refl, refl, meets_nobody (g.L.DecisionLog.known session.pass)))
       (λ old now new s t. (
         t.0 ∙ s.0,
         t.1 ∙ s.1,
-        meets_again (g.L.DecisionLog.known old.pass) (g.L.DecisionLog.known now.pass) (g.L.DecisionLog.known new.pass) s.2 t.2,
+        meets_again (g.L.DecisionLog.known old.pass) (g.L.DecisionLog.known now.pass)
+            (g.L.DecisionLog.known new.pass) s.2 t.2,
       ))
       (λ old new s. s.2)
       c.args.others.now.items (g.L.DecisionLog.known c.args.last.now.pass),
@@ -35,28 +37,35 @@ loop-index-preserved g c =
     let below : c.loop-index.index < length c.loop-index.others.items =
     omega (arith, c.loop-index-test.true, c.loop-index.others.ok.0, c.args.others.now.ok.0, c.loop-index.invariant.4) in (
       next_round (λ session. g.L.DecisionLog.known session.pass)
-          (λ old new. (new.base.now ≡ old.base.now) × (g.L.DecisionLog.belongs_to new.pass ≡ g.L.DecisionLog.belongs_to old.pass)
+          (λ old new. (new.base.now ≡ old.base.now) × (g.L.DecisionLog.belongs_to new.pass
+          ≡ g.L.DecisionLog.belongs_to old.pass)
           × MeetsFirst (g.L.DecisionLog.known old.pass) (g.L.DecisionLog.known new.pass))
           (λ session. (refl, refl, meets_nobody (g.L.DecisionLog.known session.pass)))
           (λ old now new s t. (
             t.0 ∙ s.0,
             t.1 ∙ s.1,
-            meets_again (g.L.DecisionLog.known old.pass) (g.L.DecisionLog.known now.pass) (g.L.DecisionLog.known new.pass) s.2 t.2,
+            meets_again (g.L.DecisionLog.known old.pass) (g.L.DecisionLog.known now.pass)
+                (g.L.DecisionLog.known new.pass) s.2 t.2,
           ))
           (λ old new s. s.2)
-          c.args.others.now.items c.loop-index.others.items (g.L.DecisionLog.known c.args.last.now.pass) (g.L.DecisionLog.known c.loop-index.last.pass)
+          c.args.others.now.items c.loop-index.others.items (g.L.DecisionLog.known c.args.last.now.pass)
+          (g.L.DecisionLog.known c.loop-index.last.pass)
           (g.L.DecisionLog.known c.meet.new.other.pass)
           c.loop-index.index met c.meet.new.self below inv.0 (
             bases.0 ∙ ap (λ s. s.base.now) here,
             belong.0 ∙ ap (λ s. g.L.DecisionLog.belongs_to s.pass) here,
-            subst (λ s. MeetsFirst (g.L.DecisionLog.known s.pass) (g.L.DecisionLog.known c.meet.new.self.pass)) here c.meet.ensures.first,
+            subst (λ s. MeetsFirst (g.L.DecisionLog.known s.pass)
+                (g.L.DecisionLog.known c.meet.new.self.pass)) here c.meet.ensures.first,
           )
-          (subst (λ s. MeetsSecond (g.L.DecisionLog.known s.pass) (g.L.DecisionLog.known c.loop-index.last.pass) (g.L.DecisionLog.known c.meet.new.other.pass))
+          (subst (λ s. MeetsSecond (g.L.DecisionLog.known s.pass) (g.L.DecisionLog.known c.loop-index.last.pass)
+          (g.L.DecisionLog.known c.meet.new.other.pass))
           here c.meet.ensures.second),
-      All-set (λ session. g.L.DecisionLog.belongs_to session.pass ≡ g.L.DecisionLog.belongs_to c.meet.new.other.pass) c.loop-index.others.items
+      All-set (λ session. g.L.DecisionLog.belongs_to session.pass
+          ≡ g.L.DecisionLog.belongs_to c.meet.new.other.pass) c.loop-index.others.items
           c.loop-index.index
           c.meet.new.self
-          (belong.0 ∙ ap (λ s. g.L.DecisionLog.belongs_to s.pass) here ∙ inv.1 c.loop-index.index met below ∙ sym belong.1)
+          (belong.0 ∙ ap (λ s. g.L.DecisionLog.belongs_to s.pass) here ∙ inv.1 c.loop-index.index met below
+          ∙ sym belong.1)
           (λ k d below. inv.1 k d below ∙ sym belong.1),
       bases.1 ∙ inv.2,
       belong.1 ∙ inv.3,
@@ -65,7 +74,8 @@ loop-index-preserved g c =
     )
 
 pub index_mut-requires : goal.index_mut-requires
-index_mut-requires g c = omega (arith, c.loop-index-test.true, c.loop-index.others.ok.0, c.args.others.now.ok.0, c.loop-index.invariant.4)
+index_mut-requires g c =
+    omega (arith, c.loop-index-test.true, c.loop-index.others.ok.0, c.args.others.now.ok.0, c.loop-index.invariant.4)
 
 pub meet-requires : goal.meet-requires
 meet-requires g c =
@@ -75,10 +85,14 @@ meet-requires g c =
 
 pub returns-clause-seen : goal.returns-clause-seen
 returns-clause-seen g c k d below =
-    c.loop-index.invariant.0.seen k d (omega arith) (omega (arith, below, c.loop-index-test.false, c.args.others.now.ok.0, c.loop-index.invariant.4))
+    c.loop-index.invariant.0.seen k d (omega arith) (omega
+    (arith, below, c.loop-index-test.false, c.args.others.now.ok.0, c.loop-index.invariant.4))
 
 pub returns-clause-whole : goal.returns-clause-whole
 returns-clause-whole g c all =
     let w =
-    c.loop-index.invariant.0.whole all in
-    (w.0, λ k d below. w.1 k d (omega arith) (omega (arith, below, c.loop-index-test.false, c.args.others.now.ok.0, c.loop-index.invariant.4)))
+    c.loop-index.invariant.0.whole all in (
+      w.0,
+      λ k d below. w.1 k d (omega arith)
+          (omega (arith, below, c.loop-index-test.false, c.args.others.now.ok.0, c.loop-index.invariant.4)),
+    )

@@ -7,7 +7,8 @@ use Rattle.xa_store.proofs.meeting.meet_each.Given as goal
 abbrev pub invariant-loop-index : goal.invariant-loop-index
 invariant-loop-index g l =
     Round (λ session. g.L.DecisionLog.known session.pass)
-    (λ old new. (new.base.now ≡ old.base.now) × (g.L.DecisionLog.belongs_to new.pass ≡ g.L.DecisionLog.belongs_to old.pass)
+    (λ old new. (new.base.now ≡ old.base.now) × (g.L.DecisionLog.belongs_to new.pass
+    ≡ g.L.DecisionLog.belongs_to old.pass)
     × MeetsFirst (g.L.DecisionLog.known old.pass) (g.L.DecisionLog.known new.pass))
     l.fn.others.items l.others.items (g.L.DecisionLog.known l.fn.last.pass) (g.L.DecisionLog.known l.last.pass) l.index
     × All (λ session. g.L.DecisionLog.belongs_to session.pass ≡ g.L.DecisionLog.belongs_to l.last.pass) l.others.items

@@ -8,7 +8,8 @@ use Rattle.xa_store.proofs.racing.+start_all.Goals as goal
 
 pub start-requires : goal.start-requires
 start-requires g t c =
-    (All-pop (λ run. log_of run.pass ≡ identity_of c.args.store.now.log) c.args.runs.items c.pop.new.self.items (Some c.in-Some.run')
+    (All-pop (λ run. log_of run.pass ≡ identity_of c.args.store.now.log) c.args.runs.items c.pop.new.self.items
+    (Some c.in-Some.run')
     c.in-Some.ensures.items c.requires).1
 
 pub returns : goal.returns
@@ -25,6 +26,7 @@ returns g t c =
 pub start_all-others-requires : goal.start_all-others-requires
 start_all-others-requires g t c =
     let both =
-    All-pop (λ run. log_of run.pass ≡ identity_of c.args.store.now.log) c.args.runs.items c.pop.new.self.items (Some c.in-Some.run') c.in-Some.ensures.items
+    All-pop (λ run. log_of run.pass ≡ identity_of c.args.store.now.log) c.args.runs.items c.pop.new.self.items
+    (Some c.in-Some.run') c.in-Some.ensures.items
     c.requires in
     λ κs within. (search rules, (search rules, both.0))

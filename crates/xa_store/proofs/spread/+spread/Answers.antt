@@ -11,7 +11,8 @@ pub returns-in-Ok-clause-ok : goal.returns-in-Ok-clause-ok
 returns-in-Ok-clause-ok g t c =
     let task = c.in-Some.task in
     let same : c.in-Ok.thread.promise.0.value ≡ task = ap (λ p. p.0.value) c.in-Ok.ensures.ok ∙ c.of.ensures in
-    let kept : IfOk c.join.result (g.T.Task.gains task) = subst (λ one. IfOk c.join.result (g.T.Task.gains one)) same c.join.ensures.0 in
+    let kept : IfOk c.join.result (g.T.Task.gains task) =
+    subst (λ one. IfOk c.join.result (g.T.Task.gains one)) same c.join.ensures.0 in
     IfOk-weaker c.join_task.result _ _
     (λ all is.
     let rest = when_ok c.spread-others.result _ is.0 c.spread-others.ensures.ok is.2 in
@@ -24,7 +25,8 @@ pub returns-in-Ok-clause-err : goal.returns-in-Ok-clause-err
 returns-in-Ok-clause-err g t c =
     let task = c.in-Some.task in
     let same : c.in-Ok.thread.promise.0.value ≡ task = ap (λ p. p.0.value) c.in-Ok.ensures.ok ∙ c.of.ensures in
-    let kept : IfErr c.join.result (g.T.Task.stops task) = subst (λ one. IfErr c.join.result (g.T.Task.stops one)) same c.join.ensures.1 in
+    let kept : IfErr c.join.result (g.T.Task.stops task) =
+    subst (λ one. IfErr c.join.result (g.T.Task.stops one)) same c.join.ensures.1 in
     IfErr-weaker c.join_task.result _ _
     (λ first_fault is.
     ⊎_elim
@@ -61,13 +63,18 @@ pub returns-in-Ok-clause-lowest : goal.returns-in-Ok-clause-lowest
 returns-in-Ok-clause-lowest g t c =
     let task = c.in-Some.task in
     let same : c.in-Ok.thread.promise.0.value ≡ task = ap (λ p. p.0.value) c.in-Ok.ensures.ok ∙ c.of.ensures in
-    let does : IfOk c.join.result (g.T.Task.gains task) = subst (λ one. IfOk c.join.result (g.T.Task.gains one)) same c.join.ensures.0 in
-    let stopped : IfErr c.join.result (g.T.Task.stops task) = subst (λ one. IfErr c.join.result (g.T.Task.stops one)) same c.join.ensures.1 in
+    let does : IfOk c.join.result (g.T.Task.gains task) =
+    subst (λ one. IfOk c.join.result (g.T.Task.gains one)) same c.join.ensures.0 in
+    let stopped : IfErr c.join.result (g.T.Task.stops task) =
+    subst (λ one. IfErr c.join.result (g.T.Task.stops one)) same c.join.ensures.1 in
     IfErr-weaker c.join_task.result _ _
     (λ told is.
-    told_more g.T.Task.number_of g.T.Task.gains g.T.Task.stops c.pop.new.self.items task c.args.tasks.items (sym c.in-Some.ensures.items)
-    c.spread-others.result c.join.result told c.get-number.result (c.get-number.ensures.value ∙ c.number.ensures) c.get-number.ensures.in_range.1
-    c.spread-others.ensures.ok c.spread-others.ensures.lowest does (IfErr-weaker c.join.result _ _ (λ fault stops. inr stops) stopped) is)
+    told_more g.T.Task.number_of g.T.Task.gains g.T.Task.stops c.pop.new.self.items task c.args.tasks.items
+    (sym c.in-Some.ensures.items)
+    c.spread-others.result c.join.result told c.get-number.result
+    (c.get-number.ensures.value ∙ c.number.ensures) c.get-number.ensures.in_range.1
+    c.spread-others.ensures.ok c.spread-others.ensures.lowest does
+    (IfErr-weaker c.join.result _ _ (λ fault stops. inr stops) stopped) is)
     c.join_task.ensures.lowest
 
 pub returns-clause-lowest : goal.returns-clause-lowest
@@ -75,7 +82,9 @@ returns-clause-lowest g t c =
     let task = c.in-Some.task in
     IfErr-weaker c.join_task-in-Err.result _ _
     (λ told is.
-    told_more g.T.Task.number_of g.T.Task.gains g.T.Task.stops c.pop.new.self.items task c.args.tasks.items (sym c.in-Some.ensures.items)
-    c.spread-others.result (Err ThreadRefused) told c.get-number.result (c.get-number.ensures.value ∙ c.number.ensures) c.get-number.ensures.in_range.1
+    told_more g.T.Task.number_of g.T.Task.gains g.T.Task.stops c.pop.new.self.items task c.args.tasks.items
+    (sym c.in-Some.ensures.items)
+    c.spread-others.result (Err ThreadRefused) told c.get-number.result
+    (c.get-number.ensures.value ∙ c.number.ensures) c.get-number.ensures.in_range.1
     c.spread-others.ensures.ok c.spread-others.ensures.lowest tt (inl refl) is)
     c.join_task-in-Err.ensures.lowest

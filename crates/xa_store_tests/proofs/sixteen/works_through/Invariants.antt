@@ -2,4 +2,5 @@ use Rattle.std.proofs.Common.{◌≡◌}
 use Rattle.xa_store_tests.proofs.sixteen.works_through.Given as goal
 
 abbrev pub invariant-loop-statement : goal.invariant-loop-statement
-invariant-loop-statement g l = g.L.DecisionLog.belongs_to l.worked.session.pass ≡ g.L.DecisionLog.belongs_to l.fn.worked.session.pass
+invariant-loop-statement g l =
+    g.L.DecisionLog.belongs_to l.worked.session.pass ≡ g.L.DecisionLog.belongs_to l.fn.worked.session.pass

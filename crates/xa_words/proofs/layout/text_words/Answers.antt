@@ -4,7 +4,8 @@ use Rattle.xa_words.proofs.Texts.{past_the_end}
 use Rattle.xa_words.proofs.layout.text_words.Goals as goal
 
 -- a text of at most eight bytes fills one word
-one_filled : (text : List ℕ) (first : ℕ) → first ≡ text_word text 0 → length text ≤ 8 → first ∷ 0 ∷ 0 ∷ 0 ∷ 0 ∷ 0 ∷ 0 ∷ 0 ∷ [] ≡ text_words text
+one_filled : (text : List ℕ) (first : ℕ) → first ≡ text_word text 0 → length text ≤ 8
+    → first ∷ 0 ∷ 0 ∷ 0 ∷ 0 ∷ 0 ∷ 0 ∷ 0 ∷ [] ≡ text_words text
 one_filled text first is few =
     let b : text_word text 8 ≡ 0 = past_the_end text 8 few in
     let c : text_word text 16 ≡ 0 = past_the_end text 16 (omega (arith, few)) in

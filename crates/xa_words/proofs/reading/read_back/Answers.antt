@@ -7,7 +7,8 @@ use Rattle.xa_words.proofs.reading.read_back.Goals as goal
 pub returns-in_err-session : goal.returns-in_err-session
 returns-in_err-session c entry is same =
     let p = pieces_of c.args.words.now entry same in
-    let no = c.in_err-session.ensures.in_range.1 (omega (arith, p.session, is.first_session), omega (arith, p.session, is.last_session)) in cc
+    let no = c.in_err-session.ensures.in_range.1
+    (omega (arith, p.session, is.first_session), omega (arith, p.session, is.last_session)) in cc
 
 pub returns-in_err-first : goal.returns-in_err-first
 returns-in_err-first c entry is same =
@@ -19,7 +20,8 @@ pub returns-in_err-second : goal.returns-in_err-second
 returns-in_err-second c entry is same =
     let p = pieces_of c.args.words.now entry same in
     let w = within entry.statement is.kind is.limits in
-    absurd (c.in_err-second.ensures.none (parts_of entry.statement).second w.second (sym p.second_length) (sym p.second))
+    absurd (c.in_err-second.ensures.none (parts_of entry.statement).second w.second (sym p.second_length)
+    (sym p.second))
 
 pub returns-in_err-statement : goal.returns-in_err-statement
 returns-in_err-statement c entry is same =

@@ -3,4 +3,5 @@ use Rattle.xa_xid.proofs.Orders.{xids_total, exact_xids, ties_exactly}
 use Rattle.xa_xid.proofs.laws.order_of_xids.Goals as goal
 
 pub returns-clause-ties : goal.returns-clause-ties
-returns-clause-ties c = ties_exactly xid_cmp xids_total exact_xids c.cmp.result c.args.left.now c.args.right.now (c.cmp.ensures)
+returns-clause-ties c =
+    ties_exactly xid_cmp xids_total exact_xids c.cmp.result c.args.left.now c.args.right.now (c.cmp.ensures)

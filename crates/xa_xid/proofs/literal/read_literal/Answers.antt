@@ -27,4 +27,5 @@ pub returns-in_err-bytes-clause-faulty : goal.returns-in_err-bytes-clause-faulty
 returns-in_err-bytes-clause-faulty c =
     let fault = c.in_err-bytes.field-0.0 in
     let same : c.from_residual.result ≡ Err fault = search rules in
-    rw same (literal_fault_from c.args.text.now c.args.at (Err fault) (ap literal_ahead (sym c.text_from.ensures) ∙ c.in_err-bytes.ensures.value))
+    rw same (literal_fault_from c.args.text.now c.args.at (Err fault)
+    (ap literal_ahead (sym c.text_from.ensures) ∙ c.in_err-bytes.ensures.value))

@@ -27,4 +27,5 @@ pub returns-in_err-number-clause-faulty : goal.returns-in_err-number-clause-faul
 returns-in_err-number-clause-faulty c =
     let fault = c.in_err-number.field-0.0 in
     let same : c.from_residual.result ≡ Err fault = search rules in
-    rw same (number_fault_from c.args.text.now c.args.at (Err fault) (ap number_ahead (sym c.text_from.ensures) ∙ c.in_err-number.ensures.value))
+    rw same (number_fault_from c.args.text.now c.args.at (Err fault)
+    (ap number_ahead (sym c.text_from.ensures) ∙ c.in_err-number.ensures.value))

@@ -24,10 +24,13 @@ returns-in_err-value c =
     let value = c.loop-digit.value in
     let next : Reached c.args.base digits (place + 1) (value * c.args.base + digit_value (get_or digits place 0)) =
     reached_more c.args.base digits place value c.loop-digit-test.true c.loop-digit.invariant in
-    let no : c.in_ok-checked_mul.field-0 + c.value_of_digit.result < 18446744073709551616 → ⊥ = c.in_err-value.ensures in
+    let no : c.in_ok-checked_mul.field-0 + c.value_of_digit.result < 18446744073709551616 → ⊥ =
+    c.in_err-value.ensures in
     let product : c.in_ok-checked_mul.field-0 ≡ value * c.args.base = c.in_ok-checked_mul.ensures.1 in
-    let past : 18446744073709551616 ≤ value * c.args.base + digit_value (get_or digits place 0) = omega (arith, no, product, c.value_of_digit.ensures.value) in
-    rw c.from_residual-in_err-value.ensures (reached_past _ digits (place + 1) _ 18446744073709551616 c.requires.positive past next)
+    let past : 18446744073709551616 ≤ value * c.args.base + digit_value (get_or digits place 0) =
+    omega (arith, no, product, c.value_of_digit.ensures.value) in
+    rw c.from_residual-in_err-value.ensures (reached_past _ digits
+    (place + 1) _ 18446744073709551616 c.requires.positive past next)
 
 pub loop-digit-preserved : goal.loop-digit-preserved
 loop-digit-preserved c =
@@ -41,4 +44,5 @@ loop-digit-preserved c =
     rw same next
 
 pub returns : goal.returns
-returns c = reached_all c.args.base c.args.digits.now c.loop-digit.digit-index c.loop-digit.value c.loop-digit-test.false c.loop-digit.invariant
+returns c = reached_all c.args.base c.args.digits.now c.loop-digit.digit-index c.loop-digit.value
+    c.loop-digit-test.false c.loop-digit.invariant

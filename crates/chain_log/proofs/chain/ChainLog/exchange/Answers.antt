@@ -8,7 +8,8 @@ use Rattle.chain_log.proofs.chain.ChainLog.exchange.Goals as goal
 
 pub compare_exchange_with-requires-clause-allowed : goal.compare_exchange_with-requires-clause-allowed
 compare_exchange_with-requires-clause-allowed c =
-    exchange_step c.args.self.now.table.inner.shared.key c.args.self.now.table.inner.shared.table_id.slots c.args.seat.now.id c.args.old c.args.own
+    exchange_step c.args.self.now.table.inner.shared.key c.args.self.now.table.inner.shared.table_id.slots
+    c.args.seat.now.id c.args.old c.args.own
     (pass_view_of c.args.seat.now.me.0) c.args.entry.now
     c.requires.old c.requires.own c.session-session.ensures.entry c.requires.entry c.requires.whole c.requires.room
 

@@ -29,7 +29,8 @@ loop-index-preserved c =
           let before = inv.read row entry named is in
           let told = c.read_word.ensures.read row entry name there before.0 before.1 in (
             (λ p. told.0),
-            one_more c.loop-index.words (words_of entry) c.loop-index.index c.read_word.result (omega (arith, inv.sized, c.loop-index-test.true))
+            one_more c.loop-index.words (words_of entry) c.loop-index.index c.read_word.result
+                (omega (arith, inv.sized, c.loop-index-test.true))
                 told.1 before.1,
           );
     }
@@ -40,5 +41,6 @@ returns-clause-read c row entry named is =
     let done = c.loop-index-test.false in
     let told = inv.read row entry named is in (
       told.0 (omega arith),
-      ext_get_or 0 c.loop-index.words (words_of entry) (inv.sized ∙ sym (length-words_of entry)) (λ k below. told.1 k (omega (arith, inv.sized))),
+      ext_get_or 0 c.loop-index.words (words_of entry) (inv.sized ∙ sym (length-words_of entry))
+          (λ k below. told.1 k (omega (arith, inv.sized))),
     )

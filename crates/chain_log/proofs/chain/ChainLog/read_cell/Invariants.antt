@@ -12,7 +12,8 @@ invariant-loop-index l = record {
   seat : IsSeat l.self l.seat;
   sized : length l.words ≡ 21;
   same : pass_view l.seat ≡ pass_view l.fn.seat;
-  read : (row : ℕ) (entry : Entry) → l.name ≡ name_before (pass_view l.fn.seat).sessions (pass_view l.fn.seat).known.seen (row + 1)
+  read : (row : ℕ) (entry : Entry) → l.name ≡ name_before (pass_view l.fn.seat).sessions
+      (pass_view l.fn.seat).known.seen (row + 1)
       → slice_get (pass_view l.fn.seat).known.seen row ≡ Some entry
       → (0 < l.index → IsEntry entry) × ((k : ℕ) → k < l.index → get_or l.words k 0 ≡ get_or (words_of entry) k 0);
 }

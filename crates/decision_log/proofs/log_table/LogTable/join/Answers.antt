@@ -10,6 +10,7 @@ join_seat-requires g c = (
   ap (λ me. me.1) c.requires.other.held,
   c.args.self.now.some,
   at_join c.args.seat.now.me c.args.other.me c.requires.seat.held c.requires.other.held
-      (c.requires.rule.join c.args.self.now.inner.shared.key c.args.seat.now.id c.args.other.id (pass_view_of c.args.seat.now.me.0)
+      (c.requires.rule.join c.args.self.now.inner.shared.key c.args.seat.now.id c.args.other.id
+      (pass_view_of c.args.seat.now.me.0)
       (pass_view_of c.args.other.me.0)),
 )

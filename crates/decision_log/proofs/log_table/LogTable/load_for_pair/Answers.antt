@@ -6,6 +6,7 @@ pub load-requires : goal.load-requires
 load-requires g c = (
   c.requires.seat.table,
   c.args.self.now.some,
-  at_meet c.requires.rule c.args.self.now.inner.shared.key c.args.self.now.inner.shared.table_id.slots c.args.seat.now.id (pass_view_of c.args.seat.now.me.0)
+  at_meet c.requires.rule c.args.self.now.inner.shared.key c.args.self.now.inner.shared.table_id.slots
+      c.args.seat.now.id (pass_view_of c.args.seat.now.me.0)
       (second_of c.args.seat.now.me.0) c.args.seat.now.me c.requires.seat.held,
 )

@@ -7,5 +7,6 @@ split_seat-requires g c = (
   c.requires.seat.table,
   c.args.self.now.some,
   at_spare c.args.seat.now.me c.requires.seat.held
-      (c.requires.rule.split_empty c.args.self.now.inner.shared.key c.args.seat.now.id (pass_view_of c.args.seat.now.me.0)),
+      (c.requires.rule.split_empty c.args.self.now.inner.shared.key c.args.seat.now.id
+      (pass_view_of c.args.seat.now.me.0)),
 )

@@ -20,7 +20,8 @@ loop-index-preserved c =
           ap (λ h. slice_get h.known.seen c.args.place) inv.same ∙ is in
           let told = c.load_word.ensures.read c.args.place c.loop-index.index entry refl c.loop-index-test.true there in (
             (λ p. told.0),
-            one_more c.loop-index.words (words_of entry) c.loop-index.index c.load_word.result (omega (arith, inv.sized, c.loop-index-test.true)) told.1
+            one_more c.loop-index.words (words_of entry) c.loop-index.index c.load_word.result
+                (omega (arith, inv.sized, c.loop-index-test.true)) told.1
                 (inv.read entry is).1,
           );
     }
@@ -31,5 +32,6 @@ returns-clause-read c entry is =
     let done = c.loop-index-test.false in
     let told = inv.read entry is in (
       told.0 (omega arith),
-      ext_get_or 0 c.loop-index.words (words_of entry) (inv.sized ∙ sym (length-words_of entry)) (λ k below. told.1 k (omega (arith, inv.sized))),
+      ext_get_or 0 c.loop-index.words (words_of entry) (inv.sized ∙ sym (length-words_of entry))
+          (λ k below. told.1 k (omega (arith, inv.sized))),
     )

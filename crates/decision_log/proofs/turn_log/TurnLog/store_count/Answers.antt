@@ -7,7 +7,8 @@ use Rattle.decision_log.proofs.turn_log.TurnLog.store_count.Goals as goal
 
 pub store-requires-clause-allowed : goal.store-requires-clause-allowed
 store-requires-clause-allowed c =
-    publish_step c.args.self.now.table.inner.shared.key c.args.self.now.table.inner.shared.table_id.slots c.args.seat.now.id c.args.new
+    publish_step c.args.self.now.table.inner.shared.key c.args.self.now.table.inner.shared.table_id.slots
+    c.args.seat.now.id c.args.new
     (pass_view_of c.args.seat.now.me.0) c.args.entry.now
     c.requires.next c.requires.fresh c.session-session.ensures.entry c.requires.own c.requires.whole c.requires.room
 

@@ -21,12 +21,16 @@ pub returns-clause-owned : goal.returns-clause-owned
 returns-clause-owned c =
     let is = c.in_ok-note.ensures.server ∙ c.in_ok-accept.ensures.ok in
     subst (IsFollowed c.note.new.self.owned) (sym is)
-    (followed_then c.args.self.now.server c.args.session c.args.statement.now c.args.self.now.owned c.note.new.self.owned c.reply.ensures.lock_law
+    (followed_then c.args.self.now.server c.args.session c.args.statement.now c.args.self.now.owned
+    c.note.new.self.owned c.reply.ensures.lock_law
     (subst LockLaw is c.keeps_lock_law.ensures)
-    (ap is_refused (sym c.in_ok-reply.ensures.reply) ∙ sym c.is_refused.ensures ∙ c.if-is_refused.false) c.requires c.in_ok-note.ensures.owned)
+    (ap is_refused (sym c.in_ok-reply.ensures.reply) ∙ sym c.is_refused.ensures
+    ∙ c.if-is_refused.false) c.requires c.in_ok-note.ensures.owned)
 
 pub returns-clause-lives : goal.returns-clause-lives
 returns-clause-lives c =
-    accepted_notes c.args.self.now.server c.args.session c.args.statement.now (owned_at c.args.self.now.owned c.args.session) c.args.self.now.lives
-    c.note.new.self.lives (ap is_refused (sym c.in_ok-reply.ensures.reply) ∙ sym c.is_refused.ensures ∙ c.if-is_refused.false)
+    accepted_notes c.args.self.now.server c.args.session c.args.statement.now
+    (owned_at c.args.self.now.owned c.args.session) c.args.self.now.lives
+    c.note.new.self.lives (ap is_refused (sym c.in_ok-reply.ensures.reply) ∙ sym c.is_refused.ensures
+    ∙ c.if-is_refused.false)
     (c.requires c.args.session) c.in_ok-note.ensures.lives

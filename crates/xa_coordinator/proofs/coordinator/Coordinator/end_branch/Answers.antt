@@ -6,5 +6,6 @@ use Rattle.xa_coordinator.proofs.coordinator.Coordinator.end_branch.Goals as goa
 
 pub returns-clause-says : goal.returns-clause-says
 returns-clause-says g c =
-    subst (λ xid. AtStore g.S.Speak.view c.args.store (IsToldAs (End xid) c.execute_at.result) c.args.self.now.stores.items c.execute_at.new.self.stores.items)
+    subst (λ xid. AtStore g.S.Speak.view c.args.store (IsToldAs
+    (End xid) c.execute_at.result) c.args.self.now.stores.items c.execute_at.new.self.stores.items)
     c.branch-self.ensures c.execute_at.ensures.says

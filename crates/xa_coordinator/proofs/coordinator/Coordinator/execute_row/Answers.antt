@@ -23,14 +23,17 @@ invariant_of-self g c =
     let new = c.execute.new.self in
     let xid : Xid = branch_xid me.name.items c.args.number c.args.store in
     let there : slice_get me.stores.items c.args.store ≡ Some old =
-    slice_get-get_or me.stores.items c.args.store old (omega (arith, c.requires.store)) ∙ ap Some (sym c.index_mut.ensures.value) in
+    slice_get-get_or me.stores.items c.args.store old (omega (arith, c.requires.store))
+    ∙ ap Some (sym c.index_mut.ensures.value) in
     let association : association_seen (view old) ≡ Active xid =
     me.open_there c.args.store old (record { number = c.args.number; phase = PhaseActive }) there c.requires.working in
     record {
       named = me.named;
       sized = me.sized;
-      open_there = unmarked view me.name.items me.stores.items me.branches c.args.store old new c.index_mut.ensures.value me.open_there
-          (active_still c.args.statement.now c.execute.result xid (view old) (view new) (g.met.S.Speak.lawful new) c.execute.ensures.stays
+      open_there = unmarked view me.name.items me.stores.items me.branches c.args.store old new
+          c.index_mut.ensures.value me.open_there
+          (active_still c.args.statement.now c.execute.result xid (view old) (view new)
+          (g.met.S.Speak.lawful new) c.execute.ensures.stays
           (g.met.S.Speak.own_part old) (g.met.S.Speak.own_part new) association c.requires.row
           c.execute.ensures.answered c.execute.ensures.fails c.execute.ensures.lasts);
     }
@@ -46,16 +49,19 @@ returns-clause-replied g c =
     let new = c.execute.new.self in
     let xid : Xid = branch_xid me.name.items c.args.number c.args.store in
     let there : slice_get me.stores.items c.args.store ≡ Some old =
-    slice_get-get_or me.stores.items c.args.store old (omega (arith, c.requires.store)) ∙ ap Some (sym c.index_mut.ensures.value) in
+    slice_get-get_or me.stores.items c.args.store old (omega (arith, c.requires.store))
+    ∙ ap Some (sym c.index_mut.ensures.value) in
     let association : association_seen (view old) ≡ Active xid =
     me.open_there c.args.store old (record { number = c.args.number; phase = PhaseActive }) there c.requires.working in
-    at_place view me.name.items (IsReplied c.args.statement.now c.in_ok-answer.answer.reply xid) me.stores.items c.args.store old new c.index_mut.ensures.value
+    at_place view me.name.items (IsReplied c.args.statement.now c.in_ok-answer.answer.reply xid) me.stores.items
+    c.args.store old new c.index_mut.ensures.value
     (record {
       log = c.in_ok-answer.ensures.stays;
       place = c.in_ok-answer.answer.place;
       answered = c.in_ok-answer.ensures.answered;
       active =
-          active_there c.args.statement.now c.in_ok-answer.answer xid (view old) (view new) (g.met.S.Speak.lawful new) c.in_ok-answer.ensures.stays
+          active_there c.args.statement.now c.in_ok-answer.answer xid (view old) (view new)
+          (g.met.S.Speak.lawful new) c.in_ok-answer.ensures.stays
           (g.met.S.Speak.own_part old) (g.met.S.Speak.own_part new) association c.in_ok-answer.ensures.answered;
     })
 
@@ -67,7 +73,8 @@ returns-in_err-answer-clause-undone g c =
     let p = err_from_is_err_and c.from_residual.result c.from_residual.ensures.1 in
     rw (p.1, p.2)
     (at_place g.S.Speak.view c.args.self.now.name.items
-    (IsUndone c.args.statement.now (Session c.in_err-answer.field-0.0)) c.args.self.now.stores.items c.args.store c.index_mut.result.now c.execute.new.self
+    (IsUndone c.args.statement.now (Session c.in_err-answer.field-0.0)) c.args.self.now.stores.items c.args.store
+    c.index_mut.result.now c.execute.new.self
     c.index_mut.ensures.value
     (is_undone c.args.statement.now (Session c.in_err-answer.field-0.0) _ _ c.in_err-answer.ensures.stays
     (c.in_err-answer.ensures.fails, c.in_err-answer.ensures.lasts)))

@@ -11,10 +11,14 @@ returns-clause-agrees g c =
     let decisions = c.args.decisions.now in
     let transaction = c.args.prepared.transaction in
     let vote_kind = c.args.prepared.vote_kind in
-    subst (λ (name : List ℕ). EachStore g.S.Speak.view (Agrees decisions name) c.args.self.now.stores.items c.finish_each.new.self.stores.items) c.requires.name
+    subst (λ (name : List ℕ). EachStore g.S.Speak.view (Agrees decisions name) c.args.self.now.stores.items
+    c.finish_each.new.self.stores.items) c.requires.name
     (ending_agrees g.S.Speak.view decisions transaction c.args.self.now.branches
-    (finish_for (is_decided decisions transaction.number) vote_kind) c.finish_each.result c.args.self.now.stores.items c.finish_each.new.self.stores.items
+    (finish_for (is_decided decisions transaction.number) vote_kind) c.finish_each.result c.args.self.now.stores.items
+    c.finish_each.new.self.stores.items
     (allows_for decisions transaction.number vote_kind)
-    (subst (λ closing. EndsAs g.S.Speak.view c.args.self.now.branches transaction closing c.finish_each.result c.args.self.now.stores.items
+    (subst (λ closing. EndsAs g.S.Speak.view c.args.self.now.branches transaction closing c.finish_each.result
+    c.args.self.now.stores.items
     c.finish_each.new.self.stores.items)
-    (c.finish_for-closing.ensures ∙ ap (λ decided. finish_for decided vote_kind) c.is_decided.ensures) c.finish_each.ensures.ends))
+    (c.finish_for-closing.ensures ∙ ap (λ decided. finish_for decided vote_kind) c.is_decided.ensures)
+    c.finish_each.ensures.ends))

@@ -13,7 +13,8 @@ returns-in-Closed-clause-closed g c =
       subst (λ found. AtStore g.S.Speak.view c.args.store
           (ClosesAs (ends_first c.args.closing (has_working_branch c.args.self.now.branches c.args.store c.args.number))
           (finish_statement c.args.closing (branch_xid c.args.self.now.name.items c.args.number c.args.store))
-          (branch_xid c.args.self.now.name.items c.args.number c.args.store) (Ok found)) c.args.self.now.stores.items c.finish_open.new.self.stores.items)
+          (branch_xid c.args.self.now.name.items c.args.number c.args.store)
+          (Ok found)) c.args.self.now.stores.items c.finish_open.new.self.stores.items)
           c.in-Closed.is c.in_ok-finish_open.ensures.closes,
     )
 
@@ -24,6 +25,7 @@ returns-in-Missing-clause-closed g c =
       subst (λ found. AtStore g.S.Speak.view c.args.store
           (ClosesAs (ends_first c.args.closing (has_working_branch c.args.self.now.branches c.args.store c.args.number))
           (finish_statement c.args.closing (branch_xid c.args.self.now.name.items c.args.number c.args.store))
-          (branch_xid c.args.self.now.name.items c.args.number c.args.store) (Ok found)) c.args.self.now.stores.items c.finish_open.new.self.stores.items)
+          (branch_xid c.args.self.now.name.items c.args.number c.args.store)
+          (Ok found)) c.args.self.now.stores.items c.finish_open.new.self.stores.items)
           c.in-Missing.is c.in_ok-finish_open.ensures.closes,
     )

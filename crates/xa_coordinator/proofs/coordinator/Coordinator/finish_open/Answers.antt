@@ -19,9 +19,11 @@ returns-then-ends-clause-closes g c =
     ap (ends_first c.args.closing) (sym c.is_working.ensures) ∙ sym c.ends_first-ends.ensures ∙ c.if-ends.true in
     let rolls : c.args.closing ≡ RollBack = ends_roll_back c.args.closing _ first in
     subst (λ (b : Bool). AtStore g.S.Speak.view c.args.store
-    (ClosesAs b (finish_statement c.args.closing xid) xid c.end_and_roll_back.result) me.stores.items c.end_and_roll_back.new.self.stores.items) (sym first)
+    (ClosesAs b (finish_statement c.args.closing xid) xid c.end_and_roll_back.result) me.stores.items
+    c.end_and_roll_back.new.self.stores.items) (sym first)
     (subst (λ (closing : Closing). AtStore g.S.Speak.view c.args.store
-    (ClosesAs true (finish_statement closing xid) xid c.end_and_roll_back.result) me.stores.items c.end_and_roll_back.new.self.stores.items) (sym rolls)
+    (ClosesAs true (finish_statement closing xid) xid c.end_and_roll_back.result) me.stores.items
+    c.end_and_roll_back.new.self.stores.items) (sym rolls)
     c.end_and_roll_back.ensures.closes)
 
 pub returns-clause-closes : goal.returns-clause-closes
@@ -31,8 +33,10 @@ returns-clause-closes g c =
     let first : ends_first c.args.closing (has_working_branch me.branches c.args.store c.args.number) ≡ false =
     ap (ends_first c.args.closing) (sym c.is_working.ensures) ∙ sym c.ends_first-ends.ensures ∙ c.if-ends.false in
     subst (λ (b : Bool). AtStore g.S.Speak.view c.args.store
-    (ClosesAs b (finish_statement c.args.closing xid) xid c.finish_branch.result) me.stores.items c.finish_branch.new.self.stores.items) (sym first)
+    (ClosesAs b (finish_statement c.args.closing xid) xid c.finish_branch.result) me.stores.items
+    c.finish_branch.new.self.stores.items) (sym first)
     (at_weaker g.S.Speak.view c.args.store (SaysAs (finish_statement c.args.closing xid) c.finish_branch.result)
     (ClosesAs false (finish_statement c.args.closing xid) xid c.finish_branch.result)
-    (said_alone (finish_statement c.args.closing xid) xid c.finish_branch.result) me.stores.items c.finish_branch.new.self.stores.items
+    (said_alone (finish_statement c.args.closing xid) xid c.finish_branch.result) me.stores.items
+    c.finish_branch.new.self.stores.items
     c.finish_branch.ensures.finishes)

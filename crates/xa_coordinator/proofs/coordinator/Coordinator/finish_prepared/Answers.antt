@@ -21,26 +21,33 @@ returns-in-Ok-clause-marks g c = changes_then c.args.store _ _ _ c.in-Ok.ensures
 pub returns-in-Ok-clause-settled : goal.returns-in-Ok-clause-settled
 returns-in-Ok-clause-settled g c =
     let me = c.args.self.now in
-    freed_finished g.S.Speak.view c.args.decisions.now me.name.items c.args.store c.list_and_finish.result me.stores.items c.disconnect.new.self.stores.items
+    freed_finished g.S.Speak.view c.args.decisions.now me.name.items c.args.store c.list_and_finish.result
+    me.stores.items c.disconnect.new.self.stores.items
     c.list_and_finish.new.self.stores.items
     c.in-Ok.ensures.frame.count c.in-Ok.ensures.done
     (subst (λ (name : Text). IfOk c.list_and_finish.result
     (λ tally. AtStore g.S.Speak.view c.args.store
-    (IsFinished c.args.decisions.now name.items c.args.store tally) c.disconnect.new.self.stores.items c.list_and_finish.new.self.stores.items))
+    (IsFinished c.args.decisions.now name.items c.args.store tally) c.disconnect.new.self.stores.items
+    c.list_and_finish.new.self.stores.items))
     c.in-Ok.ensures.name c.list_and_finish.ensures.finished)
 
 pub returns-in-Ok-clause-broken : goal.returns-in-Ok-clause-broken
 returns-in-Ok-clause-broken g c =
     let me = c.args.self.now in
-    breaks_freed g.S.Speak.view c.args.decisions.now me.name.items c.args.store c.list_and_finish.result me.branches c.list_and_finish.new.self.branches
+    breaks_freed g.S.Speak.view c.args.decisions.now me.name.items c.args.store c.list_and_finish.result me.branches
+    c.list_and_finish.new.self.branches
     me.stores.items c.disconnect.new.self.stores.items c.list_and_finish.new.self.stores.items
     c.in-Ok.ensures.frame.count c.list_and_finish.ensures.free c.in-Ok.ensures.done
     (subst (λ (name : Text). IfErr c.list_and_finish.result
     (λ cause. AtStore g.S.Speak.view c.args.store
-    (λ freed b. (before : SessionView) → IsDisconnected before freed → IsCutOff c.args.decisions.now name.items c.args.store before cause b)
+    (λ freed b. (before : SessionView) → IsDisconnected before freed
+    → IsCutOff c.args.decisions.now name.items c.args.store before cause b)
     c.disconnect.new.self.stores.items c.list_and_finish.new.self.stores.items))
     c.in-Ok.ensures.name c.list_and_finish.ensures.broken)
 
 pub returns-in-Err-clause-broken : goal.returns-in-Err-clause-broken
 returns-in-Err-clause-broken g c =
-    inl (ap (λ (list : List (Option OpenBranch)). slice_get list c.args.store) c.in-Err.ensures.unsaid, c.in-Err.ensures.undone)
+    inl (
+      ap (λ (list : List (Option OpenBranch)). slice_get list c.args.store) c.in-Err.ensures.unsaid,
+      c.in-Err.ensures.undone,
+    )

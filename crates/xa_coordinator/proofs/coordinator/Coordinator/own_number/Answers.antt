@@ -10,7 +10,8 @@ use Rattle.xa_coordinator.proofs.coordinator.Coordinator.own_number.Goals as goa
 pub returns-in-Some-clause-some : goal.returns-in-Some-clause-some
 returns-in-Some-clause-some g c =
     let name : List ℕ = c.args.self.now.name.items in
-    any_there (same_xid (branch_xid name c.in-Some.number c.args.store)) c.args.xids.now c.loop-xid.xid-index c.xid-item.result
+    any_there (same_xid (branch_xid name c.in-Some.number c.args.store)) c.args.xids.now c.loop-xid.xid-index
+    c.xid-item.result
     (at_index c.args.xids.now c.loop-xid.xid-index c.xid-item.result c.xid-item.is c.loop-xid-test.true)
     (same_branch name c.in-Some.number c.args.store c.xid-item.result c.in-Some.ensures.some)
 

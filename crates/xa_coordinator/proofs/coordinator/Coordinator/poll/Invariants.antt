@@ -10,5 +10,6 @@ invariant-loop-store g l = record {
   name : l.self.name ≡ l.fn.self.name;
   keeps : KeepsOpen l.transaction.participants l.store l.fn.self.branches l.self.branches;
   reached : Reached g.S.Speak.view
-      (λ store. IsVoted (branch_of l.transaction store) (takes_part l.transaction.participants store)) l.store l.fn.self.stores.items l.self.stores.items;
+      (λ store. IsVoted (branch_of l.transaction store) (takes_part l.transaction.participants store)) l.store
+      l.fn.self.stores.items l.self.stores.items;
 }

@@ -17,7 +17,8 @@ invariant_of-self g c =
       named = me.named;
       sized = me.sized;
       open_there =
-          unmarked g.S.Speak.view me.name.items me.stores.items me.branches c.args.store c.index_mut.result.now c.list_prepared.new.session
+          unmarked g.S.Speak.view me.name.items me.stores.items me.branches c.args.store c.index_mut.result.now
+          c.list_prepared.new.session
           c.index_mut.ensures.value me.open_there c.list_prepared.ensures.association;
     }
 
@@ -31,8 +32,10 @@ returns-clause-listed g c =
     let old = c.index_mut.result.now in
     let new = c.list_prepared.new.session in
     IfOk-weaker c.list_prepared.result (λ found. ListsPrepared found.0 found.1 (view old) (view new))
-    (λ found. AtStore view c.args.store (ListsPrepared found.0 found.1) me.stores.items (slice_set me.stores.items c.args.store new))
-    (λ found is. at_place view me.name.items (ListsPrepared found.0 found.1) me.stores.items c.args.store old new c.index_mut.ensures.value is)
+    (λ found. AtStore view c.args.store (ListsPrepared found.0 found.1) me.stores.items
+    (slice_set me.stores.items c.args.store new))
+    (λ found is. at_place view me.name.items (ListsPrepared found.0 found.1) me.stores.items c.args.store old new
+    c.index_mut.ensures.value is)
     c.list_prepared.ensures.listed
 
 pub returns-clause-undone : goal.returns-clause-undone
@@ -42,8 +45,10 @@ returns-clause-undone g c =
     let old = c.index_mut.result.now in
     let new = c.list_prepared.new.session in
     IfErr-weaker c.list_prepared.result (λ fault. IsUndone (Recover false) (Session fault) (view old) (view new))
-    (λ fault. AtStore view c.args.store (IsUndone (Recover false) (Session fault)) me.stores.items (slice_set me.stores.items c.args.store new))
-    (λ fault is. at_place view me.name.items (IsUndone (Recover false) (Session fault)) me.stores.items c.args.store old new c.index_mut.ensures.value is)
+    (λ fault. AtStore view c.args.store (IsUndone (Recover false) (Session fault)) me.stores.items
+    (slice_set me.stores.items c.args.store new))
+    (λ fault is. at_place view me.name.items (IsUndone (Recover false)
+    (Session fault)) me.stores.items c.args.store old new c.index_mut.ensures.value is)
     c.list_prepared.ensures.undone
 
 pub returns-clause-few : goal.returns-clause-few
@@ -54,7 +59,13 @@ returns-clause-few g c =
     let new = c.list_prepared.new.session in
     let few : length (view new).known.mine ≤ length (view old).known.mine + 0 =
     either_way (length (view new).known.mine ≤ length (view old).known.mine + 0) c.list_prepared.result
-    (λ found. ListsPrepared found.0 found.1 (view old) (view new)) (λ fault. IsUndone (Recover false) (Session fault) (view old) (view new))
-    (λ found is. adds_so_many [] (view old) (view new) is.adds) (λ fault is. adds_so_many [] (view old) (view new) is.adds)
+    (λ found. ListsPrepared found.0 found.1 (view old) (view new))
+    (λ fault. IsUndone (Recover false) (Session fault) (view old) (view new))
+    (λ found is. adds_so_many [] (view old) (view new) is.adds)
+    (λ fault is. adds_so_many [] (view old) (view new) is.adds)
     c.list_prepared.ensures.listed c.list_prepared.ensures.undone in
-    omega (arith, added_next view me.stores.items c.args.store 0 old new c.index_mut.ensures.value (omega (arith, c.requires)) few)
+    omega (
+      arith,
+      added_next view me.stores.items c.args.store 0 old new c.index_mut.ensures.value
+          (omega (arith, c.requires)) few,
+    )

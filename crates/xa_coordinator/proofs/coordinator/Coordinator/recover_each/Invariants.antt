@@ -7,7 +7,8 @@ abbrev pub invariant-loop-store : goal.invariant-loop-store
 invariant-loop-store g l = record {
   name : l.self.name ≡ l.fn.self.name;
   frees : FreesOpen l.store l.fn.self.branches l.self.branches;
-  recovers : RecoversBelow g.S.Speak.view l.decisions l.fn.self.name.items l.store l.report l.fn.self.stores.items l.self.stores.items;
+  recovers : RecoversBelow g.S.Speak.view l.decisions l.fn.self.name.items l.store l.report l.fn.self.stores.items
+      l.self.stores.items;
   length : vec_len l.report.fronts ≡ l.store;
   room : vec_len l.fn.self.stores ≤ vec_capacity l.report.fronts;
   committed : l.report.committed ≤ l.store * 18446744073709551616;

@@ -12,7 +12,9 @@ invariant-loop-xid g l = record {
   marks : ChangesAt l.store l.fn.self.branches l.self.branches;
   free : slice_get l.self.branches l.store ≡ Some None;
   few : total l.tally ≤ l.xid-index;
-  added : added_at g.S.Speak.view l.self.stores.items l.store ≤ added_at g.S.Speak.view l.fn.self.stores.items l.store + total l.tally;
+  added : added_at g.S.Speak.view l.self.stores.items l.store ≤ added_at g.S.Speak.view l.fn.self.stores.items l.store
+      + total l.tally;
   settled : AtStore g.S.Speak.view l.store
-      (λ old new. Settled l.decisions l.fn.self.name.items l.store old (take l.xid-index l.xids) l.tally new) l.fn.self.stores.items l.self.stores.items;
+      (λ old new. Settled l.decisions l.fn.self.name.items l.store old
+      (take l.xid-index l.xids) l.tally new) l.fn.self.stores.items l.self.stores.items;
 }

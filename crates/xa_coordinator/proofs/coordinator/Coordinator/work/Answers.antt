@@ -6,7 +6,8 @@ pub returns-clause-adds : goal.returns-clause-adds
 returns-clause-adds g c =
     let me = c.args.self.now in
     let transaction = c.args.transaction.now in
-    works_add g.S.Speak.view me.branches c.work_at.new.self.branches transaction c.work_at.new.transaction c.args.store c.args.statement.now c.work_at.result
+    works_add g.S.Speak.view me.branches c.work_at.new.self.branches transaction c.work_at.new.transaction c.args.store
+    c.args.statement.now c.work_at.result
     me.stores.items c.work_at.new.self.stores.items c.work_at.ensures.works
 
 pub returns-clause-agrees : goal.returns-clause-agrees
@@ -14,6 +15,8 @@ returns-clause-agrees g c = λ decisions.
     let me = c.args.self.now in
     let transaction = c.args.transaction.now in
     work_agrees_each g.S.Speak.view decisions me.name.items c.args.store
-    (branch_of transaction c.args.store) c.args.statement.now c.requires.row me.stores.items c.work_at.new.self.stores.items c.work_at.ensures.frame
-    (works_add g.S.Speak.view me.branches c.work_at.new.self.branches transaction c.work_at.new.transaction c.args.store c.args.statement.now c.work_at.result
+    (branch_of transaction c.args.store) c.args.statement.now c.requires.row me.stores.items
+    c.work_at.new.self.stores.items c.work_at.ensures.frame
+    (works_add g.S.Speak.view me.branches c.work_at.new.self.branches transaction c.work_at.new.transaction c.args.store
+    c.args.statement.now c.work_at.result
     me.stores.items c.work_at.new.self.stores.items c.work_at.ensures.works)

@@ -14,17 +14,22 @@ pub returns-then-is_working-clause-works : goal.returns-then-is_working-clause-w
 returns-then-is_working-clause-works g c =
     let me = c.args.self.now in
     let transaction = c.args.transaction.now in
-    let mark : IsWorking me.branches c.args.store transaction.number = working me.branches c.args.store transaction.number (sym c.if-is_working.ensures) in
-    works_open g.S.Speak.view me.branches c.work_within.new.self.branches transaction c.work_within.new.transaction c.args.store c.args.statement.now
+    let mark : IsWorking me.branches c.args.store transaction.number =
+    working me.branches c.args.store transaction.number (sym c.if-is_working.ensures) in
+    works_open g.S.Speak.view me.branches c.work_within.new.self.branches transaction c.work_within.new.transaction
+    c.args.store c.args.statement.now
     c.work_within.result
     me.stores.items c.work_within.new.self.stores.items
-    (λ s is_s. subst (λ (name : List ℕ). association_seen (g.S.Speak.view s) ≡ Active (branch_xid name transaction.number c.args.store)) (sym c.requires.name)
+    (λ s is_s. subst (λ (name : List ℕ). association_seen (g.S.Speak.view s)
+    ≡ Active (branch_xid name transaction.number c.args.store)) (sym c.requires.name)
     (me.open_there c.args.store s (record { number = transaction.number; phase = PhaseActive }) is_s mark))
     c.work_within.ensures.part
-    (ap (λ (list : List (Option OpenBranch)). slice_get list c.args.store) c.work_within.ensures.marks ∙ mark) c.work_within.ensures.works
+    (ap (λ (list : List (Option OpenBranch)). slice_get list c.args.store) c.work_within.ensures.marks
+    ∙ mark) c.work_within.ensures.works
 
 pub work_within-requires-clause-working : goal.work_within-requires-clause-working
-work_within-requires-clause-working g c = working c.args.self.now.branches c.args.store c.args.transaction.now.number (sym c.if-is_working.ensures)
+work_within-requires-clause-working g c =
+    working c.args.self.now.branches c.args.store c.args.transaction.now.number (sym c.if-is_working.ensures)
 
 pub returns-then-is_working-clause-lost : goal.returns-then-is_working-clause-lost
 returns-then-is_working-clause-lost g c part none =
@@ -36,5 +41,6 @@ returns-then-is_working-clause-lost g c part none =
 
 pub returns-then-is_working-clause-again : goal.returns-then-is_working-clause-again
 returns-then-is_working-clause-again g c part =
-    within_adds g.S.Speak.view c.args.store (branch_of c.args.transaction.now c.args.store) c.args.statement.now c.work_within.result
+    within_adds g.S.Speak.view c.args.store (branch_of c.args.transaction.now c.args.store) c.args.statement.now
+    c.work_within.result
     c.args.self.now.stores.items c.work_within.new.self.stores.items c.work_within.ensures.works

@@ -7,6 +7,7 @@ use Rattle.xa_coordinator.proofs.coordinator.Coordinator.work_within.Goals as go
 pub returns-in-Ok-clause-works : goal.returns-in-Ok-clause-works
 returns-in-Ok-clause-works g c =
     subst (λ (name : List ℕ). AtStore g.S.Speak.view c.args.store
-    (IsReplied c.args.statement.now c.in-Ok.reply (branch_xid name c.args.transaction.now.number c.args.store)) c.args.self.now.stores.items
+    (IsReplied c.args.statement.now c.in-Ok.reply (branch_xid name c.args.transaction.now.number c.args.store))
+    c.args.self.now.stores.items
     c.execute_row.new.self.stores.items)
     (sym c.requires.name) c.in-Ok.ensures.replied

@@ -1,7 +1,7 @@
 use Rattle.std.proofs.Common.{◌≡◌, true, length, sym, ◌∙◌, subst, arith}
 use Rattle.decision_log.specs.Calls.{IsAdded}
 use Rattle.decision_log.specs.declared.known.Known.{Known}
-use Rattle.ring_log.specs.RingPass.{known_of}
+use Rattle.chain_log.specs.RingPass.{known_of}
 use Rattle.xa_server.specs.State.{no_state}
 use Rattle.xa_session.specs.Answer.{entry_of}
 use Rattle.xa_session.specs.declared.answer.Answer.{Answer}
@@ -21,7 +21,8 @@ returns-in-Ok-clause-finds c =
     let answer : Answer = record { place = c.in_ok-place.place; reply = c.in_ok-reply.reply } in
     let place : answer.place ≡ length mid.seen = c.in_ok-place.ensures.length in
     let is =
-    replied no_state statement answer true mid replica.server session replica.replayed place stands c.in_ok-place.ensures.catches_up c.number-session.ensures
+    replied no_state statement answer true mid replica.server session replica.replayed place stands
+    c.in_ok-place.ensures.catches_up c.number-session.ensures
     c.in_ok-reply.ensures.reply
     (sym c.if-not-enters.false ∙ c.in_ok-reply.ensures.enters) in
     record {
@@ -29,6 +30,7 @@ returns-in-Ok-clause-finds c =
           (subst (λ n. IsAdded (entry_of n statement) mid new) c.number-session.ensures c.in-Ok.ensures.added);
       replayed = omega (arith, place, c.in_ok-place.ensures.catches_up, c.add.ensures.folds);
       kept = kept_entered no_state statement answer (entry_of session statement) mid new (kept_of c.add.new.self)
-          replica.server session replica.replayed place stands c.in_ok-place.ensures.catches_up c.number-session.ensures c.in-Ok.ensures.added
+          replica.server session replica.replayed place stands c.in_ok-place.ensures.catches_up c.number-session.ensures
+          c.in-Ok.ensures.added
           c.in-Ok.ensures.kept;
     }

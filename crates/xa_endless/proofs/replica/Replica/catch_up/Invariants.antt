@@ -1,5 +1,5 @@
 use Rattle.std.proofs.Common.{◌≡◌, ◌≤◌}
-use Rattle.ring_log.specs.RingPass.{log_of, known_of}
+use Rattle.chain_log.specs.RingPass.{log_of, known_of}
 use Rattle.xa_endless.specs.Replicas.{Stands}
 use Rattle.xa_endless.proofs.replica.Replica.catch_up.Given as goal
 

@@ -1,5 +1,5 @@
 use Rattle.std.proofs.Common.{◌≡◌}
-use Rattle.ring_log.specs.RingPass.{log_of}
+use Rattle.chain_log.specs.RingPass.{log_of}
 use Rattle.xa_endless.specs.Members.{Tends}
 use Rattle.xa_endless.proofs.store.EndlessStore.bring_forward.Given as goal
 

@@ -7,7 +7,8 @@ pub returns-in_ok-new-in-Some-clause-reach : goal.returns-in_ok-new-in-Some-clau
 returns-in_ok-new-in-Some-clause-reach c =
     inr (
       c.in_ok-called_for.ensures.session,
-      effect_called (config_of c.args.self) c.args.session c.in-Some.request (sym c.in_ok-called_for.ensures.value ∙ c.in-Some.is)
+      effect_called (config_of c.args.self) c.args.session c.in-Some.request
+          (sym c.in_ok-called_for.ensures.value ∙ c.in-Some.is)
           ∙ ap Some (sym c.in_ok-new-in-Some.ensures.config),
       c.in_ok-new-in-Some.ensures.path,
     )

@@ -18,12 +18,15 @@ loop-one-preserved c =
             most = omega (arith, w.count-is, before.most);
             chosen =
                 subst (Chosen known keys new) (sym w.count-is)
-                (chosen_new known keys old new c.loop-one.count c.loop-one.one-index number c.one-item.result c.in_ok-insert.field-0 c.loop-one-test.true
-                c.one-item.is c.in_ok-fingerprint.ensures c.in_ok-insert.ensures.added w.if-branch.true updates before.chosen);
+                (chosen_new known keys old new c.loop-one.count c.loop-one.one-index number c.one-item.result
+                c.in_ok-insert.field-0 c.loop-one-test.true
+                c.one-item.is c.in_ok-fingerprint.ensures c.in_ok-insert.ensures.added w.if-branch.true updates
+                before.chosen);
           }
       | else-branch w ↦
           record {
             most = omega (arith, w.count-is, before.most);
-            chosen = subst (Chosen known keys new) (sym w.count-is) (chosen_same known keys old new c.loop-one.count number updates before.chosen);
+            chosen = subst (Chosen known keys new) (sym w.count-is)
+                (chosen_same known keys old new c.loop-one.count number updates before.chosen);
           }
     ]

@@ -5,4 +5,5 @@ use Rattle.xa_judge.proofs.fingerprints.Fingerprint.with_xids.Given as goal
 
 -- of the items before the place
 abbrev pub invariant-loop-xid : goal.invariant-loop-xid
-invariant-loop-xid l = l.fingerprint.number ≡ fold with_xid (with_word l.fn.self.number (length l.xids)) (take l.xid-index l.xids)
+invariant-loop-xid l =
+    l.fingerprint.number ≡ fold with_xid (with_word l.fn.self.number (length l.xids)) (take l.xid-index l.xids)

@@ -11,4 +11,5 @@ pub returns : goal.returns
 returns c =
     let line = c.args.self.now in
     let pushed : c.push.new.self.items ≡ line.bytes.items ++ c.args.byte ∷ [] = search rules in
-    put_short line.is_long line.bytes.items c.push.new.self.items c.args.byte c.if-self.false (omega (arith, line.bytes.ok.0)) pushed
+    put_short line.is_long line.bytes.items c.push.new.self.items c.args.byte c.if-self.false
+    (omega (arith, line.bytes.ok.0)) pushed

@@ -10,4 +10,5 @@ returns-then-is_comment c =
 
 pub returns : goal.returns
 returns c =
-    line_shown c.args.self.now.server c.args.line.now (bytes_of c.answer_shown.result) c.answer_shown.new.server c.if-is_comment.ensures c.answer_shown.ensures
+    line_shown c.args.self.now.server c.args.line.now (bytes_of c.answer_shown.result) c.answer_shown.new.server
+    c.if-is_comment.ensures c.answer_shown.ensures

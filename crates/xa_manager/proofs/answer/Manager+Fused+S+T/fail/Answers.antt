@@ -11,6 +11,7 @@ returns g c =
     inr (record {
       known = search rules;
       told = refl;
-      limited = record { there = c.allow.ensures.left; others = c.allow.ensures.others; within = c.allow.ensures.sessions };
+      limited = record
+          { there = c.allow.ensures.left; others = c.allow.ensures.others; within = c.allow.ensures.sessions };
       stands = same_open _ _ _ _ _ _ _ _ count c.allow.ensures.branches;
     })

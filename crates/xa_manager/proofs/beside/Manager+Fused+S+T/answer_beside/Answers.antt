@@ -1,6 +1,6 @@
-use Rattle.std.proofs.Common.{sym, inr}
+use Rattle.std.proofs.Common.{sym}
 use Rattle.xa_manager.specs.declared.response.Response.{Response}
-use Rattle.xa_manager.specs.Beside.{within, PerformsBeside}
+use Rattle.xa_manager.specs.Beside.{PerformsBeside}
 use Rattle.xa_manager.specs.Managed.{whole_of}
 use Rattle.xa_manager.specs.Whole.{Performs}
 use Rattle.xa_manager.proofs.Besides.{performed_beside, if_ok_map}
@@ -21,8 +21,10 @@ returns-in_default g c =
     let Q : Response → Type 0 = λ response. PerformsBeside view other nobody old call response new in
     record {
       answers = if_ok_map P Q c.answer.result
-          (λ response performs. performed_beside view other g.met.S.Beside.steady nobody old new (sym c.args.self.now.coordinator.stores.ok.0)
-          (sym c.answer.new.self.coordinator.stores.ok.0) call response (λ store statement is. c.in_default.not-At store statement is) c.in_default.not-Show
+          (λ response performs. performed_beside view other g.met.S.Beside.steady nobody old new
+          (sym c.args.self.now.coordinator.stores.ok.0)
+          (sym c.answer.new.self.coordinator.stores.ok.0) call response
+          (λ store statement is. c.in_default.not-At store statement is) c.in_default.not-Show
           performs)
           c.answer.ensures.answers;
       nothing = c.answer.ensures.nothing;

@@ -20,10 +20,13 @@ returns g c =
       known = search rules;
       told = ap (λ convert. Replied convert c.reply_in.result) c.converts.ensures;
       replies =
-          at_weaker (within g.S.Beside.other) c.args.store (IsAnsweredSo statement c.execute_other.result) (IsGiven statement c.reply_in.result)
-          (λ a b is. subst (λ r. IsGiven statement r a b) (sym c.reply_in.ensures) (given_so statement c.execute_other.result a b is)) was.items now.items
+          at_weaker (within g.S.Beside.other) c.args.store (IsAnsweredSo statement c.execute_other.result)
+          (IsGiven statement c.reply_in.result)
+          (λ a b is. subst (λ r. IsGiven statement r a b) (sym c.reply_in.ensures)
+          (given_so statement c.execute_other.result a b is)) was.items now.items
           said.given;
       others = said.others;
-      alone = leaves_next g.S.Speak.view c.args.store was.items was.items now.items refl (leaves_none g.S.Speak.view was.items) said.others said.alone said.left;
+      alone = leaves_next g.S.Speak.view c.args.store was.items was.items now.items refl
+          (leaves_none g.S.Speak.view was.items) said.others said.alone said.left;
       stands = same_open _ _ _ _ _ _ _ _ count said.branches;
     })

@@ -24,7 +24,8 @@ returns-in-Ok-write_response g c =
     let was = c.in-Ok-answer_beside.ensures in
     inl (
       response,
-      performed_said g.S.Speak.view g.S.Beside.other g.T.Speak.view (whole_of c.args.self.now.manager) (whole_of c.answer_beside.new.self) c.read_call-call.result (call_of c.args.line.now)
+      performed_said g.S.Speak.view g.S.Beside.other g.T.Speak.view (whole_of c.args.self.now.manager)
+          (whole_of c.answer_beside.new.self) c.read_call-call.result (call_of c.args.line.now)
           response c.read_call-call.ensures.call
           was.answers,
       c.in-Ok-write_response.ensures.text ∙ ap (λ decisions. answer_text decisions response) c.decisions.ensures,
@@ -41,7 +42,8 @@ returns g c =
       stands = inr (
         response,
         c.in-Err.ensures.few,
-        performed_said g.S.Speak.view g.S.Beside.other g.T.Speak.view (whole_of c.args.self.now.manager) (whole_of c.answer_beside.new.self) c.read_call-call.result (call_of c.args.line.now)
+        performed_said g.S.Speak.view g.S.Beside.other g.T.Speak.view (whole_of c.args.self.now.manager)
+            (whole_of c.answer_beside.new.self) c.read_call-call.result (call_of c.args.line.now)
             response c.read_call-call.ensures.call
             was.answers,
       );

@@ -14,7 +14,8 @@ returns g c =
       answer = c.reply_from.result;
       known = search rules;
       told = ap (λ convert. Replied convert c.reply_from.result) c.converts.ensures;
-      replies = at_place view [] (IsGiven c.args.statement.now c.reply_from.result) was.other_clients.items c.args.store old new c.index_mut.ensures.value
+      replies = at_place view [] (IsGiven c.args.statement.now c.reply_from.result) was.other_clients.items c.args.store
+          old new c.index_mut.ensures.value
           c.reply_from.ensures;
       others = changes_at was.other_clients.items c.args.store new;
       stands = refl;

@@ -9,12 +9,14 @@ invariant_of-self g c =
     let was = c.args.self.now in
     let back : c.put.new.self ≡ was.ledger =
     put_back was.ledger c.args.number Over
-    (Ready c.in-Ok.prepared) c.take_ready.new.self c.put.new.self c.in-Ok.ensures.taken c.in-Ok.ensures.over c.put.ensures in
+    (Ready c.in-Ok.prepared) c.take_ready.new.self c.put.new.self c.in-Ok.ensures.taken c.in-Ok.ensures.over
+    c.put.ensures in
     record {
       named = was.named;
       pairs = was.pairs;
       counted = ap length back ∙ was.counted
-          ∙ sym (after_decision c.decide-decided.result was.decisions c.decide-decided.new.self c.in-Ok.prepared.transaction.number c.decide-decided.ensures.ok
+          ∙ sym (after_decision c.decide-decided.result was.decisions c.decide-decided.new.self
+          c.in-Ok.prepared.transaction.number c.decide-decided.ensures.ok
           c.decide-decided.ensures.err);
       kept = kept_as _ _ _ _ refl back was.kept;
       ready = ready_as _ _ back was.ready;
@@ -25,7 +27,8 @@ returns-in-Ok-decided g c =
     let was = c.args.self.now in
     let back : c.put.new.self ≡ was.ledger =
     put_back was.ledger c.args.number Over
-    (Ready c.in-Ok.prepared) c.take_ready.new.self c.put.new.self c.in-Ok.ensures.taken c.in-Ok.ensures.over c.put.ensures in
+    (Ready c.in-Ok.prepared) c.take_ready.new.self c.put.new.self c.in-Ok.ensures.taken c.in-Ok.ensures.over
+    c.put.ensures in
     let is = was.kept c.args.number (Ready c.in-Ok.prepared) c.in-Ok.prepared.transaction c.in-Ok.ensures.taken refl in
     inr (record {
       prepared = c.in-Ok.prepared;
@@ -42,7 +45,8 @@ returns-in-Err-decided g c =
     let was = c.args.self.now in
     let back : c.put.new.self ≡ was.ledger =
     put_back was.ledger c.args.number Over
-    (Ready c.in-Ok.prepared) c.take_ready.new.self c.put.new.self c.in-Ok.ensures.taken c.in-Ok.ensures.over c.put.ensures in
+    (Ready c.in-Ok.prepared) c.take_ready.new.self c.put.new.self c.in-Ok.ensures.taken c.in-Ok.ensures.over
+    c.put.ensures in
     let is = was.kept c.args.number (Ready c.in-Ok.prepared) c.in-Ok.prepared.transaction c.in-Ok.ensures.taken refl in
     inr (record {
       prepared = c.in-Ok.prepared;

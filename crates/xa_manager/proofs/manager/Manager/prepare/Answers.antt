@@ -10,12 +10,14 @@ use Rattle.xa_manager.proofs.manager.Manager.prepare.Goals as goal
 
 pub prepare-vote-requires-clause-name : goal.prepare-vote-requires-clause-name
 prepare-vote-requires-clause-name g c =
-    let is = c.args.self.now.kept c.args.number (Working c.in-Ok.transaction) c.in-Ok.transaction c.in-Ok.ensures.taken refl in
+    let is = c.args.self.now.kept c.args.number (Working c.in-Ok.transaction) c.in-Ok.transaction c.in-Ok.ensures.taken
+    refl in
     is.name ∙ sym c.args.self.now.named
 
 pub prepare-vote-requires-clause-stores : goal.prepare-vote-requires-clause-stores
 prepare-vote-requires-clause-stores g c =
-    let is = c.args.self.now.kept c.args.number (Working c.in-Ok.transaction) c.in-Ok.transaction c.in-Ok.ensures.taken refl in
+    let is = c.args.self.now.kept c.args.number (Working c.in-Ok.transaction) c.in-Ok.transaction c.in-Ok.ensures.taken
+    refl in
     is.stores
 
 pub invariant_of-self : goal.invariant_of-self
@@ -24,7 +26,8 @@ invariant_of-self g c =
     let stage = stage_after c.prepare-vote.result in
     let put : c.put.new.self ≡ with_stage c.take_working.new.self c.args.number stage =
     c.put.ensures ∙ ap (λ s. with_stage c.take_working.new.self c.args.number s) c.told_of-answer.ensures.stage in
-    let on = put_on was.ledger c.args.number Over stage c.take_working.new.self c.put.new.self c.in-Ok.ensures.over put in
+    let on = put_on was.ledger c.args.number Over stage c.take_working.new.self c.put.new.self c.in-Ok.ensures.over
+    put in
     let is = was.kept c.args.number (Working c.in-Ok.transaction) c.in-Ok.transaction c.in-Ok.ensures.taken refl in
     let stores = was.coordinator.stores in
     let after = c.prepare-vote.new.self.stores.items in
@@ -38,7 +41,8 @@ invariant_of-self g c =
           (vec_len stores) c.args.number c.prepare-vote.ensures.vote is));
       ready = ready_as _ _ on
           (ready_with was.ledger c.args.number stage was.ready
-          (voted_ready g.C.Speak.view c.in-Ok.transaction c.prepare-vote.result stores.items after c.prepare-vote.ensures.vote));
+          (voted_ready g.C.Speak.view c.in-Ok.transaction c.prepare-vote.result stores.items after
+          c.prepare-vote.ensures.vote));
     }
 
 pub returns-in-Ok : goal.returns-in-Ok
@@ -47,7 +51,8 @@ returns-in-Ok g c =
     let stage = stage_after c.prepare-vote.result in
     let put : c.put.new.self ≡ with_stage c.take_working.new.self c.args.number stage =
     c.put.ensures ∙ ap (λ s. with_stage c.take_working.new.self c.args.number s) c.told_of-answer.ensures.stage in
-    let on = put_on was.ledger c.args.number Over stage c.take_working.new.self c.put.new.self c.in-Ok.ensures.over put in
+    let on = put_on was.ledger c.args.number Over stage c.take_working.new.self c.put.new.self c.in-Ok.ensures.over
+    put in
     inr (record {
       before = c.in-Ok.transaction;
       vote = c.prepare-vote.result;
@@ -57,7 +62,8 @@ returns-in-Ok g c =
       marks = c.prepare-vote.ensures.elsewhere;
       marked_there = c.prepare-vote.ensures.cut;
       alone = record {
-        logs = agreed_logs g.C.Speak.view [] was.coordinator.name.items was.coordinator.stores.items c.prepare-vote.new.self.stores.items
+        logs = agreed_logs g.C.Speak.view [] was.coordinator.name.items was.coordinator.stores.items
+            c.prepare-vote.new.self.stores.items
             (c.prepare-vote.ensures.agrees []);
         count = sym c.prepare-vote.new.self.stores.ok.0 ∙ c.prepare-vote.ensures.count ∙ was.coordinator.stores.ok.0;
         stands = same_whole _ _ _ _ _ _ _ _ _ c.prepare-vote.ensures.count refl on;

@@ -12,7 +12,8 @@ returns g c = record {
   free = c.recover.ensures.free;
   marks = c.recover.ensures.marks;
   alone = record {
-    logs = agreed_logs g.C.Speak.view c.recover.new.decisions c.args.self.now.coordinator.name.items c.args.self.now.coordinator.stores.items
+    logs = agreed_logs g.C.Speak.view c.recover.new.decisions c.args.self.now.coordinator.name.items
+        c.args.self.now.coordinator.stores.items
         c.recover.new.self.stores.items c.recover.ensures.agrees;
     count = sym c.recover.new.self.stores.ok.0 ∙ c.recover.ensures.count ∙ c.args.self.now.coordinator.stores.ok.0;
     stands = same_whole _ _ _ _ _ _ _ _ _ c.recover.ensures.count c.recover.ensures.closed refl;

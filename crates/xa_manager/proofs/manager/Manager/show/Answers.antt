@@ -16,7 +16,8 @@ returns-clause-answers g c =
       count = (cc);
       told = refl;
       each =
-          each_lent g.T.Speak.view (IsListed c.in_ok-answers.answers.items) was.other_clients.items c.as_mut_slice.result.now c.listed_by_each.new.other_clients
+          each_lent g.T.Speak.view (IsListed c.in_ok-answers.answers.items) was.other_clients.items
+          c.as_mut_slice.result.now c.listed_by_each.new.other_clients
           _ _ value other_clients c.listed_by_each.ensures.count c.in_ok-answers.ensures.listed;
       stands = refl;
     }

@@ -14,8 +14,10 @@ returns-in_ok-insert-in-None c =
     let old = c.args.self.now in
     let one : NumberedEvent = record { number = c.args.number; told = Leaves session } in
     closed-so (notes_kept old) c.args.number session (map numbered_kept c.insert.new.self.items) _
-    (ap (λ (o : Option Presence). cause_of o (Leaves session)) (sym c.presence_of.ensures) ∙ sym c.fault.ensures ∙ c.in-None.is)
+    (ap (λ (o : Option Presence). cause_of o (Leaves session)) (sym c.presence_of.ensures) ∙ sym c.fault.ensures
+    ∙ c.in-None.is)
     (ap (map numbered_kept) c.in_ok-insert-in-None.ensures.items ∙ map-insert old.numbered.items _ _
     ∙ ap (λ (n : ℕ). insert (map numbered_kept old.numbered.items) n one)
-    (c.up_to_return-place.ensures.place ∙ ap (λ l. up_to_return session (map numbered_kept l)) c.as_slice.ensures.value))
+    (c.up_to_return-place.ensures.place ∙ ap (λ l. up_to_return session
+    (map numbered_kept l)) c.as_slice.ensures.value))
     (ap (λ (s : ℕ). slice_set old.presence s Lost) c.get.ensures.value)

@@ -8,6 +8,8 @@ returns-in_err-give_some-clause-kept g c =
     let contents = g.W.Write.contents in
     let old = c.args.self.now in
     let new = c.give_some.new.self in
-    known_kept (contents old.inner) (contents new.inner) (drop old.given old.due.items) (drop new.given new.due.items) old.held.items new.held.items
-    (kept_on (sent_of contents old) (sent_of contents c.loop-self.self) (sent_of contents new) c.loop-self.invariant.sent c.give_some.ensures.sent)
+    known_kept (contents old.inner) (contents new.inner) (drop old.given old.due.items)
+    (drop new.given new.due.items) old.held.items new.held.items
+    (kept_on (sent_of contents old) (sent_of contents c.loop-self.self)
+    (sent_of contents new) c.loop-self.invariant.sent c.give_some.ensures.sent)
     (ap (λ room. room.items) (c.give_some.ensures.held ∙ c.loop-self.invariant.held))

@@ -9,5 +9,7 @@ returns-clause-sent g c =
     let after = g.W.Write.contents c.write.new.self in
     let given = c.args.self.now.given in
     let count = c.in_ok-count.count in
-    let P : List ℕ → Type 0 = λ due. Keeps (append_known before (drop given due)) (append_known after (drop (given + count) due)) in
-    subst P c.as_slice.ensures.value (given_more before after c.as_slice.result.now given count c.in_ok-count.ensures.bytes)
+    let P : List ℕ → Type 0 = λ due. Keeps (append_known before (drop given due))
+    (append_known after (drop (given + count) due)) in
+    subst P c.as_slice.ensures.value
+    (given_more before after c.as_slice.result.now given count c.in_ok-count.ensures.bytes)

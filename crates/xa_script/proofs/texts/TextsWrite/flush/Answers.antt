@@ -7,6 +7,8 @@ pub returns-clause-all : goal.returns-clause-all
 returns-clause-all g c =
     let settled = c.settle.new.self in
     on_ok c.flush.result
-    (all_given (known_of g.W.Write.contents c.args.self.now) (g.W.Write.contents settled.inner) (g.W.Write.contents c.flush.new.self)
-    (drop settled.given settled.due.items) settled.held.items c.in_ok-settle.ensures.kept c.in_ok-settle.ensures.due c.in_ok-settle.ensures.held
+    (all_given (known_of g.W.Write.contents c.args.self.now) (g.W.Write.contents settled.inner)
+    (g.W.Write.contents c.flush.new.self)
+    (drop settled.given settled.due.items) settled.held.items c.in_ok-settle.ensures.kept c.in_ok-settle.ensures.due
+    c.in_ok-settle.ensures.held
     c.flush.ensures.bytes)

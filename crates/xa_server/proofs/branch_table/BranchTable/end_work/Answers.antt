@@ -14,8 +14,10 @@ idle branch = record branch { phase = Idle }
 
 pub end_place-requires : goal.end_place-requires
 end_place-requires c =
-    owner_within c.self.inside.opened.items c.self.inside.nothing (branches_in c.self.inside.by_xid) c.in-Some.owner c.args.xid.now
-    (tree_owner c.self.inside.by_xid c.args.xid.now c.set_idle.result c.set_idle.ensures.owner ∙ c.in-Some.is) c.self.invariant
+    owner_within c.self.inside.opened.items c.self.inside.nothing
+    (branches_in c.self.inside.by_xid) c.in-Some.owner c.args.xid.now
+    (tree_owner c.self.inside.by_xid c.args.xid.now c.set_idle.result c.set_idle.ensures.owner
+    ∙ c.in-Some.is) c.self.invariant
 
 -- what the owner has open, IDLE
 open_idle : (c : goal.After-end_place)
@@ -28,25 +30,35 @@ open_idle c =
 pub invariant_of-self : goal.invariant_of-self
 unfolding idle
 invariant_of-self c =
-    rw (changed_in c.self.inside.by_xid c.set_idle.new.by_xid c.args.xid.now idle c.set_idle.ensures.changed, c.end_place.ensures, open_idle c)
-    (indexed_idle c.self.inside.opened.items c.self.inside.nothing (branches_in c.self.inside.by_xid) c.in-Some.owner c.args.xid.now
-    (tree_owner c.self.inside.by_xid c.args.xid.now c.set_idle.result c.set_idle.ensures.owner ∙ c.in-Some.is) c.self.invariant
+    rw (
+      changed_in c.self.inside.by_xid c.set_idle.new.by_xid c.args.xid.now idle c.set_idle.ensures.changed,
+      c.end_place.ensures,
+      open_idle c,
+    )
+    (indexed_idle c.self.inside.opened.items c.self.inside.nothing
+    (branches_in c.self.inside.by_xid) c.in-Some.owner c.args.xid.now
+    (tree_owner c.self.inside.by_xid c.args.xid.now c.set_idle.result c.set_idle.ensures.owner
+    ∙ c.in-Some.is) c.self.invariant
     idle (λ branch. refl) (λ branch. refl))
 
 pub invariant_of-self-in_default : goal.invariant_of-self-in_default
 unfolding idle
 invariant_of-self-in_default c =
-    let nobodys = tree_owner c.self.inside.by_xid c.args.xid.now c.set_idle.result c.set_idle.ensures.owner ∙ c.in_default.is in
+    let nobodys = tree_owner c.self.inside.by_xid c.args.xid.now c.set_idle.result c.set_idle.ensures.owner
+    ∙ c.in_default.is in
     rw (changed_in c.self.inside.by_xid c.set_idle.new.by_xid c.args.xid.now idle c.set_idle.ensures.changed)
-    (changed_apart c.self.inside.opened.items c.self.inside.nothing (branches_in c.self.inside.by_xid) c.args.xid.now nobodys c.self.invariant idle
+    (changed_apart c.self.inside.opened.items c.self.inside.nothing
+    (branches_in c.self.inside.by_xid) c.args.xid.now nobodys c.self.invariant idle
     (same_owner idle (λ branch. refl) (map.get (branches_in c.self.inside.by_xid) c.args.xid.now) ∙ nobodys))
 
 pub returns-in-Some : goal.returns-in-Some
 unfolding idle
 returns-in-Some c =
-    changed_in c.self.inside.by_xid c.set_idle.new.by_xid c.args.xid.now idle c.set_idle.ensures.changed ∙ ap (λ m. with_record m c.args.xid.now idle) c.self.view_is
+    changed_in c.self.inside.by_xid c.set_idle.new.by_xid c.args.xid.now idle c.set_idle.ensures.changed
+    ∙ ap (λ m. with_record m c.args.xid.now idle) c.self.view_is
 
 pub returns-in_default : goal.returns-in_default
 unfolding idle
 returns-in_default c =
-    changed_in c.self.inside.by_xid c.set_idle.new.by_xid c.args.xid.now idle c.set_idle.ensures.changed ∙ ap (λ m. with_record m c.args.xid.now idle) c.self.view_is
+    changed_in c.self.inside.by_xid c.set_idle.new.by_xid c.args.xid.now idle c.set_idle.ensures.changed
+    ∙ ap (λ m. with_record m c.args.xid.now idle) c.self.view_is

@@ -8,5 +8,7 @@ use Rattle.xa_server.proofs.branch_table.BranchTable.entries.Goals as goal
 pub returns : goal.returns
 returns c =
     if_ok c.entries_in.result c.entries_in.ensures.listed
-    (λ branches is. is ∙ ap (map recorded_entry) (sym (entries-made xids_total exact_xids c.self.inside.by_xid.entries c.entries_in.ensures.ordered))
+    (λ branches is. is
+    ∙ ap (map recorded_entry)
+    (sym (entries-made xids_total exact_xids c.self.inside.by_xid.entries c.entries_in.ensures.ordered))
     ∙ ap recorded_entries c.self.view_is)

@@ -15,8 +15,10 @@ unfolding longer
 invariant_of-self c =
     either_way c.list_key.result c.list_key.ensures.ok c.list_key.ensures.err
     (λ ok. rw (changed_in c.self.inside.by_xid c.list_key.new.by_xid c.args.xid.now (longer c.args.key.now) ok)
-    (indexed_moved _ _ _ _ (owner_of-changed _ c.args.xid.now (longer c.args.key.now) (λ branch. refl)) (phase_in-changed _ c.args.xid.now (longer c.args.key.now) (λ branch. refl)) c.self.invariant))
-    (λ err. rw (changed_in c.self.inside.by_xid c.list_key.new.by_xid c.args.xid.now (λ branch. branch) err ∙ with_record-same _ c.args.xid.now)
+    (indexed_moved _ _ _ _ (owner_of-changed _ c.args.xid.now (longer c.args.key.now) (λ branch. refl))
+    (phase_in-changed _ c.args.xid.now (longer c.args.key.now) (λ branch. refl)) c.self.invariant))
+    (λ err. rw (changed_in c.self.inside.by_xid c.list_key.new.by_xid c.args.xid.now (λ branch. branch) err
+    ∙ with_record-same _ c.args.xid.now)
     c.self.invariant)
 
 pub returns-clause-ok : goal.returns-clause-ok
@@ -27,4 +29,5 @@ returns-clause-ok c = on_ok c.list_key.result c.list_key.ensures.ok
 
 pub returns-clause-err : goal.returns-clause-err
 returns-clause-err c = on_err c.list_key.result c.list_key.ensures.err
-    (λ err. changed_in c.self.inside.by_xid c.list_key.new.by_xid c.args.xid.now (λ branch. branch) err ∙ with_record-same _ c.args.xid.now ∙ c.self.view_is)
+    (λ err. changed_in c.self.inside.by_xid c.list_key.new.by_xid c.args.xid.now (λ branch. branch) err
+    ∙ with_record-same _ c.args.xid.now ∙ c.self.view_is)

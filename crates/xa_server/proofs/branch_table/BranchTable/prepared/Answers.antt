@@ -7,4 +7,5 @@ use Rattle.xa_server.proofs.branch_table.BranchTable.prepared.Goals as goal
 pub returns : goal.returns
 returns c =
     if_ok c.prepared_in.result c.prepared_in.ensures.listed
-    (λ xids is. is ∙ sym (prepared-among c.self.inside.by_xid.entries c.prepared_in.ensures.ordered) ∙ ap prepared_among c.self.view_is)
+    (λ xids is. is ∙ sym (prepared-among c.self.inside.by_xid.entries c.prepared_in.ensures.ordered)
+    ∙ ap prepared_among c.self.view_is)

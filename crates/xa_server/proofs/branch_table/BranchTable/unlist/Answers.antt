@@ -13,7 +13,8 @@ pub invariant_of-self : goal.invariant_of-self
 unfolding shorter
 invariant_of-self c =
     rw (changed_in c.self.inside.by_xid c.unlist_key.new.by_xid c.args.xid.now shorter c.unlist_key.ensures)
-    (indexed_moved _ _ _ _ (owner_of-changed _ c.args.xid.now shorter (λ branch. refl)) (phase_in-changed _ c.args.xid.now shorter (λ branch. refl)) c.self.invariant)
+    (indexed_moved _ _ _ _ (owner_of-changed _ c.args.xid.now shorter (λ branch. refl))
+    (phase_in-changed _ c.args.xid.now shorter (λ branch. refl)) c.self.invariant)
 
 pub returns : goal.returns
 unfolding shorter

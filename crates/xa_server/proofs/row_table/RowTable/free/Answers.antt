@@ -6,14 +6,17 @@ use Rattle.xa_server.proofs.row_table.RowTable.free.Goals as goal
 
 pub returns-then-not-free_in : goal.returns-then-not-free_in
 returns-then-not-free_in c =
-    let P : RowMap → Type 0 = λ rows. Frees c.args.commits c.args.xid.now (c.args.key.now ∷ []) rows (rows_in c.take_out.new.by_key) in
+    let P : RowMap → Type 0 = λ rows. Frees c.args.commits c.args.xid.now (c.args.key.now ∷ []) rows
+    (rows_in c.take_out.new.by_key) in
     subst P c.self.view_is
-    (frees_dropped c.args.commits c.args.xid.now c.args.key.now c.self.inside.by_key c.free_in.new.by_key c.take_out.new.by_key c.free_in.result
+    (frees_dropped c.args.commits c.args.xid.now c.args.key.now c.self.inside.by_key c.free_in.new.by_key
+    c.take_out.new.by_key c.free_in.result
     c.free_in.ensures.changed c.free_in.ensures.needed c.if-not-free_in.true c.take_out.ensures)
 
 pub returns-else-not-free_in : goal.returns-else-not-free_in
 returns-else-not-free_in c =
-    let P : RowMap → Type 0 = λ rows. Frees c.args.commits c.args.xid.now (c.args.key.now ∷ []) rows (rows_in c.free_in.new.by_key) in
+    let P : RowMap → Type 0 = λ rows. Frees c.args.commits c.args.xid.now (c.args.key.now ∷ []) rows
+    (rows_in c.free_in.new.by_key) in
     subst P c.self.view_is
     (frees_kept c.args.commits c.args.xid.now c.args.key.now c.self.inside.by_key c.free_in.new.by_key c.free_in.result
     c.free_in.ensures.changed c.free_in.ensures.needed c.if-not-free_in.false)

@@ -11,7 +11,8 @@ loop-key-smaller c = rw (c.in-Some.ensures) (rw length-append (omega arith))
 
 pub loop-key-preserved : goal.loop-key-preserved
 loop-key-preserved c =
-    freed_one_more c.args.commits c.args.xid.now c.args.keys c.pop.new.self c.in-Some.key c.args.self.now c.loop-key.self c.free.new.self
+    freed_one_more c.args.commits c.args.xid.now c.args.keys c.pop.new.self c.in-Some.key c.args.self.now
+    c.loop-key.self c.free.new.self
     (rw (← c.in-Some.ensures) c.loop-key.invariant) c.free.ensures
 
 pub returns : goal.returns

@@ -9,11 +9,14 @@ use Rattle.xa_server.proofs.row_table.RowTable.held_by.Goals as goal
 pub returns-clause-listed : goal.returns-clause-listed
 returns-clause-listed c =
     if_ok c.held_in.result c.held_in.ensures.listed
-    (λ rows is. is ∙ ap (held_among c.args.xid.now) (sym (entries-made bytes_total exact_texts c.self.inside.by_key.entries c.held_in.ensures.ordered))
+    (λ rows is. is
+    ∙ ap (held_among c.args.xid.now)
+    (sym (entries-made bytes_total exact_texts c.self.inside.by_key.entries c.held_in.ensures.ordered))
     ∙ ap (λ records. held_among c.args.xid.now (entries records)) c.self.view_is)
 
 pub returns-clause-memory : goal.returns-clause-memory
 returns-clause-memory c =
     on_err c.held_in.result c.held_in.ensures.memory
-    (λ some none. some (ap (held_among c.args.xid.now) (sym (entries-made bytes_total exact_texts c.self.inside.by_key.entries c.held_in.ensures.ordered))
+    (λ some none. some (ap (held_among c.args.xid.now) (sym
+    (entries-made bytes_total exact_texts c.self.inside.by_key.entries c.held_in.ensures.ordered))
     ∙ ap (λ records. held_among c.args.xid.now (entries records)) c.self.view_is ∙ none))

@@ -5,15 +5,18 @@ use Rattle.xa_server.proofs.server.Server.delete.Goals as goal
 pub delete_row-requires : goal.delete_row-requires
 delete_row-requires c =
     Accepted.accepted_del_free c.args.self.now c.args.key.now
-    (Accepted.accepted_as c.args.self.now c.args.session _ _ (sym c.association.ensures.association ∙ c.in-Free.is) c.requires)
+    (Accepted.accepted_as c.args.self.now c.args.session _ _
+    (sym c.association.ensures.association ∙ c.in-Free.is) c.requires)
 
 pub hold-requires-clause-known : goal.hold-requires-clause-known
 hold-requires-clause-known c =
     rw c.in_ok-own-in-Active.ensures
-    (Accepted.known_active c.args.self.now c.args.session c.in-Active.own (sym c.association.ensures.association ∙ c.in-Active.is))
+    (Accepted.known_active c.args.self.now c.args.session c.in-Active.own
+    (sym c.association.ensures.association ∙ c.in-Active.is))
 
 pub hold-requires-clause-unheld : goal.hold-requires-clause-unheld
 hold-requires-clause-unheld c =
     rw c.in_ok-own-in-Active.ensures
     (Accepted.accepted_del c.args.self.now c.in-Active.own c.args.key.now
-    (Accepted.accepted_as c.args.self.now c.args.session _ _ (sym c.association.ensures.association ∙ c.in-Active.is) c.requires))
+    (Accepted.accepted_as c.args.self.now c.args.session _ _
+    (sym c.association.ensures.association ∙ c.in-Active.is) c.requires))

@@ -28,5 +28,6 @@ pub returns : goal.returns
 unfolding detached detached_branch
 returns c =
     ap (λ b. state_of b c.self.inside.rows) c.detach.ensures
-    ∙ Steps.seen_changed c.self.inside.branches c.self.inside.rows c.args.xid.now detached detached_branch (λ branch. refl)
+    ∙ Steps.seen_changed c.self.inside.branches c.self.inside.rows c.args.xid.now detached detached_branch
+    (λ branch. refl)
     ∙ ap (λ s. with_changed s c.args.xid.now detached_branch) c.self.view_is

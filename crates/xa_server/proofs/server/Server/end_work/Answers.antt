@@ -24,10 +24,12 @@ idle_branch : Branch → Branch
 idle_branch branch = record branch { phase = PhaseIdle }
 
 -- a branch that isn't prepared has an owner
-owned : (branches : BranchMap) (rows : RowMap) (xid : Xid) (branch : BranchRecord) → IsWhole branches rows → is_prepared (state_of branches rows) xid ≡ false
+owned : (branches : BranchMap) (rows : RowMap) (xid : Xid) (branch : BranchRecord) → IsWhole branches rows
+    → is_prepared (state_of branches rows) xid ≡ false
     → map.get branches xid ≡ Some branch → is_none branch.owner ≡ false
 owned branches rows xid branch whole unprepared is =
-    whole.attached xid branch is ∙ sym (ap (λ found. option_map_or is_prepared_phase (option_map (λ (b : BranchRecord). b.phase) found) false) is)
+    whole.attached xid branch is
+    ∙ sym (ap (λ found. option_map_or is_prepared_phase (option_map (λ (b : BranchRecord). b.phase) found) false) is)
     ∙ sym (Seen.is_prepared-seen branches rows xid) ∙ unprepared
 
 pub invariant_of-self : goal.invariant_of-self

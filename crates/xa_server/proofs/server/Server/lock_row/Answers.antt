@@ -16,10 +16,12 @@ returns-then-holds-clause-ok c =
 pub share-requires-clause-known : goal.share-requires-clause-known
 share-requires-clause-known c =
     rw c.in_ok-own.ensures
-    (Accepted.known_active c.args.self.now c.args.session c.in-Active.own (sym c.association.ensures.association ∙ c.in-Active.is))
+    (Accepted.known_active c.args.self.now c.args.session c.in-Active.own
+    (sym c.association.ensures.association ∙ c.in-Active.is))
 
 pub share-requires-clause-unlocked : goal.share-requires-clause-unlocked
 share-requires-clause-unlocked c =
     rw c.in_ok-own.ensures
     (Accepted.accepted_get c.args.self.now c.in-Active.own c.args.key.now
-    (Accepted.accepted_as c.args.self.now c.args.session _ _ (sym c.association.ensures.association ∙ c.in-Active.is) c.requires))
+    (Accepted.accepted_as c.args.self.now c.args.session _ _
+    (sym c.association.ensures.association ∙ c.in-Active.is) c.requires))

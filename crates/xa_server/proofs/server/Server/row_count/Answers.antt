@@ -9,4 +9,5 @@ use Rattle.xa_server.proofs.server.Server.row_count.Goals as goal
 pub returns : goal.returns
 unfolding state_of
 returns c = subst (λ (state : State). map.len state.rows ≤ c.count.result) c.self.view_is
-    (subst (λ count. map.len (gather (λ row. row.committed) c.self.inside.rows) ≤ count) (sym c.count.ensures) (len-gather bytes_total exact_texts (λ row. row.committed) c.self.inside.rows))
+    (subst (λ count. map.len (gather (λ row. row.committed) c.self.inside.rows) ≤ count) (sym c.count.ensures)
+    (len-gather bytes_total exact_texts (λ row. row.committed) c.self.inside.rows))

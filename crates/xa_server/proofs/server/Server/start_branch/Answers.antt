@@ -6,7 +6,8 @@ use mathlib.Core.Bool.{true≢false}
 use Rattle.xa_xid.specs.declared.xid.Xid.{Xid}
 use Rattle.xa_server.specs.declared.branch.BranchRecord.{BranchRecord}
 use Rattle.xa_server.specs.declared.branch.Phase.{Phase}
-use Rattle.xa_server.specs.declared.branch.Phase.TheVariants.{Active as PhaseActive, Idle as PhaseIdle, Prepared as PhasePrepared}
+use Rattle.xa_server.specs.declared.branch.Phase.TheVariants.{Active as PhaseActive, Idle as PhaseIdle}
+use Rattle.xa_server.specs.declared.branch.Phase.TheVariants.{Prepared as PhasePrepared}
 use Rattle.xa_server.specs.declared.association.Association.TheVariants.{Free, Active, Idle}
 use Rattle.xa_server.specs.State.{is_known, is_prepared_phase, association_of}
 use Rattle.xa_server.specs.Step.{started_by, with_branch}
@@ -20,7 +21,8 @@ use Rattle.xa_server.proofs.Steps
 use Rattle.xa_server.proofs.Whole
 use Rattle.xa_server.proofs.server.Server.start_branch.Goals as goal
 
-unknown : (branches : BranchMap) (rows : RowMap) (xid : Xid) → is_known (state_of branches rows) xid ≡ false → map.get branches xid ≡ None
+unknown : (branches : BranchMap) (rows : RowMap) (xid : Xid) → is_known (state_of branches rows) xid ≡ false
+    → map.get branches xid ≡ None
 unknown branches rows xid e = by (map.get branches xid) (sym (Seen.is_known-seen branches rows xid) ∙ e)
   where
     by : (found : Option BranchRecord) → is_some found ≡ false → found ≡ None
@@ -28,18 +30,21 @@ unknown branches rows xid e = by (map.get branches xid) (sym (Seen.is_known-seen
     by (Some branch) e = absurd (true≢false e)
 
 -- a session that is free owns no branch
-free : (branches : BranchMap) (rows : RowMap) (session : ℕ) → IsWhole branches rows → association_of (state_of branches rows) session ≡ Free → (other : Xid)
+free : (branches : BranchMap) (rows : RowMap) (session : ℕ) → IsWhole branches rows
+    → association_of (state_of branches rows) session ≡ Free → (other : Xid)
     → owner_of branches other ≢ Some session
 free branches rows session whole association other owner = by (map.get branches other) refl
   where
     at : (branch : BranchRecord) (phase : Phase) → branch.phase ≡ phase → map.get branches other ≡ Some branch → ⊥
     at branch PhaseActive p is =
         let clash : Active other ≡ Free =
-        sym (Seen.association-owned branches rows session other (Some PhaseActive) whole owner (ap (option_map (λ (b : BranchRecord). b.phase)) is ∙ ap Some p))
+        sym (Seen.association-owned branches rows session other (Some PhaseActive) whole owner
+        (ap (option_map (λ (b : BranchRecord). b.phase)) is ∙ ap Some p))
         ∙ association in cc
     at branch PhaseIdle p is =
         let clash : Idle other ≡ Free =
-        sym (Seen.association-owned branches rows session other (Some PhaseIdle) whole owner (ap (option_map (λ (b : BranchRecord). b.phase)) is ∙ ap Some p))
+        sym (Seen.association-owned branches rows session other (Some PhaseIdle) whole owner
+        (ap (option_map (λ (b : BranchRecord). b.phase)) is ∙ ap Some p))
         ∙ association in cc
     at branch PhasePrepared p is =
         true≢false (sym (whole.attached other branch is ∙ ap is_prepared_phase p)
@@ -51,17 +56,20 @@ free branches rows session whole association other owner = by (map.get branches 
 
 pub start-requires-clause-unknown : goal.start-requires-clause-unknown
 start-requires-clause-unknown c =
-    unknown c.self.inside.branches c.self.inside.rows c.args.xid.now (ap (λ s. is_known s c.args.xid.now) c.self.view_is ∙ c.requires.unknown)
+    unknown c.self.inside.branches c.self.inside.rows c.args.xid.now
+    (ap (λ s. is_known s c.args.xid.now) c.self.view_is ∙ c.requires.unknown)
 
 pub start-requires-clause-free : goal.start-requires-clause-free
 start-requires-clause-free c =
-    free c.self.inside.branches c.self.inside.rows c.args.session c.self.invariant (ap (λ s. association_of s c.args.session) c.self.view_is ∙ c.requires.free)
+    free c.self.inside.branches c.self.inside.rows c.args.session c.self.invariant
+    (ap (λ s. association_of s c.args.session) c.self.view_is ∙ c.requires.free)
 
 pub invariant_of-self : goal.invariant_of-self
 invariant_of-self c =
     either_way c.start.result c.start.ensures.ok c.start.ensures.err
     (λ ok. rw ok (Whole.whole_started c.self.inside.branches c.self.inside.rows c.args.xid.now _ c.args.session
-    (unknown c.self.inside.branches c.self.inside.rows c.args.xid.now (ap (λ s. is_known s c.args.xid.now) c.self.view_is ∙ c.requires.unknown)) refl refl refl
+    (unknown c.self.inside.branches c.self.inside.rows c.args.xid.now
+    (ap (λ s. is_known s c.args.xid.now) c.self.view_is ∙ c.requires.unknown)) refl refl refl
     (free c.self.inside.branches c.self.inside.rows c.args.session c.self.invariant
     (ap (λ s. association_of s c.args.session) c.self.view_is ∙ c.requires.free))
     c.self.invariant))
@@ -74,5 +82,6 @@ returns-clause-ok c = on_ok c.start.result c.start.ensures.ok (λ ok.
     ∙ ap (with_branch (state_of c.self.inside.branches c.self.inside.rows) c.args.xid.now)
     (Steps.seen_fresh c.self.inside.rows c.args.xid.now c.args.session
     (λ key. Seen.unknown_holds c.self.inside.branches c.self.inside.rows c.args.xid.now key c.self.invariant
-    (unknown c.self.inside.branches c.self.inside.rows c.args.xid.now (ap (λ s. is_known s c.args.xid.now) c.self.view_is ∙ c.requires.unknown))))
+    (unknown c.self.inside.branches c.self.inside.rows c.args.xid.now
+    (ap (λ s. is_known s c.args.xid.now) c.self.view_is ∙ c.requires.unknown))))
     ∙ ap (λ s. with_branch s c.args.xid.now (started_by c.args.session)) c.self.view_is)

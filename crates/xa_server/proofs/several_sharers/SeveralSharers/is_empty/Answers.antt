@@ -7,13 +7,16 @@ pub returns-then-is_empty : goal.returns-then-is_empty
 returns-then-is_empty c =
     let count = c.self.inside.few.ok.0 in
     let tests = c.if-is_empty.ensures in (
-      (λ yes. sym c.self.view_is ∙ none_in c.self.inside.few.items c.self.inside.many (grind (arith, nat_tests)) (c.is_empty-then-is_empty.ensures.0 yes)),
-      (λ none. c.is_empty-then-is_empty.ensures.1 (none_of c.self.inside.few.items c.self.inside.many (c.self.view_is ∙ none)).1),
+      (λ yes. sym c.self.view_is ∙ none_in c.self.inside.few.items c.self.inside.many (grind (arith, nat_tests))
+          (c.is_empty-then-is_empty.ensures.0 yes)),
+      (λ none. c.is_empty-then-is_empty.ensures.1 (none_of c.self.inside.few.items c.self.inside.many
+          (c.self.view_is ∙ none)).1),
     )
 
 pub returns-else-is_empty : goal.returns-else-is_empty
 returns-else-is_empty c =
     let count = c.self.inside.few.ok.0 in (
       (λ yes. grind arith),
-      (λ none. let nobody = (none_of c.self.inside.few.items c.self.inside.many (c.self.view_is ∙ none)).0 in grind (arith, nat_tests)),
+      (λ none. let nobody = (none_of c.self.inside.few.items c.self.inside.many (c.self.view_is ∙ none)).0 in
+          grind (arith, nat_tests)),
     )

@@ -8,5 +8,6 @@ pub returns-then-has_all_in_list : goal.returns-then-has_all_in_list
 returns-then-has_all_in_list c all =
     rw (← c.self.view_is)
     (subset-several c.self.inside.few.items c.self.inside.many c.args.sharers.now
-    (ap (λ few. list_all (set.contains c.args.sharers.now) few) (sym c.deref.ensures.value) ∙ sym c.if-has_all_in_list.ensures)
+    (ap (λ few. list_all (set.contains c.args.sharers.now) few) (sym c.deref.ensures.value)
+    ∙ sym c.if-has_all_in_list.ensures)
     (sym c.has_all_in.ensures ∙ all))

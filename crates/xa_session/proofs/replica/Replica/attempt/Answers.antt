@@ -21,13 +21,15 @@ returns-clause-answers g c =
     let answer : Answer = record { place = c.in_ok-place.place; reply = c.in_ok-reply.reply } in
     let place : answer.place ≡ length mid.seen = c.in_ok-place.ensures.length in
     let is =
-    replied base statement answer true mid replica.server session replica.replayed place stands c.in_ok-place.ensures.catches_up c.number-session.ensures
+    replied base statement answer true mid replica.server session replica.replayed place stands
+    c.in_ok-place.ensures.catches_up c.number-session.ensures
     c.in_ok-reply.ensures.reply
     (sym c.if-not-enters.false ∙ c.in_ok-reply.ensures.enters) in (
       answered_entered base statement answer old mid new c.observe.ensures.looked is
           (subst (λ n. IsAdded (entry_of n statement) mid new) c.number-session.ensures c.in_ok-add.ensures.added),
       omega (arith, place, c.in_ok-place.ensures.catches_up, c.add.ensures.folds),
       kept_entered base statement answer (entry_of session statement) mid new c.add.new.self
-          replica.server session replica.replayed place stands c.in_ok-place.ensures.catches_up c.number-session.ensures c.in_ok-add.ensures.added
+          replica.server session replica.replayed place stands c.in_ok-place.ensures.catches_up c.number-session.ensures
+          c.in_ok-add.ensures.added
           c.in_ok-add.ensures.kept,
     )

@@ -12,7 +12,8 @@ returns-in-Ok-clause-base c =
 pub returns-in-Err-clause-passes : goal.returns-in-Err-clause-passes
 returns-in-Err-clause-passes c =
     rw (c.take_last-last.ensures.items, c.push_reserved.ensures.items)
-    (AllZip-push (λ old new. (log_of new ≡ log_of old) × (known_of new ≡ known_of old)) c.take_last-last.new.self.items c.take_last-last.new.self.items
+    (AllZip-push (λ old new. (log_of new ≡ log_of old) × (known_of new ≡ known_of old)) c.take_last-last.new.self.items
+    c.take_last-last.new.self.items
     c.take_last-last.result c.anew.new.last
     (zip_itself _ (λ pass. (refl, refl)) c.take_last-last.new.self.items)
     (c.anew.ensures.belongs, c.anew.ensures.same))

@@ -4,7 +4,8 @@ use Rattle.xa_xid.proofs.Texts.{kept_grown, kept_full, kept_past}
 use Rattle.xa_xid.proofs.quoted.Kept.add.Goals as goal
 
 pub returns-then-is_full : goal.returns-then-is_full
-returns-then-is_full c xs e = kept_full xs c.args.byte c.in-Some.bytes (sym c.in-Some.is ∙ e) (eqb-true _ _ (sym c.if-is_full.ensures.value))
+returns-then-is_full c xs e =
+    kept_full xs c.args.byte c.in-Some.bytes (sym c.in-Some.is ∙ e) (eqb-true _ _ (sym c.if-is_full.ensures.value))
 
 pub returns-else-is_full : goal.returns-else-is_full
 returns-else-is_full c xs e =

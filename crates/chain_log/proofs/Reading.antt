@@ -1,0 +1,68 @@
+-- The words of an entry, read in three parts: what comes before its texts, and as much of each text as is there.
+use Rattle.std.proofs.Common.{◌≡◌, ℕ, ◌+◌, ◌-◌, ◌*◌, ◌<◌, ◌≤◌, List, length, get_or, sym, ◌∙◌, arith}
+use mathlib.Core.Logic.{dite}
+use native.Mathlib.Decide.{dec_le}
+use Rattle.std.proofs.lemmas.List.{ext_get_or}
+use Rattle.xa_words.specs.Entry.{Entry}
+use Rattle.xa_words.specs.Words.{words_of}
+use Rattle.xa_words.proofs.Spelling.{length-words_of}
+use Rattle.xa_words.proofs.Behind.{behind_first, behind_second}
+
+-- a part is read, and the words beside it stay
+pub record ReadsPart (from end : ℕ) (entry : Entry) (old new : List ℕ) : Type 0 where
+  pub below : (word : ℕ) → word < from → get_or new word 0 ≡ get_or old word 0
+  pub above : (word : ℕ) → end ≤ word → get_or new word 0 ≡ get_or old word 0
+  pub read : (word : ℕ) → from ≤ word → word < end → get_or new word 0 ≡ get_or (words_of entry) word 0
+
+-- how many words of a text are read
+abbrev pub Fills : ℕ → ℕ → Type 0
+Fills size words = (word : ℕ) → words ≤ word → word < 8 → size ≤ 8 * word
+
+-- word by word
+one_read : (entry : Entry) (none head one all : List ℕ) (first second : ℕ)
+    → ((word : ℕ) → word < 21 → get_or none word 0 ≡ 0) → ReadsPart 0 5 entry none head
+    → ReadsPart 5 (5 + first) entry head one
+    → ReadsPart 13 (13 + second) entry one all
+    → first ≤ 8
+    → Fills (get_or head 2 0) first
+    → Fills (get_or one 3 0) second
+    → (word : ℕ) → word < 21
+    → get_or all word 0 ≡ get_or (words_of entry) word 0
+one_read entry none head one all first second empty h f s short fills fills' word less =
+    dite (dec_le 13 word)
+    (λ late.
+    dite (dec_le (13 + second) word)
+    (λ past.
+    let three : get_or one 3 0 ≡ get_or (words_of entry) 3 0 =
+    f.below 3 (omega arith) ∙ h.read 3 (omega arith) (omega arith) in
+    s.above word past ∙ f.above word (omega (arith, late, short)) ∙ h.above word (omega (arith, late)) ∙ empty word less
+    ∙ sym (behind_second entry word (get_or one 3 0) three late less
+    (fills' (word - 13) (omega (arith, past)) (omega (arith, less)))))
+    (λ within. s.read word late (omega (arith, within))))
+    (λ early.
+    s.below word (omega (arith, early))
+    ∙ dite (dec_le 5 word)
+    (λ text.
+    dite (dec_le (5 + first) word)
+    (λ past.
+    let two : get_or head 2 0 ≡ get_or (words_of entry) 2 0 = h.read 2 (omega arith) (omega arith) in
+    f.above word past ∙ h.above word text ∙ empty word less
+    ∙ sym (behind_first entry word (get_or head 2 0) two text (omega (arith, early))
+    (fills (word - 5) (omega (arith, past)) (omega (arith, early)))))
+    (λ within. f.read word text (omega (arith, within))))
+    (λ before. f.below word (omega (arith, before)) ∙ h.read word (omega arith) (omega (arith, before))))
+
+-- and all of them
+pub all_read : (entry : Entry) (none head one all : List ℕ) (first second : ℕ)
+    → ((word : ℕ) → word < 21 → get_or none word 0 ≡ 0) → ReadsPart 0 5 entry none head
+    → ReadsPart 5 (5 + first) entry head one
+    → ReadsPart 13 (13 + second) entry one all
+    → first ≤ 8
+    → Fills (get_or head 2 0) first
+    → Fills (get_or one 3 0) second
+    → length all ≡ 21
+    → all ≡ words_of entry
+all_read entry none head one all first second empty h f s short fills fills' sized =
+    ext_get_or 0 all (words_of entry) (sized ∙ sym (length-words_of entry))
+    (λ word below. one_read entry none head one all first second empty h f s short fills fills' word
+    (omega (arith, sized, below)))

@@ -1,0 +1,190 @@
+-- What a reader learns of a cell by its name, before and after.
+use Rattle.std.proofs.Common.{◌≡◌, ◌≢◌, ℕ, suc, ◌+◌, ◌<◌, ◌≤◌, List, ◌∷◌, length, get_or, refl, ap, sym, ◌∙◌, subst}
+use Rattle.std.proofs.Common.{Some, arith}
+use Rattle.std.specs.Prelude.{slice_get}
+use Rattle.xa_words.specs.Entry.{Entry, IsEntry}
+use Rattle.decision_log.specs.declared.view.PassView.{PassView}
+use Rattle.decision_log.specs.declared.view.Turn.{Turn}
+use Rattle.decision_log.specs.declared.view.Turn.TheVariants.{Without, Won, Fresh}
+use Rattle.decision_log.proofs.Histories.{there}
+use Rattle.chain_log.specs.Cells.{name_at, session_at, name_before}
+use Rattle.chain_log.proofs.Names.{session_there}
+use Rattle.chain_log.specs.Places.{rows_of, cell_of, cell_words}
+use Rattle.chain_log.specs.RingRule.{watched_word, watched_name, least}
+use Rattle.chain_log.specs.RingTransitions.{KeepsWatch, Checks, Reads}
+use Rattle.chain_log.specs.RingSeat.{KeepsPass, ReadsCell}
+use Rattle.chain_log.proofs.RingSteps.{without_won}
+
+-- what is looked for: an entry that was seen, its cell and its name
+pub record IsLookedFor (start name place : ℕ) (entry : Entry) (h : PassView) : Type 0 where
+  pub seen : slice_get h.known.seen place ≡ Some entry
+  pub cell : start ≡ cell_of h.capacity place entry.session
+  pub name_is : name ≡ name_at h.sessions place entry.session
+
+-- by the place, whose entry's session is known
+pub looked_for : (start name place : ℕ) (h : PassView) → place < length h.known.seen
+    → start ≡ cell_of h.capacity place (session_at h.known.seen place)
+    → name ≡ name_at h.sessions place (session_at h.known.seen place)
+    → (entry : Entry) × IsLookedFor start name place entry h
+looked_for start name place h below cell named =
+    let e = there h.known.seen place below in
+    let session = session_there h.known.seen place e.0 e.1 in (
+      e.0,
+      record {
+        seen = e.1;
+        cell = cell ∙ ap (cell_of h.capacity place) session;
+        name_is = named
+            ∙ ap (name_at h.sessions place) session;
+      },
+    )
+
+pub still_for : (start name place : ℕ) (entry : Entry) (h k : PassView) → KeepsPass h k
+    → IsLookedFor start name place entry h
+    → IsLookedFor start name place entry k
+still_for start name place entry h k keeps is = record {
+  seen = ap (λ known. slice_get known.seen place) keeps.known ∙ is.seen;
+  cell = is.cell ∙ (λ i. cell_of (sym keeps.capacity i) place entry.session);
+  name_is = is.name_is ∙ (λ i. name_at (sym keeps.sessions i) place entry.session);
+}
+
+-- a load of a name leaves what the pass knows of the history
+pub check_keeps : (start found : ℕ) (h k : PassView) → Checks start h found k → KeepsPass h k
+check_keeps start found h k checks =
+    record {
+      known = ap (λ v. v.known) checks.2;
+      sessions = ap (λ v. v.sessions) checks.2;
+      capacity = ap
+          (λ v. v.capacity) checks.2;
+    }
+
+pub watch_keeps : (h k : PassView) → KeepsWatch h k → KeepsPass h k
+watch_keeps h k keeps = record { known = keeps.known; sessions = keeps.sessions; capacity = keeps.capacity }
+
+pub keeps_through : (h k v : PassView) → KeepsPass h k → KeepsPass k v → KeepsPass h v
+keeps_through h k v first second = record {
+  known = second.known ∙ first.known;
+  sessions = second.sessions ∙ first.sessions;
+  capacity = second.capacity ∙ first.capacity;
+}
+
+pub keeps_itself : (h : PassView) → KeepsPass h h
+keeps_itself h = record { known = refl; sessions = refl; capacity = refl }
+
+pub watch_through : (h k v : PassView) → KeepsWatch h k → KeepsWatch k v → KeepsWatch h v
+watch_through h k v first second = record {
+  known = second.known ∙ first.known;
+  sessions = second.sessions ∙ first.sessions;
+  capacity = second.capacity ∙ first.capacity;
+  word = second.word ∙ first.word;
+  name = second.name ∙ first.name;
+  reads = λ reads. second.reads (first.reads reads);
+  whole = λ whole. first.whole (second.whole whole);
+}
+
+pub watch_itself : (h : PassView) → KeepsWatch h h
+watch_itself h =
+    record {
+      known = refl;
+      sessions = refl;
+      capacity = refl;
+      word = refl;
+      name = refl;
+      reads = λ reads.
+          reads;
+      whole = λ whole. whole;
+    }
+
+-- another name: so many entries follow the one that is looked for
+pub missed : (start found name place : ℕ) (entry : Entry) (h k : PassView) → Checks start h found k
+    → IsLookedFor start name place entry h → found ≢ name
+    → place + rows_of h.capacity ≤ least k
+missed start found name place entry h k checks is other =
+    subst (λ v. place + rows_of h.capacity ≤ least v) (sym checks.2)
+    (checks.3 place entry is.seen is.cell (λ same. other (same ∙ sym is.name_is)))
+
+-- its name: the pass reads its cell
+pub watched : (start found name place : ℕ) (entry : Entry) (h k : PassView) → Checks start h found k
+    → IsLookedFor start name place entry h → found ≡ name
+    → ReadsCell start place entry k × (k.turn ≡ Won)
+watched start found name place entry h k checks is same =
+    let on = still_for start name place entry h k (check_keeps start found h k checks) is in (
+      record {
+        seen = on.seen;
+        cell = on.cell;
+        word = ap watched_word checks.2;
+        name = ap watched_name checks.2 ∙ same ∙ on.name_is;
+      },
+      ap (λ v. v.turn) checks.2,
+    )
+
+-- and its name once more: what was read between was the entry's
+pub whole : (start found name place : ℕ) (entry : Entry) (g h k : PassView) → ReadsCell start place entry g
+    → g.turn ≡ Won → KeepsWatch g h
+    → IsLookedFor start name place entry h → Checks start h found k → found ≡ name → h.turn ≡ Won
+whole start found name place entry g h k reads won keeps is checks same =
+    by_turn h.turn refl
+  where
+    never : h.turn ≢ Fresh
+    never =
+        checks.4 place entry is.seen is.cell (same ∙ is.name_is) (keeps.word ∙ reads.word)
+        (keeps.name ∙ reads.name ∙ (λ i. name_at (sym keeps.sessions i) place entry.session) ∙ sym is.name_is
+        ∙ sym same)
+
+    by_turn : (turn : Turn) → h.turn ≡ turn → h.turn ≡ Won
+    by_turn Won turn = turn
+    by_turn Fresh turn = absurd (never turn)
+    by_turn Without turn = absurd (keeps.reads (λ without. without_won (sym without ∙ won)) turn)
+
+-- the same of a look for an entry that came before
+pub missed_later : (start found name place : ℕ) (entry : Entry) (h g k : PassView) → KeepsPass h g
+    → Checks start g found k
+    → IsLookedFor start name place entry h → found ≢ name
+    → place + rows_of h.capacity ≤ least k
+missed_later start found name place entry h g k keeps checks is other =
+    subst (λ c. place + rows_of c ≤ least k) keeps.capacity
+    (missed start found name place entry g k checks (still_for start name place entry h g keeps is) other)
+
+pub won_between : (start first second name place : ℕ) (entry : Entry) (h g v k : PassView)
+    → IsLookedFor start name place entry h → Checks start h first g
+    → first ≡ name → KeepsWatch g v → Checks start v second k → second ≡ name
+    → ReadsCell start place entry g × (v.turn ≡ Won)
+won_between start first second name place entry h g v k is before same keeps after same' =
+    let w = watched start first name place entry h g before is same in
+    let on = still_for start name place entry h v (keeps_through h g v (check_keeps start first h g before)
+    (watch_keeps g v keeps)) is in
+    (w.0, whole start second name place entry g v k w.0 w.1 keeps on after same')
+
+-- the word that was read
+pub word_there : (start place index word : ℕ) (entry : Entry) (h k : PassView) → ReadsCell start place entry h
+    → Reads (start + index) h word k → k.turn ≡ Won
+    → index < 23
+    → IsEntry entry × (word ≡ get_or (cell_words h.sessions h.known.seen place entry) index 0)
+word_there start place index word entry h k is reads won below =
+    reads.2 won place index entry is.seen (is.word ∙ is.cell) is.name (ap (λ n. n + index) (sym is.word)) below
+
+pub link_there : (start first second name place link : ℕ) (entry : Entry) (h g v k : PassView)
+    → IsLookedFor start name place entry h → Checks start h first g
+    → first ≡ name → Reads (start + 1) g link v → Checks start v second k → second ≡ name
+    → link ≡ name_before h.sessions h.known.seen place
+link_there start first second name place link entry h g v k is before same reads after same' =
+    let b = won_between start first second name place entry h g v k is before same reads.1 after same' in
+    let keeps = check_keeps start first h g before in
+    (word_there start place 1 link entry g v b.0 reads b.1 (omega arith)).1
+    ∙ (λ i. name_before (keeps.sessions i) (keeps.known i).seen place)
+
+-- the words of a cell behind its name and its link
+pub behind_link : (name link index : ℕ) (words : List ℕ)
+    → get_or (name ∷ link ∷ words) (2 + index) 0 ≡ get_or words index 0
+behind_link name link index words =
+    let next : 2 + index ≡ suc (suc index) = omega arith in
+    ap (λ n. get_or (name ∷ link ∷ words) n 0) next
+
+-- a pass that goes on reading the same cell
+pub watched_on : (start place : ℕ) (entry : Entry) (h k : PassView) → KeepsWatch h k → ReadsCell start place entry h
+    → ReadsCell start place entry k
+watched_on start place entry h k keeps is = record {
+  seen = ap (λ known. slice_get known.seen place) keeps.known ∙ is.seen;
+  cell = is.cell ∙ (λ i. cell_of (sym keeps.capacity i) place entry.session);
+  word = keeps.word ∙ is.word;
+  name = keeps.name ∙ is.name ∙ (λ i. name_at (sym keeps.sessions i) place entry.session);
+}

@@ -1,0 +1,20 @@
+use Rattle.std.proofs.Common.{◌≡◌, ◌+◌, ℕ, Some, length}
+use Rattle.std.specs.Prelude.{slice_get}
+use Rattle.std.specs.List.{All}
+use Rattle.decision_log.specs.AtTable.{KnowsRest}
+use Rattle.decision_log.specs.Known.{newcomer}
+use Rattle.decision_log.specs.Seats.{pass_view, newcomer_view}
+use Rattle.chain_log.specs.declared.spare.RingSpare.{RingSpare}
+use Rattle.chain_log.specs.RingPass.{identity_of}
+use Rattle.chain_log.specs.RingSpare.{spare_log_of, spare_known_of}
+use Rattle.chain_log.proofs.ring_open.deal_spares.Given as goal
+
+abbrev pub invariant-loop-index : goal.invariant-loop-index
+invariant-loop-index l = record {
+  rest : KnowsRest l.log.table.inner.shared.table_id l.rest;
+  next : pass_view l.rest ≡ newcomer_view l.log.columns l.log.capacity (l.log.sessions + l._index + 1);
+  count : length l.spares.items ≡ l._index;
+  belongs : All (λ spare. spare_log_of spare ≡ identity_of l.log) l.spares.items;
+  numbers : (index : ℕ) (spare : RingSpare) → slice_get l.spares.items index ≡ Some spare
+      → spare_known_of spare ≡ newcomer (l.log.sessions + index + 1);
+}

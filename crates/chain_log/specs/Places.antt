@@ -1,0 +1,39 @@
+-- The layout of a ring's words. Each session and each spare has a column of cells, one for each row, but a spare's are
+-- never used. The rows are used again and again, in turn. `sessions` counts the spares too: to the rule they are passes
+-- as the others are.
+--     most            how many entries a ring can have in addition to its rows
+--     rows_of         how many rows a ring has, by how many entries it can have
+--     word_count      how many words a ring has
+--     cell_at         the first word of a cell
+--     cell_of         the first word of the cell of a place of the history and a session
+--     cell_words      what the words of an entry's cell are
+use Rattle.std.specs.Prelude.{ℕ, ◌+◌, ◌-◌, ◌*◌, ◌%◌, List, ◌∷◌}
+use Rattle.xa_words.specs.Entry.{Entry}
+use Rattle.xa_words.specs.Words.{words_of}
+use Rattle.chain_log.specs.Cells.{name_at, name_before}
+
+-- 2 ^ 59, so that all names are numbers of 64 bits
+abbrev pub most : ℕ
+most = 576460752303423488
+
+-- what a ring can have in addition to that
+unfoldable pub rows_of : ℕ → ℕ
+rows_of capacity = capacity - most
+
+-- the newest entry's name, and 23 words for each cell
+abbrev pub word_count : ℕ → ℕ → ℕ
+word_count sessions rows = 1 + rows * sessions * 23
+
+-- the first word of a cell; the cells are numbered from 1 on, column by column and row by row
+abbrev pub cell_at : ℕ → ℕ
+cell_at cell = 1 + (cell - 1) * 23
+
+-- a place of the history is in the row of its number, if rows are counted round and round; the cells of a column lie
+-- side by side, so that the next entry of a session that adds alone is beside its last one
+abbrev pub cell_of : ℕ → ℕ → ℕ → ℕ
+cell_of capacity place session = cell_at (name_at (rows_of capacity) (session - 1) (place % rows_of capacity + 1))
+
+-- the entry's own name, its link, which is the name of the entry before it, and the entry
+abbrev pub cell_words : ℕ → List Entry → ℕ → Entry → List ℕ
+cell_words sessions log place entry =
+    name_at sessions place entry.session ∷ name_before sessions log place ∷ words_of entry

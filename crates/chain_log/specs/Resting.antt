@@ -1,0 +1,34 @@
+-- What a contract sees of a pass or a spare at rest.
+--     resting_log_of, resting_known_of      of which log the pass is, and what it knows
+--     resting_spare_log_of, resting_spare_known_of      of which log the spare is, and what it knows
+use Rattle.decision_log.specs.declared.known.Known.{Known}
+use Rattle.decision_log.specs.Known.{LogIdentity}
+use Rattle.decision_log.specs.Seats.{pass_view_of}
+use Rattle.chain_log.specs.declared.resting.RestingPass.{RestingPass}
+use Rattle.chain_log.specs.declared.resting.RestingSpare.{RestingSpare}
+
+-- the table of the seat that rests, and the sizes that it was given
+abbrev pub resting_log_of : RestingPass → LogIdentity
+resting_log_of pass =
+    record {
+      table = pass.perch.table_id;
+      sessions = (pass_view_of pass.perch.view).sessions;
+      capacity = (pass_view_of pass.perch.view).capacity;
+    }
+
+-- what that seat knows of it
+abbrev pub resting_known_of : RestingPass → Known
+resting_known_of pass = (pass_view_of pass.perch.view).known
+
+-- the table of the seat that rests, and the sizes that it was given
+abbrev pub resting_spare_log_of : RestingSpare → LogIdentity
+resting_spare_log_of spare =
+    record {
+      table = spare.perch.table_id;
+      sessions = (pass_view_of spare.perch.view).sessions;
+      capacity = (pass_view_of spare.perch.view).capacity;
+    }
+
+-- what that seat knows of it
+abbrev pub resting_spare_known_of : RestingSpare → Known
+resting_spare_known_of spare = (pass_view_of spare.perch.view).known

@@ -1,0 +1,33 @@
+-- What a contract sees of a ring, and of its passes.
+--     identity_of     which log it is
+--     log_of          of which log a pass is
+--     known_of        what a pass knows
+--     least_of        how many entries the history has at least, as a pass knows
+use Rattle.std.specs.Prelude.{ℕ}
+use Rattle.decision_log.specs.declared.known.Known.{Known}
+use Rattle.decision_log.specs.Known.{LogIdentity}
+use Rattle.decision_log.specs.Seats.{pass_view_of}
+use Rattle.chain_log.specs.declared.ring.RingLog.{RingLog}
+use Rattle.chain_log.specs.declared.ring_pass.RingPass.{RingPass}
+use Rattle.chain_log.specs.RingRule.{least}
+
+-- its table, how many passes it has, spares included, and how many entries it can have
+abbrev pub identity_of : RingLog → LogIdentity
+identity_of log = record { table = log.table.inner.shared.table_id; sessions = log.columns; capacity = log.capacity }
+
+-- the table of its seat, and the sizes that it was given
+abbrev pub log_of : RingPass → LogIdentity
+log_of pass =
+    record {
+      table = pass.seat.table_id;
+      sessions = (pass_view_of pass.seat.me.0).sessions;
+      capacity = (pass_view_of pass.seat.me.0).capacity;
+    }
+
+-- what its seat knows of it
+abbrev pub known_of : RingPass → Known
+known_of pass = (pass_view_of pass.seat.me.0).known
+
+-- what its seat knows of the history's length
+abbrev pub least_of : RingPass → ℕ
+least_of pass = least (pass_view_of pass.seat.me.0)

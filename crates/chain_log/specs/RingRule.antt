@@ -1,0 +1,107 @@
+-- The rule of a ring, which holds between any two steps.
+--     own_name        the name that an entry of the pass gets after all that it has seen
+--     own_cell        the first word of the cell of that entry
+--     try_word        which word passes exchange when they try to add
+--     newest_for      what that word is if a pass has seen the whole history
+--     watched_word, watched_name, beyond      what a pass that reads keeps
+--     least           how many entries the history has at least, as a pass knows
+--     HasCells        the words spell the last entries of a history
+--     IsDraft         what a pass has stored in its own cell
+--     IsBroken        the cell that a pass reads is another entry's now
+--     Notes, HasNotes what a pass knows of the words is so
+--     Knows           what a pass knows of the log is so
+--     RingRule        the rule
+use Rattle.std.specs.Prelude.{◌≡◌, ◌≢◌, ◌<◌, ◌≤◌, ◌+◌, ℕ, List, length, slice_get, slice_index, Some}
+use Rattle.xa_words.specs.Entry.{Entry}
+use Rattle.decision_log.specs.declared.view.PassView.{PassView}
+use Rattle.decision_log.specs.declared.view.SeatView.{SeatView}
+use Rattle.decision_log.specs.declared.view.Turn.{Turn}
+use Rattle.decision_log.specs.declared.view.Turn.TheVariants.{Without, Won, Fresh}
+use Rattle.decision_log.specs.declared.sizes.Sizes.{Sizes}
+use Rattle.decision_log.specs.Draft.{HasWordsAt}
+use Rattle.decision_log.specs.LogRule.{KnowsLog, LogRule}
+use Rattle.chain_log.specs.Cells.{name_at, newest_of}
+use Rattle.chain_log.specs.Places.{rows_of, word_count, cell_of, cell_words}
+
+-- of the place after all that it has seen, and of the pass's session
+abbrev pub own_name : PassView → ℕ
+own_name h = name_at h.sessions (length h.known.seen) h.known.number
+
+-- in the pass's own column
+abbrev pub own_cell : PassView → ℕ
+own_cell h = cell_of h.capacity (length h.known.seen) h.known.number
+
+-- the word of the newest entry's name, at which passes also look
+abbrev pub try_word : ℕ
+try_word = 0
+
+-- the name of the last entry that the pass has seen
+abbrev pub newest_for : PassView → ℕ
+newest_for h = newest_of h.sessions h.known.seen
+
+-- the first word of the cell that the pass reads
+abbrev pub watched_word : PassView → ℕ
+watched_word h = slice_index h.draft 0
+
+-- the name that the pass found there
+abbrev pub watched_name : PassView → ℕ
+watched_name h = slice_index h.draft 1
+
+-- how many entries there were then beyond those that it has seen
+abbrev pub beyond : PassView → ℕ
+beyond h = slice_index h.draft 2
+
+-- a pass that reads knows of entries that it hasn't seen
+abbrev pub beyond_in : PassView → Turn → ℕ
+beyond_in h Without = 0
+beyond_in h Won = beyond h
+beyond_in h Fresh = beyond h
+
+-- what it has seen, and those
+abbrev pub least : PassView → ℕ
+least h = length h.known.seen + beyond_in h h.turn
+
+-- word 0 names the newest entry; a cell that has an entry's name has the entry; and it has the name until so many
+-- entries follow as there are rows
+pub record HasCells (sizes : Sizes) (words : List ℕ) (log : List Entry) : Type 0 where
+  pub some : 0 < rows_of sizes.capacity
+  pub wide : length words ≡ word_count sizes.sessions (rows_of sizes.capacity)
+  pub newest : slice_index words 0 ≡ newest_of sizes.sessions log
+  pub cells : (place : ℕ) (entry : Entry) → slice_get log place ≡ Some entry
+      → slice_index words (cell_of sizes.capacity place entry.session) ≡ name_at sizes.sessions place entry.session
+      → HasWordsAt words (cell_of sizes.capacity place entry.session) (cell_words sizes.sessions log place entry)
+  pub fresh : (place : ℕ) (entry : Entry) → slice_get log place ≡ Some entry
+      → length log < place + rows_of sizes.capacity
+      → slice_index words (cell_of sizes.capacity place entry.session) ≡ name_at sizes.sessions place entry.session
+
+-- a pass's draft is what its own cell begins with, and the first word is the name
+pub record IsDraft (words : List ℕ) (h : PassView) : Type 0 where
+  pub short : length h.draft ≤ 23
+  pub column : 0 < length h.draft → h.known.number ≤ h.sessions
+  pub named : 0 < length h.draft → slice_index h.draft 0 ≡ own_name h
+  pub draft : HasWordsAt words (own_cell h) h.draft
+
+-- if the name that the pass found is of an entry that it has seen, and of that entry's cell, it isn't there any more
+abbrev pub IsBroken : List ℕ → PassView → Type 0
+IsBroken words h =
+    (place : ℕ) (entry : Entry) → slice_get h.known.seen place ≡ Some entry
+    → watched_word h ≡ cell_of h.capacity place entry.session
+    → watched_name h ≡ name_at h.sessions place entry.session → slice_index words (watched_word h) ≢ watched_name h
+
+-- `Without` a pass may have a draft; `Won` it reads a cell; `Fresh` it reads one that is another entry's now
+abbrev pub Notes : List ℕ → List Entry → PassView → Turn → Type 0
+Notes words log h Without = IsDraft words h
+Notes words log h Won = length h.known.seen + beyond h ≤ length log
+Notes words log h Fresh = (length h.known.seen + beyond h ≤ length log) × IsBroken words h
+
+pub record HasNotes (words : List ℕ) (log : List Entry) (h : PassView) : Type 0 where
+  pub notes : Notes words log h h.turn
+
+-- what a pass knows is so
+abbrev pub Knows : Sizes → List ℕ → List Entry → PassView → Type 0
+Knows sizes words log h = KnowsLog HasNotes sizes words log h
+
+-- the words spell the last entries of the log, whose entries are of sessions that were given out, and what all seats
+-- know is so
+abbrev pub RingRule : Sizes → List ℕ → List SeatView → Type 0
+RingRule sizes words views = LogRule HasCells HasNotes sizes words views

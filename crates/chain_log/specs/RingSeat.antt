@@ -1,0 +1,48 @@
+-- A seat at a ring.
+--     IsSeat          it is a seat of this log, and knows one pass
+--     IsStart         a cell of this log begins at a word
+--     IsOurs          the pass has this log's sizes, one of its numbers, and has seen what it can have
+--     KeepsPass       a call leaves what the pass knows of the history
+--     ReadsCell       the pass reads the cell of an entry that it has seen
+use Rattle.std.specs.Prelude.{◌≡◌, ◌<◌, ◌≤◌, ◌+◌, ℕ, length, slice_get, Some}
+use Rattle.atomic_table.specs.declared.shared.Seat.{Seat}
+use Rattle.xa_words.specs.Entry.{Entry}
+use Rattle.decision_log.specs.declared.view.SeatView.{SeatView}
+use Rattle.decision_log.specs.declared.view.PassView.{PassView}
+use Rattle.decision_log.specs.Known.{AllOf}
+use Rattle.decision_log.specs.AtTable.{KnowsOne}
+use Rattle.chain_log.specs.Cells.{name_at}
+use Rattle.chain_log.specs.Places.{cell_of}
+use Rattle.chain_log.specs.RingRule.{watched_word, watched_name}
+use Rattle.chain_log.specs.declared.ring.RingLog.{RingLog}
+
+-- it is a seat of this log, and knows one pass
+abbrev pub IsSeat : RingLog → Seat Entry SeatView → Type 0
+IsSeat log seat = KnowsOne log.table.inner.shared.table_id seat
+
+-- the 23 words from here on are words of this log, after the first
+pub record IsStart (log : RingLog) (start : ℕ) : Type 0 where
+  pub behind : 1 ≤ start
+  pub within : start + 22 < log.table.inner.shared.table_id.words
+
+-- what is so of each of the log's passes, also within a call
+pub record IsOurs (log : RingLog) (pass_view : PassView) : Type 0 where
+  pub sessions : pass_view.sessions ≡ log.columns
+  pub capacity : pass_view.capacity ≡ log.capacity
+  pub first : 1 ≤ pass_view.known.number
+  pub last : pass_view.known.number ≤ pass_view.sessions
+  pub within : length pass_view.known.seen ≤ pass_view.capacity
+  pub among : AllOf pass_view.sessions pass_view.known.seen
+
+-- the lists and the counts stay
+pub record KeepsPass (old new : PassView) : Type 0 where
+  pub known : new.known ≡ old.known
+  pub sessions : new.sessions ≡ old.sessions
+  pub capacity : new.capacity ≡ old.capacity
+
+-- it found the entry's name in the cell that begins here
+pub record ReadsCell (start place : ℕ) (entry : Entry) (h : PassView) : Type 0 where
+  pub seen : slice_get h.known.seen place ≡ Some entry
+  pub cell : start ≡ cell_of h.capacity place entry.session
+  pub word : watched_word h ≡ start
+  pub name : watched_name h ≡ name_at h.sessions place entry.session

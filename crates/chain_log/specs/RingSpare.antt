@@ -1,0 +1,20 @@
+-- What a contract sees of a spare.
+--     spare_log_of    of which log a spare is
+--     spare_known_of  what a spare knows
+use Rattle.decision_log.specs.declared.known.Known.{Known}
+use Rattle.decision_log.specs.Known.{LogIdentity}
+use Rattle.decision_log.specs.Seats.{pass_view_of}
+use Rattle.chain_log.specs.declared.spare.RingSpare.{RingSpare}
+
+-- the table of its seat, and the sizes that it was given
+abbrev pub spare_log_of : RingSpare → LogIdentity
+spare_log_of spare =
+    record {
+      table = spare.seat.table_id;
+      sessions = (pass_view_of spare.seat.me.0).sessions;
+      capacity = (pass_view_of spare.seat.me.0).capacity;
+    }
+
+-- what its seat knows of it
+abbrev pub spare_known_of : RingSpare → Known
+spare_known_of spare = (pass_view_of spare.seat.me.0).known

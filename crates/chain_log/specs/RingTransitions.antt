@@ -1,0 +1,153 @@
+-- What each step of a ring does to the pass that takes it, and what the pass learns.
+--     with_look, won, lost, stored, noted     the pass after a step
+--     KeepsWatch      what a load of a word leaves of a pass
+--     Sees, Checks, Reads, Finds, Drafts, Exchanges      the steps, each by its word, its operands, the pass before,
+--                                                        what was found and the pass after
+use Rattle.std.specs.Prelude.{◌≡◌, ◌≢◌, ◌<◌, ◌≤◌, ◌+◌, ◌-◌, ℕ, List, [], ◌∷◌, ◌++◌, length, take, slice_get}
+use Rattle.std.specs.Prelude.{slice_index, Some}
+use mathlib.Core.Option.{Option, none, some}
+use Rattle.xa_words.specs.Entry.{Entry, IsEntry}
+use Rattle.decision_log.specs.declared.view.PassView.{PassView}
+use Rattle.decision_log.specs.declared.view.Turn.{Turn}
+use Rattle.decision_log.specs.declared.view.Turn.TheVariants.{Without, Won, Fresh}
+use Rattle.decision_log.specs.Observed.{HistoryIs}
+use Rattle.chain_log.specs.Cells.{name_at, newest_of}
+use Rattle.chain_log.specs.Places.{rows_of, cell_of, cell_words}
+use Rattle.chain_log.specs.RingRule.{own_name, own_cell, try_word, newest_for, watched_word, watched_name, least}
+
+-- after a look that saw this history: the own cell is another now, and its draft is empty
+abbrev pub with_look : PassView → List Entry → PassView
+with_look h seen = record {
+  known =
+      record {
+        number = h.known.number;
+        seen = seen;
+        mine = h.known.mine;
+        looks = h.known.looks
+            + 1;
+        tries = h.known.tries;
+        since = h.known.since + 1;
+      };
+  sessions = h.sessions;
+  capacity = h.capacity;
+  draft = [];
+  turn = Without;
+}
+
+-- after an exchange that won: the entry is added
+abbrev pub won : PassView → Entry → PassView
+won h entry = record {
+  known =
+      record {
+        number = h.known.number;
+        seen = h.known.seen ++ entry ∷ [];
+        mine = h.known.mine ++ entry ∷ [];
+        looks = h.known.looks;
+        tries = h.known.tries + 1;
+        since = 0;
+      };
+  sessions = h.sessions;
+  capacity = h.capacity;
+  draft = [];
+  turn = Without;
+}
+
+-- after an exchange that lost: this history was seen
+abbrev pub lost : PassView → List Entry → PassView
+lost h seen = record {
+  known = record {
+    number = h.known.number;
+    seen = seen;
+    mine = h.known.mine;
+    looks = h.known.looks;
+    tries = h.known.tries
+        + 1;
+    since = 0;
+  };
+  sessions = h.sessions;
+  capacity = h.capacity;
+  draft = [];
+  turn = Without;
+}
+
+-- with these words in its own cell
+abbrev pub with_words : PassView → List ℕ → PassView
+with_words h words =
+    record { known = h.known; sessions = h.sessions; capacity = h.capacity; draft = words; turn = Without }
+
+-- after a store of a word of the draft, which forgets what was stored after it
+abbrev pub stored : PassView → ℕ → ℕ → PassView
+stored h index word = with_words h (take index h.draft ++ word ∷ [])
+
+-- after it found a name in the first word of a cell, while there were so many entries more than it has seen
+abbrev pub noted : PassView → ℕ → ℕ → ℕ → Turn → PassView
+noted h word name more turn =
+    record {
+      known = h.known;
+      sessions = h.sessions;
+      capacity = h.capacity;
+      draft = word ∷ name ∷ more
+          ∷ [];
+      turn = turn;
+    }
+
+-- a pass that reads goes on reading the same cell
+pub record KeepsWatch (old new : PassView) : Type 0 where
+  pub known : new.known ≡ old.known
+  pub sessions : new.sessions ≡ old.sessions
+  pub capacity : new.capacity ≡ old.capacity
+  pub word : watched_word new ≡ watched_word old
+  pub name : watched_name new ≡ watched_name old
+  pub reads : old.turn ≢ Without → new.turn ≢ Without
+  pub whole : new.turn ≡ Won → old.turn ≡ Won
+
+-- a load of word 0, the newest entry's name
+abbrev pub Sees : ℕ → PassView → ℕ → PassView → Type 0
+Sees word old found new =
+    (word ≡ 0) × (seen : List Entry) × (new ≡ with_look old seen) × (found ≡ newest_of old.sessions seen)
+    × HistoryIs old seen
+    × (least old ≤ length seen)
+
+-- a load of the first word of a cell. If it isn't the name of an entry that was seen, the history has at least as many
+-- entries from that one's place on as there are rows. If it is, the words that were read since the pass found it there
+-- before were the entry's
+abbrev pub Checks : ℕ → PassView → ℕ → PassView → Type 0
+Checks word old found new =
+    (word ≢ 0) × (more : ℕ) × (new ≡ noted old word found more Won)
+    × ((place : ℕ) (entry : Entry) → slice_get old.known.seen place ≡ Some entry
+    → word ≡ cell_of old.capacity place entry.session
+    → found ≢ name_at old.sessions place entry.session
+    → place + rows_of old.capacity ≤ length old.known.seen + more)
+    × ((place : ℕ) (entry : Entry) → slice_get old.known.seen place ≡ Some entry
+    → word ≡ cell_of old.capacity place entry.session
+    → found ≡ name_at old.sessions place entry.session
+    → watched_word old ≡ word → watched_name old ≡ found → old.turn ≢ Fresh)
+
+-- a load of a word of the cell that the pass reads: it is the entry's, or the pass knows that the cell is another's
+abbrev pub Reads : ℕ → PassView → ℕ → PassView → Type 0
+Reads word old found new =
+    (word ≢ 0) × KeepsWatch old new
+    × (new.turn ≡ Won
+    → (place index : ℕ) (entry : Entry) → slice_get old.known.seen place ≡ Some entry
+    → watched_word old ≡ cell_of old.capacity place entry.session
+    → watched_name old ≡ name_at old.sessions place entry.session
+    → word ≡ watched_word old + index → index < 23
+    → IsEntry entry × (found ≡ slice_index (cell_words old.sessions old.known.seen place entry) index))
+
+-- a load of a word of the own cell: what it finds is the draft's next word, without a store
+abbrev pub Finds : ℕ → PassView → ℕ → PassView → Type 0
+Finds word old found new = (word ≢ 0) × (new ≡ stored old (word - own_cell old) found)
+
+-- a store of a word into the own cell
+abbrev pub Drafts : ℕ → ℕ → PassView → ℕ → PassView → Type 0
+Drafts word value old found new = new ≡ stored old (word - own_cell old) value
+
+-- an exchange of word 0 from the last name that was seen to the own one, which is a try: the announced entry is added
+-- only if that name was found, and else more was seen
+abbrev pub Exchanges : ℕ → ℕ → ℕ → Option Entry → PassView → ℕ → PassView → Type 0
+Exchanges word from to none old found new = ⊥
+Exchanges word from to (some entry) old found new =
+    (word ≡ try_word) × (from ≡ newest_for old) × (to ≡ own_name old) × (found ≡ from → new ≡ won old entry)
+    × (found ≢ from → (seen : List Entry) × (new ≡ lost old seen) × (found ≡ newest_of old.sessions seen)
+    × HistoryIs old seen
+    × (length old.known.seen < length seen))

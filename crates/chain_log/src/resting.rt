@@ -1,0 +1,41 @@
+//! Passes and spares at rest, which threads may share.
+ghost use Rattle.std.specs.Prelude.{◌≡◌, ◌<◌, [], length};
+ghost use Rattle.decision_log.specs.Seats.{pass_view_of, seated};
+ghost use Rattle.chain_log.specs.Cells.{newest_of};
+ghost use Rattle.chain_log.specs.Places.{rows_of};
+ghost use Rattle.chain_log.specs.Windows.{HasWindow};
+ghost use Rattle.chain_log.specs.IsRingPass.{IsRingPass};
+
+use atomic_table::Perch;
+use decision_log::SeatView;
+use xa_words::Entry;
+use xa_xid::SessionNo;
+
+/// A pass at rest: nobody looks or adds with it.
+///
+/// A `RingPass` may be sent to another thread, and not be shared by threads. A pass at rest may be shared, too.
+#[derive(Drop)]
+pub struct RestingPass {
+    pub(crate) perch: Perch<Entry, SeatView>,
+    pub(crate) number: SessionNo,
+    pub(crate) newest: u64,
+    pub(crate) count: u64,
+    pub(crate) low: u64,
+    pub(crate) columns: Vec<u8>,
+    ghost held: { (perch.view, []) ≡ seated (pass_view_of perch.view) },
+    ghost state: { IsRingPass number count (pass_view_of perch.view) },
+    ghost named: { newest ≡ newest_of (pass_view_of perch.view).sessions (pass_view_of perch.view).known.seen },
+    ghost kept: { HasWindow (rows_of (pass_view_of perch.view).capacity) low
+        (length (pass_view_of perch.view).known.seen) (pass_view_of perch.view).known.seen
+        columns.items },
+    ghost bottom: { 0 < low → low < length (pass_view_of perch.view).known.seen },
+}
+
+/// A spare at rest, which threads may share.
+#[derive(Drop)]
+pub struct RestingSpare {
+    pub(crate) perch: Perch<Entry, SeatView>,
+    pub(crate) count: u64,
+    ghost held: { (perch.view, []) ≡ seated (pass_view_of perch.view) },
+    ghost counted: { count ≡ length (pass_view_of perch.view).known.seen },
+}

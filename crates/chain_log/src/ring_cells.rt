@@ -1,0 +1,160 @@
+//! The cells, read and written.
+ghost use Rattle.std.specs.Prelude.{◌≡◌, ◌<◌, ◌≤◌, ◌+◌, ℕ, ◌∷◌, length, slice_get, slice_index, Some, IfSome, IfNone};
+ghost use Rattle.xa_words.specs.Entry.{Entry, IsEntry};
+ghost use Rattle.xa_words.specs.Words.{words_of};
+ghost use Rattle.decision_log.specs.declared.view.Turn.TheVariants.{Won};
+ghost use Rattle.decision_log.specs.Seats.{pass_view};
+ghost use Rattle.chain_log.specs.Cells.{name_at, session_at, name_before};
+ghost use Rattle.chain_log.specs.Places.{rows_of, cell_of};
+ghost use Rattle.chain_log.specs.RingRule.{own_name, own_cell, watched_word, least};
+ghost use Rattle.chain_log.specs.RingTransitions.{KeepsWatch, with_words};
+ghost use Rattle.chain_log.specs.RingSeat.{IsSeat, IsStart, KeepsPass, ReadsCell};
+
+use crate::RingLog;
+use crate::ring_layout::words_filled;
+use atomic_table::Seat;
+use decision_log::SeatView;
+use xa_words::{Entry, WORDS, encode, read_back};
+
+impl RingLog {
+    /// Loads the entry's words at `[from, end)` in the cell that the pass reads.
+    fn read_words(
+        &self,
+        seat: &mut Seat<Entry, SeatView>,
+        start: usize,
+        from: usize,
+        end: usize,
+        words: &mut [u64; WORDS],
+    )
+        requires seat { IsSeat self.now seat.old }
+        requires start { IsStart self.now start }
+        requires end { end ≤ 21 }
+        requires sized { length words.old ≡ 21 }
+        ensures seat { IsSeat self.now seat.new }
+        ensures sized { length words.new ≡ 21 }
+        ensures keeps { KeepsWatch (pass_view seat.old) (pass_view seat.new) }
+        ensures below { (index : ℕ) → index < from → slice_index words.new index ≡ slice_index words.old index }
+        ensures above { (index : ℕ) → end ≤ index → slice_index words.new index ≡ slice_index words.old index }
+        ensures read { (place : ℕ) (entry : Entry)
+            → ReadsCell start place entry (pass_view seat.old)
+            → (pass_view seat.new).turn ≡ Won
+            → (index : ℕ)
+            → from ≤ index
+            → index < end
+            → IsEntry entry × (slice_index words.new index ≡ slice_index (words_of entry) index) }
+    {
+        for index in from..end {
+            words[index] = self.load_word(seat, start, 2 + index);
+        }
+    }
+
+    /// Returns the entry's words in the cell that the pass reads. A word after the end of its text is 0, and isn't
+    /// loaded: most texts are short, and a pass reads each entry of all others.
+    fn read_cell(&self, seat: &mut Seat<Entry, SeatView>, start: usize) -> [u64; WORDS]
+        requires seat { IsSeat self.now seat.old }
+        requires start { IsStart self.now start }
+        ensures seat { IsSeat self.now seat.new }
+        ensures keeps { KeepsWatch (pass_view seat.old) (pass_view seat.new) }
+        ensures read { (place : ℕ) (entry : Entry)
+            → ReadsCell start place entry (pass_view seat.old)
+            → (pass_view seat.new).turn ≡ Won
+            → IsEntry entry × (result ≡ words_of entry) }
+    {
+        let mut words = [0; WORDS];
+        self.read_words(seat, start, 0, 5, &mut words);
+        // The lengths of both texts are among the first words.
+        let first = 5 + words_filled(words[2]);
+        self.read_words(seat, start, 5, first, &mut words);
+        let second = 13 + words_filled(words[3]);
+        self.read_words(seat, start, 13, second, &mut words);
+        words
+    }
+
+    /// Returns the entry of a place that was seen, or `None` if its cell is another entry's now.
+    pub(crate) fn read_entry(
+        &self,
+        seat: &mut Seat<Entry, SeatView>,
+        start: usize,
+        name: u64,
+        place: u64,
+    ) -> Option<Entry>
+        requires seat { IsSeat self.now seat.old }
+        requires start { IsStart self.now start }
+        requires seen { place < length (pass_view seat.old).known.seen }
+        requires cell { start
+            ≡ cell_of (pass_view seat.old).capacity place (session_at (pass_view seat.old).known.seen place) }
+        requires name { name ≡ name_at (pass_view seat.old).sessions place
+            (session_at (pass_view seat.old).known.seen place) }
+        ensures seat { IsSeat self.now seat.new }
+        ensures keeps { KeepsPass (pass_view seat.old) (pass_view seat.new) }
+        ensures some { IfSome result (λ entry. slice_get (pass_view seat.old).known.seen place ≡ Some entry) }
+        ensures none { IfNone result (place + rows_of (pass_view seat.old).capacity ≤ least (pass_view seat.new)) }
+    {
+        if self.check_name(seat, start) != name {
+            return None;
+        }
+        let words = self.read_cell(seat, start);
+        // Others may have used the cell again since: the words count only if its name is still the entry's.
+        if self.check_name(seat, start) != name {
+            return None;
+        }
+        read_back(&words)
+    }
+
+    /// Returns the link in the cell of a place that was seen, or `None` if the cell is another entry's now. The link is
+    /// the name of the entry before.
+    pub(crate) fn read_link(
+        &self,
+        seat: &mut Seat<Entry, SeatView>,
+        start: usize,
+        name: u64,
+        place: u64,
+    ) -> Option<u64>
+        requires seat { IsSeat self.now seat.old }
+        requires start { IsStart self.now start }
+        requires seen { place < length (pass_view seat.old).known.seen }
+        requires cell { start
+            ≡ cell_of (pass_view seat.old).capacity place (session_at (pass_view seat.old).known.seen place) }
+        requires name { name ≡ name_at (pass_view seat.old).sessions place
+            (session_at (pass_view seat.old).known.seen place) }
+        ensures seat { IsSeat self.now seat.new }
+        ensures keeps { KeepsPass (pass_view seat.old) (pass_view seat.new) }
+        ensures some { IfSome result (λ link. link ≡ name_before (pass_view seat.old).sessions
+            (pass_view seat.old).known.seen place) }
+        ensures none { IfNone result (place + rows_of (pass_view seat.old).capacity ≤ least (pass_view seat.new)) }
+    {
+        if self.check_name(seat, start) != name {
+            return None;
+        }
+        let link = self.load_word(seat, start, 1);
+        // Others may have used the cell again since: the link counts only if the name is still the entry's.
+        if self.check_name(seat, start) != name {
+            return None;
+        }
+        Some(link)
+    }
+
+    /// Writes a name, a link and an entry's words into the own cell, over what was there before.
+    pub(crate) fn write_cell(
+        &self,
+        seat: &mut Seat<Entry, SeatView>,
+        start: usize,
+        name: u64,
+        link: u64,
+        entry: &Entry,
+    )
+        requires seat { IsSeat self.now seat.old }
+        requires start { IsStart self.now start }
+        requires own { start ≡ own_cell (pass_view seat.old) }
+        requires name { name ≡ own_name (pass_view seat.old) }
+        ensures seat { IsSeat self.now seat.new }
+        ensures written { pass_view seat.new ≡ with_words (pass_view seat.old) (name ∷ link ∷ words_of entry.now) }
+    {
+        self.store_name(seat, start, name);
+        self.store_word(seat, start, 1, link);
+        let words = encode(entry);
+        for index in 0..WORDS {
+            self.put_word(seat, start, 2 + index, words[index]);
+        }
+    }
+}

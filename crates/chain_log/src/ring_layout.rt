@@ -1,0 +1,100 @@
+//! Where the words of a ring lie.
+ghost use Rattle.std.specs.Prelude.{◌≡◌, ◌<◌, ◌≤◌, ◌+◌, ◌-◌, ◌*◌, ◌%◌, ℕ, List, length};
+ghost use Rattle.xa_words.specs.Entry.{Entry};
+ghost use Rattle.decision_log.specs.Known.{AllOf};
+ghost use Rattle.chain_log.specs.Cells.{name_at, newest_of};
+ghost use Rattle.chain_log.specs.Places.{most, word_count, cell_at};
+
+use xa_words::WORDS;
+
+/// The word that names the newest entry, or is 0 if there is none.
+pub(crate) const NEWEST: usize = 0;
+
+/// How many words a cell has: its entry's name, a link, and the entry's.
+pub(crate) const CELL: usize = 2 + WORDS;
+
+/// How many entries a ring can have in addition to its rows: 2^59.
+pub(crate) const MOST: u64 = 576_460_752_303_423_488;
+
+/// How many rows a ring can have at most.
+pub const MOST_ROWS: u64 = 65_536;
+
+/// How many spares a ring can have at most.
+pub const MOST_SPARES: u64 = 4;
+
+/// How many words a ring has. It has a column for each pass, spares included, but a spare uses no cell of its own.
+pub(crate) fn count_words(columns: u64, rows: u64) -> usize
+    requires columns { columns ≤ 20 }
+    requires rows { rows ≤ 65536 }
+    ensures { result ≡ word_count columns rows }
+{
+    1 + rows as usize * columns as usize * CELL
+}
+
+/// The name of the entry of a place and a session.
+pub(crate) fn entry_name(columns: u64, place: u64, session: u64) -> u64
+    requires columns { columns ≤ 20 }
+    requires place { place < most + 65536 }
+    requires session { session ≤ 20 }
+    ensures { result ≡ name_at columns place session }
+{
+    place * columns + session
+}
+
+/// The session of the entry of a name, in whose column its cell stands.
+pub(crate) fn name_column(columns: u64, name: u64) -> u8
+    requires some { 1 ≤ columns }
+    requires few { columns ≤ 20 }
+    requires name { 1 ≤ name }
+    ensures { (place session : ℕ) → 1 ≤ session → session ≤ columns → name ≡ name_at columns place session
+        → result ≡ session }
+{
+    ((name - 1) % columns + 1) as u8
+}
+
+/// The first word of the cell of a place and a session.
+pub(crate) fn cell_start(rows: u64, place: u64, session: u64) -> usize
+    requires some { 0 < rows }
+    requires rows { rows ≤ 65536 }
+    requires first { 1 ≤ session }
+    requires last { session ≤ 20 }
+    ensures { result ≡ cell_at (name_at rows (session - 1) (place % rows + 1)) }
+{
+    // The cells of a column lie side by side, so that a session's next cell is in the caches already, or on its way.
+    let cell = (session - 1) as usize * rows as usize + (place % rows) as usize + 1;
+    1 + (cell - 1) * CELL
+}
+
+/// How many of its eight words a text of so many bytes fills, in `[0, 8]`. The others are 0.
+pub(crate) fn words_filled(size: u64) -> usize
+    ensures most { result ≤ 8 }
+    ensures behind { (word : ℕ) → result ≤ word → word < 8 → size ≤ 8 * word }
+{
+    if size > 56 {
+        return 8;
+    }
+    (size as usize + 7) / 8
+}
+
+/// How many entries a history has if its newest entry has this name: one more than its place.
+pub(crate) fn place_count(columns: u64, newest: u64) -> u64
+    requires { 1 ≤ columns }
+    ensures { (seen : List Entry) → AllOf columns seen → newest ≡ newest_of columns seen → result ≡ length seen }
+{
+    if newest == 0 {
+        return 0;
+    }
+    (newest - 1) / columns + 1
+}
+
+/// Returns the same as `place_count`. The count of another name is known, which most often is the same name.
+pub(crate) fn count_from(columns: u64, known: u64, count: u64, newest: u64) -> u64
+    requires columns { 1 ≤ columns }
+    requires counted { (seen : List Entry) → AllOf columns seen → known ≡ newest_of columns seen → count ≡ length seen }
+    ensures { (seen : List Entry) → AllOf columns seen → newest ≡ newest_of columns seen → result ≡ length seen }
+{
+    if newest == known {
+        return count;
+    }
+    place_count(columns, newest)
+}

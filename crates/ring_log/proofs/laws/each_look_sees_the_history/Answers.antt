@@ -1,5 +1,0 @@
-use Rattle.ring_log.proofs.RingLaws.{look_sees}
-use Rattle.ring_log.proofs.laws.each_look_sees_the_history.Goals as goal
-
-pub returns : goal.returns
-returns c = look_sees

@@ -1,6 +1,0 @@
-use Rattle.decision_log.proofs.Histories.{later_other}
-use Rattle.ring_log.proofs.laws.later_entries_are_of_others.Goals as goal
-
-pub returns : goal.returns
-returns c sizes words views rule pass knows place entry long is =
-    later_other pass.known.number pass.known.seen rule.log pass.known.mine place entry knows.seen knows.mine knows.part long is

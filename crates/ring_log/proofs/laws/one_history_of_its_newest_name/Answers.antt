@@ -1,7 +1,0 @@
-use Rattle.std.proofs.Common.{ap, sym, ◌∙◌}
-use Rattle.chain_log.specs.Cells.{newest_of}
-use Rattle.ring_log.proofs.RingStores.{all_seen}
-use Rattle.ring_log.proofs.laws.one_history_of_its_newest_name.Goals as goal
-
-pub returns : goal.returns
-returns c sizes words views rule pass knows same = all_seen rule pass knows (ap (λ s. newest_of s pass.known.seen) knows.sessions ∙ sym same)

@@ -1,5 +1,0 @@
-use Rattle.ring_log.proofs.RingLaws.{named_log}
-use Rattle.ring_log.proofs.laws.stored_name_keeps_the_history.Goals as goal
-
-pub returns : goal.returns
-returns c sizes words views rule = named_log rule

@@ -1,5 +1,0 @@
-use Rattle.ring_log.proofs.RingStores.{next_keeps}
-use Rattle.ring_log.proofs.laws.stored_word_keeps_the_history.Goals as goal
-
-pub returns : goal.returns
-returns c sizes words views rule = next_keeps rule

@@ -1,5 +1,0 @@
-use Rattle.ring_log.proofs.RingLaws.{won_log}
-use Rattle.ring_log.proofs.laws.won_exchange_adds_its_entry.Goals as goal
-
-pub returns : goal.returns
-returns c sizes words views rule = won_log rule

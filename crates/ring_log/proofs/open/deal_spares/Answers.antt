@@ -1,5 +1,0 @@
-use Rattle.ring_log.proofs.RingSeats.{keeps_seats}
-use Rattle.ring_log.proofs.open.deal_spares.Goals as goal
-
-pub issue-seat-requires-clause-rule : goal.issue-seat-requires-clause-rule
-issue-seat-requires-clause-rule c = keeps_seats

@@ -1,6 +1,0 @@
-use Rattle.std.proofs.Common.{◌≡◌, drop, map}
-use Rattle.xa_json.specs.Objects.{form_for, first_fit}
-use Rattle.xa_json.proofs.forms.form_of.Given as goal
-
-abbrev pub invariant-loop-form : goal.invariant-loop-form
-invariant-loop-form l = form_for l.line ≡ first_fit (map (λ form. form.now) (drop l.form-index l.form-items)) l.line

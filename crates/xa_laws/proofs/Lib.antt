@@ -1,5 +1,0 @@
-pub mod Tests
-pub mod Steps
-pub mod Histories
-pub mod Schedules
-pub mod Outcomes

@@ -1,5 +1,0 @@
-use Rattle.xa_laws.proofs.Outcomes.{outcome_explained}
-use Rattle.xa_laws.proofs.races.race_is_explained.Goals as goal
-
-pub returns : goal.returns
-returns c = λ base runs outcome lines legal fresh few own are. outcome_explained base runs outcome lines legal fresh own are few

@@ -1,0 +1,19 @@
+//! The numbers of a line.
+ghost use Rattle.std.specs.Prelude.{◌≡◌, ◌∷◌, [], Some, None};
+ghost use Rattle.xa_lines.specs.Objects.{number_said as said};
+
+use xa_xid::number_of;
+
+/// Returns the number that a word is. A colon may stand behind it.
+///
+/// Takes no memory. Doesn't wait.
+#[tactic(auto, unfolding(crate::specs::Objects::number_said))]
+pub fn number_said(word: &[u8]) -> Option<u64>
+    ensures { result ≡ said word.now }
+{
+    match number_of(word) {
+        Ok((number, [])) => Some(number),
+        Ok((number, [b':'])) => Some(number),
+        _ => None,
+    }
+}

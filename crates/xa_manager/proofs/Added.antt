@@ -1,0 +1,347 @@
+-- Which statements calls add in the stores.
+use Rattle.std.proofs.Common.{◌≡◌, ◌⊎◌, ℕ, Bool, true, false, List, [], ◌∷◌, ◌++◌, map, refl, ap, sym, ◌∙◌, subst, inl}
+use Rattle.std.proofs.Common.{inr, append-nil, append_assoc, Result, Ok, Err}
+use Rattle.std.specs.Prelude.{slice_get, Option, All, Contains}
+use Rattle.std.proofs.lemmas.List.{map-append}
+use Rattle.std.proofs.lemmas.List.Elements.{All-nil, All-cons, All-append, All-head, All-tail, All-contains}
+use Rattle.std.proofs.lemmas.List.Elements.{Contains-append_left, Contains-append_cases}
+use Rattle.xa_words.specs.Entry.{Entry}
+use Rattle.xa_xid.specs.declared.xid.Xid.{Xid}
+use Rattle.xa_xid.specs.declared.statement.Statement.{Statement}
+use Rattle.xa_xid.specs.declared.statement.Statement.TheVariants.{Start, End, Prepare, Commit, Rollback, Disconnect}
+use Rattle.xa_server.specs.Step.{enters}
+use Rattle.xa_server.specs.declared.reply.Reply.{Reply}
+use Rattle.xa_session.specs.Answer.{entry_of}
+use Rattle.xa_session.specs.Replay.{state_at}
+use Rattle.xa_session.specs.View.{SessionView}
+use Rattle.xa_coordinator.specs.Agreement.{AddsStatements}
+use Rattle.xa_coordinator.specs.Branch.{IsBranchOf}
+use Rattle.xa_coordinator.specs.Decisions.{is_decided}
+use Rattle.xa_coordinator.specs.Outcomes.{branch_of, finish_statement, ends_in, lists_store, IsClosed, Settles}
+use Rattle.xa_coordinator.specs.Outcomes.{SettlesIn, IsVoted, IsEnded, EndsAs, VotesAs}
+use Rattle.xa_coordinator.specs.Participants.{takes_part}
+use Rattle.xa_coordinator.specs.Recovery.{IsDisconnected, SettlesOne, foreign, committed, rolled_back, missing, Settled}
+use Rattle.xa_coordinator.specs.Recovery.{nothing, one_more, IsRecovered}
+use Rattle.xa_coordinator.specs.Stores.{AtStore, EachStore, ChangesAt}
+use Rattle.xa_coordinator.specs.Told.{IsUndone, IsUndoneBehind, IsStopped, IsMissing, IsUnfinished}
+use Rattle.xa_coordinator.specs.Work.{MayBe, MayStart, was_open, was_started, IsReplied, IsWorked, IsCut, WorksAs}
+use Rattle.xa_coordinator.specs.declared.branches.OpenBranch.{OpenBranch}
+use Rattle.xa_coordinator.specs.declared.closing.Closing.{Closing}
+use Rattle.xa_coordinator.specs.declared.decisions.Decision.{Decision}
+use Rattle.xa_coordinator.specs.declared.ending.Ending.{Ending}
+use Rattle.xa_coordinator.specs.declared.ending.Ending.TheVariants.{Committed, RolledBack, Hazard, Unfinished}
+use Rattle.xa_coordinator.specs.declared.fault.Cause.{Cause}
+use Rattle.xa_coordinator.specs.declared.fault.WorkFault.{WorkFault}
+use Rattle.xa_coordinator.specs.declared.fault.WorkFault.TheVariants.{Session, Refused, Lost}
+use Rattle.xa_coordinator.specs.declared.report.Tally.{Tally}
+use Rattle.xa_coordinator.specs.declared.transaction.Transaction.{Transaction}
+use Rattle.xa_coordinator.specs.declared.vote.Vote.{Vote}
+use Rattle.xa_coordinator.specs.declared.vote.Vote.TheVariants.{Ready, OnePhase, No, Nothing}
+use Rattle.xa_coordinator.proofs.Walk.{at_weaker, at_same, from_ends, only_at}
+
+-- a session added statements of this kind alone
+pub record AddsOnly (kind : Statement → Type 0) (old new : SessionView) : Type 0 where
+  pub statements : List Statement
+  pub number : new.known.number ≡ old.known.number
+  pub mine : new.known.mine ≡ old.known.mine ++ map (entry_of old.known.number) statements
+  pub each : All kind statements
+
+module _ (kind : Statement → Type 0) where
+  pub adds_none : (session : SessionView) → AddsOnly kind session session
+  adds_none session =
+      record { statements = []; number = refl; mine = sym (append-nil session.known.mine); each = All-nil kind }
+
+  adds_same : (old new : SessionView) → new ≡ old → AddsOnly kind old new
+  adds_same old new is = subst (λ s. AddsOnly kind old s) (sym is) (adds_none old)
+
+  adds_these : (statements : List Statement) (old new : SessionView) → All kind statements
+      → AddsStatements statements old new → AddsOnly kind old new
+  adds_these statements old new each adds =
+      record { statements = statements; number = adds.advances.number; mine = adds.mine; each = each }
+
+  adds_one : (statement : Statement) (old new : SessionView) → kind statement → AddsStatements (statement ∷ []) old new
+      → AddsOnly kind old new
+  adds_one statement old new is adds =
+      adds_these (statement ∷ []) old new (All-cons kind statement [] is (All-nil kind)) adds
+
+  adds_two : (first second : Statement) (old new : SessionView) → kind first → kind second
+      → AddsStatements (first ∷ second ∷ []) old new
+      → AddsOnly kind old new
+  adds_two first second old new is also adds =
+      adds_these (first ∷ second ∷ []) old new (All-cons kind first (second ∷ []) is
+      (All-cons kind second [] also (All-nil kind))) adds
+
+  -- one after another
+  pub adds_behind : (old mid new : SessionView) → AddsOnly kind old mid → AddsOnly kind mid new → AddsOnly kind old new
+  adds_behind old mid new one two = record {
+    statements = one.statements ++ two.statements;
+    number = two.number ∙ one.number;
+    mine = two.mine
+        ∙ ap (λ list. list ++ map (entry_of mid.known.number) two.statements) one.mine
+        ∙ ap (λ n. (old.known.mine ++ map (entry_of old.known.number) one.statements)
+        ++ map (entry_of n) two.statements) one.number
+        ∙ append_assoc old.known.mine (map (entry_of old.known.number) one.statements)
+        (map (entry_of old.known.number) two.statements)
+        ∙ ap (λ list. old.known.mine ++ list) (sym (map-append
+        (entry_of old.known.number) one.statements two.statements));
+    each = All-append kind one.statements two.statements one.each two.each;
+  }
+
+  undone : (statement : Statement) (cause : Cause) (old new : SessionView) → IsUndone statement cause old new
+      → AddsOnly kind old new
+  undone statement cause old new is = adds_these [] old new (All-nil kind) is.adds
+
+  undone_behind : (statement : Statement) (xid : Xid) (cause : Cause) (old new : SessionView) → kind (End xid)
+      → IsUndoneBehind statement xid cause old new
+      → AddsOnly kind old new
+  undone_behind statement xid cause old new ends is =
+      adds_behind old is.mid new (adds_one (End xid) old is.mid ends is.ends.adds)
+      (undone statement cause is.mid new is.undone)
+
+  stopped : (ends : Bool) (statement : Statement) (xid : Xid) (cause : Cause) (old new : SessionView) → kind (End xid)
+      → IsStopped ends statement xid cause old new → AddsOnly kind old new
+  stopped false statement xid cause old new may is = undone statement cause old new is
+  stopped true statement xid cause old new may (inl is) = undone (End xid) cause old new is
+  stopped true statement xid cause old new may (inr is) = undone_behind statement xid cause old new may is
+
+  missed : (ends : Bool) (statement : Statement) (xid : Xid) (old new : SessionView) → kind (End xid)
+      → IsMissing ends statement xid old new
+      → AddsOnly kind old new
+  missed false statement xid old new may is = undone statement _ old new is
+  missed true statement xid old new may is = undone_behind statement xid _ old new may is
+
+  unfinished : (ends : Bool) (statement : Statement) (xid : Xid) (cause : Cause) (old new : SessionView)
+      → kind (End xid)
+      → IsUnfinished ends statement xid cause old new → AddsOnly kind old new
+  unfinished false statement xid cause old new may is = undone statement cause old new is.1
+  unfinished true statement xid cause old new may (inl is) = undone (End xid) cause old new is
+  unfinished true statement xid cause old new may (inr is) = undone_behind statement xid cause old new may is.1
+
+  closed : (ends : Bool) (statement : Statement) (xid : Xid) (old new : SessionView) → kind (End xid) → kind statement
+      → IsClosed ends statement xid old new
+      → AddsOnly kind old new
+  closed false statement xid old new may is adds = adds_one statement old new is adds
+  closed true statement xid old new may is adds = adds_two (End xid) statement old new may is adds
+
+  settles : (ends : Bool) (statement : Statement) (xid : Xid) (takes listed : Bool) (old new : SessionView)
+      → kind (End xid)
+      → (takes ≡ true → kind statement) → Settles ends statement xid takes listed old new → AddsOnly kind old new
+  settles ends statement xid false listed old new may is same = adds_same old new same
+  settles ends statement xid true false old new may is closes = closed ends statement xid old new may (is refl) closes
+  settles ends statement xid true true old new may is misses = missed ends statement xid old new may misses
+
+  voted : (xid : Xid) (takes : Bool) (old new : SessionView) → kind (End xid) → kind (Prepare xid)
+      → IsVoted xid takes old new → AddsOnly kind old new
+  voted xid false old new may is same = adds_same old new same
+  voted xid true old new may is adds = adds_two (End xid) (Prepare xid) old new may is adds
+
+  ended : (xid : Xid) (takes : Bool) (old new : SessionView) → kind (End xid) → IsEnded xid takes old new
+      → AddsOnly kind old new
+  ended xid false old new may same = adds_same old new same
+  ended xid true old new may adds = adds_one (End xid) old new may adds
+
+  -- a row statement that was answered was added or not
+  replied : (row : Statement) (reply : Reply) (xid : Xid) (old new : SessionView) → kind row
+      → IsReplied row reply xid old new → AddsOnly kind old new
+  replied row reply xid old new may is =
+      by (enters (state_at old.base new.known.seen is.place) old.known.number row) refl
+    where
+      by : (b : Bool) → enters (state_at old.base new.known.seen is.place) old.known.number row ≡ b
+          → AddsOnly kind old new
+      by true entering = record {
+        statements = row ∷ [];
+        number = is.answered.advances.number;
+        mine = (is.answered.entered entering).mine;
+        each = All-cons kind row [] may (All-nil kind);
+      }
+      by false outside = record {
+        statements = [];
+        number = is.answered.advances.number;
+        mine = (is.answered.outside outside).mine ∙ sym (append-nil old.known.mine);
+        each = All-nil kind;
+      }
+
+  started : (xid : Xid) (old mid new : SessionView) → kind (Start xid) → MayStart xid old mid → AddsOnly kind mid new
+      → AddsOnly kind old new
+  started xid old mid new may (was_open is) more = more
+  started xid old mid new may (was_started m is) more =
+      adds_behind old m new (adds_one (Start xid) old m may is.adds) more
+
+  -- ---- recovery
+  disconnected : (old new : SessionView) → kind Disconnect → IsDisconnected old new → AddsOnly kind old new
+  disconnected old new may is = by is.statements is.is is.adds
+    where
+      by : (statements : List Statement) → MayBe Disconnect statements → AddsStatements statements old new
+          → AddsOnly kind old new
+      by statements (inl none) adds =
+          adds_these [] old new (All-nil kind) (subst (λ list. AddsStatements list old new) none adds)
+      by statements (inr one) adds =
+          adds_one Disconnect old new may (subst (λ list. AddsStatements list old new) one adds)
+
+  module _ (decisions : List Decision) (name : List ℕ) (store : ℕ)
+      (commits : (number : ℕ) (xid : Xid) → IsBranchOf name number store xid → is_decided decisions number ≡ true
+      → kind (Commit xid false))
+      (rolls : (number : ℕ) (xid : Xid) → IsBranchOf name number store xid → is_decided decisions number ≡ false
+      → kind (Rollback xid)) where
+    settled_one : (xid : Xid) (before after : Tally) (old new : SessionView)
+        → SettlesOne decisions name store xid before old after new → AddsOnly kind old new
+    settled_one xid before after old new (foreign apart) = adds_none old
+    settled_one xid before after old new (committed number is decided n adds) =
+        adds_one (Commit xid false) old n (commits number xid is decided) adds
+    settled_one xid before after old new (rolled_back number is decided n adds) =
+        adds_one (Rollback xid) old n (rolls number xid is decided) adds
+    settled_one xid before after old new (missing number is n none) = undone _ _ old n none
+
+    settled : (old : SessionView) (xids : List Xid) (tally : Tally) (new : SessionView)
+        → Settled decisions name store old xids tally new
+        → AddsOnly kind old new
+    settled old xids tally new nothing = adds_none old
+    settled old xids tally new (one_more before first mid so_far xid after n is) =
+        adds_behind old mid n (settled old before first mid so_far) (settled_one xid first after mid n is)
+
+    pub recovered : (tally : Tally) (front : ℕ) (old new : SessionView) → kind Disconnect
+        → IsRecovered decisions name store tally front old new
+        → AddsOnly kind old new
+    recovered tally front old new may is =
+        let rest = is.settled.rest in
+        adds_behind old is.settled.freed new (disconnected old is.settled.freed may is.settled.disconnected)
+        (adds_behind is.settled.freed rest.listing new (adds_these [] is.settled.freed rest.listing
+        (All-nil kind) rest.listed.adds)
+        (adds_behind rest.listing is.finished new (settled rest.listing rest.xids tally is.finished rest.settled)
+        (adds_these [] is.finished new (All-nil kind) is.clear.listed.adds)))
+
+-- ---- what was added, and what wasn't
+in_map : (kind : Statement → Type 0) (number : ℕ) (statements : List Statement) → All kind statements
+    → All (λ (entry : Entry). kind entry.statement) (map (entry_of number) statements)
+in_map kind number [] each = All-nil (λ (entry : Entry). kind entry.statement)
+in_map kind number (first ∷ rest) each =
+    All-cons (λ (entry : Entry). kind entry.statement) (entry_of number first) (map (entry_of number) rest)
+    (All-head kind first rest each)
+    (in_map kind number rest (All-tail kind first rest each))
+
+-- a statement was there, or is of the kind that was added
+pub added_or_there : (kind : Statement → Type 0) (old new : SessionView) (entry : Entry) → AddsOnly kind old new
+    → Contains new.known.mine entry
+    → Contains old.known.mine entry ⊎ kind entry.statement
+added_or_there kind old new entry adds there =
+    elim (Contains-append_cases old.known.mine (map (entry_of old.known.number) adds.statements) entry
+    (subst (λ list. Contains list entry) adds.mine there)) [
+      | inl before ↦ inl before
+      | inr now ↦ inr (All-contains (λ (e : Entry). kind e.statement)
+          (map (entry_of old.known.number) adds.statements) entry
+          (in_map kind old.known.number adds.statements adds.each) now)
+    ]
+
+-- what was there stays
+pub stays_there : (kind : Statement → Type 0) (old new : SessionView) (entry : Entry) → AddsOnly kind old new
+    → Contains old.known.mine entry
+    → Contains new.known.mine entry
+stays_there kind old new entry adds there =
+    subst (λ list. Contains list entry) (sym adds.mine) (Contains-append_left old.known.mine
+    (map (entry_of old.known.number) adds.statements) entry there)
+
+-- ---- in each store
+module _ {S : Type 0} (view : S → SessionView) (kind : ℕ → Statement → Type 0) where
+  pub ending_adds : (branches : List (Option OpenBranch)) (transaction : Transaction) (closing : Closing)
+      (ending : Ending) (old new : List S)
+      → ((store : ℕ) → kind store (End (branch_of transaction store)))
+      → ((store : ℕ) → takes_part transaction.participants store ≡ true
+      → kind store (finish_statement closing (branch_of transaction store)))
+      → EndsAs view branches transaction closing ending old new
+      → EachStore view (λ store. AddsOnly (kind store)) old new
+  ending_adds branches transaction closing ending old new ends finishes = by ending
+    where
+      part : (store : ℕ) (listed : Bool) (a b : SessionView) → SettlesIn branches transaction closing store listed a b
+          → AddsOnly (kind store) a b
+      part store listed a b =
+          settles (kind store) (ends_in branches transaction closing store)
+          (finish_statement closing (branch_of transaction store))
+          (branch_of transaction store) (takes_part transaction.participants store) listed a b (ends store)
+          (finishes store)
+
+      by : (ending : Ending) → EndsAs view branches transaction closing ending old new
+          → EachStore view (λ store. AddsOnly (kind store)) old new
+      by Committed is store = at_weaker view store _ (AddsOnly (kind store)) (part store false) old new (is.1 store)
+      by RolledBack is store = at_weaker view store _ (AddsOnly (kind store)) (part store false) old new (is.1 store)
+      by (Hazard stores) is store = at_weaker view store _ (AddsOnly (kind store))
+          (part store (lists_store stores.items store)) old new (is.1 store)
+      by (Unfinished last cause) is store =
+          from_ends view _ (λ other. AddsOnly (kind other)) last _ old new is.1
+          (λ other a b settled. part other settled.0 a b settled.1)
+          (λ a b left. unfinished (kind last) (ends_in branches transaction closing last)
+          (finish_statement closing (branch_of transaction last))
+          (branch_of transaction last) cause a b (ends last) left)
+          (λ other a. adds_none (kind other) a)
+          store
+
+  pub vote_adds : (transaction : Transaction) (vote : Vote) (old new : List S)
+      → ((store : ℕ) → kind store (End (branch_of transaction store)))
+      → ((store : ℕ) → kind store (Prepare (branch_of transaction store))) → VotesAs view transaction vote old new
+      → EachStore view (λ store. AddsOnly (kind store)) old new
+  vote_adds transaction (Ready prepared) old new ends prepares is store =
+      at_weaker view store _ (AddsOnly (kind store))
+      (λ a b. voted (kind store) (branch_of transaction store) (takes_part transaction.participants store) a b
+      (ends store) (prepares store)) old new
+      (is.2 store)
+  vote_adds transaction (OnePhase prepared) old new ends prepares is store =
+      at_weaker view store _ (AddsOnly (kind store))
+      (λ a b. ended (kind store) (branch_of transaction store) (takes_part transaction.participants store) a b
+      (ends store)) old new (is.2 store)
+  vote_adds transaction (No prepared last cause) old new ends prepares is store =
+      from_ends view _ (λ other. AddsOnly (kind other)) last _ old new is.2
+      (λ other a b. voted (kind other) (branch_of transaction other) (takes_part transaction.participants other) a b
+      (ends other) (prepares other))
+      (λ a b left. stopped (kind last) true (Prepare (branch_of transaction last))
+      (branch_of transaction last) cause a b (ends last) left)
+      (λ other a. adds_none (kind other) a) store
+  vote_adds transaction Nothing old new ends prepares is store =
+      at_same view store (AddsOnly (kind store)) (λ a. adds_none (kind store) a) old new
+      (ap (λ list. slice_get list store) is.1)
+
+  pub work_adds : (marks marks' : List (Option OpenBranch)) (before after : Transaction) (store : ℕ) (row : Statement)
+      (answer : Result Reply WorkFault)
+      (old new : List S) → (takes_part after.participants store ≡ true → kind store (Start (branch_of before store)))
+      → kind store row
+      → ChangesAt store old new → WorksAs view marks marks' before after store row answer old new
+      → EachStore view (λ store. AddsOnly (kind store)) old new
+  work_adds marks marks' before after store row answer old new starts may changes is =
+      only_at view (λ other. AddsOnly (kind other)) store old new changes (by answer is)
+      (λ other apart a. adds_none (kind other) a)
+    where
+      xid : Xid
+      xid = branch_of before store
+
+      cut : (cause : Cause) → takes_part after.participants store ≡ true → (a b : SessionView) → IsCut row cause xid a b
+          → AddsOnly (kind store) a b
+      cut cause takes a b is = started (kind store) xid a is.mid b (starts takes) is.opened
+          (undone (kind store) row cause is.mid b is.undone)
+
+      by : (answer : Result Reply WorkFault) → WorksAs view marks marks' before after store row answer old new
+          → AtStore view store (AddsOnly (kind store)) old new
+      by (Ok reply) is =
+          at_weaker view store _ (AddsOnly (kind store))
+          (λ (a b : SessionView) (worked : IsWorked row reply xid a b). started (kind store) xid a worked.mid b
+          (starts is.0) worked.opened
+          (replied (kind store) row reply xid worked.mid b may worked.replied)) old new is.2
+      by (Err (Session fault)) (inl is) = at_weaker view store _ (AddsOnly (kind store)) (cut _ is.0) old new is.2
+      by (Err (Session fault)) (inr is) =
+          at_weaker view store _ (AddsOnly (kind store)) (undone (kind store) _ _) old new is.3
+      by (Err (Refused error)) is =
+          at_weaker view store _ (AddsOnly (kind store)) (undone (kind store) _ _) old new is.3
+      by (Err Lost) is = at_same view store (AddsOnly (kind store)) (λ a. adds_none (kind store) a) old new
+          (ap (λ list. slice_get list store) is.4)
+
+-- a store that took part still does
+pub work_keeps : {S : Type 0} (view : S → SessionView) (marks marks' : List (Option OpenBranch))
+    (before after : Transaction) (store : ℕ) (row : Statement)
+    (answer : Result Reply WorkFault) (old new : List S) → WorksAs view marks marks' before after store row answer old
+    new
+    → takes_part before.participants store ≡ true → takes_part after.participants store ≡ true
+work_keeps view marks marks' before after store row (Ok reply) old new is takes = is.0
+work_keeps view marks marks' before after store row (Err (Session fault)) old new (inl is) takes = is.0
+work_keeps view marks marks' before after store row (Err (Session fault)) old new (inr is) takes =
+    ap (λ (t : Transaction). takes_part t.participants store) is.0 ∙ takes
+work_keeps view marks marks' before after store row (Err (Refused error)) old new is takes =
+    ap (λ (t : Transaction). takes_part t.participants store) is.0 ∙ takes
+work_keeps view marks marks' before after store row (Err Lost) old new is takes =
+    ap (λ (t : Transaction). takes_part t.participants store) is.0 ∙ takes

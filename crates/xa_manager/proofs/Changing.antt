@@ -1,0 +1,72 @@
+-- What changes committed values.
+use Rattle.std.proofs.Common.{◌≡◌, ◌⊎◌, ℕ, refl, ap, ◌∙◌, inl, inr, Some, None}
+use Rattle.std.specs.Prelude.{slice_get, Option}
+use Rattle.std.specs.Option.{option_map_or}
+use Rattle.std.specs.FinMap as map
+use Rattle.xa_words.specs.Entry.{Entry}
+use Rattle.xa_xid.specs.declared.xid.Xid.{Xid}
+use Rattle.xa_xid.specs.declared.statement.Statement.{Statement}
+use Rattle.xa_xid.specs.declared.statement.Statement.TheVariants.{Start, End, Prepare, Commit, Rollback, Recover}
+use Rattle.xa_xid.specs.declared.statement.Statement.TheVariants.{Unsupported, Get, Put, Del, Disconnect}
+use Rattle.xa_server.specs.State.{Branch, State, association_of}
+use Rattle.xa_server.specs.Step.{after, effect, with_branch, with_changed}
+use Rattle.xa_server.specs.declared.association.Association.{Association}
+use Rattle.xa_server.specs.declared.association.Association.TheVariants.{Free, Active, Idle}
+use Rattle.xa_server.proofs.Changes.{outcome}
+use Rattle.xa_session.proofs.Replaying.{state_at-next}
+use Rattle.xa_coordinator.specs.Lasting.{history_of}
+use Rattle.xa_manager.specs.declared.counted_store.CountedStore.{CountedStore}
+use Rattle.xa_manager.specs.Atomic.{ChangesRows, KeepsRowsOr, state_before}
+
+-- a branch is changed, and no row
+changed_rows : (state : State) (xid : Xid) (change : Branch → Branch)
+    → (with_changed state xid change).rows ≡ state.rows
+changed_rows state xid change = by (map.get state.branches xid)
+  where
+    by : (found : Option Branch) → (option_map_or (λ branch. with_branch state xid (change branch)) found state).rows
+        ≡ state.rows
+    by None = refl
+    by (Some branch) = refl
+
+effect_rows : (state : State) (session : ℕ) (association : Association) (statement : Statement)
+    → ((effect state session association statement).rows ≡ state.rows) ⊎ ChangesRows association statement
+unfolding effect
+effect_rows state session association (Start xid) = inl refl
+effect_rows state session association (End xid) = inl (changed_rows state xid _)
+effect_rows state session association (Prepare xid) = inl (changed_rows state xid _)
+effect_rows state session association (Commit xid one_phase) = inr tt
+effect_rows state session association (Rollback xid) = inl refl
+effect_rows state session association (Recover convert) = inl refl
+effect_rows state session association Unsupported = inl refl
+effect_rows state session Free (Get key) = inl refl
+effect_rows state session (Active own) (Get key) = inl (changed_rows state own _)
+effect_rows state session (Idle own) (Get key) = inl refl
+effect_rows state session Free (Put key value) = inr refl
+effect_rows state session (Active own) (Put key value) = inl (changed_rows state own _)
+effect_rows state session (Idle own) (Put key value) = inl refl
+effect_rows state session Free (Del key) = inr refl
+effect_rows state session (Active own) (Del key) = inl (changed_rows state own _)
+effect_rows state session (Idle own) (Del key) = inl refl
+effect_rows state session Free Disconnect = inl refl
+effect_rows state session (Active own) Disconnect = inl refl
+effect_rows state session (Idle own) Disconnect = inl refl
+
+after_rows : (state : State) (session : ℕ) (statement : Statement)
+    → ((after state session statement).rows ≡ state.rows) ⊎ ChangesRows (association_of state session) statement
+after_rows state session statement = elim (outcome state session statement) [
+  | inl refused ↦ inl (ap (λ (s : State). s.rows) refused.1)
+  | inr accepted ↦ elim (effect_rows state session (association_of state session) statement) [
+    | inl same ↦ inl (ap (λ (s : State). s.rows) accepted.1 ∙ same)
+    | inr changes ↦ inr changes
+  ]
+]
+
+pub rows_keep : (counted : CountedStore) (place : ℕ) (entry : Entry)
+    → slice_get (history_of counted.store) place ≡ Some entry
+    → KeepsRowsOr counted place entry
+rows_keep counted place entry there = elim (after_rows (state_before counted place) entry.session entry.statement) [
+  | inl same ↦
+      inl (ap (λ (s : State). s.rows) (state_at-next counted.store.first.value
+      (history_of counted.store) place entry there) ∙ same)
+  | inr changes ↦ inr changes
+]

@@ -1,0 +1,285 @@
+-- How a prepared branch of a history is ended.
+use Rattle.std.proofs.Common.{◌≡◌, ◌⊎◌, ◌≤◌, ℕ, zero, suc, Bool, true, false, cond, List, [], ◌∷◌, length, refl, ap}
+use Rattle.std.proofs.Common.{sym, ◌∙◌, subst, inl, inr, Some, None, arith}
+use Rattle.std.specs.Prelude.{slice_get, Option, not, ◌&&◌}
+use Rattle.std.specs.Option.{option_map, option_map_or}
+use Rattle.std.specs.FinMap as map
+use mathlib.Core.Bool.{true≢false}
+use Rattle.xa_xid.specs.Xid.{same_xid}
+use Rattle.xa_xid.specs.declared.xid.Xid.{Xid}
+use Rattle.xa_xid.specs.declared.statement.Statement.{Statement}
+use Rattle.xa_xid.specs.declared.statement.Statement.TheVariants.{Start, End, Prepare, Commit, Rollback, Recover}
+use Rattle.xa_xid.specs.declared.statement.Statement.TheVariants.{Unsupported, Get, Put, Del, Disconnect}
+use Rattle.xa_xid.proofs.Orders.{xids_total, exact_xids}
+use Rattle.xa_words.specs.Entry.{Entry}
+use Rattle.xa_server.specs.State.{Branch, State, IsOpen, association_of, is_prepared, is_prepared_phase, is_known}
+use Rattle.xa_server.specs.State.{phase_at}
+use Rattle.xa_server.specs.Replies.{table, reply_to}
+use Rattle.xa_server.specs.Step.{enters, may_enter, is_refused, after, effect, committed, with_writes, with_lock}
+use Rattle.xa_server.specs.Step.{with_own_write, started_by}
+use Rattle.xa_server.specs.declared.association.Association.{Association}
+use Rattle.xa_server.specs.declared.association.Association.TheVariants.{Free, Active, Idle}
+use Rattle.xa_server.specs.declared.branch.Phase.{Phase}
+use Rattle.xa_server.specs.declared.branch.Phase.TheVariants.{Active as PhaseActive, Idle as PhaseIdle}
+use Rattle.xa_server.proofs.Accepted.{open_association, own_is, accepted_start, accepted_end, known_prepared}
+use Rattle.xa_server.proofs.Changes.{idle, detached, branch_after, effect-branch, accepted_done, outcome}
+use Rattle.xa_server.proofs.Maps.{same_or_apart, same_itself}
+use Rattle.xa_session.specs.Replay.{state_after, state_at}
+
+abbrev ready : Option Branch → Bool
+ready found = option_map_or is_prepared_phase (option_map (λ (b : Branch). b.phase) found) false
+
+clash : {A : Type 0} (b : Bool) → b ≡ true → b ≡ false → A
+clash b e f = absurd (true≢false (sym e ∙ f))
+
+-- another branch was changed
+beside : {A : Type 0} (b : Bool) (new found : Option Branch) → b ≡ false → ready found ≡ true
+    → ready (cond b new found) ≡ false → A
+beside true new found apart is isn't = absurd (true≢false apart)
+beside false new found apart is isn't = clash (ready found) is isn't
+
+-- the branch is PREPARED still
+kept : {A : Type 0} (change : Branch → Branch) (found : Option Branch)
+    → ((b : Branch) → is_prepared_phase b.phase ≡ true → is_prepared_phase (change b).phase ≡ true)
+    → ready found ≡ true → ready (option_map change found) ≡ false → A
+kept change None keeps is isn't = absurd (true≢false (sym is))
+kept change (Some branch) keeps is isn't = clash (is_prepared_phase (change branch).phase) (keeps branch is) isn't
+
+-- XA COMMIT or XA ROLLBACK of the branch
+abbrev pub EndsBranch : Xid → Statement → Type 0
+EndsBranch xid statement = ((one_phase : Bool) × (statement ≡ Commit xid one_phase)) ⊎ (statement ≡ Rollback xid)
+
+-- of a session that hasn't the branch open, only these end a prepared branch
+ends_it : (session : ℕ) (association : Association) (statement : Statement) (at : Xid) (found : Option Branch)
+    → ((own : Xid) → (association ≡ Active own) ⊎ (association ≡ Idle own) → same_xid at own ≡ false)
+    → (statement ≡ Start at → ⊥) → (statement ≡ End at → ⊥)
+    → ready found ≡ true → ready (branch_after session association statement at found) ≡ false → EndsBranch at statement
+unfolding branch_after detached
+ends_it session association (Start xid) at found apart no_start no_end is isn't =
+    elim (same_or_apart xids_total exact_xids at xid) [
+      | inl same ↦ absurd (no_start (ap Start (sym same)))
+      | inr other ↦ beside (same_xid at xid) (Some (started_by session)) found other is isn't
+    ]
+ends_it session association (End xid) at found apart no_start no_end is isn't =
+    elim (same_or_apart xids_total exact_xids at xid) [
+      | inl same ↦ absurd (no_end (ap End (sym same)))
+      | inr other ↦ beside (same_xid at xid) (option_map idle found) found other is isn't
+    ]
+ends_it session association (Prepare xid) at found apart no_start no_end is isn't =
+    elim (same_or_apart xids_total exact_xids at xid) [
+      | inl same ↦
+          kept detached found (λ b prepared. refl) is
+          (sym (ap (λ b. ready (cond b (option_map detached found) found))
+          (ap (same_xid at) (sym same) ∙ same_itself xids_total exact_xids at)) ∙ isn't)
+      | inr other ↦ beside (same_xid at xid) (option_map detached found) found other is isn't
+    ]
+ends_it session association (Commit xid one_phase) at found apart no_start no_end is isn't =
+    elim (same_or_apart xids_total exact_xids at xid) [
+      | inl same ↦ inl (one_phase, ap (λ x. Commit x one_phase) (sym same))
+      | inr other ↦ beside (same_xid at xid) None found other is isn't
+    ]
+ends_it session association (Rollback xid) at found apart no_start no_end is isn't =
+    elim (same_or_apart xids_total exact_xids at xid) [
+      | inl same ↦ inr (ap Rollback (sym same))
+      | inr other ↦ beside (same_xid at xid) None found other is isn't
+    ]
+ends_it session association (Recover convert) at found apart no_start no_end is isn't = clash (ready found) is isn't
+ends_it session association Unsupported at found apart no_start no_end is isn't = clash (ready found) is isn't
+ends_it session Free (Get key) at found apart no_start no_end is isn't = clash (ready found) is isn't
+ends_it session (Active own) (Get key) at found apart no_start no_end is isn't =
+    beside (same_xid at own) (option_map (with_lock key) found) found (apart own (inl refl)) is isn't
+ends_it session (Idle own) (Get key) at found apart no_start no_end is isn't = clash (ready found) is isn't
+ends_it session Free (Put key value) at found apart no_start no_end is isn't = clash (ready found) is isn't
+ends_it session (Active own) (Put key value) at found apart no_start no_end is isn't =
+    beside (same_xid at own) (option_map (with_own_write key (Some value)) found) found (apart own (inl refl)) is isn't
+ends_it session (Idle own) (Put key value) at found apart no_start no_end is isn't = clash (ready found) is isn't
+ends_it session Free (Del key) at found apart no_start no_end is isn't = clash (ready found) is isn't
+ends_it session (Active own) (Del key) at found apart no_start no_end is isn't =
+    beside (same_xid at own) (option_map (with_own_write key None) found) found (apart own (inl refl)) is isn't
+ends_it session (Idle own) (Del key) at found apart no_start no_end is isn't = clash (ready found) is isn't
+ends_it session Free Disconnect at found apart no_start no_end is isn't = clash (ready found) is isn't
+ends_it session (Active own) Disconnect at found apart no_start no_end is isn't =
+    beside (same_xid at own) None found (apart own (inl refl)) is isn't
+ends_it session (Idle own) Disconnect at found apart no_start no_end is isn't =
+    beside (same_xid at own) None found (apart own (inr refl)) is isn't
+
+-- a prepared branch is nobody's
+nobodys : (state : State) (session : ℕ) (xid own : Xid) → is_prepared state xid ≡ true
+    → (association_of state session ≡ Active own) ⊎ (association_of state session ≡ Idle own) → same_xid xid own ≡ false
+nobodys state session xid own is open_one = elim (same_or_apart xids_total exact_xids xid own) [
+  | inl same ↦ by open_one same
+  | inr other ↦ other
+]
+  where
+    by : (association_of state session ≡ Active own) ⊎ (association_of state session ≡ Idle own) → xid ≡ own
+        → same_xid xid own ≡ false
+    by (inl active) same =
+        let phase : phase_at state own ≡ Some PhaseActive =
+        subst (IsOpen state) active (open_association state session) in
+        clash (is_prepared state xid) is (ap (is_prepared state) same
+        ∙ ap (λ p. option_map_or is_prepared_phase p false) phase)
+    by (inr idles) same =
+        let phase : phase_at state own ≡ Some PhaseIdle = subst (IsOpen state) idles (open_association state session) in
+        clash (is_prepared state xid) is (ap (is_prepared state) same
+        ∙ ap (λ p. option_map_or is_prepared_phase p false) phase)
+
+-- only XA COMMIT and XA ROLLBACK end a prepared branch
+pub ends_prepared : (state : State) (session : ℕ) (statement : Statement) (xid : Xid) → is_prepared state xid ≡ true
+    → is_prepared (after state session statement) xid ≡ false → EndsBranch xid statement
+ends_prepared state session statement xid is isn't = elim (outcome state session statement) [
+  | inl refused ↦ clash (is_prepared state xid) is (sym (ap (λ s. is_prepared s xid) refused.1) ∙ isn't)
+  | inr accepted ↦
+      let association = association_of state session in
+      ends_it session association statement xid (map.get state.branches xid) (λ own. nobodys state session xid own is)
+      (λ starts.
+      clash (is_known state xid) (known_prepared state xid is)
+      ((accepted_start state association xid (subst (λ s. is_refused (table state association s)
+      ≡ false) starts accepted.0)).1))
+      (λ ends.
+      clash (is_prepared state xid) is
+      (accepted_end state association xid (open_association state session)
+      (subst (λ s. is_refused (table state association s) ≡ false) ends accepted.0)))
+      is
+      (sym (ap ready (effect-branch state session association statement xid))
+      ∙ sym (ap (λ s. is_prepared s xid) accepted.1) ∙ isn't)
+]
+
+-- ---- an accepted XA PREPARE
+
+unrefused : (refused may : Bool) → (not refused && may) ≡ true → refused ≡ false
+unrefused true may is = absurd (cc)
+unrefused false may is = refl
+
+pub entered_accepted : (state : State) (session : ℕ) (statement : Statement) → enters state session statement ≡ true
+    → is_refused (reply_to state session statement) ≡ false
+unfolding enters
+entered_accepted state session statement is =
+    unrefused (is_refused (reply_to state session statement))
+    (may_enter state (association_of state session) statement) is
+
+in_phase : (found : Option Branch) (phase : Phase) → option_map (λ (b : Branch). b.phase) found ≡ Some phase
+    → ready (option_map detached found) ≡ true
+unfolding detached
+in_phase None phase is = absurd (cc)
+in_phase (Some branch) phase is = refl
+
+pub prepares : (state : State) (session : ℕ) (xid : Xid) → enters state session (Prepare xid) ≡ true
+    → is_prepared (after state session (Prepare xid)) xid ≡ true
+unfolding reply_to branch_after table
+prepares state session xid entering =
+    let accepted = entered_accepted state session (Prepare xid) entering in
+    ap (λ s. is_prepared s xid) (accepted_done state session (Prepare xid) accepted)
+    ∙ ap ready (effect-branch state session (association_of state session) (Prepare xid) xid)
+    ∙ ap (λ b. ready (cond b (option_map detached (map.get state.branches xid)) (map.get state.branches xid)))
+    (same_itself xids_total exact_xids xid)
+    ∙ by (association_of state session) (open_association state session) accepted
+  where
+    by : (association : Association) → IsOpen state association
+        → is_refused (table state association (Prepare xid)) ≡ false
+        → ready (option_map detached (map.get state.branches xid)) ≡ true
+    by Free opened accepted = absurd (true≢false accepted)
+    by (Active own) opened accepted = absurd (true≢false accepted)
+    by (Idle own) opened accepted =
+        let same : xid ≡ own = own_is xid own _ accepted in
+        in_phase (map.get state.branches xid) PhaseIdle (ap (phase_at state) same ∙ opened)
+
+-- ---- along a history
+
+-- from one place on the branch is PREPARED, up to this one, and the entry there ends it
+pub record IsEndedAt (base : State) (history : List Entry) (from : ℕ) (xid : Xid) : Type 0 where
+  pub place : ℕ
+  pub behind : from ≤ place
+  pub entry : Entry
+  pub there : slice_get history place ≡ Some entry
+  pub prepared : (at : ℕ) → from ≤ at → at ≤ place → is_prepared (state_at base history at) xid ≡ true
+  pub ends : EndsBranch xid entry.statement
+
+later : (base : State) (first : Entry) (rest : List Entry) (from : ℕ) (xid : Xid)
+    → IsEndedAt (after base first.session first.statement) rest from xid → IsEndedAt base (first ∷ rest) (suc from) xid
+unfolding state_after
+later base first rest from xid is =
+    record {
+      place = suc is.place;
+      behind = omega (arith, is.behind);
+      entry = is.entry;
+      there = is.there;
+      prepared = by;
+      ends = is.ends;
+    }
+  where
+    by : (at : ℕ) → suc from ≤ at → at ≤ suc is.place → is_prepared (state_at base (first ∷ rest) at) xid ≡ true
+    by zero less more = absurd (omega (arith, less))
+    by (suc at) less more = is.prepared at (omega (arith, less)) (omega (arith, more))
+
+-- one entry before it the branch is PREPARED, too
+sooner : (base : State) (first : Entry) (rest : List Entry) (xid : Xid) → is_prepared base xid ≡ true
+    → IsEndedAt (after base first.session first.statement) rest 0 xid → IsEndedAt base (first ∷ rest) 0 xid
+unfolding state_after
+sooner base first rest xid now is =
+    record {
+      place = suc is.place;
+      behind = omega arith;
+      entry = is.entry;
+      there = is.there;
+      prepared = by;
+      ends = is.ends;
+    }
+  where
+    by : (at : ℕ) → 0 ≤ at → at ≤ suc is.place → is_prepared (state_at base (first ∷ rest) at) xid ≡ true
+    by zero less more = now
+    by (suc at) less more = is.prepared at (omega arith) (omega (arith, more))
+
+first_or_later : (base : State) (first : Entry) (rest : List Entry) (xid : Xid) → is_prepared base xid ≡ true
+    → (b : Bool)
+    → is_prepared (after base first.session first.statement) xid ≡ b
+    → (is_prepared (after base first.session first.statement) xid ≡ true
+    → IsEndedAt (after base first.session first.statement) rest 0 xid)
+    → IsEndedAt base (first ∷ rest) 0 xid
+unfolding state_after
+first_or_later base first rest xid is true still rest_of = sooner base first rest xid is (rest_of still)
+first_or_later base first rest xid is false gone rest_of = record {
+  place = zero;
+  behind = omega arith;
+  entry = first;
+  there = refl;
+  prepared = at_first;
+  ends = ends_prepared base first.session first.statement xid is gone;
+}
+  where
+    at_first : (at : ℕ) → 0 ≤ at → at ≤ 0 → is_prepared (state_at base (first ∷ rest) at) xid ≡ true
+    at_first zero less more = is
+    at_first (suc at) less more = absurd (omega (arith, more))
+
+-- a branch that is PREPARED at a place and isn't in the end was ended
+pub ended_behind : (base : State) (history : List Entry) (from : ℕ) (xid : Xid) → from ≤ length history
+    → is_prepared (state_at base history from) xid ≡ true
+    → is_prepared (state_after base history) xid ≡ false → IsEndedAt base history from xid
+unfolding state_after
+ended_behind base [] zero xid within is isn't = clash (is_prepared base xid) is isn't
+ended_behind base [] (suc from) xid within is isn't = clash (is_prepared base xid) is isn't
+ended_behind base (first ∷ rest) (suc from) xid within is isn't =
+    later base first rest from xid (ended_behind (after base first.session first.statement) rest from xid
+    (omega (arith, within)) is isn't)
+ended_behind base (first ∷ rest) zero xid within is isn't =
+    first_or_later base first rest xid is (is_prepared (after base first.session first.statement) xid) refl
+    (λ still. ended_behind (after base first.session first.statement) rest zero xid (omega arith) still isn't)
+
+-- ---- what a commit does to the rows
+
+pub commit_rows : (state : State) (session : ℕ) (xid : Xid) (one_phase : Bool) (branch : Branch)
+    → enters state session (Commit xid one_phase) ≡ true
+    → map.get state.branches xid ≡ Some branch → (after state session (Commit xid one_phase)).rows
+    ≡ with_writes (map.entries branch.writes) state.rows
+unfolding effect committed
+commit_rows state session xid one_phase branch entering found =
+    ap (λ (s : State). s.rows) (accepted_done state session (Commit xid one_phase)
+    (entered_accepted state session (Commit xid one_phase) entering))
+    ∙ by (map.get state.branches xid) found
+  where
+    by : (f : Option Branch) → f ≡ Some branch →
+        (option_map_or
+        (λ (b : Branch). record state
+        { branches = map.remove state.branches xid; rows = with_writes (map.entries b.writes) state.rows }) f
+        state).rows ≡ with_writes (map.entries branch.writes) state.rows
+    by None is = absurd (cc)
+    by (Some b) is = ap (λ (o : Branch). with_writes (map.entries o.writes) state.rows) (let e : b ≡ branch = cc in e)

@@ -1,0 +1,232 @@
+-- What holds of a manager before any recovery: what the coordinator added goes with how far each transaction has come.
+use Rattle.std.proofs.Common.{◌≡◌, ◌⊎◌, ◌<◌, ◌^◌, ℕ, true, false, List, length, ap, sym, ◌∙◌, subst, inl, inr, Some}
+use Rattle.std.proofs.Common.{None, arith}
+use Rattle.std.specs.Prelude.{slice_get, Option, codes}
+use Rattle.std.proofs.lemmas.Option.{slice_get-get_or, slice_get_within}
+use Rattle.xa_xid.specs.declared.statement.Statement.{Statement}
+use Rattle.xa_xid.specs.declared.statement.Statement.TheVariants.{Start, End, Prepare, Commit, Rollback, Recover}
+use Rattle.xa_xid.specs.declared.statement.Statement.TheVariants.{Unsupported, Get, Put, Del, Disconnect}
+use Rattle.xa_session.specs.Answer.{entry_of}
+use Rattle.xa_coordinator.specs.Branch.{IsBranchOf}
+use Rattle.xa_coordinator.specs.Decisions.{is_decided}
+use Rattle.xa_coordinator.specs.Participants.{takes_part, OnlyTakesPart}
+use Rattle.xa_coordinator.specs.Stores.{EachStore}
+use Rattle.xa_coordinator.specs.declared.fused.Fused.{Fused}
+use Rattle.xa_coordinator.specs.declared.transaction.Prepared.{Prepared}
+use Rattle.xa_coordinator.specs.declared.transaction.VoteKind.TheVariants.{OnePhase as VoteKindOnePhase}
+use Rattle.xa_manager.specs.Beside.{within}
+use Rattle.xa_manager.specs.Ledger.{stage_of, IsTransactionOf}
+use Rattle.xa_manager.specs.declared.stage.Stage.{Stage}
+use Rattle.xa_manager.specs.declared.stage.Stage.TheVariants.{Working, Ready, Voted, Over}
+use Rattle.xa_manager.proofs.Stages.{Kept, AllReady}
+use Rattle.xa_manager.specs.declared.counted_store.CountedStore.{CountedStore}
+use Rattle.xa_manager.specs.Counted.{own_of}
+use Rattle.xa_manager.specs.Runs.{Managing}
+use Rattle.xa_manager.specs.Atomic.{branch_in, HasAdded, IsAlone}
+use Rattle.xa_manager.proofs.Added.{AddsOnly, adds_none, added_or_there, stays_there}
+
+abbrev pub Session : Type 0
+Session = Fused CountedStore
+
+-- ---- how far a transaction has come
+
+-- a transaction that was voted Ready, or is over
+abbrev pub MayStandDecided : Option Stage → Type 0
+MayStandDecided None = ⊥
+MayStandDecided (Some (Working transaction)) = ⊥
+MayStandDecided (Some (Ready prepared)) = Unit {0}
+MayStandDecided (Some (Voted prepared)) = ⊥
+MayStandDecided (Some Over) = Unit {0}
+
+-- the store takes part, as far as the transaction is kept
+abbrev pub TookPart : ℕ → Option Stage → Type 0
+TookPart store None = ⊥
+TookPart store (Some (Working transaction)) = takes_part transaction.participants store ≡ true
+TookPart store (Some (Ready prepared)) = takes_part prepared.transaction.participants store ≡ true
+TookPart store (Some (Voted prepared)) = takes_part prepared.transaction.participants store ≡ true
+TookPart store (Some Over) = Unit {0}
+
+-- the transaction is over, and wasn't decided
+pub record IsUndecidedOver (manager : Managing) (number : ℕ) : Type 0 where
+  pub undecided : is_decided manager.decisions number ≡ false
+  pub over : stage_of manager.stages number ≡ Some Over
+
+-- a statement that was added goes with that
+abbrev pub Goes : Managing → ℕ → Statement → Type 0
+Goes manager store (Commit xid false) =
+    (number : ℕ) × IsBranchOf (codes "c") number store xid × (is_decided manager.decisions number ≡ true)
+Goes manager store (Commit xid true) =
+    (number : ℕ) × IsBranchOf (codes "c") number store xid × IsUndecidedOver manager number
+    × IsAlone manager.sessions number store
+Goes manager store (Rollback xid) =
+    (number : ℕ) × IsBranchOf (codes "c") number store xid × IsUndecidedOver manager number
+Goes manager store statement = Unit {0}
+
+-- where one branch of a transaction was begun, it was prepared
+abbrev pub PreparesAll : Managing → ℕ → Type 0
+PreparesAll manager number =
+    (store : ℕ) (session : Session) → slice_get manager.sessions store ≡ Some session
+    → HasAdded session (Start (branch_in number store))
+    → HasAdded session (Prepare (branch_in number store))
+
+pub record Holds (manager : Managing) : Type 0 where
+  pub kept : Kept manager.stores manager.stages
+  pub ready : AllReady manager.stages
+  pub count : length manager.stages ≡ length manager.decisions
+  pub alone : (number : ℕ) (prepared : Prepared) → stage_of manager.stages number ≡ Some (Voted prepared)
+      → prepared.vote_kind ≡ VoteKindOnePhase
+      → (store : ℕ) × OnlyTakesPart prepared.transaction.participants store
+  pub decided : (number : ℕ) → is_decided manager.decisions number ≡ true
+      → MayStandDecided (stage_of manager.stages number)
+  pub began : (number store : ℕ) (session : Session) → number < 2 ^ 64 → slice_get manager.sessions store ≡ Some session
+      → HasAdded session (Start (branch_in number store)) → TookPart store (stage_of manager.stages number)
+  pub prepared_ready : (number : ℕ) (prepared : Prepared) → number < 2 ^ 64
+      → stage_of manager.stages number ≡ Some (Ready prepared)
+      → PreparesAll manager number
+  pub prepared_decided : (number : ℕ) → number < 2 ^ 64 → is_decided manager.decisions number ≡ true
+      → PreparesAll manager number
+  pub goes : (store : ℕ) (session : Session) (statement : Statement) → slice_get manager.sessions store ≡ Some session
+      → HasAdded session statement
+      → Goes manager store statement
+
+-- ---- what sessions add
+
+-- the session of each store that there is now was there, and added statements of this kind
+pub record Grew (kind : ℕ → Statement → Type 0) (store : ℕ) (old : List Session) (after : Session) : Type 0 where
+  pub before : Session
+  pub there : slice_get old store ≡ Some before
+  pub adds : AddsOnly (kind store) (own_of before.inner) (own_of after.inner)
+
+abbrev pub Grows : (ℕ → Statement → Type 0) → List Session → List Session → Type 0
+Grows kind old new = (store : ℕ) (after : Session) → slice_get new store ≡ Some after → Grew kind store old after
+
+pub grows_each : (kind : ℕ → Statement → Type 0) (old new : List Session) → length new ≡ length old
+    → EachStore (within own_of) (λ store. AddsOnly (kind store)) old new → Grows kind old new
+grows_each kind old new count each store after is =
+    let below : store < length old = let there = slice_get_within new store after is in omega (arith, there, count) in
+    let was = slice_get-get_or old store after below in
+    record { before = _; there = was; adds = each store _ after was is }
+
+-- the same sessions
+pub grows_same : (kind : ℕ → Statement → Type 0) (sessions : List Session) → Grows kind sessions sessions
+grows_same kind sessions store after is =
+    record { before = after; there = is; adds = adds_none (kind store) (own_of after.inner) }
+
+pub grew_cases : (kind : ℕ → Statement → Type 0) (store : ℕ) (old : List Session) (after : Session)
+    (statement : Statement)
+    → (grew : Grew kind store old after) → HasAdded after statement
+    → HasAdded grew.before statement ⊎ kind store statement
+grew_cases kind store old after statement grew added =
+    added_or_there (kind store) (own_of grew.before.inner) (own_of after.inner) (entry_of 1 statement) grew.adds added
+
+pub grew_stays : (kind : ℕ → Statement → Type 0) (store : ℕ) (old : List Session) (after : Session)
+    (statement : Statement)
+    → (grew : Grew kind store old after) → HasAdded grew.before statement → HasAdded after statement
+grew_stays kind store old after statement grew added =
+    stays_there (kind store) (own_of grew.before.inner) (own_of after.inner) (entry_of 1 statement) grew.adds added
+
+-- ---- what goes on going
+
+-- what is over stays so, what is decided stays so, and no branch of what is over begins
+pub record GoesOn (kind : ℕ → Statement → Type 0) (old new : Managing) : Type 0 where
+  pub grows : Grows kind old.sessions new.sessions
+  pub over : (number : ℕ) → IsUndecidedOver old number → IsUndecidedOver new number
+  pub decided : (number : ℕ) → is_decided old.decisions number ≡ true → is_decided new.decisions number ≡ true
+  pub begins : (number store : ℕ) → number < 2 ^ 64 → stage_of old.stages number ≡ Some Over
+      → kind store (Start (branch_in number store)) → ⊥
+
+still_alone : (kind : ℕ → Statement → Type 0) (old new : Managing) (number store : ℕ) → number < 2 ^ 64
+    → GoesOn kind old new → IsUndecidedOver old number
+    → IsAlone old.sessions number store → IsAlone new.sessions number store
+still_alone kind old new number store fits on over alone other after is added =
+    let grew = on.grows other after is in
+    elim (grew_cases kind other old.sessions after (Start (branch_in number other)) grew added) [
+      | inl before ↦ alone other grew.before grew.there before
+      | inr now ↦ absurd (on.begins number other fits over.over now)
+    ]
+
+pub goes_still : (kind : ℕ → Statement → Type 0) (old new : Managing) (store : ℕ) (statement : Statement)
+    → GoesOn kind old new → Goes old store statement
+    → Goes new store statement
+goes_still kind old new store (Commit xid false) on is = (is.0, is.1, on.decided is.0 is.2)
+goes_still kind old new store (Commit xid true) on is =
+    (is.0, is.1, on.over is.0 is.2, still_alone kind old new is.0 store is.1.fits on is.2 is.3)
+goes_still kind old new store (Rollback xid) on is = (is.0, is.1, on.over is.0 is.2)
+goes_still kind old new store (Start xid) on is = tt
+goes_still kind old new store (End xid) on is = tt
+goes_still kind old new store (Prepare xid) on is = tt
+goes_still kind old new store (Recover convert) on is = tt
+goes_still kind old new store Unsupported on is = tt
+goes_still kind old new store (Get key) on is = tt
+goes_still kind old new store (Put key value) on is = tt
+goes_still kind old new store (Del key) on is = tt
+goes_still kind old new store Disconnect on is = tt
+
+-- everything that was added goes with how far each transaction has come
+pub all_go : (kind : ℕ → Statement → Type 0) (old new : Managing) → Holds old → GoesOn kind old new
+    → ((store : ℕ) (statement : Statement) → kind store statement → Goes new store statement)
+    → (store : ℕ) (session : Session) (statement : Statement)
+    → slice_get new.sessions store ≡ Some session → HasAdded session statement → Goes new store statement
+all_go kind old new holds on fresh store session statement is added =
+    let grew = on.grows store session is in
+    elim (grew_cases kind store old.sessions session statement grew added) [
+      | inl before ↦ goes_still kind old new store statement on
+          (holds.goes store grew.before statement grew.there before)
+      | inr now ↦ fresh store statement now
+    ]
+
+-- where no branch begins that wasn't begun, each that was prepared still is
+pub still_prepared : (kind : ℕ → Statement → Type 0) (old new : Managing) (number : ℕ)
+    → Grows kind old.sessions new.sessions
+    → ((store : ℕ) → kind store (Start (branch_in number store)) → ⊥) → PreparesAll old number → PreparesAll new number
+still_prepared kind old new number grows none prepared store after is added =
+    let grew = grows store after is in
+    elim (grew_cases kind store old.sessions after (Start (branch_in number store)) grew added) [
+      | inl before ↦ grew_stays kind store old.sessions after (Prepare (branch_in number store)) grew
+          (prepared store grew.before grew.there before)
+      | inr now ↦ absurd (none store now)
+    ]
+
+-- ---- nothing but what isn't looked at changed
+
+abbrev pub Never : ℕ → Statement → Type 0
+Never store statement = ⊥
+
+pub quiet : (old new : Managing) → new.stores ≡ old.stores → new.stages ≡ old.stages → new.decisions ≡ old.decisions
+    → Grows Never old.sessions new.sessions
+    → Holds old → Holds new
+quiet old new stores stages decisions grows holds =
+    let on : GoesOn Never old new = record {
+      grows = grows;
+      over = λ number is. record {
+        undecided = ap (λ d. is_decided d number) decisions ∙ is.undecided;
+        over = ap (λ s. stage_of s number) stages ∙ is.over;
+      };
+      decided = λ number is. ap (λ d. is_decided d number) decisions ∙ is;
+      begins = λ number store fits over never. never;
+    } in
+    record {
+      kept = λ number stage transaction is in_it.
+          subst (λ count. IsTransactionOf count number transaction) (sym stores)
+          (holds.kept number stage transaction (sym (ap (λ s. stage_of s number) stages) ∙ is) in_it);
+      ready = λ number prepared is. holds.ready number prepared (sym (ap (λ s. stage_of s number) stages) ∙ is);
+      count = ap length stages ∙ holds.count ∙ sym (ap length decisions);
+      alone = λ number prepared is one. holds.alone number prepared (sym (ap (λ s. stage_of s number) stages) ∙ is) one;
+      decided = λ number is.
+          subst (λ s. MayStandDecided (stage_of s number)) (sym stages)
+          (holds.decided number (sym (ap (λ d. is_decided d number) decisions) ∙ is));
+      began = λ number store session fits is added.
+          let grew = grows store session is in
+          subst (λ s. TookPart store (stage_of s number)) (sym stages)
+          (elim (grew_cases Never store old.sessions session (Start (branch_in number store)) grew added) [
+            | inl before ↦ holds.began number store grew.before fits grew.there before
+            | inr never ↦ absurd never
+          ]);
+      prepared_ready = λ number prepared fits is.
+          still_prepared Never old new number grows (λ store never. never)
+          (holds.prepared_ready number prepared fits (sym (ap (λ s. stage_of s number) stages) ∙ is));
+      prepared_decided = λ number fits is.
+          still_prepared Never old new number grows (λ store never. never)
+          (holds.prepared_decided number fits (sym (ap (λ d. is_decided d number) decisions) ∙ is));
+      goes = all_go Never old new holds on (λ store statement never. absurd never);
+    }

@@ -1,0 +1,494 @@
+-- What holds of a manager through calls of which none is RECOVER.
+use Rattle.std.proofs.Common.{◌≡◌, ◌⊎◌, ◌<◌, ◌^◌, ℕ, Bool, true, false, List, [], ◌∷◌, length, map, refl, ap, sym, ◌∙◌}
+use Rattle.std.proofs.Common.{subst, inl, inr, ⊎_elim, Some, arith}
+use Rattle.std.specs.Prelude.{slice_get, Contains, codes}
+use Rattle.std.specs.Option.{option_map}
+use Rattle.std.proofs.lemmas.Bool.Decides.{eqb_tells}
+use Rattle.std.proofs.lemmas.List.{length-map}
+use Rattle.std.proofs.lemmas.List.Elements.{Contains-append_right}
+use Rattle.std.proofs.lemmas.Option.{slice_get-get_or, slice_get_within, slice_get-map, same_Some}
+use Rattle.xa_words.specs.Entry.{Entry}
+use Rattle.xa_xid.specs.declared.xid.Xid.{Xid}
+use Rattle.xa_xid.specs.declared.statement.Statement.{Statement}
+use Rattle.xa_xid.specs.declared.statement.Statement.TheVariants.{Start, End, Prepare, Commit, Rollback}
+use Rattle.xa_xid.specs.declared.statement.Statement.TheVariants.{Recover as RecoverStatement, Unsupported, Get, Put}
+use Rattle.xa_xid.specs.declared.statement.Statement.TheVariants.{Del, Disconnect}
+use Rattle.xa_session.specs.Answer.{entry_of}
+use Rattle.xa_session.specs.View.{SessionView}
+use Rattle.xa_coordinator.specs.Branch.{branch_xid, IsBranchOf}
+use Rattle.xa_coordinator.specs.Decisions.{is_decided}
+use Rattle.xa_coordinator.specs.Outcomes.{branch_of, finish_statement, finish_for, VotesAs, IsVoted}
+use Rattle.xa_coordinator.specs.Participants.{takes_part, OnlyTakesPart}
+use Rattle.xa_coordinator.specs.declared.closing.Closing.{Closing}
+use Rattle.xa_coordinator.specs.declared.closing.Closing.TheVariants.{InTwoPhases, InOnePhase, RollBack}
+use Rattle.xa_coordinator.specs.declared.transaction.Prepared.{Prepared}
+use Rattle.xa_coordinator.specs.declared.transaction.Transaction.{Transaction}
+use Rattle.xa_coordinator.specs.declared.transaction.VoteKind.{VoteKind}
+use Rattle.xa_coordinator.specs.declared.transaction.VoteKind.TheVariants.{Ready as VoteKindReady}
+use Rattle.xa_coordinator.specs.declared.transaction.VoteKind.TheVariants.{OnePhase as VoteKindOnePhase}
+use Rattle.xa_coordinator.specs.declared.transaction.VoteKind.TheVariants.{No as VoteKindNo}
+use Rattle.xa_coordinator.specs.declared.vote.Vote.{Vote}
+use Rattle.xa_coordinator.specs.declared.vote.Vote.TheVariants.{Ready as VoteReady, OnePhase as VoteOnePhase}
+use Rattle.xa_coordinator.specs.declared.vote.Vote.TheVariants.{No as VoteNo, Nothing as VoteNothing}
+use Rattle.xa_coordinator.proofs.Listed.{number_behind_is}
+use Rattle.xa_coordinator.specs.Lasting.{own_view}
+use Rattle.xa_manager.specs.Beside.{within, CarriesBeside, LeavesAlone}
+use Rattle.xa_manager.specs.Calls.{takes_rows}
+use Rattle.xa_manager.specs.Carried.{HasWorked, HasVoted, IsFinished, IsAbandoned, HasEnded, stage_after}
+use Rattle.xa_manager.specs.Ledger.{stage_of, with_stage, IsTransactionOf}
+use Rattle.xa_manager.specs.declared.call.Call.{Call}
+use Rattle.xa_manager.specs.declared.call.Call.TheVariants.{Silent, Unread, Begin, Work, Prepare as PrepareCall, Decide}
+use Rattle.xa_manager.specs.declared.call.Call.TheVariants.{Finish, Abandon, Fail, Stop, Recover, At, Show}
+use Rattle.xa_manager.specs.declared.response.Response.{Response}
+use Rattle.xa_manager.specs.declared.stage.Stage.{Stage}
+use Rattle.xa_manager.specs.declared.stage.Stage.TheVariants.{Working, Ready, Voted, Over}
+use Rattle.xa_manager.proofs.Stages.{kept_voted}
+use Rattle.xa_manager.proofs.States.{worked_kept, voted_kept, voted_ready}
+use Rattle.xa_manager.specs.declared.counted_store.CountedStore.{CountedStore}
+use Rattle.xa_manager.specs.Counted.{own_of, other_of}
+use Rattle.xa_manager.specs.Runs.{Managing, IsAnswered}
+use Rattle.xa_manager.specs.Atomic.{branch_in, HasAdded, IsPlain, IsAlone}
+use Rattle.xa_manager.proofs.Added.{AddsOnly, adds_none, ending_adds, vote_adds, work_adds, work_keeps}
+use Rattle.xa_manager.proofs.Holding.{Session, MayStandDecided, TookPart, IsUndecidedOver, Goes, Holds, Grows}
+use Rattle.xa_manager.proofs.Holding.{grows_each}
+use Rattle.xa_manager.proofs.Holding.{grew_cases, Never, quiet}
+use Rattle.xa_manager.proofs.Moving.{acts, begins, decides_one, stage_put}
+
+-- ---- sessions that weren't spoken to
+
+adds_known : (kind : Statement → Type 0) (old new : SessionView) → new.known ≡ old.known → AddsOnly kind old new
+adds_known kind old new same = record {
+  statements = (adds_none kind old).statements;
+  number = ap (λ k. k.number) same;
+  mine = ap (λ k. k.mine) same ∙ (adds_none kind old).mine;
+  each = (adds_none kind old).each;
+}
+
+-- each session within is as it was
+pub grows_within : (old new : List Session) → map (λ (s : Session). s.inner) new ≡ map (λ (s : Session). s.inner) old
+    → Grows Never old new
+grows_within old new same store after is =
+    let inner : Session → CountedStore = λ s. s.inner in
+    let count : length new ≡ length old = sym (length-map new inner) ∙ ap length same ∙ length-map old inner in
+    let below : store < length old = let there = slice_get_within new store after is in omega (arith, there, count) in
+    let was = slice_get-get_or old store after below in
+    record {
+      before = _;
+      there = was;
+      adds = adds_known (Never store) _ _
+          (ap (λ (c : CountedStore). (own_of c).known)
+          (same_Some _ _
+          (sym (ap (option_map inner) is) ∙ sym (slice_get-map inner new store) ∙ ap (λ list. slice_get list store) same
+          ∙ slice_get-map inner old store
+          ∙ ap (option_map inner) was)));
+    }
+
+-- each was left alone
+pub grows_alone : (old new : List Session) → LeavesAlone own_of old new → Grows Never old new
+grows_alone old new is =
+    let left : Session → ℕ = λ s. s.left in
+    grows_each Never old new (sym (length-map new left) ∙ ap length is.left ∙ length-map old left)
+    (λ store before after is_before is_after.
+    adds_known (Never store) (own_of before.inner) (own_of after.inner)
+    (is.alone store before after is_before is_after).known)
+
+-- ---- numbers and branches
+
+-- a branch has one number
+pub one_number : (number other store : ℕ) → number < 2 ^ 64 → other < 2 ^ 64
+    → branch_in number store ≡ branch_in other store → number ≡ other
+one_number number other store fits fits' same =
+    sym ((number_behind_is (codes "c") number store (branch_in number store) (record { fits = fits; is = refl })).1)
+    ∙ (number_behind_is (codes "c") other store (branch_in number store) (record { fits = fits'; is = same })).1
+
+-- the branch of a transaction of `c`
+named_branch : (stores number : ℕ) (transaction : Transaction) (store : ℕ) → IsTransactionOf stores number transaction
+    → branch_of transaction store ≡ branch_in number store
+named_branch stores number transaction store is =
+    ap (λ name. branch_xid name transaction.number store) is.name ∙ ap (λ n. branch_xid (codes "c") n store) is.number
+
+fits_number : (stores number : ℕ) (transaction : Transaction) → IsTransactionOf stores number transaction
+    → number < 2 ^ 64
+fits_number stores number transaction is = subst (λ n. n < 2 ^ 64) is.number transaction.eight_bytes
+
+-- ---- statements that begin and finish no branch
+
+abbrev Harmless : Statement → Type 0
+Harmless (Start xid) = ⊥
+Harmless (Commit xid one_phase) = ⊥
+Harmless (Rollback xid) = ⊥
+Harmless statement = Unit {0}
+
+harmless_goes : (manager : Managing) (store : ℕ) (statement : Statement) → Harmless statement
+    → Goes manager store statement
+harmless_goes manager store (Start xid) is = tt
+harmless_goes manager store (End xid) is = tt
+harmless_goes manager store (Prepare xid) is = tt
+harmless_goes manager store (Commit xid true) is = absurd is
+harmless_goes manager store (Commit xid false) is = absurd is
+harmless_goes manager store (Rollback xid) is = absurd is
+harmless_goes manager store (RecoverStatement convert) is = tt
+harmless_goes manager store Unsupported is = tt
+harmless_goes manager store (Get key) is = tt
+harmless_goes manager store (Put key value) is = tt
+harmless_goes manager store (Del key) is = tt
+harmless_goes manager store Disconnect is = tt
+
+row_harmless : (row : Statement) → takes_rows row ≡ true → Harmless row
+row_harmless (Start xid) is = absurd (cc)
+row_harmless (End xid) is = tt
+row_harmless (Prepare xid) is = tt
+row_harmless (Commit xid one_phase) is = absurd (cc)
+row_harmless (Rollback xid) is = absurd (cc)
+row_harmless (RecoverStatement convert) is = tt
+row_harmless Unsupported is = tt
+row_harmless (Get key) is = tt
+row_harmless (Put key value) is = tt
+row_harmless (Del key) is = tt
+row_harmless Disconnect is = tt
+
+start_same : (xid other : Xid) → Start xid ≡ Start other → xid ≡ other
+start_same xid other is = cc
+
+-- ---- WORK
+
+abbrev Begins : Transaction → Transaction → ℕ → Statement → Type 0
+Begins before after store statement =
+    Harmless statement ⊎ ((statement ≡ Start (branch_of before store)) × (takes_part after.participants store ≡ true))
+
+begins_goes : (manager : Managing) (before after : Transaction) (store : ℕ) (statement : Statement)
+    → Begins before after store statement
+    → Goes manager store statement
+begins_goes manager before after store statement (inl is) = harmless_goes manager store statement is
+begins_goes manager before after store statement (inr is) = subst (Goes manager store) (sym is.0) tt
+
+pub works : (number store : ℕ) (row : Statement) (old new : Managing) (response : Response) → takes_rows row ≡ true
+    → HasWorked (within own_of) number store row old response new → Holds old → Holds new
+works number store row old new response rows is holds =
+    acts (Begins is.before is.after) number (Working is.before) (Working is.after) old new (record {
+      stores = ap (λ (m : Managing). m.stores) is.alone.stands;
+      decisions = ap (λ (m : Managing). m.decisions) is.alone.stands;
+      stages = ap (λ (m : Managing). m.stages) is.alone.stands;
+      before = is.working;
+      opened = λ e. absurd (cc);
+      grows = grows_each (Begins is.before is.after) old.sessions new.sessions is.alone.count
+          (work_adds (within own_of) (Begins is.before is.after) old.branches new.branches is.before is.after store row
+          is.answer old.sessions new.sessions
+          (λ takes. inr (refl, takes)) (inl (row_harmless row rows)) is.others is.works);
+      kept = worked_kept store old.stores number is.before is.after is.keeps named;
+      ready = λ prepared e. absurd (cc);
+      alone = λ prepared e one. absurd (cc);
+      decided = λ decided. undecided decided;
+      took = took;
+      starts = λ other there fits begun. elim begun [
+        | inl harmless ↦ absurd harmless
+        | inr started ↦ (
+          one_number other number there fits (fits_number old.stores number is.before named)
+              (start_same _ _ started.0 ∙ named_branch old.stores number is.before there named),
+          started.1,
+          λ decided. undecided decided,
+        )
+      ];
+      prepares = λ prepared e. absurd (cc);
+      goes = begins_goes new is.before is.after;
+    }) holds
+  where
+    named : IsTransactionOf old.stores number is.before
+    named = holds.kept number (Working is.before) is.before is.working refl
+
+    undecided : {A : Type 0} → is_decided old.decisions number ≡ true → A
+    undecided decided = absurd (subst MayStandDecided is.working (holds.decided number decided))
+
+    took : (other : ℕ) → TookPart other (Some (Working is.before)) → TookPart other (Some (Working is.after))
+    took other takes = elim (eqb_tells other store) [
+      | inl (_, here) ↦
+          let there : takes_part is.before.participants store ≡ true =
+          subst (λ n. takes_part is.before.participants n ≡ true) here takes in
+          subst (λ n. takes_part is.after.participants n ≡ true) (sym here)
+          (work_keeps (within own_of) old.branches new.branches is.before is.after store row is.answer old.sessions
+          new.sessions is.works there)
+      | inr (_, apart) ↦ is.keeps.others other apart ∙ takes
+    ]
+
+-- ---- PREPARE
+
+abbrev Votes : ℕ → Statement → Type 0
+Votes store statement = Harmless statement
+
+vote_alone : (before : Transaction) (vote : Vote) (old new : List Session) → VotesAs (within own_of) before vote old new
+    → (prepared : Prepared)
+    → stage_after vote ≡ Voted prepared → prepared.vote_kind ≡ VoteKindOnePhase
+    → (store : ℕ) × OnlyTakesPart prepared.transaction.participants store
+vote_alone before (VoteReady p) old new is prepared stage one = absurd (cc)
+vote_alone before (VoteOnePhase p) old new is prepared stage one =
+    let same : p ≡ prepared = cc in
+    let whole : prepared ≡ record { transaction = before; vote_kind = VoteKindOnePhase } = sym same ∙ is.0 in
+    subst (λ (q : Prepared). (store : ℕ) × OnlyTakesPart q.transaction.participants store) (sym whole) is.1
+vote_alone before (VoteNo p store cause) old new is prepared stage one =
+    let same : p ≡ prepared = cc in
+    let kind : p.vote_kind ≡ VoteKindNo = ap (λ (q : Prepared). q.vote_kind) is.0 in
+    absurd (let e = ap (λ (q : Prepared). q.vote_kind) same in cc)
+vote_alone before VoteNothing old new is prepared stage one = absurd (cc)
+
+vote_took : (before : Transaction) (vote : Vote) (old new : List Session) → VotesAs (within own_of) before vote old new
+    → (store : ℕ)
+    → takes_part before.participants store ≡ true → TookPart store (Some (stage_after vote))
+vote_took before (VoteReady p) old new is store takes =
+    ap (λ (q : Prepared). takes_part q.transaction.participants store) is.0 ∙ takes
+vote_took before (VoteOnePhase p) old new is store takes =
+    ap (λ (q : Prepared). takes_part q.transaction.participants store) is.0 ∙ takes
+vote_took before (VoteNo p last cause) old new is store takes =
+    ap (λ (q : Prepared). takes_part q.transaction.participants store) is.0 ∙ takes
+vote_took before VoteNothing old new is store takes = tt
+
+two_added : (xid : Xid) (takes : Bool) (old new : SessionView) → takes ≡ true → IsVoted xid takes old new
+    → Contains new.known.mine (entry_of old.known.number (Prepare xid))
+two_added xid false old new is adds = absurd (cc)
+two_added xid true old new is adds =
+    subst (λ (list : List Entry). Contains list (entry_of old.known.number (Prepare xid))) (sym adds.mine)
+    (Contains-append_right old.known.mine (entry_of old.known.number (End xid) ∷ entry_of old.known.number
+    (Prepare xid) ∷ [])
+    (entry_of old.known.number (Prepare xid)) (1, omega arith, refl))
+
+-- each participant of a vote of Ready was prepared
+vote_prepares : (before : Transaction) (vote : Vote) (old new : List Session) → length new ≡ length old
+    → VotesAs (within own_of) before vote old new
+    → (prepared : Prepared)
+    → stage_after vote ≡ Ready prepared → (store : ℕ) (session : Session) → slice_get new store ≡ Some session
+    → takes_part before.participants store ≡ true
+    → HasAdded session (Prepare (branch_of before store))
+vote_prepares before (VoteReady p) old new count is prepared stage store session there takes =
+    let below : store < length old = let there = slice_get_within new store session there in
+    omega (arith, there, count) in
+    let was = slice_get-get_or old store session below in
+    two_added (branch_of before store) (takes_part before.participants store) _ (own_of session.inner) takes
+    (is.2 store _ session was there)
+vote_prepares before (VoteOnePhase p) old new count is prepared stage store session there takes = absurd (cc)
+vote_prepares before (VoteNo p last cause) old new count is prepared stage store session there takes = absurd (cc)
+vote_prepares before VoteNothing old new count is prepared stage store session there takes = absurd (cc)
+
+pub votes : (number : ℕ) (old new : Managing) (response : Response) → HasVoted (within own_of) number old response new
+    → Holds old → Holds new
+votes number old new response is holds =
+    acts Votes number (Working is.before) (stage_after is.vote) old new (record {
+      stores = ap (λ (m : Managing). m.stores) is.alone.stands;
+      decisions = ap (λ (m : Managing). m.decisions) is.alone.stands;
+      stages = ap (λ (m : Managing). m.stages) is.alone.stands;
+      before = is.working;
+      opened = λ e. absurd (cc);
+      grows = grows;
+      kept = voted_kept (within own_of) is.before is.vote old.sessions new.sessions old.stores number is.votes named;
+      ready = voted_ready (within own_of) is.before is.vote old.sessions new.sessions is.votes;
+      alone = vote_alone is.before is.vote old.sessions new.sessions is.votes;
+      decided = λ decided. absurd (subst MayStandDecided is.working (holds.decided number decided));
+      took = vote_took is.before is.vote old.sessions new.sessions is.votes;
+      starts = λ other there fits begun. absurd begun;
+      prepares = λ prepared e store session there added.
+          let grew = grows store session there in
+          elim (grew_cases Votes store old.sessions session (Start (branch_in number store)) grew added) [
+            | inl before ↦
+                let takes = subst (TookPart store) is.working (holds.began number store grew.before
+                (fits_number old.stores number is.before named) grew.there before) in
+                subst (λ xid. HasAdded session (Prepare xid)) (named_branch old.stores number is.before store named)
+                (vote_prepares is.before is.vote old.sessions new.sessions is.alone.count is.votes prepared e store
+                session there takes)
+            | inr now ↦ absurd now
+          ];
+      goes = λ store statement harmless. harmless_goes new store statement harmless;
+    }) holds
+  where
+    named : IsTransactionOf old.stores number is.before
+    named = holds.kept number (Working is.before) is.before is.working refl
+
+    grows : Grows Votes old.sessions new.sessions
+    grows = grows_each Votes old.sessions new.sessions is.alone.count
+        (vote_adds (within own_of) Votes is.before is.vote old.sessions new.sessions (λ store. tt)
+        (λ store. tt) is.votes)
+
+-- ---- FINISH and ABANDON
+
+abbrev Ends : Transaction → Closing → ℕ → Statement → Type 0
+Ends transaction closing store statement =
+    Harmless statement ⊎ ((statement ≡ finish_statement closing (branch_of transaction store))
+    × (takes_part transaction.participants store ≡ true))
+
+no_start : (transaction : Transaction) (closing : Closing) (store : ℕ) (xid : Xid)
+    → Ends transaction closing store (Start xid) → ⊥
+no_start transaction closing store xid (inl harmless) = harmless
+no_start transaction InTwoPhases store xid (inr is) = absurd (let e = is.0 in cc)
+no_start transaction InOnePhase store xid (inr is) = absurd (let e = is.0 in cc)
+no_start transaction RollBack store xid (inr is) = absurd (let e = is.0 in cc)
+
+-- how a transaction may be finished
+abbrev May : Managing → ℕ → Transaction → Closing → Type 0
+May old number transaction InTwoPhases = is_decided old.decisions number ≡ true
+May old number transaction InOnePhase =
+    (is_decided old.decisions number ≡ false) × ((store : ℕ) × OnlyTakesPart transaction.participants store)
+May old number transaction RollBack = is_decided old.decisions number ≡ false
+
+pub ends : (number : ℕ) (was : Stage) (transaction : Transaction) (closing : Closing) (old new : Managing)
+    (response : Response)
+    → stage_of old.stages number ≡ Some was → (was ≡ Over → ⊥) → IsTransactionOf old.stores number transaction
+    → ((store : ℕ) → TookPart store (Some was) → takes_part transaction.participants store ≡ true)
+    → May old number transaction closing
+    → HasEnded (within own_of) number transaction closing old response new → Holds old → Holds new
+ends number was transaction closing old new response there opened named takes may is holds =
+    acts kind number was Over old new (record {
+      stores = ap (λ (m : Managing). m.stores) is.alone.stands;
+      decisions = same;
+      stages = stages;
+      before = there;
+      opened = opened;
+      grows = grows;
+      kept = λ t e. absurd (cc);
+      ready = λ prepared e. absurd (cc);
+      alone = λ prepared e one. absurd (cc);
+      decided = λ decided. tt;
+      took = λ store took. tt;
+      starts = λ other store fits begun. absurd (no_start transaction closing store (branch_in other store) begun);
+      prepares = λ prepared e. absurd (cc);
+      goes = goes;
+    }) holds
+  where
+    kind : ℕ → Statement → Type 0
+    kind = Ends transaction closing
+
+    same : new.decisions ≡ old.decisions
+    same = ap (λ (m : Managing). m.decisions) is.alone.stands
+
+    stages : new.stages ≡ with_stage old.stages number Over
+    stages = ap (λ (m : Managing). m.stages) is.alone.stands
+
+    grows : Grows (Ends transaction closing) old.sessions new.sessions
+    grows = grows_each (Ends transaction closing) old.sessions new.sessions is.alone.count
+        (ending_adds (within own_of) (Ends transaction closing) old.branches transaction closing is.ending old.sessions
+        new.sessions (λ store. inl tt)
+        (λ store part. inr (refl, part)) is.ends)
+
+    over : stage_of new.stages number ≡ Some Over
+    over = ap (λ s. stage_of s number) stages ∙ (elim (stage_put old.stages number number was Over there) [
+      | inl put ↦ put.1
+      | inr apart ↦ absurd (apart.0 refl)
+    ])
+
+    branch : (store : ℕ) → IsBranchOf (codes "c") number store (branch_of transaction store)
+    branch store =
+        record {
+          fits = fits_number old.stores number transaction named;
+          is = named_branch old.stores number transaction
+              store named;
+        }
+
+    undecided : is_decided old.decisions number ≡ false → IsUndecidedOver new number
+    undecided is_not = record { undecided = ap (λ d. is_decided d number) same ∙ is_not; over = over }
+
+    alone : (one store : ℕ) → OnlyTakesPart transaction.participants one
+        → takes_part transaction.participants store ≡ true
+        → IsAlone new.sessions number store
+    alone one store only part other session at added =
+        let grew = grows other session at in
+        elim (grew_cases (Ends transaction closing) other old.sessions session
+        (Start (branch_in number other)) grew added) [
+          | inl before ↦
+              let took = holds.began number other grew.before (fits_number old.stores number transaction named)
+              grew.there before in
+              only.others other (takes other (subst (TookPart other) there took)) ∙ sym (only.others store part)
+          | inr now ↦ absurd (no_start transaction closing other (branch_in number other) now)
+        ]
+
+    finish_goes : (c : Closing) → May old number transaction c → (store : ℕ)
+        → takes_part transaction.participants store ≡ true
+        → Goes new store (finish_statement c (branch_of transaction store))
+    finish_goes InTwoPhases allowed store part = (number, branch store, ap (λ d. is_decided d number) same ∙ allowed)
+    finish_goes InOnePhase allowed store part =
+        (number, branch store, undecided allowed.0, alone allowed.1.0 store allowed.1.1 part)
+    finish_goes RollBack allowed store part = (number, branch store, undecided allowed)
+
+    goes : (store : ℕ) (statement : Statement) → Ends transaction closing store statement → Goes new store statement
+    goes store statement (inl harmless) = harmless_goes new store statement harmless
+    goes store statement (inr finish) = subst (Goes new store) (sym finish.0) (finish_goes closing may store finish.1)
+
+-- how one that was voted on may be finished
+may_finish : (old : Managing) (number : ℕ) (prepared : Prepared) → Holds old
+    → (stage_of old.stages number ≡ Some (Ready prepared)) ⊎ (stage_of old.stages number ≡ Some (Voted prepared))
+    → May old number prepared.transaction (finish_for (is_decided old.decisions number) prepared.vote_kind)
+may_finish old number prepared holds voted = by (is_decided old.decisions number) prepared.vote_kind refl refl voted
+  where
+    by : (b : Bool) (kind : VoteKind) → is_decided old.decisions number ≡ b → prepared.vote_kind ≡ kind
+        → (stage_of old.stages number ≡ Some (Ready prepared)) ⊎ (stage_of old.stages number ≡ Some (Voted prepared))
+        → May old number prepared.transaction (finish_for b kind)
+    by true kind decided is stage = decided
+    by false VoteKindOnePhase decided is (inl stage) = absurd (let e = holds.ready number prepared stage in cc)
+    by false VoteKindOnePhase decided is (inr stage) = (decided, holds.alone number prepared stage is)
+    by false VoteKindReady decided is stage = decided
+    by false VoteKindNo decided is stage = decided
+
+pub finishes : (number : ℕ) (old new : Managing) (response : Response)
+    → IsFinished (within own_of) number old response new → Holds old → Holds new
+finishes number old new response is holds = by is.voted
+  where
+    named : IsTransactionOf old.stores number is.prepared.transaction
+    named = kept_voted old.stores old.stages number is.prepared holds.kept is.voted
+
+    by : (stage_of old.stages number ≡ Some (Ready is.prepared))
+        ⊎ (stage_of old.stages number ≡ Some (Voted is.prepared)) → Holds new
+    by (inl there) =
+        ends number (Ready is.prepared) is.prepared.transaction
+        (finish_for (is_decided old.decisions number) is.prepared.vote_kind) old new response there
+        (λ e. absurd (cc)) named (λ store took. took) (may_finish old number is.prepared holds
+        (inl there)) is.ends holds
+    by (inr there) =
+        ends number (Voted is.prepared) is.prepared.transaction
+        (finish_for (is_decided old.decisions number) is.prepared.vote_kind) old new response there
+        (λ e. absurd (cc)) named (λ store took. took) (may_finish old number is.prepared holds
+        (inr there)) is.ends holds
+
+not_decided : (b : Bool) → (b ≡ true → ⊥) → b ≡ false
+not_decided true none = absurd (none refl)
+not_decided false none = refl
+
+pub abandons : (number : ℕ) (old new : Managing) (response : Response)
+    → IsAbandoned (within own_of) number old response new → Holds old → Holds new
+abandons number old new response is holds =
+    ends number (Working is.before) is.before RollBack old new response is.working (λ e. absurd (cc))
+    (holds.kept number (Working is.before) is.before is.working refl) (λ store took. took)
+    (not_decided (is_decided old.decisions number) (λ decided. subst MayStandDecided is.working
+    (holds.decided number decided))) is.ends holds
+
+-- ---- each call
+
+pub carried_holds : (old new : Managing) (call : Call) (response : Response) → IsPlain call
+    → CarriesBeside own_of other_of own_view old call response new
+    → Holds old → Holds new
+carried_holds old new Silent response plain is holds = subst Holds (sym is.0.1) holds
+carried_holds old new (Unread place) response plain is holds = absurd is.0
+carried_holds old new Begin response plain is holds =
+    ⊎_elim (λ begun. begins begun.transaction old new begun.named begun.stands holds)
+    (λ spent. subst Holds (sym spent.stands) holds) is.0
+carried_holds old new (Work number store statement) response plain is holds =
+    works number store statement old new response plain is.0 holds
+carried_holds old new (PrepareCall number) response plain is holds = votes number old new response is.0 holds
+carried_holds old new (Decide number) response plain is holds =
+    ⊎_elim (λ done. decides_one number is.0.prepared old new is.0.ready done.2 holds)
+    (λ closed. subst Holds (sym closed.2) holds) is.0.outcome
+carried_holds old new (Finish number) response plain is holds = finishes number old new response is.0 holds
+carried_holds old new (Abandon number) response plain is holds = abandons number old new response is.0 holds
+carried_holds old new (Fail store calls) response plain is holds =
+    quiet old new (ap (λ (m : Managing). m.stores) is.0.stands) (ap (λ (m : Managing). m.stages) is.0.stands)
+    (ap (λ (m : Managing). m.decisions) is.0.stands) (grows_within old.sessions new.sessions is.0.limited.within) holds
+carried_holds old new Stop response plain is holds =
+    quiet old new (ap (λ (m : Managing). m.stores) is.0.stands) (ap (λ (m : Managing). m.stages) is.0.stands)
+    (ap (λ (m : Managing). m.decisions) is.0.stands) (grows_within old.sessions new.sessions is.0.within) holds
+carried_holds old new Recover response plain is holds = absurd plain
+carried_holds old new (At store statement) response plain is holds =
+    quiet old new (ap (λ (m : Managing). m.stores) is.stands) (ap (λ (m : Managing). m.stages) is.stands)
+    (ap (λ (m : Managing). m.decisions) is.stands) (grows_alone old.sessions new.sessions is.alone) holds
+carried_holds old new Show response plain is holds =
+    quiet old new (ap (λ (m : Managing). m.stores) is.stands) (ap (λ (m : Managing). m.stages) is.stands)
+    (ap (λ (m : Managing). m.decisions) is.stands) (grows_alone old.sessions new.sessions is.alone) holds
+
+pub answered_holds : (old new : Managing) (call : Call) (response : Response) → IsPlain call
+    → IsAnswered old call response new → Holds old → Holds new
+answered_holds old new call response plain is holds =
+    ⊎_elim (λ refused. subst Holds (sym refused.stands) holds)
+    (λ carried. carried_holds old new call response plain carried holds) is

@@ -1,0 +1,252 @@
+-- Calls of which none is RECOVER, and a recovery that came to its end.
+use Rattle.std.proofs.Common.{◌≡◌, ◌<◌, ◌-◌, ℕ, Bool, true, false, cond, List, [], ◌∷◌, ◌++◌, length, refl, ap, sym}
+use Rattle.std.proofs.Common.{◌∙◌, subst, inl, inr, Some, None, Ok, arith, length-append}
+use Rattle.std.specs.Prelude.{slice_get, Contains, codes, All, ◌==◌, IfOk}
+use Rattle.std.proofs.lemmas.List.{get_or_append_left}
+use Rattle.std.proofs.lemmas.List.Elements.{All-contains, Contains-push}
+use Rattle.std.proofs.lemmas.Option.{slice_get_within, get_or_from_slice_get}
+use Rattle.decision_log.specs.declared.known.Known.{Known}
+use Rattle.xa_words.specs.Entry.{Entry}
+use Rattle.xa_xid.specs.declared.statement.Statement.{Statement}
+use Rattle.xa_xid.specs.declared.statement.Statement.TheVariants.{Start, End, Prepare, Commit, Rollback}
+use Rattle.xa_xid.specs.declared.statement.Statement.TheVariants.{Recover as RecoverStatement, Unsupported, Get, Put}
+use Rattle.xa_xid.specs.declared.statement.Statement.TheVariants.{Del, Disconnect}
+use Rattle.xa_session.specs.Answer.{entry_of}
+use Rattle.xa_coordinator.specs.Branch.{IsBranchOf}
+use Rattle.xa_coordinator.specs.Decisions.{decision_of, decides, is_decided}
+use Rattle.xa_coordinator.specs.Recovery.{Recovers}
+use Rattle.xa_coordinator.specs.declared.decisions.Decision.{Decision}
+use Rattle.xa_coordinator.specs.declared.report.Report.{Report}
+use Rattle.xa_coordinator.proofs.DecisionsOf.{closed_decides}
+use Rattle.xa_manager.specs.Beside.{within}
+use Rattle.xa_manager.specs.Carried.{HasRecovered}
+use Rattle.xa_manager.specs.Ledger.{stage_of}
+use Rattle.xa_manager.specs.Whole.{IsPair}
+use Rattle.xa_manager.specs.declared.call.Call.{Call}
+use Rattle.xa_manager.specs.declared.call.Call.TheVariants.{Recover}
+use Rattle.xa_manager.specs.declared.response.Response.{Response}
+use Rattle.xa_manager.specs.declared.response.Response.TheVariants.{Recovered}
+use Rattle.xa_manager.specs.declared.stage.Stage.{Stage}
+use Rattle.xa_manager.specs.Counted.{own_of, other_of}
+use Rattle.xa_manager.specs.Runs.{Managing, IsAnswered, CarriesOut, none_yet, one_more, IsFresh, IsRun}
+use Rattle.xa_manager.specs.Atomic.{branch_in, HasAdded, IsPlain, IsAlone, GoesWith, KeepsToDecisions}
+use Rattle.xa_manager.proofs.Added.{recovered}
+use Rattle.xa_manager.proofs.Holding.{Session, IsUndecidedOver, Goes, Holds, Grows, grows_each, grew_cases}
+use Rattle.xa_manager.proofs.Holds.{answered_holds}
+
+-- ---- a manager with which nothing has begun
+
+no_stage : (number : ℕ) (stage : Stage) → stage_of [] number ≡ Some stage → ⊥
+unfolding stage_of
+no_stage number stage is = by (number == 0) is
+  where
+    by : (b : Bool) → cond b None (slice_get {X = Stage} [] (number - 1)) ≡ Some stage → ⊥
+    by true is = absurd (cc)
+    by false is = absurd (cc)
+
+none_decided : (number : ℕ) → is_decided [] number ≡ true → ⊥
+unfolding decision_of
+none_decided number is = by (number == 0) is
+  where
+    by : (b : Bool) → decides (cond b None (slice_get {X = Decision} [] (number - 1))) ≡ true → ⊥
+    by true is = absurd (cc)
+    by false is = absurd (cc)
+
+pub one_of : {A : Type 0} (P : A → Type 0) (xs : List A) (place : ℕ) (x : A) → All P xs → slice_get xs place ≡ Some x
+    → P x
+one_of P xs place x each is =
+    subst P (get_or_from_slice_get xs place x x is) (each place x (slice_get_within xs place x is))
+
+pub nothing_in : {A : Type 0} (x : A) → Contains [] x → ⊥
+nothing_in x there = let below : there.0 < 0 = there.1 in absurd (omega (arith, below))
+
+none_added : (session : Session) (statement : Statement) → IsPair (own_of session.inner) (other_of session.inner)
+    → HasAdded session statement → ⊥
+none_added session statement pair added =
+    nothing_in (entry_of 1 statement)
+    (subst (λ (list : List Entry). Contains list (entry_of 1 statement))
+    (ap (λ (k : Known). k.mine) pair.first_known) added)
+
+pub fresh_holds : (stores : ℕ) (first : Managing) → IsFresh stores first → Holds first
+fresh_holds stores first fresh =
+    let no : (number : ℕ) (stage : Stage) → stage_of first.stages number ≡ Some stage → ⊥ =
+    λ number stage is. no_stage number stage (sym (ap (λ s. stage_of s number) fresh.begins.stages) ∙ is) in
+    let undecided : (number : ℕ) → is_decided first.decisions number ≡ true → ⊥ =
+    λ number is. none_decided number (sym (ap (λ d. is_decided d number) fresh.begins.decisions) ∙ is) in
+    let empty : (store : ℕ) (session : Session) (statement : Statement) → slice_get first.sessions store ≡ Some session
+    → HasAdded session statement → ⊥ =
+    λ store session statement is added.
+    none_added session statement
+    (one_of (λ (s : Session). IsPair (own_of s.inner) (other_of s.inner)) first.sessions store session
+    fresh.begins.pairs is) added in
+    record {
+      kept = λ number stage transaction is in_it. absurd (no number stage is);
+      ready = λ number prepared is. absurd (no number _ is);
+      count = ap length fresh.begins.stages ∙ sym (ap length fresh.begins.decisions);
+      alone = λ number prepared is one. absurd (no number _ is);
+      decided = λ number is. absurd (undecided number is);
+      began = λ number store session fits is added. absurd (empty store session _ is added);
+      prepared_ready = λ number prepared fits is. absurd (no number _ is);
+      prepared_decided = λ number fits is. absurd (undecided number is);
+      goes = λ store session statement is added. absurd (empty store session statement is added);
+    }
+
+-- ---- calls, and the last of them
+
+pub front_all : {A : Type 0} (P : A → Type 0) (xs : List A) (x : A) → All P (xs ++ x ∷ []) → All P xs
+front_all P xs x each place d within =
+    subst P (get_or_append_left xs (x ∷ []) d place within)
+    (each place d (omega (arith, within, length-append xs (x ∷ []))))
+
+pub last_all : {A : Type 0} (P : A → Type 0) (xs : List A) (x : A) → All P (xs ++ x ∷ []) → P x
+last_all P xs x each = All-contains P (xs ++ x ∷ []) x each (Contains-push xs x)
+
+pub calls_hold : (old new : Managing) (calls : List Call) (responses : List Response)
+    → CarriesOut old calls responses new → All IsPlain calls → Holds old
+    → Holds new
+calls_hold old new calls responses none_yet plain holds = holds
+calls_hold old new calls responses (one_more cs rs mid so_far call response n answered) plain holds =
+    answered_holds mid n call response (last_all IsPlain cs call plain) answered
+    (calls_hold old mid cs rs so_far (front_all IsPlain cs call plain) holds)
+
+pub snoc_same : {A : Type 0} (xs ys : List A) (x y : A) → xs ++ x ∷ [] ≡ ys ++ y ∷ [] → (xs ≡ ys) × (x ≡ y)
+snoc_same [] [] x y is = (refl, cc)
+snoc_same [] (b ∷ []) x y is = absurd (cc)
+snoc_same [] (b ∷ c ∷ ys) x y is = absurd (cc)
+snoc_same (a ∷ []) [] x y is = absurd (cc)
+snoc_same (a ∷ c ∷ xs) [] x y is = absurd (cc)
+snoc_same (a ∷ xs) (b ∷ ys) x y is =
+    let rest = snoc_same xs ys x y (cc) in
+    let first : a ≡ b = cc in
+    (ap (λ f. f ∷ xs) first ∙ ap (λ list. b ∷ list) rest.0, rest.1)
+
+not_empty : {A : Type 0} (xs : List A) (x : A) → [] ≡ xs ++ x ∷ [] → ⊥
+not_empty [] x is = absurd (cc)
+not_empty (y ∷ ys) x is = absurd (cc)
+
+-- the last call, and those before it
+pub last_call : (old new : Managing) (all : List Call) (answers : List Response) → CarriesOut old all answers new
+    → (told : List Call) (call : Call)
+    (responses : List Response) (response : Response) → all ≡ told ++ call ∷ [] → answers ≡ responses ++ response ∷ []
+    → (mid : Managing) × CarriesOut old told responses mid × IsAnswered mid call response new
+last_call old new all answers none_yet told call responses response is are = absurd (not_empty told call is)
+last_call old new all answers (one_more cs rs mid so_far c r n answered) told call responses response is are =
+    let calls = snoc_same cs told c call is in
+    let replies = snoc_same rs responses r response are in (
+      mid,
+      subst (λ list. CarriesOut old list responses mid) calls.0
+          (subst (λ list. CarriesOut old cs list mid) replies.0 so_far),
+      subst (λ it. IsAnswered mid it response n) calls.1 (subst (λ it. IsAnswered mid c it n) replies.1 answered),
+    )
+
+-- ---- a recovery that came to its end
+
+-- what a recovery adds
+abbrev pub Recovering : List Decision → ℕ → Statement → Type 0
+Recovering decisions store (Start xid) = ⊥
+Recovering decisions store (Commit xid false) =
+    (number : ℕ) × IsBranchOf (codes "c") number store xid × (is_decided decisions number ≡ true)
+Recovering decisions store (Commit xid true) = ⊥
+Recovering decisions store (Rollback xid) =
+    (number : ℕ) × IsBranchOf (codes "c") number store xid × (is_decided decisions number ≡ false)
+Recovering decisions store statement = Unit {0}
+
+recovering_goes : (decisions : List Decision) (sessions : List Session) (store : ℕ) (statement : Statement)
+    → Recovering decisions store statement
+    → GoesWith decisions sessions store statement
+recovering_goes decisions sessions store (Start xid) is = tt
+recovering_goes decisions sessions store (End xid) is = tt
+recovering_goes decisions sessions store (Prepare xid) is = tt
+recovering_goes decisions sessions store (Commit xid true) is = absurd is
+recovering_goes decisions sessions store (Commit xid false) is = is
+recovering_goes decisions sessions store (Rollback xid) is = is
+recovering_goes decisions sessions store (RecoverStatement convert) is = tt
+recovering_goes decisions sessions store Unsupported is = tt
+recovering_goes decisions sessions store (Get key) is = tt
+recovering_goes decisions sessions store (Put key value) is = tt
+recovering_goes decisions sessions store (Del key) is = tt
+recovering_goes decisions sessions store Disconnect is = tt
+
+-- a manager that recovered
+pub record HasEndedWell (mid last : Managing) (report : Report) : Type 0 where
+  pub recovers : Recovers (within own_of) last.decisions (codes "c") report mid.sessions last.sessions
+  pub decisions : (number : ℕ) → is_decided last.decisions number ≡ is_decided mid.decisions number
+  pub grows : Grows (Recovering last.decisions) mid.sessions last.sessions
+
+same_report : (mid last : Managing) (report : Report) → HasRecovered (within own_of) mid (Recovered (Ok report)) last
+    → Recovers (within own_of) last.decisions (codes "c") report mid.sessions last.sessions
+same_report mid last report is =
+    let outcome : is.outcome ≡ Ok report = let e = is.told in cc in
+    subst (λ o. IfOk o (λ (r : Report). Recovers (within own_of) last.decisions
+    (codes "c") r mid.sessions last.sessions)) outcome is.done
+
+pub ended_well : (mid last : Managing) (report : Report) → IsAnswered mid Recover (Recovered (Ok report)) last
+    → HasEndedWell mid last report
+ended_well mid last report (inl refused) = absurd (let e = refused.told in cc)
+ended_well mid last report (inr carried) =
+    let is = carried.0 in
+    let recovers = same_report mid last report is in
+    record {
+      recovers = recovers;
+      decisions = λ number.
+          ap (λ d. is_decided d number) (ap (λ (m : Managing). m.decisions) is.alone.stands)
+          ∙ closed_decides mid.decisions number;
+      grows = grows_each (Recovering last.decisions) mid.sessions last.sessions is.alone.count
+          (λ store before after is_before is_after.
+          let by = recovers.each store before after is_before is_after in
+          recovered (Recovering last.decisions store) last.decisions (codes "c") store
+          (λ number xid named decided. (number, named, decided))
+          (λ number xid named decided. (number, named, decided)) by.0.0 by.0.1 (own_of before.inner)
+          (own_of after.inner) tt by.2);
+    }
+
+module _ (mid last : Managing) (report : Report) (holds : Holds mid) (well : HasEndedWell mid last report) where
+  alone : (number store : ℕ) → IsAlone mid.sessions number store → IsAlone last.sessions number store
+  alone number store was other session is added =
+      let grew = well.grows other session is in
+      elim (grew_cases (Recovering last.decisions) other mid.sessions session
+      (Start (branch_in number other)) grew added) [
+        | inl before ↦ was other grew.before grew.there before
+        | inr now ↦ absurd now
+      ]
+
+  undecided : (number : ℕ) → IsUndecidedOver mid number → is_decided last.decisions number ≡ false
+  undecided number is = well.decisions number ∙ is.undecided
+
+  goes_last : (store : ℕ) (statement : Statement) → Goes mid store statement
+      → GoesWith last.decisions last.sessions store statement
+  goes_last store (Start xid) is = tt
+  goes_last store (End xid) is = tt
+  goes_last store (Prepare xid) is = tt
+  goes_last store (Commit xid false) is = (is.0, is.1, well.decisions is.0 ∙ is.2)
+  goes_last store (Commit xid true) is =
+      (is.0, is.1, record { undecided = undecided is.0 is.2; alone = alone is.0 store is.3 })
+  goes_last store (Rollback xid) is = (is.0, is.1, undecided is.0 is.2)
+  goes_last store (RecoverStatement convert) is = tt
+  goes_last store Unsupported is = tt
+  goes_last store (Get key) is = tt
+  goes_last store (Put key value) is = tt
+  goes_last store (Del key) is = tt
+  goes_last store Disconnect is = tt
+
+  pub keeps : KeepsToDecisions last
+  keeps = record {
+    goes = λ store session statement is added.
+        let grew = well.grows store session is in
+        elim (grew_cases (Recovering last.decisions) store mid.sessions session statement grew added) [
+          | inl before ↦ goes_last store statement (holds.goes store grew.before statement grew.there before)
+          | inr now ↦ recovering_goes last.decisions last.sessions store statement now
+        ];
+    none_left = λ store session is.
+        let grew = well.grows store session is in
+        (well.recovers.each store grew.before session grew.there is).2.clear.none_left;
+  }
+
+pub keeps_to_decisions : (stores : ℕ) (told : List Call) (responses : List Response) (report : Report) (last : Managing)
+    → All IsPlain told
+    → IsRun stores (told ++ Recover ∷ []) (responses ++ Recovered (Ok report) ∷ []) last → KeepsToDecisions last
+keeps_to_decisions stores told responses report last plain run =
+    let split = last_call run.first last _ _ run.carried told Recover responses (Recovered (Ok report)) refl refl in
+    let mid = split.0 in
+    keeps mid last report (calls_hold run.first mid told responses split.1 plain
+    (fresh_holds stores run.first run.fresh)) (ended_well mid last report split.2)

@@ -1,0 +1,11 @@
+use Rattle.std.proofs.Common.{List, take}
+use Rattle.xa_manager.specs.Managed.{whole_of}
+use Rattle.xa_manager.specs.declared.response.Response.{Response}
+use Rattle.xa_manager.specs.Runs.{CarriesOut, AreAnswered}
+use Rattle.xa_manager.proofs.carrying.carry_out.Given as goal
+
+abbrev pub invariant-loop-call : goal.invariant-loop-call
+invariant-loop-call g l =
+    (responses : List Response) × CarriesOut (whole_of l.fn.manager) (take l.call-index l.calls) responses
+    (whole_of l.manager)
+    × AreAnswered responses

@@ -1,0 +1,148 @@
+-- What a run of calls leaves of each transaction, after a recovery that came to its end.
+--     branch_in        the branch that a transaction has in a store
+--     HasAdded         the coordinator's session added a statement
+--     IsPlain          a call that isn't RECOVER
+--     IsAlone          of a transaction's branches, the coordinator began at most the one in this store
+--     GoesWith         a statement goes with the decisions
+--     LeavesBranches   a call that has no other client end a branch of the coordinator's
+--     ChangesRows      a statement that changes committed values
+--     WasCommitted     a prepared branch was committed, with all its writes
+--     AllOrNone        each transaction is in all of its stores, or in none
+--     KeepsToDecisions     all that the coordinator added goes with the decisions, and none of its branches
+--     is prepared
+--     LeavesWhole      both hold after a stop, if the recovery came to its end
+use Rattle.std.specs.Prelude.{◌≡◌, ◌⊎◌, ◌<◌, ◌≤◌, ◌+◌, ◌^◌, ℕ, Bool, true, false, Some, Ok, slice_get, List, Contains}
+use Rattle.std.specs.Prelude.{codes}
+use Rattle.std.specs.FinMap as map
+use Rattle.xa_words.specs.Entry.{Entry}
+use Rattle.xa_xid.specs.declared.xid.Xid.{Xid}
+use Rattle.xa_xid.specs.declared.statement.Statement.{Statement}
+use Rattle.xa_xid.specs.declared.statement.Statement.TheVariants.{Start, Prepare, Commit, Rollback, Put, Del}
+use Rattle.xa_server.specs.State.{Branch, State, association_of, is_prepared}
+use Rattle.xa_server.specs.declared.association.Association.{Association}
+use Rattle.xa_server.specs.declared.association.Association.TheVariants.{Free}
+use Rattle.xa_server.specs.Step.{with_writes}
+use Rattle.xa_session.specs.Answer.{entry_of}
+use Rattle.xa_session.specs.Replay.{state_at}
+use Rattle.xa_coordinator.specs.Branch.{branch_xid, IsBranchOf}
+use Rattle.xa_coordinator.specs.Decisions.{is_decided}
+use Rattle.xa_coordinator.specs.Recovery.{NoneLeft, IsNamed}
+use Rattle.xa_coordinator.specs.declared.decisions.Decision.{Decision}
+use Rattle.xa_coordinator.specs.declared.fused.Fused.{Fused}
+use Rattle.xa_coordinator.specs.declared.report.Report.{Report}
+use Rattle.xa_coordinator.specs.Lasting.{history_of}
+use Rattle.xa_manager.specs.Calls.{takes_rows}
+use Rattle.xa_manager.specs.declared.call.Call.{Call}
+use Rattle.xa_manager.specs.declared.call.Call.TheVariants.{Work, Recover, At}
+use Rattle.xa_manager.specs.declared.response.Response.TheVariants.{Recovered}
+use Rattle.xa_manager.specs.declared.counted_store.CountedStore.{CountedStore}
+use Rattle.xa_manager.specs.Counted.{own_of}
+use Rattle.xa_manager.specs.Runs.{Managing}
+use Rattle.xa_manager.specs.Stops.{IsLeft}
+
+-- the branch that the transaction of a number has in a store: the coordinator is `c`
+abbrev pub branch_in : ℕ → ℕ → Xid
+branch_in number store = branch_xid (codes "c") number store
+
+-- the coordinator's session added the statement to the store's history
+abbrev pub HasAdded : Fused CountedStore → Statement → Type 0
+HasAdded session statement = Contains (own_of session.inner).known.mine (entry_of 1 statement)
+
+-- a call that isn't RECOVER; work gives GET, PUT or DEL, as in each call that a line spells
+abbrev pub IsPlain : Call → Type 0
+IsPlain (Work number store statement) = takes_rows statement ≡ true
+IsPlain Recover = ⊥
+IsPlain call = Unit {0}
+
+-- the coordinator began a branch of the transaction in no other store than this one
+abbrev pub IsAlone : List (Fused CountedStore) → ℕ → ℕ → Type 0
+IsAlone sessions number store =
+    (other : ℕ) (session : Fused CountedStore) → slice_get sessions other ≡ Some session
+    → HasAdded session (Start (branch_in number other)) → other ≡ store
+
+-- an undecided transaction that was committed nevertheless
+pub record IsOnePhase (decisions : List Decision) (sessions : List (Fused CountedStore))
+    (store number : ℕ) : Type 0 where
+  pub undecided : is_decided decisions number ≡ false
+  pub alone : IsAlone sessions number store
+
+-- XA COMMIT is of a decided transaction's branch; with ONE PHASE of an undecided one's that has no branch in
+-- another store; XA ROLLBACK is of an undecided one's
+abbrev pub GoesWith : List Decision → List (Fused CountedStore) → ℕ → Statement → Type 0
+GoesWith decisions sessions store (Commit xid false) =
+    (number : ℕ) × IsBranchOf (codes "c") number store xid × (is_decided decisions number ≡ true)
+GoesWith decisions sessions store (Commit xid true) =
+    (number : ℕ) × IsBranchOf (codes "c") number store xid × IsOnePhase decisions sessions store number
+GoesWith decisions sessions store (Rollback xid) =
+    (number : ℕ) × IsBranchOf (codes "c") number store xid × (is_decided decisions number ≡ false)
+GoesWith decisions sessions store statement = Unit {0}
+
+-- in each store, all that the coordinator's session added, in all calls from the first on, goes with the
+-- final decisions, and none of its branches is prepared
+pub record KeepsToDecisions (last : Managing) : Type 0 where
+  pub goes : (store : ℕ) (session : Fused CountedStore) (statement : Statement)
+      → slice_get last.sessions store ≡ Some session → HasAdded session statement
+      → GoesWith last.decisions last.sessions store statement
+  pub none_left : (store : ℕ) (session : Fused CountedStore) → slice_get last.sessions store ≡ Some session
+      → NoneLeft (codes "c") store (own_of session.inner)
+
+-- XA COMMIT and XA ROLLBACK are of no branch of the coordinator's naming
+abbrev pub EndsNone : ℕ → Statement → Type 0
+EndsNone store (Commit xid one_phase) = IsNamed (codes "c") store xid → ⊥
+EndsNone store (Rollback xid) = IsNamed (codes "c") store xid → ⊥
+EndsNone store statement = Unit {0}
+
+-- a call that has no other client end a branch of the coordinator's naming
+abbrev pub LeavesBranches : Call → Type 0
+LeavesBranches (At store statement) = EndsNone store statement
+LeavesBranches call = Unit {0}
+
+-- the state after so many entries of the store
+abbrev pub state_before : CountedStore → ℕ → State
+state_before counted place = state_at counted.store.first.value (history_of counted.store) place
+
+-- a commit, or a write of a session that has no branch open, which is carried out at once
+abbrev pub ChangesRows : Association → Statement → Type 0
+ChangesRows association (Commit xid one_phase) = Unit {0}
+ChangesRows association (Put key value) = association ≡ Free
+ChangesRows association (Del key) = association ≡ Free
+ChangesRows association statement = ⊥
+
+-- the committed values are as before, or the entry at this place is of that kind
+abbrev pub KeepsRowsOr : CountedStore → ℕ → Entry → Type 0
+KeepsRowsOr counted place entry =
+    ((state_before counted (place + 1)).rows ≡ (state_before counted place).rows)
+    ⊎ ChangesRows (association_of (state_before counted place) entry.session) entry.statement
+
+-- the coordinator's XA PREPARE of the branch is in the store's history; from there the branch was PREPARED up
+-- to a later place, at which the coordinator's XA COMMIT made all its writes the committed values
+pub record WasCommitted (counted : CountedStore) (xid : Xid) : Type 0 where
+  pub prepare : ℕ
+  pub prepares : slice_get (history_of counted.store) prepare ≡ Some (entry_of 1 (Prepare xid))
+  pub place : ℕ
+  pub later : prepare < place
+  pub prepared : (at : ℕ) → prepare < at → at ≤ place → is_prepared (state_before counted at) xid ≡ true
+  pub commits : slice_get (history_of counted.store) place ≡ Some (entry_of 1 (Commit xid false))
+  pub rows : (branch : Branch) → map.get (state_before counted place).branches xid ≡ Some branch
+      → (state_before counted (place + 1)).rows ≡ with_writes (map.entries branch.writes)
+      (state_before counted place).rows
+
+-- a decided transaction was committed in each store in which the coordinator began a branch of it; of an
+-- undecided one an XA COMMIT, whoever gave it, is in a store's history only with ONE PHASE, and then the
+-- coordinator began no branch of it in another store
+pub record AllOrNone (last : Managing) : Type 0 where
+  pub all : (number store : ℕ) (session : Fused CountedStore) → number < 2 ^ 64
+      → is_decided last.decisions number ≡ true
+      → slice_get last.sessions store ≡ Some session → HasAdded session (Start (branch_in number store))
+      → WasCommitted session.inner (branch_in number store)
+  pub none : (number store : ℕ) (session : Fused CountedStore) (place client : ℕ) (one_phase : Bool) → number < 2 ^ 64
+      → is_decided last.decisions number ≡ false → slice_get last.sessions store ≡ Some session
+      → slice_get (history_of session.inner.store) place ≡ Some
+      (entry_of client (Commit (branch_in number store) one_phase))
+      → (one_phase ≡ true) × IsAlone last.sessions number store
+
+-- if the recovery after a stop came to its end, both hold of what it left
+abbrev pub LeavesWhole : {stores : ℕ} {script told : List Call} {text : List ℕ} → IsLeft stores script told text
+    → Type 0
+LeavesWhole left = (report : Report) → left.response ≡ Recovered (Ok report)
+    → KeepsToDecisions left.last × AllOrNone left.last

@@ -1,0 +1,32 @@
+-- A store that counts, as contracts see it.
+--     own_of, other_of the coordinator's session;  the other client's by itself
+--     state_in         the state that its history leaves
+--     IsCounted        a statement of the coordinator's session was counted
+use Rattle.std.specs.Prelude.{◌≡◌, ◌<◌, ◌-◌, ◌+◌, ◌^◌, true, Result, OnOk, OnErr}
+use Rattle.xa_xid.specs.declared.statement.Statement.{Statement}
+use Rattle.xa_server.specs.State.{State}
+use Rattle.xa_session.specs.Replay.{state_after}
+use Rattle.xa_session.specs.View.{SessionView}
+use Rattle.xa_session.specs.declared.answer.Answer.{Answer}
+use Rattle.xa_session.specs.declared.fault.Fault.{Fault}
+use Rattle.xa_coordinator.specs.Lasting.{own_view, other_alone, history_of}
+use Rattle.xa_manager.specs.declared.counted_store.CountedStore.{CountedStore}
+
+-- the coordinator's session
+abbrev pub own_of : CountedStore → SessionView
+own_of counted = own_view counted.store
+
+-- the other client's session by itself
+abbrev pub other_of : CountedStore → SessionView
+other_of counted = other_alone counted.store
+
+-- the state that its history leaves
+abbrev pub state_in : CountedStore → State
+state_in counted = state_after counted.store.first.value (history_of counted.store)
+
+-- one more call was counted, up to 2 ^ 64 - 1 of them; whether memory was ever refused is noted
+pub record IsCounted (old : CountedStore) (statement : Statement) (result : Result Answer Fault)
+    (new : CountedStore) : Type 0 where
+  pub given : old.given < 2 ^ 64 - 1 → new.given ≡ old.given + 1
+  pub refused : OnErr result (new.starved ≡ true)
+  pub kept : OnOk result (new.starved ≡ old.starved)

@@ -1,0 +1,91 @@
+-- A transaction manager over unbounded stores that count, and calls that it carries out one after another.
+--     Managing         such a manager, as contracts see it
+--     IsAnswered       a call was refused or carried out
+--     CarriesOut       calls were answered, one after another
+--     IsFresh          nothing has begun, and no session was given a statement
+--     HasCarried       calls were carried out from such a beginning
+--     IsRun            HasCarried, and memory was refused for no statement
+--     is_unanswered    whether a session didn't answer a statement that a call gave it
+--     AreAnswered      that was so in no call
+--     IsGiven          how many statements the coordinator's session of each store was given in a run
+use Rattle.std.specs.Prelude.{◌≡◌, ℕ, Bool, true, false, Err, List, [], ◌∷◌, ◌++◌, All, map}
+use Rattle.xa_coordinator.specs.declared.ending.Ending.TheVariants.{Unfinished}
+use Rattle.xa_coordinator.specs.declared.fault.Cause.{Cause}
+use Rattle.xa_coordinator.specs.declared.fault.Cause.TheVariants.{Session as BySession, Refused as ByRefusal}
+use Rattle.xa_coordinator.specs.declared.fault.RecoverFault.TheVariants.{NoMemory, Session as SessionOf}
+use Rattle.xa_coordinator.specs.declared.fault.WorkFault.TheVariants.{Session as SessionAtWork}
+use Rattle.xa_coordinator.specs.declared.fused.Fused.{Fused}
+use Rattle.xa_coordinator.specs.Lasting.{own_view}
+use Rattle.xa_coordinator.specs.declared.store.LastingStore.{LastingStore}
+use Rattle.xa_manager.specs.declared.call.Call.{Call}
+use Rattle.xa_manager.specs.declared.response.Response.{Response}
+use Rattle.xa_manager.specs.declared.response.Response.TheVariants.{Worked, Voted, Ended, Recovered, Replied}
+use Rattle.xa_manager.specs.declared.vote_answer.VoteAnswer.TheVariants.{No}
+use Rattle.xa_manager.specs.Beside.{BeginsBeside, PerformsBeside}
+use Rattle.xa_manager.specs.Carried.{WholeManager}
+use Rattle.xa_manager.specs.declared.counted_store.CountedStore.{CountedStore}
+use Rattle.xa_manager.specs.Counted.{own_of, other_of}
+
+-- a manager whose sessions are stores that count; the other stores that it has get no statement
+abbrev pub Managing : Type 0
+Managing = WholeManager (Fused CountedStore) LastingStore
+
+-- the call was refused as the table says, or was carried out, with this response
+abbrev pub IsAnswered : Managing → Call → Response → Managing → Type 0
+IsAnswered old call response new = PerformsBeside own_of other_of own_view old call response new
+
+-- calls got these responses, one after another
+pub data CarriesOut (old : Managing) : List Call → List Response → Managing → Type 0 where
+  none_yet : CarriesOut old [] [] old
+  one_more : (calls : List Call) (responses : List Response) (mid : Managing) → CarriesOut old calls responses mid
+      → (call : Call) (response : Response) (new : Managing) → IsAnswered mid call response new
+      → CarriesOut old (calls ++ call ∷ []) (responses ++ response ∷ []) new
+
+-- over so many stores that hold nothing, nothing has begun, and no session was given a statement
+pub record IsFresh (stores : ℕ) (manager : Managing) : Type 0 where
+  pub count : manager.stores ≡ stores
+  pub begins : BeginsBeside own_of other_of manager
+  pub none_given : All (λ session. session.inner.given ≡ 0) manager.sessions
+  pub none_starved : All (λ session. session.inner.starved ≡ false) manager.sessions
+
+-- calls were carried out from such a beginning
+pub record HasCarried (stores : ℕ) (calls : List Call) (last : Managing) : Type 0 where
+  pub first : Managing
+  pub fresh : IsFresh stores first
+  pub responses : List Response
+  pub carried : CarriesOut first calls responses last
+
+-- calls were carried out from such a beginning, with these responses, and memory was refused for no statement
+pub record IsRun (stores : ℕ) (calls : List Call) (responses : List Response) (last : Managing) : Type 0 where
+  pub first : Managing
+  pub fresh : IsFresh stores first
+  pub carried : CarriesOut first calls responses last
+  pub fed : All (λ session. session.inner.starved ≡ false) last.sessions
+
+-- a session's fault is the cause: its limit was spent, or memory was refused
+abbrev pub is_of_session : Cause → Bool
+is_of_session (BySession fault) = true
+is_of_session (ByRefusal error) = false
+
+-- a session didn't answer a statement that the call gave it, or memory was refused for a recovery's report
+abbrev pub is_unanswered : Response → Bool
+is_unanswered (Worked (Err (SessionAtWork fault))) = true
+is_unanswered (Voted (No store cause)) = is_of_session cause
+is_unanswered (Ended (Unfinished store cause)) = is_of_session cause
+is_unanswered (Recovered (Err (SessionOf store fault))) = true
+is_unanswered (Recovered (Err NoMemory)) = true
+is_unanswered (Replied convert (Err fault)) = true
+is_unanswered response = false
+
+-- in each call each statement that it gave a session was answered
+abbrev pub AreAnswered : List Response → Type 0
+AreAnswered responses = All (λ response. is_unanswered response ≡ false) responses
+
+-- after the calls were carried out, the coordinator's session of each store had been given so many statements, and
+-- each was answered
+pub record IsGiven (stores : ℕ) (calls : List Call) (given : List ℕ) : Type 0 where
+  pub responses : List Response
+  pub last : Managing
+  pub run : IsRun stores calls responses last
+  pub answered : AreAnswered responses
+  pub counts : given ≡ map (λ (s : Fused CountedStore). s.inner.given) last.sessions

@@ -1,0 +1,99 @@
+-- What a script of calls is, and the text that is written for it. All of it is an own rule:
+-- docs/COORDINATOR.md#stops.
+--     calls_of         the calls of a script, one of each line
+--     faults_text      the text of the lines that are refused
+--     IsStopsText      the text of a script, and how the script ended
+use Rattle.std.specs.Prelude.{◌≡◌, ◌≢◌, ℕ, ◌+◌, Bool, true, false, if◌then◌else◌, Option, List, [], ◌∷◌, ◌++◌, map}
+use Rattle.std.specs.Prelude.{codes, decimal, IfSome}
+use Rattle.std.specs.Io.KnownBytes.{Keeps, Appends}
+use Rattle.xa_lines.specs.Received.{received_line}
+use Rattle.xa_lines.specs.Script.{lines_of}
+use Rattle.xa_lines.specs.Transcript.{AppendsPrefix}
+use Rattle.xa_lines.specs.declared.script_fault.ScriptFault.{ScriptFault}
+use Rattle.xa_lines.specs.declared.script_fault.ScriptFault.TheVariants.{Write, NoMemory, Full, GateShut, ThreadRefused}
+use Rattle.xa_manager.specs.declared.call.Call.{Call}
+use Rattle.xa_manager.specs.declared.call.Call.TheVariants.{Unread as UnreadCall, Fail, Stop, Recover, Show}
+use Rattle.xa_manager.specs.declared.response.Response.{Response}
+use Rattle.xa_manager.specs.declared.response.Response.TheVariants.{Unread, UnknownStore, UnknownTransaction}
+use Rattle.xa_manager.specs.declared.response.Response.TheVariants.{WrongStage}
+use Rattle.xa_manager.specs.Served.{call_said}
+use Rattle.xa_manager.specs.Texts.{answer_text}
+use Rattle.xa_manager.specs.declared.stop_ended.Ended.{Ended}
+use Rattle.xa_manager.specs.declared.stop_ended.Ended.TheVariants.{Done, Faulty}
+use Rattle.xa_manager.specs.Runs.{Managing, IsRun, AreAnswered}
+use Rattle.xa_manager.specs.Stops.{IsShown}
+
+-- the calls that stop the coordinator or look at it aren't read in a script whose stops are shown
+abbrev pub taken : Call → Call
+taken (Fail store calls) = UnreadCall 0
+taken Stop = UnreadCall 0
+taken Recover = UnreadCall 0
+taken Show = UnreadCall 0
+taken call = call
+
+-- the call of a line; one that is too long isn't read
+abbrev pub call_in : List ℕ → Call
+call_in line = taken (call_said (received_line line))
+
+-- the calls of a script, one of each line
+abbrev pub calls_of : List ℕ → List Call
+calls_of script = map call_in (lines_of script)
+
+-- a call that was refused
+abbrev pub is_refusal : Response → Bool
+is_refusal (Unread place) = true
+is_refusal (UnknownStore store) = true
+is_refusal (UnknownTransaction number) = true
+is_refusal (WrongStage number) = true
+is_refusal response = false
+
+-- LINE n, and why it is refused
+abbrev pub cause_text : ℕ → Response → List ℕ
+cause_text number response = codes "LINE " ++ decimal number ++ codes ": " ++ answer_text [] response
+
+-- the same, if the line is refused; else nothing
+abbrev pub fault_text : ℕ → Response → List ℕ
+fault_text number response = if is_refusal response then cause_text number response else []
+
+-- the text of those lines, from this number on, that are refused
+unfoldable pub faults_from : ℕ → List Response → List ℕ
+faults_from number [] = []
+faults_from number (response ∷ responses) = fault_text number response ++ faults_from (number + 1) responses
+
+-- all calls were carried out, each with its statements answered, and this is the text of those that were refused
+pub record HasFaults (stores : ℕ) (calls : List Call) (text : List ℕ) : Type 0 where
+  pub responses : List Response
+  pub last : Managing
+  pub run : IsRun stores calls responses last
+  pub answered : AreAnswered responses
+  pub text_is : text ≡ faults_from 1 responses
+
+-- the text of a script, and how it ended: its stops if no line is faulty, else the faulty lines
+abbrev pub IsStopsText : ℕ → List ℕ → Ended → List ℕ → Type 0
+IsStopsText stores script Done text = HasFaults stores (calls_of script) [] × IsShown stores (calls_of script) text
+IsStopsText stores script Faulty text = HasFaults stores (calls_of script) text × (text ≢ [])
+
+-- a text of the script, however it ended
+abbrev pub IsSomeText : ℕ → List ℕ → List ℕ → Type 0
+IsSomeText stores script text = (ended : Ended) × IsStopsText stores script ended text
+
+-- the writer got the text of the script
+abbrev pub AppendsStops : ℕ → Ended → List ℕ → Option (List ℕ) → Option (List ℕ) → Type 0
+AppendsStops stores ended script old new = (text : List ℕ) × IsStopsText stores script ended text × Appends old new text
+
+-- the writer got a prefix of it
+abbrev pub AppendsStopsPrefix : ℕ → List ℕ → Option (List ℕ) → Option (List ℕ) → Type 0
+AppendsStopsPrefix stores script old new =
+    (ended : Ended) × (text : List ℕ) × IsStopsText stores script ended text × AppendsPrefix old new text
+
+-- a fault of a script that was read
+abbrev pub IsFaultOfStops : List ℕ → ScriptFault → Type 0
+IsFaultOfStops script fault = fault ≡ NoMemory
+
+-- what a fault leaves in the writer: a prefix if a write failed, else nothing; there is no fault of a race
+abbrev pub AfterStopsFault : ℕ → ScriptFault → Option (List ℕ) → Option (List ℕ) → Option (List ℕ) → Type 0
+AfterStopsFault stores Write input old new = IfSome input (λ script. AppendsStopsPrefix stores script old new)
+AfterStopsFault stores Full input old new = ⊥
+AfterStopsFault stores GateShut input old new = ⊥
+AfterStopsFault stores ThreadRefused input old new = ⊥
+AfterStopsFault stores fault input old new = Keeps old new

@@ -1,0 +1,164 @@
+-- The stops of a coordinator, and what a recovery leaves after each.
+--     is_own           whether a call is one of the coordinator's
+--     MakesCalls       how many calls of sessions a line makes in each store
+--     stops_in         the stops of calls
+--     limits_for       how many of a line's first calls go to each store
+--     ended_calls      calls, and then STOP and RECOVER
+--     stopped_calls    the calls that are carried out for a stop
+--     IsLeft           what a recovery leaves after calls
+--     IsWhole, IsCutAt         all lines were carried out whole;  those before a stop, and its own was cut
+--     IsShown          the text of calls of which none is faulty
+use Rattle.std.specs.Prelude.{◌≡◌, ℕ, zero, suc, ◌+◌, ◌-◌, min, Bool, true, false, if◌then◌else◌, Some, Err, List, []}
+use Rattle.std.specs.Prelude.{◌∷◌, ◌++◌, length, take, drop, map}
+use Rattle.std.specs.Prelude.{slice_get, sum, codes, decimal}
+use Rattle.std.specs.List.{AllZip, concat}
+use Rattle.xa_coordinator.specs.declared.fault.RecoverFault.TheVariants.{NoMemory}
+use Rattle.xa_coordinator.specs.declared.fused.Fused.{Fused}
+use Rattle.xa_manager.specs.declared.call.Call.{Call}
+use Rattle.xa_manager.specs.declared.call.Call.TheVariants.{Silent, At, Fail, Stop as StopCall, Recover}
+use Rattle.xa_manager.specs.declared.response.Response.{Response}
+use Rattle.xa_manager.specs.declared.response.Response.TheVariants.{Recovered}
+use Rattle.xa_manager.specs.Texts.{answer_text}
+use Rattle.xa_manager.specs.declared.counted_store.CountedStore.{CountedStore}
+use Rattle.xa_manager.specs.declared.stop.Stop.{Stop}
+use Rattle.xa_manager.specs.Counted.{state_in}
+use Rattle.xa_manager.specs.Rows.{rows_text}
+use Rattle.xa_manager.specs.Runs.{Managing, IsRun, IsGiven, is_unanswered, AreAnswered}
+
+-- a call that the coordinator carries out: not another client's, and not a blank line or a comment
+abbrev pub is_own : Call → Bool
+is_own Silent = false
+is_own (At store statement) = false
+is_own call = true
+
+-- how much greater each number is than the one at its place
+unfoldable pub differences : List ℕ → List ℕ → List ℕ
+differences [] before = []
+differences (one ∷ after) [] = one ∷ differences after []
+differences (one ∷ after) (other ∷ before) = (one - other) ∷ differences after before
+
+-- the line at a place makes so many calls in each store: after it the sessions have been given so many more
+-- statements
+pub record MakesCalls (stores : ℕ) (calls : List Call) (place : ℕ) (made : List ℕ) : Type 0 where
+  pub before : List ℕ
+  pub after : List ℕ
+  pub without : IsGiven stores (take place calls) before
+  pub with_it : IsGiven stores (take (place + 1) calls) after
+  pub more : made ≡ differences after before
+
+-- the stops in a line after fewer than so many calls, ascending
+unfoldable pub stops_below : ℕ → ℕ → List Stop
+stops_below place zero = []
+stops_below place (suc count) = stops_below place count ++ record { place = place; calls = count } ∷ []
+
+-- a line has a stop before each of its calls, and one if it makes none
+abbrev pub stop_count : ℕ → ℕ
+stop_count zero = 1
+stop_count (suc calls) = suc calls
+
+-- the stops in a line that makes so many calls in each store
+abbrev pub stops_at : ℕ → Call → List ℕ → List Stop
+stops_at place call made = if is_own call then stops_below place (stop_count (sum made)) else []
+
+-- the stops in the lines from this place on
+unfoldable pub stops_from : ℕ → List Call → List (List ℕ) → List Stop
+stops_from place [] made = []
+stops_from place (call ∷ calls) [] = []
+stops_from place (call ∷ calls) (there ∷ made) = stops_at place call there ++ stops_from (place + 1) calls made
+
+-- the stops of calls that make so many calls of sessions, ascending
+abbrev pub stops_in : List Call → List (List ℕ) → List Stop
+stops_in calls made = stops_from 0 calls made
+
+-- how many of a line's first calls go to each store: its calls go to the stores in ascending order
+unfoldable pub limits_for : List ℕ → ℕ → List ℕ
+limits_for [] calls = []
+limits_for (there ∷ made) calls = min there calls ∷ limits_for made (calls - min there calls)
+
+-- FAIL k AFTER j for each store from this one on
+unfoldable pub fails_from : ℕ → List ℕ → List Call
+fails_from store [] = []
+fails_from store (limit ∷ limits) = Fail store limit ∷ fails_from (store + 1) limits
+
+-- calls, and after them STOP and RECOVER
+abbrev pub ended_calls : List Call → List Call
+ended_calls calls = calls ++ StopCall ∷ Recover ∷ []
+
+-- what is carried out of the line at a place until so many calls were made, divided among the stores: FAIL
+-- for each store, and the line; nothing if no call was made in it
+abbrev pub cut_line : List Call → ℕ → ℕ → List ℕ → List Call
+cut_line calls place zero limits = []
+cut_line calls place (suc count) limits = fails_from 0 limits ++ take 1 (drop place calls)
+
+-- the lines before the stop, what is carried out of its line, STOP and RECOVER
+abbrev pub stopped_calls : List Call → Stop → List ℕ → List Call
+stopped_calls calls stop limits = ended_calls (take stop.place calls ++ cut_line calls stop.place stop.calls limits)
+
+-- a manager that carried out these calls answered the last of them, in which sessions answered each statement, so, and
+-- the rows that the script names have these committed values
+pub record IsLeft (stores : ℕ) (script told : List Call) (text : List ℕ) : Type 0 where
+  pub responses : List Response
+  pub response : Response
+  pub last : Managing
+  pub run : IsRun stores told (responses ++ response ∷ []) last
+  pub remembered : response ≡ Recovered (Err NoMemory) → ⊥
+  pub answered : is_unanswered response ≡ false
+  pub text_is : text ≡ answer_text last.decisions response
+      ++ rows_text script 0 (map (λ (s : Fused CountedStore). state_in s.inner) last.sessions)
+
+-- so many lines were carried out, each with its statements answered, and then STOP
+pub record IsWhole (count : ℕ) (responses : List Response) : Type 0 where
+  pub before : List Response
+  pub stopped : Response
+  pub counted : length before ≡ count
+  pub answered : AreAnswered before
+  pub are : responses ≡ before ++ stopped ∷ []
+
+-- the lines before the one at this place were carried out so, and then FAIL for each store, the line, in which a
+-- session didn't answer a statement, and STOP
+pub record IsCutShort (place : ℕ) (limits : List ℕ) (responses : List Response) : Type 0 where
+  pub before : List Response
+  pub limited : List Response
+  pub cut : Response
+  pub stopped : Response
+  pub counted : length before ≡ place
+  pub answered : AreAnswered before
+  pub each : length limited ≡ length limits
+  pub unanswered : is_unanswered cut ≡ true
+  pub are : responses ≡ ((before ++ limited) ++ cut ∷ []) ++ stopped ∷ []
+
+-- the responses up to a stop: after no call of its line, or after some
+abbrev pub IsCutAt : ℕ → ℕ → List ℕ → List Response → Type 0
+IsCutAt place zero limits responses = IsWhole place responses
+IsCutAt place (suc calls) limits responses = IsCutShort place limits responses
+
+-- STOPS m
+abbrev pub count_line : ℕ → List ℕ
+count_line count = codes "STOPS " ++ decimal count ++ codes "\n"
+
+-- STOP l j
+abbrev pub stop_line : Stop → List ℕ
+stop_line stop = codes "STOP " ++ decimal (stop.place + 1) ++ codes " " ++ decimal stop.calls ++ codes "\n"
+
+-- the text of a stop: its line, and what a recovery leaves if the coordinator was stopped there, no sooner and no later
+pub record IsStopText (stores : ℕ) (calls : List Call) (made : List (List ℕ)) (stop : Stop)
+    (text : List ℕ) : Type 0 where
+  pub there : List ℕ
+  pub makes : slice_get made stop.place ≡ Some there
+  pub rest : List ℕ
+  pub left : IsLeft stores calls (stopped_calls calls stop (limits_for there stop.calls)) rest
+  pub cut : IsCutAt stop.place stop.calls (limits_for there stop.calls) left.responses
+  pub text_is : text ≡ stop_line stop ++ rest
+
+-- how many stops there are, the text of each, and what a recovery leaves after all lines (own rule)
+pub record IsShown (stores : ℕ) (calls : List Call) (text : List ℕ) : Type 0 where
+  pub made : List (List ℕ)
+  pub count : length made ≡ length calls
+  pub makes : (place : ℕ) (there : List ℕ) → slice_get made place ≡ Some there → MakesCalls stores calls place there
+  pub blocks : List (List ℕ)
+  pub each : AllZip (IsStopText stores calls made) (stops_in calls made) blocks
+  pub last : List ℕ
+  pub left : IsLeft stores calls (ended_calls calls) last
+  pub whole : IsWhole (length calls) left.responses
+  pub text_is :
+      text ≡ count_line (length (stops_in calls made)) ++ concat blocks ++ codes "STOP END\n" ++ last

@@ -1,0 +1,86 @@
+//! Laws about what a recovery leaves after a stop.
+ghost use Rattle.std.specs.Prelude.{◌≡◌, Some, slice_get, ◌++◌, ◌∷◌, [], Ok, List, ℕ, All};
+ghost use Rattle.xa_coordinator.specs.declared.report.Report.{Report};
+ghost use Rattle.xa_manager.specs.declared.call.Call.{Call};
+ghost use Rattle.xa_manager.specs.declared.call.Call.TheVariants.{Recover};
+ghost use Rattle.xa_manager.specs.declared.response.Response.{Response};
+ghost use Rattle.xa_manager.specs.declared.response.Response.TheVariants.{Recovered};
+ghost use Rattle.xa_manager.specs.Runs.{Managing, IsRun};
+ghost use Rattle.xa_manager.specs.declared.stop.Stop.{Stop};
+ghost use Rattle.xa_manager.specs.Atomic.{IsPlain, KeepsToDecisions, LeavesBranches, AllOrNone, LeavesWhole};
+ghost use Rattle.xa_manager.specs.Atomic.{KeepsRowsOr};
+ghost use Rattle.xa_coordinator.specs.Lasting.{history_of};
+ghost use Rattle.xa_manager.specs.declared.counted_store.CountedStore.{CountedStore};
+ghost use Rattle.xa_words.specs.Entry.{Entry};
+ghost use Rattle.xa_manager.specs.Scripts.{calls_of};
+ghost use Rattle.xa_manager.specs.Stops.{IsStopText, IsShown};
+
+/// States what the coordinator's sessions have added after calls, none of them `RECOVER`, and a completed
+/// recovery.
+///
+/// Everything that they ever added goes with the decisions as they are then, and none of the coordinator's
+/// branches is prepared.
+/// Own rule: docs/COORDINATOR.md#stops.
+pub fn recovery_keeps_to_decisions()
+    // Proved (coordinator, recovery-keeps-to-decisions): In any run of a manager's calls over unbounded
+    //   stores, in which only the last is `RECOVER` and is answered with a report, all that the coordinator
+    //   added goes with the final decisions, whatever other clients do. None of its branches is prepared.
+    // Proved (coordinator, goes-with-decisions): `XA COMMIT` goes with the decisions if it is of a decided
+    //   transaction, or with ONE PHASE of an undecided one that has a branch in no other store. `XA ROLLBACK`
+    //   does if it is of an undecided one.
+    ensures { (stores : ℕ) (told : List Call) (responses : List Response) (report : Report) (last : Managing)
+        → All IsPlain told
+        → IsRun stores (told ++ Recover ∷ []) (responses ++ Recovered (Ok report) ∷ []) last
+        → KeepsToDecisions last }
+{}
+
+/// States that each transaction then is in all stores in which it has a branch, or in none.
+///
+/// A decided one was committed in each; one that isn't decided in none, or by ONE PHASE in the only store in
+/// which it has a branch. The condition is that no call has another client end a branch of the coordinator's
+/// naming.
+/// Own rule: docs/COORDINATOR.md#stops.
+pub fn transactions_stand_whole_or_not_at_all()
+    // Proved (coordinator, whole-or-not-at-all): After a run of a manager's calls that ends in its only, and
+    //   completed, `RECOVER`, a decided transaction was committed in each store in which the coordinator
+    //   began a branch of it. An undecided one was committed only with ONE PHASE, and then has a branch in no
+    //   other store. Premise: no `AT` commits or rolls back a branch of the coordinator's naming.
+    ensures { (stores : ℕ) (told : List Call) (responses : List Response) (report : Report) (last : Managing)
+        → All IsPlain told
+        → All LeavesBranches told
+        → IsRun stores (told ++ Recover ∷ []) (responses ++ Recovered (Ok report) ∷ []) last
+        → AllOrNone last }
+{}
+
+/// States the same after each stop that is shown of a script, and after all its lines, if `RECOVERED` is
+/// written.
+///
+/// Own rule: docs/COORDINATOR.md#stops.
+pub fn each_stop_leaves_all_or_none()
+    // Proved (scripts, stops-whole): After each stop of a coordinator's script whose recovery was answered
+    //   `RECOVERED`, a decided transaction was committed in each store in which the coordinator began a
+    //   branch of it, with all writes of that branch at once. Premise: no `AT` commits or rolls back a branch
+    //   of the coordinator's naming.
+    // Proved (scripts, stops-undecided): After such a stop, on the same premise, an `XA COMMIT` of an
+    //   undecided transaction is in a store's history only with ONE PHASE, and then the coordinator began a
+    //   branch of it in no other store. None of its branches is prepared.
+    ensures stop { (stores : ℕ) (script : List ℕ) (made : List (List ℕ)) (stop : Stop) (text : List ℕ)
+        → All LeavesBranches (calls_of script)
+        → (shown : IsStopText stores (calls_of script) made stop text)
+        → LeavesWhole shown.left }
+    // Proved (scripts, stops-whole)
+    // Proved (scripts, stops-undecided)
+    ensures end { (stores : ℕ) (script text : List ℕ) → All LeavesBranches (calls_of script)
+        → (shown : IsShown stores (calls_of script) text) → LeavesWhole shown.left }
+{}
+
+/// States that in a store's history only commits, and writes of sessions without an open branch, change a
+/// committed value.
+///
+/// Own rule: docs/STATEMENTS.md#rows-and-locks.
+pub fn commits_change_rows()
+    // Proved (scripts, commits-change-rows): In a store's history only commits, and writes of sessions that
+    //   have no branch open, change a committed value.
+    ensures { (counted : CountedStore) (place : ℕ) (entry : Entry)
+        → slice_get (history_of counted.store) place ≡ Some entry → KeepsRowsOr counted place entry }
+{}

@@ -1,0 +1,21 @@
+//! The limits at which a line is stopped.
+ghost use Rattle.std.specs.Prelude.{◌≡◌, IfOk};
+ghost use Rattle.xa_manager.specs.Stops.{limits_for as limits_of};
+
+use std::alloc::Global;
+use xa_xid::NoMemory;
+
+/// How many of the first `calls` calls of a line go to each store. `made` has how many go there in all; they
+/// go to the stores in ascending order.
+pub fn limits_for(alloc: Global, made: &[u64], calls: u64) -> Result<Vec<u64>, NoMemory>
+    ensures { IfOk result (λ limits. limits.items ≡ limits_of made.now calls) }
+{
+    let mut limits = Vec::new(alloc);
+    let mut left = calls;
+    for there in made {
+        let limit = (*there).min(left);
+        limits.push(limit)?;
+        left -= limit;
+    }
+    Ok(limits)
+}

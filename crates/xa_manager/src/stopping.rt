@@ -1,0 +1,156 @@
+//! Stopping a coordinator, and what its recovery leaves.
+ghost use Rattle.std.specs.Prelude.{◌≡◌, ◌≤◌, ◌<◌, ◌++◌, ◌∷◌, [], List, ℕ, All, length, map, vec_len, take, drop};
+ghost use Rattle.std.specs.Prelude.{IfOk};
+ghost use Rattle.xa_manager.specs.Calls.{IsWritten};
+ghost use Rattle.xa_manager.specs.Managed.{whole_of};
+ghost use Rattle.xa_manager.specs.declared.call.Call.{Call as CallOf};
+ghost use Rattle.xa_manager.specs.declared.call.Call.TheVariants.{Stop as StopCall, Recover as RecoverCall};
+ghost use Rattle.xa_manager.specs.declared.response.Response.{Response as ResponseOf};
+ghost use Rattle.xa_manager.specs.Rows.{AreNamed};
+ghost use Rattle.xa_manager.specs.Runs.{IsAnswered, HasCarried};
+ghost use Rattle.xa_manager.specs.Stops.{IsLeft, limits_for as limits_of, fails_from, stopped_calls, ended_calls};
+ghost use Rattle.xa_manager.specs.Stops.{IsWhole, IsCutShort, IsCutAt};
+
+use crate::carrying::{carry_out, is_unanswered, limit_each};
+use crate::stop_limits::limits_for;
+use crate::stop_rows::with_rows_of_each;
+use crate::stop_stores::{fed_stores, fresh_manager};
+use crate::{Call, CountedStore, Manager, Response, Stop, write_response};
+use std::alloc::{AllocError, Global};
+use std::sync::Wait;
+use xa_coordinator::{Fused, LastingStore};
+use xa_xid::{Key, NoMemory};
+
+/// Stops the coordinator.
+fn stop<R: Wait>(
+    rt: &R,
+    alloc: Global,
+    manager: &mut Manager<Fused<CountedStore>, LastingStore>,
+) -> Result<Response, NoMemory>
+    ensures { IfOk result (λ response. IsAnswered (whole_of manager.old) StopCall response (whole_of manager.new)) }
+{
+    manager.answer_beside(rt, alloc, &Call::Stop)
+}
+
+/// Has a new coordinator recover.
+fn recover<R: Wait>(
+    rt: &R,
+    alloc: Global,
+    manager: &mut Manager<Fused<CountedStore>, LastingStore>,
+) -> Result<Response, NoMemory>
+    ensures { IfOk result (λ response. IsAnswered (whole_of manager.old) RecoverCall response (whole_of manager.new)) }
+{
+    manager.answer_beside(rt, alloc, &Call::Recover)
+}
+
+/// Stops the coordinator, has a new one recover, and appends its answer and the rows to a text.
+fn with_recovery<R: Wait>(
+    rt: &R,
+    alloc: Global,
+    mut manager: Manager<Fused<CountedStore>, LastingStore>,
+    mut text: Vec<u8>,
+    keys: &[Vec<Key>],
+) -> Result<Vec<u8>, NoMemory>
+    requires { vec_len manager.coordinator.stores ≡ length keys.now }
+    ensures { IfOk result (λ longer. (script told : List CallOf) → AreNamed script (map (λ one. one.items) keys.now)
+        → (before : HasCarried (length keys.now) told (whole_of manager))
+        → (rest : List ℕ) × (left : IsLeft (length keys.now) script (ended_calls told) rest)
+        × ((stopped : ResponseOf) × (left.responses ≡ before.responses ++ stopped ∷ []))
+        × (longer.items ≡ text.items ++ rest)) }
+{
+    let _stopped = stop(rt, alloc, &mut manager)?;
+    let response = recover(rt, alloc, &mut manager)?;
+    // no session has a limit after the stop, so memory was refused
+    if is_unanswered(&response) {
+        return Err(AllocError);
+    }
+    let answer = write_response(alloc, Vec::new(alloc), manager.decisions(), &response)?;
+    text.extend_from_slice(answer.as_slice())?;
+    let stores = fed_stores(alloc, manager)?;
+    let longer = with_rows_of_each(text, stores.as_slice(), keys)?;
+    Ok(longer)
+}
+
+/// Appends what a recovery leaves after these lines to a text.
+pub fn with_lines<R: Wait>(
+    rt: &R,
+    alloc: Global,
+    text: Vec<u8>,
+    calls: &[Call],
+    keys: &[Vec<Key>],
+) -> Result<Vec<u8>, NoMemory>
+    requires some { 1 ≤ length keys.now }
+    requires most { length keys.now ≤ 16 }
+    requires written { All IsWritten calls.now }
+    ensures { IfOk result (λ longer. (script : List CallOf) → AreNamed script (map (λ one. one.items) keys.now)
+        → (rest : List ℕ) × (left : IsLeft (length keys.now) script (ended_calls calls.now) rest)
+        × IsWhole (length calls.now) left.responses
+        × (longer.items ≡ text.items ++ rest)) }
+{
+    let mut manager = fresh_manager(alloc, keys.len() as u64)?;
+    carry_out(rt, alloc, &mut manager, calls)?;
+    let longer = with_recovery(rt, alloc, manager, text, keys)?;
+    Ok(longer)
+}
+
+/// Appends what a recovery leaves if the coordinator was stopped in a line, after its first call, to a text.
+fn with_cut_line<R: Wait>(
+    rt: &R,
+    alloc: Global,
+    text: Vec<u8>,
+    calls: &[Call],
+    place: usize,
+    limits: &[u64],
+    keys: &[Vec<Key>],
+) -> Result<Vec<u8>, NoMemory>
+    requires some { 1 ≤ length keys.now }
+    requires most { length keys.now ≤ 16 }
+    requires written { All IsWritten calls.now }
+    requires within { place < length calls.now }
+    ensures { IfOk result (λ longer. (script : List CallOf) → AreNamed script (map (λ one. one.items) keys.now)
+        → (rest : List ℕ)
+        × (left : IsLeft (length keys.now) script (ended_calls (take place calls.now ++ fails_from 0 limits.now
+        ++ take 1 (drop place calls.now))) rest)
+        × IsCutShort place limits.now left.responses
+        × (longer.items ≡ text.items ++ rest)) }
+{
+    let mut manager = fresh_manager(alloc, keys.len() as u64)?;
+    carry_out(rt, alloc, &mut manager, &calls[..place])?;
+    limit_each(rt, alloc, &mut manager, limits)?;
+    let response = manager.answer_beside(rt, alloc, &calls[place])?;
+    // the line makes more calls than these, so one of them wasn't passed on
+    if !is_unanswered(&response) {
+        return Err(AllocError);
+    }
+    let longer = with_recovery(rt, alloc, manager, text, keys)?;
+    Ok(longer)
+}
+
+/// Appends what a recovery leaves after a stop, in a line that makes so many calls in each store, to a text.
+pub fn with_stop<R: Wait>(
+    rt: &R,
+    alloc: Global,
+    text: Vec<u8>,
+    calls: &[Call],
+    stop: Stop,
+    made: &[u64],
+    keys: &[Vec<Key>],
+) -> Result<Vec<u8>, NoMemory>
+    requires some { 1 ≤ length keys.now }
+    requires most { length keys.now ≤ 16 }
+    requires written { All IsWritten calls.now }
+    requires within { stop.place < length calls.now }
+    ensures { IfOk result (λ longer. (script : List CallOf) → AreNamed script (map (λ one. one.items) keys.now)
+        → (rest : List ℕ)
+        × (left : IsLeft (length keys.now) script (stopped_calls calls.now stop (limits_of made.now stop.calls)) rest)
+        × IsCutAt stop.place stop.calls (limits_of made.now stop.calls) left.responses
+        × (longer.items ≡ text.items ++ rest)) }
+{
+    if stop.calls == 0 {
+        let longer = with_lines(rt, alloc, text, &calls[..stop.place], keys)?;
+        return Ok(longer);
+    }
+    let limits = limits_for(alloc, made, stop.calls)?;
+    let longer = with_cut_line(rt, alloc, text, calls, stop.place, limits.as_slice(), keys)?;
+    Ok(longer)
+}

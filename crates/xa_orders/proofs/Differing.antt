@@ -1,0 +1,134 @@
+-- Ways that are counted by their numbers.
+--     Chosen           as many of a list as were counted, no two of which have come to the same
+--     chosen_none      of none
+--     chosen_same, chosen_new      one more was looked at, whose number was there;  or wasn't
+--     chosen_differ    so many of the list differ
+--     wide_next        more than allowed of those that a turn leads to
+use Rattle.std.proofs.Common.{◌≡◌, ◌≢◌, ℕ, ◌+◌, ◌<◌, Bool, true, false, not, cond, List, [], ◌∷◌, length, get_or, take}
+use Rattle.std.proofs.Common.{refl, ap, sym, ◌∙◌, subst, arith}
+use Rattle.std.specs.List.{All}
+use Rattle.std.specs.Ordering.{nat_cmp}
+use Rattle.std.specs.BTreeMap.{is_at}
+use Rattle.std.specs.BTreeSet.{BTreeSet, contains, Updates}
+use Rattle.std.proofs.lemmas.Bool.{false≢true}
+use Rattle.std.proofs.lemmas.List.Elements.{All-cons, All-nil, All-weaker}
+use Rattle.xa_orders.specs.declared.way.Way.{Way}
+use Rattle.xa_orders.specs.Orders.{Told, Config, Any}
+use Rattle.xa_orders.specs.Found.{config_of, AreDifferent, HasDifferent, IsSpread, IsTurn, IsNextOf, IsWideNext}
+use Rattle.xa_orders.specs.Marks.{mark}
+use Rattle.xa_orders.proofs.Lists.{any_front, any_read, any_with}
+
+-- ways of the list, as many as were counted, no two of which have come to the same; the set has their numbers
+pub record Chosen (known : List Way) (keys : List (List ℕ)) (marks : BTreeSet ℕ) (count : ℕ) : Type 0 where
+  pub chosen : List Way
+  pub counted : length chosen ≡ count
+  pub among : All (λ one. Any (λ way. way ≡ one) known) chosen
+  pub marked : All (λ one. contains nat_cmp marks (mark keys (config_of one)) ≡ true) chosen
+  pub differ : AreDifferent chosen
+
+pub chosen_none : (known : List Way) (keys : List (List ℕ)) (marks : BTreeSet ℕ) → Chosen known keys marks 0
+chosen_none known keys marks = record {
+  chosen = [];
+  counted = refl;
+  among = All-nil (λ one. Any (λ way. way ≡ one) known);
+  marked = All-nil (λ one. contains nat_cmp marks (mark keys (config_of one)) ≡ true);
+  differ = tt;
+}
+
+-- a number that the set had is still there
+still_marked : (old new : BTreeSet ℕ) (added number : ℕ) → Updates nat_cmp old new added true
+    → contains nat_cmp old number ≡ true
+    → contains nat_cmp new number ≡ true
+still_marked old new added number updates had = updates.0 number ∙ by (is_at (nat_cmp added) number)
+  where
+    by : (b : Bool) → cond b true (contains nat_cmp old number) ≡ true
+    by true = refl
+    by false = had
+
+all_still_marked : (keys : List (List ℕ)) (old new : BTreeSet ℕ) (added : ℕ) (chosen : List Way)
+    → Updates nat_cmp old new added true
+    → All (λ one. contains nat_cmp old (mark keys (config_of one)) ≡ true) chosen
+    → All (λ one. contains nat_cmp new (mark keys (config_of one)) ≡ true) chosen
+all_still_marked keys old new added chosen updates marked =
+    All-weaker (λ one. contains nat_cmp old (mark keys (config_of one)) ≡ true)
+    (λ one. contains nat_cmp new (mark keys (config_of one)) ≡ true)
+    (λ one had. still_marked old new added (mark keys (config_of one)) updates had) chosen marked
+
+-- a way's number was there
+pub chosen_same : (known : List Way) (keys : List (List ℕ)) (old new : BTreeSet ℕ) (count added : ℕ)
+    → Updates nat_cmp old new added true
+    → Chosen known keys old count → Chosen known keys new count
+chosen_same known keys old new count added updates c = record {
+  chosen = c.chosen;
+  counted = c.counted;
+  among = c.among;
+  marked = all_still_marked keys old new added c.chosen updates c.marked;
+  differ = c.differ;
+}
+
+-- and here it wasn't
+chosen_more : (known : List Way) (keys : List (List ℕ)) (old new : BTreeSet ℕ) (count : ℕ) (one : Way)
+    → Any (λ way. way ≡ one) known
+    → Updates nat_cmp old new (mark keys (config_of one)) true
+    → contains nat_cmp old (mark keys (config_of one)) ≡ false
+    → Chosen known keys old count → Chosen known keys new (count + 1)
+chosen_more known keys old new count one among updates none c = record {
+  chosen = one ∷ c.chosen;
+  counted = omega (arith, c.counted);
+  among = All-cons (λ o. Any (λ way. way ≡ o) known) one c.chosen among c.among;
+  marked =
+      All-cons (λ o. contains nat_cmp new (mark keys (config_of o)) ≡ true) one c.chosen updates.1
+      (all_still_marked keys old new (mark keys (config_of one)) c.chosen updates c.marked);
+  differ = (
+    All-weaker (λ o. contains nat_cmp old (mark keys (config_of o)) ≡ true) (λ o. config_of one ≢ config_of o)
+        (λ o had same. false≢true (sym none ∙ ap (λ (p : Config). contains nat_cmp old (mark keys p)) same ∙ had))
+        c.chosen c.marked,
+    c.differ,
+  );
+}
+
+not_there : (b : Bool) → not b ≡ true → b ≡ false
+not_there true e = absurd (false≢true e)
+not_there false e = refl
+
+-- the number of the way at a place was new
+pub chosen_new : (known : List Way) (keys : List (List ℕ)) (old new : BTreeSet ℕ) (count place number : ℕ) (one : Way)
+    (added : Bool)
+    → place < length known → one ≡ get_or known place one → number ≡ mark keys (config_of one)
+    → added ≡ not (contains nat_cmp old number)
+    → added ≡ true → Updates nat_cmp old new number true → Chosen known keys old count
+    → Chosen known keys new (count + 1)
+chosen_new known keys old new count place number one added within at is was new_one updates c =
+    chosen_more known keys old new count one (any_read (λ way. way ≡ one) known place one within at refl)
+    (subst (λ n. Updates nat_cmp old new n true) is updates)
+    (subst (λ n. contains nat_cmp old n ≡ false) is (not_there (contains nat_cmp old number) (sym was ∙ new_one))) c
+
+pub chosen_differ : (known : List Way) (keys : List (List ℕ)) (marks : BTreeSet ℕ) (count : ℕ)
+    → Chosen known keys marks count → HasDifferent count known
+chosen_differ known keys marks count c =
+    record { many = c.chosen; counted = c.counted; differ = c.differ; among = c.among }
+
+-- of the ways to which one more turn leads, more than allowed differ
+pub wide_next : (lines : List Told) (ways list same : List Way) (limit count : ℕ)
+    → IsNextOf lines (take count ways) list → same ≡ list → IsSpread limit same
+    → IsWideNext lines ways limit
+wide_next lines ways list same limit count next is spread = record {
+  many = has.many;
+  over = omega (arith, has.counted, spread.over);
+  differ = has.differ;
+  each =
+      All-weaker (λ one. Any (λ way. way ≡ one) same) Turned
+      (λ one among. any_with Turned (λ way. way ≡ one) (Turned one) (λ way turned equal. subst Turned equal turned)
+      same (subst (All Turned) (sym is) turned) among) has.many has.among;
+}
+  where
+    has : HasDifferent spread.count same
+    has = spread.different
+
+    Turned : Way → Type 0
+    Turned new = Any (λ way. (session : ℕ) × IsTurn lines session way new) ways
+
+    turned : All Turned list
+    turned =
+        All-weaker (λ new. Any (λ way. (session : ℕ) × IsTurn lines session way new) (take count ways)) Turned
+        (λ new any. any_front (λ way. (session : ℕ) × IsTurn lines session way new) count ways any) list next.each

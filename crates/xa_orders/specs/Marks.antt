@@ -1,0 +1,32 @@
+-- The number by which ways are told apart: if two numbers differ, so do the places to which the ways have come.
+-- Every rule here is the project's own.
+--     with_word              a number after one more word
+--     with_text .. with_key  a number after one more thing of that kind
+--     mark                   a place's number; the keys are those of the rows that lines write
+use Rattle.std.specs.Prelude.{ℕ, ◌+◌, ◌*◌, ◌/◌, ◌%◌, ◌^◌, Option, Some, None, List, length, fold, bit_xor}
+use Rattle.xa_xid.specs.Xid.{Text}
+use Rattle.xa_server.specs.State.{State, committed_value}
+use Rattle.xa_orders.specs.Orders.{Config}
+
+-- a number after one more word; 11400714819323198485 is odd, and is 2^64 divided by the golden ratio
+unfoldable pub with_word : ℕ → ℕ → ℕ
+with_word number word =
+    let product = ((bit_xor number word + 1) % 2 ^ 64 * 11400714819323198485) % 2 ^ 64 in
+    bit_xor product (product / 2 ^ 29)
+
+-- after the bytes of a text
+abbrev pub with_text : ℕ → List ℕ → ℕ
+with_text number bytes = fold with_word (with_word number (length bytes)) bytes
+
+-- after a value, or none
+abbrev pub with_value : ℕ → Option Text → ℕ
+with_value number None = with_word number 0
+with_value number (Some text) = with_text (with_word number 1) text.items
+
+-- after the committed value of a row
+abbrev pub with_key : State → ℕ → List ℕ → ℕ
+with_key state number key = with_value number (committed_value state key)
+
+-- a place's number: made of what the lines were answered, and of the committed values of these rows
+unfoldable pub mark : List (List ℕ) → Config → ℕ
+mark keys config = fold (with_key config.state) (fold with_text 0 config.answers) keys

@@ -1,0 +1,65 @@
+//! How many ways of a list differ.
+ghost use Rattle.std.specs.Prelude.{◌≡◌, ◌≤◌, true, length, IfOk};
+ghost use Rattle.xa_orders.specs.Found.{config_of, HasDifferent, IsSpread};
+ghost use Rattle.xa_orders.specs.Marks.{mark};
+
+use crate::marks::with_values;
+use crate::way::Way;
+use std::alloc::Global;
+use std::collections::BTreeSet;
+use xa_xid::{Key, NoMemory};
+
+/// The number by which a way is told apart: made of its answers and of the committed values of these rows.
+#[tactic(auto, unfolding(crate::specs::Marks::mark))]
+fn mark_of(way: &Way, keys: &[Key]) -> Result<u64, NoMemory>
+    ensures { IfOk result (λ number. number ≡ mark keys.now (config_of way.now)) }
+{
+    let answers = way.answers.add_to(0);
+    match way.server.own() {
+        Some(server) => Ok(with_values(answers, server, keys)),
+        None => Ok(with_values(answers, &way.server.made()?, keys)),
+    }
+}
+
+/// How many ways of the list are known to differ, each from each other: as many as their answers and the
+/// committed values of these rows give different numbers.
+fn count_different(alloc: Global, known: &[Way], keys: &[Key]) -> Result<usize, NoMemory>
+    ensures different { IfOk result (λ count. HasDifferent count known.now) }
+    ensures within { IfOk result (λ count. count ≤ length known.now) }
+{
+    let mut marks = BTreeSet::new(alloc);
+    let mut count = 0;
+    for way in known {
+        let number = mark_of(way, keys)?;
+        if marks.insert(number)? {
+            count += 1;
+        }
+    }
+    Ok(count)
+}
+
+/// Tells whether more than `limit` ways of the list are known to differ, each from each other. `keys` are those of
+/// the rows that lines write.
+///
+/// `most`: a list that is no longer isn't looked through, since it has no more ways that differ than `limit`. It
+/// begins as `limit`, and grows where ways of the list may have come to the same.
+/// May return `NoMemory`.
+pub fn is_wide(
+    alloc: Global,
+    known: &[Way],
+    keys: &[Key],
+    limit: usize,
+    most: &mut usize,
+) -> Result<bool, NoMemory>
+    ensures { IfOk result (λ wide. wide ≡ true → IsSpread limit known.now) }
+{
+    if known.len() <= *most {
+        return Ok(false);
+    }
+    let different = count_different(alloc, known, keys)?;
+    if limit < different {
+        return Ok(true);
+    }
+    *most = known.len().saturating_add(limit - different);
+    Ok(false)
+}

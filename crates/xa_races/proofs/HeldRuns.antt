@@ -1,0 +1,145 @@
+-- Races of a script that are held at a gate, over stores of their own.
+--     ends_beside      why a race of lines fails
+--     ends_same, ends_read     the same of another form of the lines
+--     of_open          why one line isn't carried out at a gate that is always open
+--     left_in          what an opened store leaves
+--     held_whole       one race of the parts
+--     held_none, held_next     races that were held, one after another
+--     passed_on        a fault that is passed on
+--     held_written     what is written for them
+use Rattle.std.proofs.Common.{◌≡◌, ℕ, Bool, true, false, Option, Result, Ok, Err, ◌+◌, ◌≤◌, ◌++◌, List, []}
+use Rattle.std.proofs.Common.{◌∷◌, length, refl, ap, sym, ◌∙◌, subst, inl, inr, IfSome, IfErr, OnOk}
+use Rattle.std.specs.List.{All}
+use Rattle.std.specs.Io.KnownBytes.{Appends, Consumes, IsAtEnd}
+use Rattle.std.proofs.lemmas.List.{length_push}
+use Rattle.std.proofs.lemmas.List.Elements.{All-nil, All-push}
+use Rattle.xa_server.specs.State.{State, no_state}
+use Rattle.xa_session.specs.Replay.{state_after}
+use Rattle.xa_endless.specs.declared.session.EndlessSession.{EndlessSession}
+use Rattle.xa_lines.specs.declared.script_fault.ScriptFault.{ScriptFault}
+use Rattle.xa_lines.specs.declared.script_fault.ScriptFault.TheVariants as fault
+use Rattle.xa_orders.specs.Orders.{Told, Parts, told_text, told_state}
+use Rattle.xa_orders.specs.Scripts.{script_read, parts_of}
+use Rattle.xa_races.specs.Long.{known_in, HoldsAll, seen_by_last}
+use Rattle.xa_races.specs.CountedRaced.{IsReadLine}
+use Rattle.xa_races.specs.CountedHeld.{AreWithin, AreNumbered, AreRunsOf}
+use Rattle.xa_races.specs.CountedBases.{base_of}
+use Rattle.xa_races.specs.Came.{IsOfRace, IsWellRead}
+use Rattle.xa_races.specs.HeldRuns.{IsRacedBy, GivesRacedBy, IsLeftIn, IsHeldOnce, AreHeld, IsSeenOf, AppendsHeldRuns}
+use Rattle.xa_races.specs.HeldRuns.{EndsBeside, EndsRuns, EndsLong, IsOfOpen}
+use Rattle.xa_races.specs.declared.counted_opened.Opened.{Opened}
+use Rattle.xa_races.specs.declared.long_run.LongRun.{LongRun}
+use Rattle.xa_races.proofs.AtGate.{shut_beside}
+use Rattle.xa_races.proofs.Ended.{ended_over}
+use Rattle.xa_races.proofs.Written.{read_whole}
+
+pub passed_on : {A : Type 0} (P : ScriptFault → Type 0) (result : Result A ScriptFault) (passed cause : ScriptFault)
+    → result ≡ Err passed → passed ≡ cause → P cause → IfErr result P
+passed_on {A} P result passed cause is same p =
+    subst (λ (r : Result A ScriptFault). IfErr r P) (sym is) (subst P (sym same) p)
+
+pub ends_beside : (gate : ℕ → ℕ → Bool → Type 0) (capacity : ℕ) (renews : Bool) (from : ℕ) (lines : List Told)
+    (before : List EndlessSession) (runs : List LongRun) → AreRunsOf 1 lines before runs → length before ≤ 16
+    → AreNumbered 1 before → All (λ session. HoldsAll (seen_by_last before) (known_in session)) before
+    → from ≡ length (seen_by_last before) → AreWithin (length before) lines → All IsReadLine lines
+    → (f : ScriptFault) → EndsLong gate capacity renews from runs f
+    → EndsBeside gate capacity renews (state_after no_state (seen_by_last before)) lines f
+ends_beside gate capacity renews from lines before runs are few numbers holds from_is within read fault.Read ends = tt
+ends_beside gate capacity renews from lines before runs are few numbers holds from_is within read fault.TooLong ends =
+    tt
+ends_beside gate capacity renews from lines before runs are few numbers holds from_is within read fault.Write ends = tt
+ends_beside gate capacity renews from lines before runs are few numbers holds from_is within read fault.NoMemory ends =
+    tt
+ends_beside gate capacity renews from lines before runs are few numbers holds from_is within read fault.Full ends =
+    ended_over gate from lines before runs ends.outcome are ends.is few numbers holds from_is capacity renews within
+    read ends.limited ends.more
+ends_beside gate capacity renews from lines before runs are few numbers holds from_is within read fault.GateShut ends =
+    shut_beside gate lines before runs ends.0 ends.1 are numbers few holds ends.2
+ends_beside gate capacity renews from lines before runs are few numbers holds from_is within read fault.ThreadRefused
+    ends = tt
+
+pub ends_same : (gate : ℕ → ℕ → Bool → Type 0) (capacity : ℕ) (renews : Bool) (base new : State)
+    (lines others : List Told) (f : ScriptFault) → base ≡ new → lines ≡ others
+    → EndsBeside gate capacity renews base lines f → EndsBeside gate capacity renews new others f
+ends_same gate capacity renews base new lines others f state same ends =
+    subst (λ (s : State). EndsBeside gate capacity renews s others f) state
+    (subst (λ (l : List Told). EndsBeside gate capacity renews base l f) same ends)
+
+-- in terms of the whole script that was read
+pub ends_read : {A : Type 0} (gate : ℕ → ℕ → Bool → Type 0) (capacity : ℕ) (renews : Bool)
+    (result : Result A ScriptFault) (passed cause : ScriptFault) (input rest : Option (List ℕ)) (slice given : List ℕ)
+    → result ≡ Err passed
+    → passed ≡ cause → Consumes input rest given → IsAtEnd rest → slice ≡ given
+    → EndsRuns gate capacity renews slice cause
+    → IfErr result (λ f. IfSome input (λ script. EndsRuns gate capacity renews script f))
+ends_read gate capacity renews result passed cause input rest slice given is told read end same ends =
+    passed_on (λ f. IfSome input (λ script. EndsRuns gate capacity renews script f)) result passed cause is told
+    (read_whole (λ t. EndsRuns gate capacity renews t cause) input rest given read end
+    (subst (λ (t : List ℕ). EndsRuns gate capacity renews t cause) same ends))
+
+pub of_open : (gate : ℕ → ℕ → Bool → Type 0) (capacity : ℕ) (base : State) (lines : List Told)
+    → ((session line : ℕ) → gate session line false → ⊥) → (f : ScriptFault) → IsOfRace true f
+    → EndsBeside gate capacity true base lines f → IsOfOpen f
+of_open gate capacity base lines never fault.Read of ends = absurd of
+of_open gate capacity base lines never fault.TooLong of ends = absurd of
+of_open gate capacity base lines never fault.Write of ends = absurd of
+of_open gate capacity base lines never fault.NoMemory of ends = inl refl
+of_open gate capacity base lines never fault.Full of ends = absurd cc
+of_open gate capacity base lines never fault.GateShut of ends = absurd (never ends.session ends.line ends.shut.shut)
+of_open gate capacity base lines never fault.ThreadRefused of ends = inr refl
+
+pub left_in : (opened : Opened) (rows : ℕ) → opened.store.value.log.rows ≡ rows → 1 ≤ length opened.sessions.items
+    → IsLeftIn rows (base_of opened)
+left_in opened rows rows_are some = record {
+  store = opened.store.value;
+  rows_are = rows_are;
+  sessions = opened.sessions.items;
+  some = some;
+  mine = opened.mine;
+  state_is = refl;
+}
+
+pub held_whole : (gate : ℕ → ℕ → Bool → Type 0) (capacity : ℕ) (renews : Bool) (parts : Parts)
+    (base first behind : State) (one answers two three : List ℕ) → base ≡ no_state
+    → one ≡ told_text base parts.before
+    → first ≡ told_state base parts.before
+    → GivesRacedBy gate capacity renews first parts.beside answers behind → two ≡ one ++ answers
+    → three ≡ two ++ told_text behind parts.later → IsLeftIn capacity behind
+    → IsHeldOnce gate capacity renews parts three
+held_whole gate capacity renews parts base first behind one answers two three empty before state raced beside later
+    left = record {
+      texts = raced.0;
+      state = behind;
+      raced =
+          subst (λ (s : State). IsRacedBy gate capacity renews s parts.beside raced.0 behind)
+          (state ∙ ap (λ s. told_state s parts.before) empty) raced.1;
+      left = left;
+      text_is =
+          later ∙ ap (λ t. t ++ told_text behind parts.later) (beside
+          ∙ ap (λ t. t ++ answers) (before ∙ ap (λ s. told_text s parts.before) empty)
+          ∙ ap (λ a. told_text no_state parts.before ++ a) raced.2);
+    }
+
+pub held_none : (gate : ℕ → ℕ → Bool → Type 0) (capacity : ℕ) (renews : Bool) (parts : Parts)
+    → AreHeld gate capacity renews 0 parts []
+held_none gate capacity renews parts =
+    record { count = refl; each = All-nil (IsHeldOnce gate capacity renews parts) }
+
+pub held_next : (gate : ℕ → ℕ → Bool → Type 0) (capacity : ℕ) (renews : Bool) (runs : ℕ) (parts : Parts)
+    (came : List (List ℕ)) (text : List ℕ) → AreHeld gate capacity renews runs parts came
+    → IsHeldOnce gate capacity renews parts text → AreHeld gate capacity renews (runs + 1) parts (came ++ text ∷ [])
+held_next gate capacity renews runs parts came text held once = record {
+  count = length_push came text ∙ ap (λ n. n + 1) held.count;
+  each = All-push (IsHeldOnce gate capacity renews parts) came text held.each once;
+}
+
+pub held_written : {A : Type 0} (gate : ℕ → ℕ → Bool → Type 0) (capacity : ℕ) (renews : Bool) (runs : ℕ)
+    (result : Result A ScriptFault) (came : List (List ℕ)) (text given : List ℕ) (input rest old new : Option (List ℕ))
+    → Consumes input rest given → IsAtEnd rest
+    → (IsWellRead given → AreHeld gate capacity renews runs (parts_of (script_read given)) came)
+    → (IsWellRead given → IsSeenOf came text) → OnOk result (Appends old new text)
+    → OnOk result (IfSome input (λ t. AppendsHeldRuns gate capacity renews runs t old new))
+held_written gate capacity renews runs (Ok e) came text given input rest old new read end held seen written =
+    read_whole (λ t. AppendsHeldRuns gate capacity renews runs t old new) input rest given read end
+    (λ well. (came, text, held well, seen well, written))
+held_written gate capacity renews runs (Err f) came text given input rest old new read end held seen written = tt

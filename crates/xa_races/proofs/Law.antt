@@ -1,0 +1,207 @@
+-- What lines were answered in a race, some order of them gives.
+--     Leads            turns lead to these texts
+--     raced_leads      those of lines that raced are led to
+--     one_line         one line that raced is answered as a run answers it
+--     came_given       what came of parts is given by an order
+use Rattle.std.proofs.Common.{◌≡◌, ℕ, suc, ◌+◌, ◌≤◌, ◌==◌, ◌&&◌, Bool, true, false, not, cond, Option, Some, None, List}
+use Rattle.std.proofs.Common.{[], ◌∷◌, ◌++◌, length, map}
+use Rattle.std.proofs.Common.{refl, ap, sym, ◌∙◌, subst, inl, inr, arith, append-nil}
+use Rattle.std.specs.Prelude.{slice_get, nat_lt}
+use Rattle.std.specs.List.{All, Contains, concat}
+use Rattle.std.specs.Option.{option_map}
+use Rattle.std.proofs.lemmas.Option.{none-some, same_Some, slice_get_within, get_or_from_slice_get}
+use Rattle.xa_xid.specs.declared.statement.Statement.{Statement}
+use Rattle.xa_statement.specs.Reading.{read_of}
+use Rattle.xa_words.specs.Entry.{Entry}
+use Rattle.xa_server.specs.State.{State, no_state}
+use Rattle.decision_log.specs.Known.{newcomer}
+use Rattle.xa_session.specs.Replay.{state_after}
+use Rattle.xa_session.proofs.Replaying.{state_after-nil}
+use Rattle.xa_session.specs.declared.answer.Answer.{Answer}
+use Rattle.xa_store.specs.Legal.{Answered, entered, next_place, IsLegal}
+use Rattle.xa_lines.specs.Transcript.{answer_to, state_then}
+use Rattle.xa_orders.specs.declared.outcome.Outcome.{Outcome}
+use Rattle.xa_orders.specs.Orders.{Told, Parts, Config, opening, text_at, carried_out, turn, IsSession, LeadsTo, Gives}
+use Rattle.xa_orders.specs.Orders.{AtMost, Any, IsExplored, told_text, told_state}
+use Rattle.xa_races.specs.CountedRaced.{statements_of, laid_texts, IsRaced, HasCome}
+use Rattle.xa_races.proofs.CountedTests.{same_of_test}
+use Rattle.xa_races.proofs.CountedHistories.{Remains, statements_in, answers_in}
+use Rattle.xa_races.proofs.Turns.{Lines, Stands, Goes, said_of, opening_agrees, opening_left, all_empty}
+use Rattle.xa_races.proofs.CountedSchedules.{Ready, goes}
+
+all_at : {A : Type 0} (P : A → Type 0) (list : List A) (place : ℕ) (x : A) → All P list → slice_get list place ≡ Some x
+    → P x
+all_at P list place x all found =
+    subst P (get_or_from_slice_get list place x x found) (all place x (slice_get_within list place x found))
+
+-- turns lead to these texts, and to this state
+pub record Leads (base : State) (lines : List Told) (texts : List (List ℕ)) (new : State) : Type 0 where
+  pub order : List ℕ
+  pub config : Config
+  pub leads : LeadsTo lines (opening lines base) order config
+  pub answers : config.answers ≡ texts
+  pub state : config.state ≡ new
+  pub count : length order ≡ length lines
+
+answered_long : (base : State) (history : List Entry) (session : ℕ) (statements : List Statement)
+    (answers : List Answer) (from : ℕ)
+    → Answered base history session from statements answers → length answers ≡ length statements
+answered_long base history session [] [] from answered = refl
+answered_long base history session [] (answer ∷ answers) from answered = absurd answered
+answered_long base history session (statement ∷ statements) [] from answered = absurd answered
+answered_long base history session (statement ∷ statements) (answer ∷ answers) from answered =
+    ap suc (answered_long base history session statements answers
+    (next_place base history session statement answer) answered.2)
+
+said_statements : (statements : List Statement) (answers : List Answer) → length answers ≡ length statements
+    → statements_in (said_of statements answers) ≡ statements
+said_statements [] answers long = refl
+said_statements (statement ∷ statements) [] long = absurd (omega arith)
+said_statements (statement ∷ statements) (answer ∷ answers) long =
+    ap (λ l. statement ∷ l) (said_statements statements answers (omega (arith, long)))
+
+said_answers : (statements : List Statement) (answers : List Answer) → length answers ≡ length statements
+    → answers_in (said_of statements answers) ≡ answers
+said_answers [] [] long = refl
+said_answers [] (answer ∷ answers) long = absurd (omega arith)
+said_answers (statement ∷ statements) [] long = absurd (omega arith)
+said_answers (statement ∷ statements) (answer ∷ answers) long =
+    ap (λ l. answer ∷ l) (said_answers statements answers (omega (arith, long)))
+
+module _ (base : State) (lines : List Told) (texts : List (List ℕ)) (new : State)
+    (raced : IsRaced base lines texts new) where
+  long : (session : ℕ) → IsSession session → length (raced.answers session) ≡ length (statements_of session lines)
+  long session is =
+      answered_long base raced.history session (statements_of session lines) (raced.answers session) 0
+      (raced.legal session is).answered
+
+  abbrev all_said : Lines
+  all_said = λ session. said_of (statements_of session lines) (raced.answers session)
+
+  remain : (session : ℕ) → IsSession session → Remains base raced.history 0 session (all_said session)
+  remain session is =
+      let legal : IsLegal base raced.history (newcomer session) (statements_of session lines) (raced.answers session) =
+      raced.legal session is in
+      let statements : statements_in (all_said session) ≡ statements_of session lines =
+      said_statements (statements_of session lines) (raced.answers session) (long session is) in
+      let answers : answers_in (all_said session) ≡ raced.answers session =
+      said_answers (statements_of session lines) (raced.answers session) (long session is) in
+      record {
+        answered =
+            subst (λ (s : List Statement). Answered base raced.history session 0 s (answers_in (all_said session)))
+            (sym statements)
+            (subst (λ (a : List Answer). Answered base raced.history session 0 (statements_of session lines) a)
+            (sym answers) legal.answered);
+        mine = legal.mine ∙ ap (λ (s : List Statement). entered base raced.history session s (raced.answers session))
+            (sym statements)
+            ∙ ap (λ (a : List Answer). entered base raced.history session (statements_in (all_said session)) a)
+            (sym answers);
+      }
+
+  stands : Stands lines (laid_texts [] raced.answers lines) (state_after base raced.history) all_said
+      (opening lines base)
+  stands = record {
+    agrees = opening_agrees [] raced.answers lines;
+    left_is = λ session is. opening_left [] raced.answers lines session raced.read
+        (let same = long session is in omega (arith, same));
+  }
+
+  pub raced_leads : Leads base lines texts new
+  raced_leads =
+      let ready : Ready lines (laid_texts [] raced.answers lines) raced.sessions base raced.history 0 all_said
+      (opening lines base) =
+      record { remain = remain; state = sym (state_after-nil base); stands = stands } in
+      let all : Goes lines (laid_texts [] raced.answers lines) (state_after base raced.history) (opening lines base) =
+      goes lines (laid_texts [] raced.answers lines) raced.sessions base raced.history (length raced.history) 0
+      (omega arith)
+      (λ at entry found. all_at (λ (e : Entry). (1 ≤ e.session)
+      × (e.session ≤ 16)) raced.history at entry raced.own found) all_said (opening lines base) ready in
+      record {
+        order = all.order;
+        config = all.new;
+        leads = all.leads;
+        answers = all.answers ∙ sym raced.texts_are;
+        state = all.state ∙ sym raced.new_is;
+        count = all.count ∙ all_empty lines;
+      }
+
+-- the one line of the session that has a turn
+turn_one : (base : State) (told : Told) (session : ℕ) (mid : Config)
+    → turn (told ∷ []) (opening (told ∷ []) base) session ≡ Some mid
+    → (told.session ≡ session) × (mid ≡ carried_out session told.text (opening (told ∷ []) base) 0)
+unfolding turn
+turn_one base told session mid is = by (told.session == session) refl
+  where
+    at : Bool → Option Config
+    at b = option_map (λ place. carried_out session (text_at (told ∷ []) place) (opening (told ∷ []) base) place)
+        (cond (nat_lt (cond (not (b && true)) (1 + 0) 0) 1) (Some (cond (not (b && true)) (1 + 0) 0)) None)
+
+    by : (b : Bool) → (told.session == session) ≡ b → (told.session ≡ session)
+        × (mid ≡ carried_out session told.text (opening (told ∷ []) base) 0)
+    by true its = (
+      same_of_test told.session session its,
+      same_Some mid (carried_out session told.text (opening (told ∷ []) base) 0) (sym is ∙ ap at its),
+    )
+    by false other = absurd (none-some mid (sym (ap at other) ∙ is))
+
+one_turn : (base : State) (told : Told) (order : List ℕ) (config : Config) → length order ≡ 1
+    → LeadsTo (told ∷ []) (opening (told ∷ []) base) order config
+    → config ≡ carried_out told.session told.text (opening (told ∷ []) base) 0
+one_turn base told [] config one leads = absurd (omega (arith, one))
+one_turn base told (session ∷ []) config one leads =
+    let turned = turn_one base told session leads.0 leads.2 in
+    leads.3 ∙ turned.1 ∙ ap (λ n. carried_out n told.text (opening (told ∷ []) base) 0) (sym turned.0)
+one_turn base told (session ∷ other ∷ order) config one leads = absurd (omega (arith, one))
+
+pub one_line : (base : State) (told : Told) (texts : List (List ℕ)) (new : State) → IsRaced base (told ∷ []) texts new
+    → (concat texts ≡ answer_to base told.session (read_of told.text))
+    × (new ≡ state_then base told.session (read_of told.text))
+one_line base told texts new raced =
+    let led : Leads base (told ∷ []) texts new = raced_leads base (told ∷ []) texts new raced in
+    let is : led.config ≡ carried_out told.session told.text (opening (told ∷ []) base) 0 =
+    one_turn base told led.order led.config led.count led.leads in (
+      ap concat (sym led.answers ∙ ap (λ (c : Config). c.answers) is)
+          ∙ append-nil (answer_to base told.session (read_of told.text)),
+      sym led.state ∙ ap (λ (c : Config). c.state) is,
+    )
+
+pub came_given : (parts : Parts) (text : List ℕ) → HasCome parts text → (order : List ℕ) × Gives parts order text
+came_given parts text came =
+    let led : Leads (told_state no_state parts.before) parts.beside came.texts came.state =
+    raced_leads (told_state no_state parts.before) parts.beside came.texts came.state came.raced in (
+      led.order,
+      record {
+        config = led.config;
+        whole = led.count;
+        leads = led.leads;
+        text_is = came.text_is
+            ∙ ap (λ (l : List (List ℕ)). told_text no_state parts.before ++ concat l
+            ++ told_text came.state parts.later) (sym led.answers)
+            ∙ ap (λ (s : State). told_text no_state parts.before ++ concat led.config.answers
+            ++ told_text s parts.later) (sym led.state);
+      },
+    )
+
+in_mapped : (outcomes : List Outcome) (order text : List ℕ)
+    → Any (λ one. (one.text.items ≡ text) × AtMost one.order.items order) outcomes
+    → Contains (map (λ one. one.text.items) outcomes) text
+in_mapped [] order text any = absurd any
+in_mapped (one ∷ outcomes) order text (inl here) = (0, omega arith, here.0)
+in_mapped (one ∷ outcomes) order text (inr later) =
+    let rest = in_mapped outcomes order text later in
+    (suc rest.0, omega (arith, rest.1), rest.2)
+
+-- a text that came is that of an outcome that is explored
+pub came_outcome : (parts : Parts) (outcomes : List Outcome) (text : List ℕ) → IsExplored parts outcomes
+    → HasCome parts text
+    → (order : List ℕ) × Any (λ one. (one.text.items ≡ text) × AtMost one.order.items order) outcomes
+came_outcome parts outcomes text explored came =
+    let given = came_given parts text came in
+    (given.0, explored.all given.0 text given.1)
+
+pub came_listed : (parts : Parts) (outcomes : List Outcome) (text : List ℕ) → IsExplored parts outcomes
+    → HasCome parts text
+    → Contains (map (λ one. one.text.items) outcomes) text
+came_listed parts outcomes text explored came =
+    let found = came_outcome parts outcomes text explored came in
+    in_mapped outcomes found.0 text found.1

@@ -1,0 +1,171 @@
+-- The sessions and the runs of a race, and its faults.
+use Rattle.std.proofs.Common.{◌≡◌, ℕ, zero, suc, ◌+◌, ◌<◌, ◌≤◌, Bool, List, [], ◌∷◌, ◌++◌, length, map, refl, ap, sym}
+use Rattle.std.proofs.Common.{◌∙◌, subst, arith}
+use Rattle.std.specs.List.{All, AllZip}
+use Rattle.std.proofs.lemmas.List.Elements.{All-nil, All-cons, All-head, All-tail}
+use Rattle.xa_xid.specs.declared.statement.Statement.{Statement}
+use Rattle.xa_words.specs.Entry.{Entry}
+use Rattle.xa_server.specs.State.{no_state}
+use Rattle.decision_log.specs.Known.{newcomer}
+use Rattle.decision_log.specs.History.{Begins}
+use Rattle.decision_log.proofs.Histories.{begins_through}
+use Rattle.xa_session.specs.Replay.{state_after}
+use Rattle.xa_session.specs.declared.answer.Answer.{Answer}
+use Rattle.xa_endless.specs.declared.session.EndlessSession.{EndlessSession}
+use Rattle.xa_endless.specs.declared.store.EndlessStore.{EndlessStore}
+use Rattle.xa_store.specs.Legal.{IsLegal}
+use Rattle.xa_store.specs.declared.race_fault.RaceFault.{RaceFault}
+use Rattle.xa_store.specs.declared.race_fault.RaceFault.TheVariants.{GateShut, Full, NoMemory, ThreadRefused}
+use Rattle.xa_races.specs.Long.{known_in, HoldsAll, BlamesLong}
+use Rattle.xa_races.specs.Outcome.{script_fault_of}
+use Rattle.xa_races.specs.declared.long_run.LongRun.{LongRun}
+use Rattle.xa_orders.specs.Orders.{Told}
+use Rattle.xa_races.specs.CountedRaced.{statements_of}
+use Rattle.xa_races.specs.CountedHeld.{list_at, AreNumbered, AreRunsOf}
+use Rattle.xa_races.specs.Came.{IsOfRace}
+use Rattle.xa_races.proofs.Earlier.{earlier, legal_earlier}
+
+pub race_fault : (gate : ℕ → ℕ → Bool → Type 0) (renews : Bool) (runs : List LongRun) (fault : RaceFault)
+    → BlamesLong gate runs fault
+    → IsOfRace renews (script_fault_of fault)
+race_fault gate renews runs (GateShut session line) blamed = tt
+race_fault gate renews runs (Full session line) blamed = absurd blamed
+race_fault gate renews runs NoMemory blamed = tt
+race_fault gate renews runs ThreadRefused blamed = tt
+
+-- the runs are of the store that the sessions are of
+pub runs_mine : (store : EndlessStore) (n : ℕ) (lines : List Told) (sessions : List EndlessSession)
+    (runs : List LongRun) → AreRunsOf n lines sessions runs
+    → All (λ session. session.store.value ≡ store) sessions → All (λ run. run.session.store.value ≡ store) runs
+runs_mine store n lines [] [] are all = All-nil (λ (run : LongRun). run.session.store.value ≡ store)
+runs_mine store n lines [] (run ∷ runs) are all = absurd are
+runs_mine store n lines (session ∷ sessions) [] are all = absurd are
+runs_mine store n lines (session ∷ sessions) (run ∷ runs) are all =
+    let Mine : EndlessSession → Type 0 = λ s. s.store.value ≡ store in
+    All-cons (λ (r : LongRun). r.session.store.value ≡ store) run runs
+    (ap (λ (s : EndlessSession). s.store.value) are.0 ∙ All-head Mine session sessions all)
+    (runs_mine store (n + 1) lines sessions runs are.2 (All-tail Mine session sessions all))
+
+-- and so are the sessions that come back
+pub sessions_mine : (store : EndlessStore) (runs : List LongRun) (sessions : List EndlessSession)
+    → All (λ run. run.session.store.value ≡ store) runs
+    → AllZip (λ run session. (session.store.value ≡ run.session.store.value)
+    × ((known_in session).number ≡ (known_in run.session).number)) runs sessions
+    → All (λ session. session.store.value ≡ store) sessions
+sessions_mine store [] [] all zip = All-nil (λ (session : EndlessSession). session.store.value ≡ store)
+sessions_mine store [] (session ∷ sessions) all zip = absurd zip
+sessions_mine store (run ∷ runs) [] all zip = absurd zip
+sessions_mine store (run ∷ runs) (session ∷ sessions) all zip =
+    let Mine : LongRun → Type 0 = λ r. r.session.store.value ≡ store in
+    All-cons (λ (s : EndlessSession). s.store.value ≡ store) session sessions (zip.0.0 ∙ All-head Mine run runs all)
+    (sessions_mine store runs sessions (All-tail Mine run runs all) zip.1)
+
+-- each has its number
+pub sessions_numbered : (n : ℕ) (lines : List Told) (before : List EndlessSession) (runs : List LongRun)
+    (sessions : List EndlessSession)
+    → AreRunsOf n lines before runs → AreNumbered n before
+    → AllZip (λ run session. (session.store.value ≡ run.session.store.value)
+    × ((known_in session).number ≡ (known_in run.session).number)) runs sessions
+    → AreNumbered n sessions
+sessions_numbered n lines [] [] [] are numbered zip = tt
+sessions_numbered n lines [] [] (session ∷ sessions) are numbered zip = absurd zip
+sessions_numbered n lines [] (run ∷ runs) sessions are numbered zip = absurd are
+sessions_numbered n lines (one ∷ before) [] sessions are numbered zip = absurd are
+sessions_numbered n lines (one ∷ before) (run ∷ runs) [] are numbered zip = absurd zip
+sessions_numbered n lines (one ∷ before) (run ∷ runs) (session ∷ sessions) are numbered zip = (
+  zip.0.1 ∙ ap (λ (s : EndlessSession). (known_in s).number) are.0 ∙ numbered.0,
+  sessions_numbered (n + 1) lines before runs sessions are.2 numbered.1 zip.1,
+)
+
+-- there are as many
+pub sessions_long : (n : ℕ) (lines : List Told) (before : List EndlessSession) (runs : List LongRun)
+    (sessions : List EndlessSession)
+    → AreRunsOf n lines before runs
+    → AllZip (λ run session. (session.store.value ≡ run.session.store.value)
+    × ((known_in session).number ≡ (known_in run.session).number)) runs sessions
+    → length sessions ≡ length before
+sessions_long n lines [] [] [] are zip = refl
+sessions_long n lines [] [] (session ∷ sessions) are zip = absurd zip
+sessions_long n lines [] (run ∷ runs) sessions are zip = absurd are
+sessions_long n lines (one ∷ before) [] sessions are zip = absurd are
+sessions_long n lines (one ∷ before) (run ∷ runs) [] are zip = absurd zip
+sessions_long n lines (one ∷ before) (run ∷ runs) (session ∷ sessions) are zip =
+    ap suc (sessions_long (n + 1) lines before runs sessions are.2 zip.1)
+
+-- no run has a number above that of the last
+pub runs_low : (n count : ℕ) (lines : List Told) (sessions : List EndlessSession) (runs : List LongRun)
+    → AreRunsOf n lines sessions runs → AreNumbered n sessions
+    → n + length sessions ≤ count + 1 → All (λ run. (known_in run.session).number ≤ count) runs
+runs_low n count lines [] [] are numbered few = All-nil (λ (run : LongRun). (known_in run.session).number ≤ count)
+runs_low n count lines [] (run ∷ runs) are numbered few = absurd are
+runs_low n count lines (session ∷ sessions) [] are numbered few = absurd are
+runs_low n count lines (session ∷ sessions) (run ∷ runs) are numbered few =
+    let number : (known_in run.session).number ≡ n = ap (λ (s : EndlessSession). (known_in s).number) are.0
+    ∙ numbered.0 in
+    All-cons (λ (r : LongRun). (known_in r.session).number ≤ count) run runs (omega (arith, number, few))
+    (runs_low (n + 1) count lines sessions runs are.2 numbered.1 (omega (arith, few)))
+
+-- each session's answers are legal in what was added, after the state before
+pub legal_each : (first second : List Entry) (n : ℕ) (lines : List Told) (sessions : List EndlessSession)
+    (runs : List LongRun) (answers : List (List Answer))
+    → AreRunsOf n lines sessions runs → AreNumbered n sessions
+    → All (λ session. HoldsAll first (known_in session)) sessions
+    → AllZip (λ run answers. IsLegal no_state (first ++ second)
+    (known_in run.session) run.lines.items answers) runs answers
+    → (index : ℕ) → index < length sessions
+    → IsLegal (state_after no_state first) second (newcomer (index + n)) (statements_of (index + n) lines)
+    (list_at (map (map (earlier (length first))) answers) index)
+legal_each first second n lines [] [] answers are numbered holds legal index below = absurd (omega (arith, below))
+legal_each first second n lines [] (run ∷ runs) answers are numbered holds legal index below = absurd are
+legal_each first second n lines (session ∷ sessions) [] answers are numbered holds legal index below = absurd are
+legal_each first second n lines (session ∷ sessions) (run ∷ runs) [] are numbered holds legal index below = absurd legal
+legal_each first second n lines (session ∷ sessions) (run ∷ runs) (own ∷ answers) are numbered holds legal zero below =
+    let Holds : EndlessSession → Type 0 = λ s. HoldsAll first (known_in s) in
+    let none : n ≡ 0 + n = omega arith in
+    let number : (known_in run.session).number ≡ 0 + n = ap (λ (s : EndlessSession). (known_in s).number) are.0
+    ∙ numbered.0 ∙ none in
+    let is =
+    legal_earlier no_state first second (known_in run.session) run.lines.items own
+    (subst Holds (sym are.0) (All-head Holds session sessions holds)) legal.0 in
+    subst (λ (m : ℕ). IsLegal (state_after no_state first) second (newcomer m) (statements_of (0 + n) lines)
+    (map (earlier (length first)) own)) number
+    (subst (λ (l : List Statement). IsLegal (state_after no_state first) second
+    (newcomer (known_in run.session).number) l (map (earlier (length first)) own))
+    (are.1 ∙ ap (λ m. statements_of m lines) none) is)
+legal_each first second n lines (session ∷ sessions) (run ∷ runs) (own ∷ answers) are numbered holds legal
+    (suc index) below =
+    let Holds : EndlessSession → Type 0 = λ s. HoldsAll first (known_in s) in
+    let next : index + (n + 1) ≡ suc index + n = omega arith in
+    subst (λ (m : ℕ). IsLegal (state_after no_state first) second (newcomer m) (statements_of m lines)
+    (list_at (map (map (earlier (length first))) answers) index))
+    next
+    (legal_each first second (n + 1) lines sessions runs answers are.2 numbered.1
+    (All-tail Holds session sessions holds) legal.1 index (omega (arith, below)))
+
+pub answers_long : (first second : List Entry) (n : ℕ) (lines : List Told) (sessions : List EndlessSession)
+    (runs : List LongRun) (answers : List (List Answer))
+    → AreRunsOf n lines sessions runs
+    → AllZip (λ run answers. IsLegal no_state (first ++ second)
+    (known_in run.session) run.lines.items answers) runs answers → length answers ≡ length sessions
+answers_long first second n lines [] [] [] are legal = refl
+answers_long first second n lines [] [] (own ∷ answers) are legal = absurd legal
+answers_long first second n lines [] (run ∷ runs) answers are legal = absurd are
+answers_long first second n lines (session ∷ sessions) [] answers are legal = absurd are
+answers_long first second n lines (session ∷ sessions) (run ∷ runs) [] are legal = absurd legal
+answers_long first second n lines (session ∷ sessions) (run ∷ runs) (own ∷ answers) are legal =
+    ap suc (answers_long first second (n + 1) lines sessions runs answers are.2 legal.1)
+
+-- the whole history begins with what all sessions had seen
+pub whole_begins : (first whole : List Entry) (n : ℕ) (lines : List Told) (sessions : List EndlessSession)
+    (runs : List LongRun) (answers : List (List Answer))
+    → 0 < length sessions → AreRunsOf n lines sessions runs
+    → All (λ session. HoldsAll first (known_in session)) sessions
+    → AllZip (λ run answers. IsLegal no_state whole (known_in run.session) run.lines.items answers) runs answers
+    → Begins first whole
+whole_begins first whole n lines [] runs answers some are holds legal = absurd (omega (arith, some))
+whole_begins first whole n lines (session ∷ sessions) [] answers some are holds legal = absurd are
+whole_begins first whole n lines (session ∷ sessions) (run ∷ runs) [] some are holds legal = absurd legal
+whole_begins first whole n lines (session ∷ sessions) (run ∷ runs) (own ∷ answers) some are holds legal =
+    let Holds : EndlessSession → Type 0 = λ s. HoldsAll first (known_in s) in
+    let held = subst Holds (sym are.0) (All-head Holds session sessions holds) in
+    begins_through first (known_in run.session).seen whole held.seen legal.0.seen

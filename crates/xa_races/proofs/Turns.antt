@@ -1,0 +1,493 @@
+-- Sessions take turns at their lines, each of which is answered as it is to be in the end.
+--     Agrees         lines, what they were answered so far, and what they are to be answered in the end
+--     Owed, left     what a line says and is to be answered;  what a session's lines that weren't carried out say, and
+--                    are to be answered
+--     empties        how many of the lines weren't
+--     next           the session's first line that wasn't is
+--     Stands, Goes   how things stand;  turns lead from there to the end
+--     emits          a line of a session is next
+--     begins         no line was carried out
+use Rattle.std.proofs.Common.{◌≡◌, ◌≢◌, ◌⊎◌, ℕ, zero, suc, ◌+◌, ◌<◌, ◌≤◌, ◌==◌, ◌&&◌, Bool, true, false, cond, Option}
+use Rattle.std.proofs.Common.{Some, None, Result, Ok, List, [], ◌∷◌, ◌++◌}
+use Rattle.std.proofs.Common.{length, map, drop, replicate, decimal, refl, ap, sym, ◌∙◌, subst, inl, inr, arith}
+use Rattle.std.specs.Prelude.{slice_get, slice_set}
+use Rattle.std.specs.List.{All, zip, position_or_len, cons_option, sum_by}
+use Rattle.std.specs.Option.{option_map}
+use Rattle.std.proofs.lemmas.List.Elements.{All-head, All-tail}
+use Rattle.std.proofs.lemmas.List.Sums.{sum_by-append}
+use Rattle.xa_xid.specs.declared.statement.Statement.{Statement}
+use Rattle.xa_statement.specs.Reading.{read_of}
+use Rattle.xa_server.specs.State.{State}
+use Rattle.xa_server.specs.declared.reply.Reply.{Reply}
+use Rattle.xa_server.specs.Replies.{reply_to}
+use Rattle.xa_server.specs.Step.{after}
+use Rattle.xa_session.specs.declared.answer.Answer.{Answer}
+use Rattle.xa_lines.specs.Script.{is_empty_line}
+use Rattle.xa_lines.specs.Printed.{reply_text, converts, answer_text}
+use Rattle.xa_lines.specs.Transcript.{answer_to, state_then}
+use Rattle.xa_orders.specs.Orders.{Told, Config, is_left, text_at, carried_out, turn, IsSession, LeadsTo}
+use Rattle.xa_races.specs.CountedRaced.{IsReadLine, statement_in, statements_of, converts_in, line_text, rank_in}
+use Rattle.xa_races.specs.CountedRaced.{laid_texts}
+use Rattle.xa_races.proofs.CountedTests.{same_number, same_test, apart_test, same_of_test, first_passes, first_fails}
+use Rattle.xa_races.proofs.CountedTests.{position_is}
+use Rattle.xa_races.proofs.CountedHistories.{Said}
+
+-- each line has no answer yet, or that of the end
+abbrev pub Agrees : List Told → List (List ℕ) → List (List ℕ) → Type 0
+Agrees [] [] [] = Unit {0}
+Agrees (told ∷ lines) (answer ∷ answers) (text ∷ texts) = ((answer ≡ []) ⊎ (answer ≡ text)) × Agrees lines answers texts
+Agrees lines answers texts = ⊥
+
+-- what a line says, and is to be answered
+abbrev pub Owed : Type 0
+Owed = Result Statement ℕ × List ℕ
+
+abbrev pub left : ℕ → List Told → List (List ℕ) → List (List ℕ) → List Owed
+left session (told ∷ lines) (answer ∷ answers) (text ∷ texts) =
+    cond (is_left session (told, answer)) ((read_of told.text, text) ∷ left session lines answers texts)
+    (left session lines answers texts)
+left session lines answers texts = []
+
+abbrev pub empties : List (List ℕ) → ℕ
+empties [] = 0
+empties (answer ∷ answers) = cond (is_empty_line answer) (suc (empties answers)) (empties answers)
+
+-- the session's first line that wasn't carried out is
+pub record Next (session : ℕ) (lines : List Told) (answers texts : List (List ℕ)) (read : Result Statement ℕ)
+    (text : List ℕ) (rest : List Owed) : Type 0 where
+  pub place : ℕ
+  pub below : place < length (zip lines answers)
+  pub first : position_or_len (is_left session) (zip lines answers) ≡ place
+  pub read_is : read_of (text_at lines place) ≡ read
+  pub agrees : Agrees lines (slice_set answers place text) texts
+  pub own : left session lines (slice_set answers place text) texts ≡ rest
+  pub others : (other : ℕ) → other ≢ session → left other lines (slice_set answers place text) texts
+      ≡ left other lines answers texts
+  pub fewer : empties answers ≡ suc (empties (slice_set answers place text))
+
+abbrev head_or : {A : Type 0} → List A → A → A
+head_or [] d = d
+head_or (x ∷ xs) d = x
+
+abbrev tail_of : {A : Type 0} → List A → List A
+tail_of [] = []
+tail_of (x ∷ xs) = xs
+
+heads : {A B : Type 0} (x y : A) (a b : B) (xs ys : List (A × B)) → (x, a) ∷ xs ≡ (y, b) ∷ ys
+    → (x ≡ y) × (a ≡ b) × (xs ≡ ys)
+heads {A} {B} x y a b xs ys same = (
+  ap (λ (l : List (A × B)). (head_or {A = A × B} l (x, a)).0) same,
+  ap (λ (l : List (A × B)). (head_or {A = A × B} l (x, a)).1) same,
+  ap (λ (l : List (A × B)). tail_of {A = A × B} l) same,
+)
+
+and_first : (a b : Bool) → (a && b) ≡ true → a ≡ true
+and_first true b both = refl
+and_first false b both = both
+
+and_second : (a b : Bool) → (a && b) ≡ true → b ≡ true
+and_second true b both = both
+and_second false b both = absurd cc
+
+and_false : (a : Bool) → (a && false) ≡ false
+and_false true = refl
+and_false false = refl
+
+-- a session that isn't the line's has nothing left there
+not_its : (session other : ℕ) (told : Told) (answer : List ℕ) → (told.session == session) ≡ true → other ≢ session
+    → is_left other (told, answer) ≡ false
+not_its session other told answer its apart =
+    ap (λ b. b && is_empty_line answer) (apart_test told.session other
+    (λ same. apart (sym same ∙ same_of_test told.session session its)))
+
+filled_not : (session : ℕ) (told : Told) (text : List ℕ) → is_empty_line text ≡ false
+    → is_left session (told, text) ≡ false
+filled_not session told text filled =
+    ap (λ b. (told.session == session) && b) filled ∙ and_false (told.session == session)
+
+pub next : (session : ℕ) (lines : List Told) (answers texts : List (List ℕ)) (read : Result Statement ℕ) (text : List ℕ)
+    (rest : List Owed)
+    → is_empty_line text ≡ false → Agrees lines answers texts → left session lines answers texts ≡ (read, text) ∷ rest
+    → Next session lines answers texts read text rest
+next session [] [] [] read text rest filled agrees is = absurd cc
+next session [] [] (x ∷ xs) read text rest filled agrees is = absurd agrees
+next session [] (a ∷ answers) texts read text rest filled agrees is = absurd agrees
+next session (told ∷ lines) [] texts read text rest filled agrees is = absurd agrees
+next session (told ∷ lines) (answer ∷ answers) [] read text rest filled agrees is = absurd agrees
+next session (told ∷ lines) (answer ∷ answers) (last ∷ texts) read text rest filled agrees is =
+    by (λ owed. next session lines answers texts read text rest filled agrees.1 owed)
+    (is_left session (told, answer)) refl
+  where
+    here : is_left session (told, answer) ≡ true → Next session (told ∷ lines) (answer ∷ answers)
+        (last ∷ texts) read text rest
+    here own_line =
+        let parts : (read_of told.text ≡ read) × (last ≡ text) × (left session lines answers texts ≡ rest) =
+        heads (read_of told.text) read last text (left session lines answers texts) rest
+        (sym (ap (λ b. cond b ((read_of told.text, last) ∷ left session lines answers texts)
+        (left session lines answers texts)) own_line) ∙ is) in
+        let its : (told.session == session) ≡ true = and_first (told.session == session)
+        (is_empty_line answer) own_line in
+        let empty : is_empty_line answer ≡ true = and_second (told.session == session)
+        (is_empty_line answer) own_line in
+        record {
+          place = 0;
+          below = omega arith;
+          first = first_passes (is_left session) (told, answer) (zip lines answers) own_line;
+          read_is = parts.0;
+          agrees = (inr (sym parts.1), agrees.1);
+          own =
+              ap (λ b. cond b ((read_of told.text, last) ∷ left session lines answers texts)
+              (left session lines answers texts))
+              (filled_not session told text filled) ∙ parts.2;
+          others = λ other apart.
+              ap (λ b. cond b ((read_of told.text, last) ∷ left other lines answers texts)
+              (left other lines answers texts))
+              (filled_not other told text filled ∙ sym (not_its session other told answer its apart));
+          fewer =
+              ap (λ b. cond b (suc (empties answers)) (empties answers)) empty
+              ∙ ap (λ b. suc (cond b (suc (empties answers)) (empties answers))) (sym filled);
+        }
+
+    there : is_left session (told, answer) ≡ false → Next session lines answers texts read text rest
+        → Next session (told ∷ lines) (answer ∷ answers) (last ∷ texts) read text rest
+    there not_own later =
+        let place : ℕ = later.place in
+        let after' : List (List ℕ) = slice_set answers place text in
+        record {
+          place = suc place;
+          below = omega (arith, later.below);
+          first = first_fails (is_left session) (told, answer) (zip lines answers) not_own ∙ ap (λ n. 1 + n) later.first
+              ∙ one_more place;
+          read_is = later.read_is;
+          agrees = (agrees.0, later.agrees);
+          own = ap (λ b. cond b ((read_of told.text, last) ∷ left session lines after' texts)
+              (left session lines after' texts)) not_own ∙ later.own;
+          others = λ other apart.
+              ap (λ l. cond (is_left other (told, answer)) ((read_of told.text, last) ∷ l) l)
+              (later.others other apart);
+          fewer = ap (λ n. cond (is_empty_line answer) (suc n) n) later.fewer
+              ∙ suc_out (is_empty_line answer) (empties after');
+        }
+      where
+        one_more : (n : ℕ) → 1 + n ≡ suc n
+        one_more n = omega arith
+
+        suc_out : (b : Bool) (n : ℕ) → cond b (suc (suc n)) (suc n) ≡ suc (cond b (suc n) n)
+        suc_out true n = refl
+        suc_out false n = refl
+
+    by : (left session lines answers texts ≡ (read, text) ∷ rest → Next session lines answers texts read text rest)
+        → (b : Bool)
+        → is_left session (told, answer) ≡ b
+        → Next session (told ∷ lines) (answer ∷ answers) (last ∷ texts) read text rest
+    by later true own_line = here own_line
+    by later false not_own = there not_own (later
+        (sym (ap (λ b. cond b ((read_of told.text, last) ∷ left session lines answers texts)
+        (left session lines answers texts)) not_own) ∙ is))
+
+-- what each session has left to say
+abbrev pub Lines : Type 0
+Lines = ℕ → List Said
+
+abbrev pub with_lines : Lines → ℕ → List Said → Lines
+with_lines lines session rest = λ other. cond (other == session) rest (lines other)
+
+pub lines_own : (lines : Lines) (session : ℕ) (rest : List Said) → with_lines lines session rest session ≡ rest
+lines_own lines session rest = ap (λ b. cond b rest (lines session)) (same_test session)
+
+pub lines_other : (lines : Lines) (session other : ℕ) (rest : List Said) → other ≢ session
+    → with_lines lines session rest other ≡ lines other
+lines_other lines session other rest apart = ap (λ b. cond b rest (lines other)) (apart_test other session apart)
+
+abbrev pub said_text : ℕ → Said → List ℕ
+said_text session said = answer_text (decimal session) (reply_text (converts said.statement) said.answer.reply)
+
+abbrev pub owed_by : ℕ → List Said → List Owed
+owed_by session said = map (λ one. (Ok one.statement, said_text session one)) said
+
+said_filled : (session : ℕ) (said : Said) → is_empty_line (said_text session said) ≡ false
+said_filled session said = ends (decimal session) (reply_text (converts said.statement) said.answer.reply)
+  where
+    ends : (who text : List ℕ) → is_empty_line (answer_text who text) ≡ false
+    ends [] text = refl
+    ends (byte ∷ who) text = refl
+
+module _ (told : List Told) (texts : List (List ℕ)) (end : State) where
+  -- what each session has left to say is what its lines that weren't carried out are to be answered
+  pub record Stands (lines : Lines) (config : Config) : Type 0 where
+    pub agrees : Agrees told config.answers texts
+    pub left_is : (session : ℕ) → IsSession session → left session told config.answers texts
+        ≡ owed_by session (lines session)
+
+  -- turns lead from there to the end, one for each line that is left
+  pub record Goes (config : Config) : Type 0 where
+    pub order : List ℕ
+    pub new : Config
+    pub leads : LeadsTo told config order new
+    pub answers : new.answers ≡ texts
+    pub state : new.state ≡ end
+    pub count : length order ≡ empties config.answers
+
+  taken : (config : Config) (session place : ℕ) → position_or_len (is_left session) (zip told config.answers) ≡ place
+      → place < length (zip told config.answers)
+      → turn told config session ≡ Some (carried_out session (text_at told place) config place)
+  unfolding turn
+  taken config session place first below =
+      ap (option_map (λ n. carried_out session (text_at told n) config n))
+      (position_is (is_left session) (zip told config.answers) place first below)
+
+  -- a line of a session is next: it has its turn now
+  pub emits : (lines : Lines) (session : ℕ) (said : Said) (rest : List Said) (config : Config) → IsSession session
+      → lines session ≡ said ∷ rest
+      → Stands lines config → said.answer.reply ≡ reply_to config.state session said.statement
+      → ((new : Config) → new.state ≡ after config.state session said.statement
+      → Stands (with_lines lines session rest) new → Goes new) → Goes config
+  emits lines session said rest config is own stands reply go =
+      let text : List ℕ = said_text session said in
+      let found : Next session told config.answers texts (Ok said.statement) text (owed_by session rest) =
+      next session told config.answers texts (Ok said.statement) text (owed_by session rest)
+      (said_filled session said) stands.agrees
+      (stands.left_is session is ∙ ap (owed_by session) own) in
+      let new : Config =
+      record {
+        state = after config.state session said.statement;
+        answers = slice_set config.answers found.place text;
+      } in
+      let answered : answer_to config.state session (read_of (text_at told found.place)) ≡ text =
+      ap (answer_to config.state session) found.read_is
+      ∙ ap (λ (r : Reply). answer_text (decimal session) (reply_text (converts said.statement) r)) (sym reply) in
+      let state : state_then config.state session (read_of (text_at told found.place))
+      ≡ after config.state session said.statement =
+      ap (state_then config.state session) found.read_is in
+      let carried : carried_out session (text_at told found.place) config found.place ≡ new =
+      ap (λ (s : State). record {
+        state = s;
+        answers = slice_set config.answers found.place
+            (answer_to config.state session (read_of (text_at told found.place)));
+      }) state
+      ∙ ap (λ (a : List ℕ). record
+      { state = after config.state session said.statement; answers = slice_set config.answers found.place a })
+      answered in
+      let next' : Goes new = go new refl (record {
+        agrees = found.agrees;
+        left_is = λ other it. elim (same_number other session) [
+          | inl same ↦ subst (λ (n : ℕ). left n told new.answers texts ≡ owed_by n (with_lines lines session rest n))
+              (sym same)
+              (found.own ∙ ap (owed_by session) (sym (lines_own lines session rest)))
+          | inr apart ↦ found.others other apart ∙ stands.left_is other it
+              ∙ ap (owed_by other) (sym (lines_other lines session other rest apart))
+        ];
+      }) in
+      record {
+        order = session ∷ next'.order;
+        new = next'.new;
+        leads = (new, is, taken config session found.place found.first found.below ∙ ap Some carried, next'.leads);
+        answers = next'.answers;
+        state = next'.state;
+        count = ap suc next'.count ∙ sym found.fewer;
+      }
+
+-- where no session has anything left, all lines were carried out
+pub all_filled : (told : List Told) (answers texts : List (List ℕ)) → Agrees told answers texts
+    → All (λ one. IsSession one.session) told
+    → ((session : ℕ) → IsSession session → left session told answers texts ≡ [])
+    → (answers ≡ texts) × (empties answers ≡ 0)
+all_filled [] [] [] agrees sessions none = (refl, refl)
+all_filled [] [] (x ∷ xs) agrees sessions none = absurd agrees
+all_filled [] (a ∷ answers) texts agrees sessions none = absurd agrees
+all_filled (told ∷ lines) [] texts agrees sessions none = absurd agrees
+all_filled (told ∷ lines) (answer ∷ answers) [] agrees sessions none = absurd agrees
+all_filled (told ∷ lines) (answer ∷ answers) (text ∷ texts) agrees sessions none =
+    by (λ rest. all_filled lines answers texts agrees.1 (All-tail
+    (λ (one : Told). IsSession one.session) told lines sessions) rest) (is_empty_line answer) refl
+  where
+    own : IsSession told.session
+    own = All-head (λ (one : Told). IsSession one.session) told lines sessions
+
+    is_text : is_empty_line answer ≡ false → ((answer ≡ []) ⊎ (answer ≡ text)) → answer ≡ text
+    is_text filled (inl empty) = absurd (let wrong : true ≡ false = sym (ap is_empty_line empty) ∙ filled in cc)
+    is_text filled (inr same) = same
+
+    by : (((session : ℕ) → IsSession session → left session lines answers texts ≡ [])
+        → (answers ≡ texts) × (empties answers ≡ 0)) → (b : Bool)
+        → is_empty_line answer ≡ b
+        → (answer ∷ answers ≡ text ∷ texts) × (empties (answer ∷ answers) ≡ 0)
+    by later true empty =
+        let open' : is_left told.session (told, answer) ≡ true =
+        ap (λ b. b && is_empty_line answer) (same_test told.session) ∙ empty in
+        let some : (read_of told.text, text) ∷ left told.session lines answers texts ≡ [] =
+        sym (ap (λ b. cond b ((read_of told.text, text) ∷ left told.session lines answers texts)
+        (left told.session lines answers texts)) open')
+        ∙ none told.session own in
+        absurd cc
+    by later false filled =
+        let rest : (answers ≡ texts) × (empties answers ≡ 0) =
+        later (λ session is. sym (ap (λ b. cond b ((read_of told.text, text) ∷ left session lines answers texts)
+        (left session lines answers texts))
+        (filled_not session told answer filled)) ∙ none session is) in (
+          ap (λ l. answer ∷ l) rest.0 ∙ ap (λ a. a ∷ texts) (is_text filled agrees.0),
+          ap (λ b. cond b (suc (empties answers)) (empties answers)) filled ∙ rest.1,
+        )
+
+pub all_empty : (lines : List Told) → empties (replicate (length lines) []) ≡ length lines
+all_empty [] = refl
+all_empty (told ∷ lines) = ap suc (all_empty lines)
+
+pub opening_agrees : (front : List Told) (answers : ℕ → List Answer) (lines : List Told)
+    → Agrees lines (replicate (length lines) []) (laid_texts front answers lines)
+unfolding laid_texts
+opening_agrees front answers [] = tt
+opening_agrees front answers (told ∷ lines) = (inl refl, opening_agrees (front ++ told ∷ []) answers lines)
+
+-- statements, each with its answer
+abbrev pub said_of : List Statement → List Answer → List Said
+said_of [] answers = []
+said_of (statement ∷ statements) [] = []
+said_of (statement ∷ statements) (answer ∷ answers) =
+    record { statement = statement; answer = answer } ∷ said_of statements answers
+
+rank_own : (front : List Told) (told : Told) (session : ℕ) → (told.session == session) ≡ true
+    → rank_in (front ++ told ∷ []) session ≡ rank_in front session + 1
+rank_own front told session its =
+    sum_by-append (λ one. cond (one.session == session) 1 0) front (told ∷ [])
+    ∙ ap (λ b. rank_in front session + sum_by (λ (n : ℕ). n) (cond b 1 0 ∷ [])) its
+
+rank_other : (front : List Told) (told : Told) (session : ℕ) → (told.session == session) ≡ false
+    → rank_in (front ++ told ∷ []) session ≡ rank_in front session
+rank_other front told session not_its' =
+    sum_by-append (λ one. cond (one.session == session) 1 0) front (told ∷ [])
+    ∙ ap (λ b. rank_in front session + sum_by (λ (n : ℕ). n) (cond b 1 0 ∷ [])) not_its' ∙ none (rank_in front session)
+  where
+    none : (n : ℕ) → n + 0 ≡ n
+    none n = omega arith
+
+-- what is left of a list from a place on begins with the item there
+from_there : {A : Type 0} (xs : List A) (place : ℕ) → place < length xs
+    → (x : A) × (slice_get xs place ≡ Some x) × (drop place xs ≡ x ∷ drop (place + 1) xs)
+from_there [] place below = absurd (omega arith)
+from_there (x ∷ xs) zero below = (x, refl, refl)
+from_there (x ∷ xs) (suc place) below =
+    let rest = from_there xs place (omega (arith, below)) in
+    let next : suc place + 1 ≡ suc (place + 1) = omega arith in
+    (rest.0, rest.1, rest.2 ∙ ap (λ n. rest.0 ∷ drop n (x ∷ xs)) (sym next))
+
+given_own : (session : ℕ) (told : Told) (lines : List Told) (statement : Statement) → (told.session == session) ≡ true
+    → read_of told.text ≡ Ok statement
+    → statements_of session (told ∷ lines) ≡ statement ∷ statements_of session lines
+unfolding statements_of
+given_own session told lines statement its read =
+    ap (λ (o : Option Statement). cons_option o (statements_of session lines))
+    (ap (λ b. cond b (statement_in (read_of told.text)) None) its ∙ ap statement_in read)
+
+given_other : (session : ℕ) (told : Told) (lines : List Told) → (told.session == session) ≡ false
+    → statements_of session (told ∷ lines) ≡ statements_of session lines
+unfolding statements_of
+given_other session told lines other =
+    ap (λ (o : Option Statement). cons_option o (statements_of session lines))
+    (ap (λ b. cond b (statement_in (read_of told.text)) None) other)
+
+given_none : (session : ℕ) → statements_of session [] ≡ []
+unfolding statements_of
+given_none session = refl
+
+pub laid_one : (front : List Told) (answers : ℕ → List Answer) (told : Told) (lines : List Told)
+    → laid_texts front answers (told ∷ lines)
+    ≡ line_text told (slice_get (answers told.session) (rank_in front told.session)) ∷ laid_texts
+    (front ++ told ∷ []) answers lines
+unfolding laid_texts
+laid_one front answers told lines = refl
+
+pub laid_none : (front : List Told) (answers : ℕ → List Answer) → laid_texts front answers [] ≡ []
+unfolding laid_texts
+laid_none front answers = refl
+
+-- what is left of a session at a line and behind it
+abbrev left_with : ℕ → Told → List Told → List (List ℕ) → List Owed
+left_with session told lines texts = left session (told ∷ lines) (replicate (length (told ∷ lines)) []) texts
+
+left_own : (session : ℕ) (told : Told) (lines : List Told) (text : List ℕ) (texts : List (List ℕ))
+    → (told.session == session) ≡ true
+    → left_with session told lines (text ∷ texts) ≡ (read_of told.text, text) ∷ left session lines
+    (replicate (length lines) []) texts
+left_own session told lines text texts its =
+    ap (λ b. cond (b && true) ((read_of told.text, text) ∷ left session lines (replicate (length lines) []) texts)
+    (left session lines (replicate (length lines) []) texts))
+    its
+
+left_other : (session : ℕ) (told : Told) (lines : List Told) (text : List ℕ) (texts : List (List ℕ))
+    → (told.session == session) ≡ false
+    → left_with session told lines (text ∷ texts) ≡ left session lines (replicate (length lines) []) texts
+left_other session told lines text texts other =
+    ap (λ b. cond (b && true) ((read_of told.text, text) ∷ left session lines (replicate (length lines) []) texts)
+    (left session lines (replicate (length lines) []) texts))
+    other
+
+line_said : (front : List Told) (answers : ℕ → List Answer) (told : Told) (session : ℕ) (statement : Statement)
+    (answer : Answer) → told.session ≡ session
+    → read_of told.text ≡ Ok statement
+    → slice_get (answers session) (rank_in front session) ≡ Some answer
+    → line_text told (slice_get (answers told.session) (rank_in front told.session))
+    ≡ said_text session (record { statement = statement; answer = answer })
+line_said front answers told session statement answer its read found =
+    ap (λ n. line_text told (slice_get (answers n) (rank_in front n))) its ∙ ap (line_text told) found
+    ∙ ap (λ (r : Result Statement ℕ). answer_text (decimal told.session) (reply_text (converts_in r) answer.reply)) read
+    ∙ ap (λ n. answer_text (decimal n) (reply_text (converts statement) answer.reply)) its
+
+-- before any line is carried out, each session has all its statements to say
+pub opening_left : (front : List Told) (answers : ℕ → List Answer) (lines : List Told) (session : ℕ)
+    → All IsReadLine lines
+    → length (statements_of session lines) + rank_in front session ≤ length (answers session)
+    → left session lines (replicate (length lines) []) (laid_texts front answers lines)
+    ≡ owed_by session (said_of (statements_of session lines) (drop (rank_in front session) (answers session)))
+opening_left front answers [] session read enough =
+    ap (λ l. owed_by session (said_of l (drop (rank_in front session) (answers session)))) (sym (given_none session))
+opening_left front answers (told ∷ lines) session read enough =
+    by (λ more. opening_left (front ++ told ∷ []) answers lines session (All-tail IsReadLine told lines read) more)
+    (told.session == session) refl
+  where
+    of : IsReadLine told
+    of = All-head IsReadLine told lines read
+
+    by : (length (statements_of session lines) + rank_in (front ++ told ∷ []) session ≤ length (answers session)
+        → left session lines (replicate (length lines) []) (laid_texts (front ++ told ∷ []) answers lines)
+        ≡ owed_by session (said_of (statements_of session lines)
+        (drop (rank_in (front ++ told ∷ []) session) (answers session))))
+        → (b : Bool)
+        → (told.session == session) ≡ b
+        → left_with session told lines (laid_texts front answers (told ∷ lines))
+        ≡ owed_by session (said_of (statements_of session (told ∷ lines))
+        (drop (rank_in front session) (answers session)))
+    by rest true its =
+        let is : told.session ≡ session = same_of_test told.session session its in
+        let given : statements_of session (told ∷ lines) ≡ of.0 ∷ statements_of session lines =
+        given_own session told lines of.0 its of.1 in
+        let below : rank_in front session < length (answers session) = omega (arith, ap length given, enough) in
+        let at : (x : Answer) × (slice_get (answers session) (rank_in front session) ≡ Some x)
+        × (drop (rank_in front session) (answers session) ≡ x ∷ drop (rank_in front session + 1) (answers session)) =
+        from_there (answers session) (rank_in front session) below in
+        let more : rank_in (front ++ told ∷ []) session ≡ rank_in front session + 1 = rank_own front told session its in
+        let later = rest (omega (arith, ap length given, enough, more)) in
+        ap (λ (l : List (List ℕ)). left_with session told lines l) (laid_one front answers told lines)
+        ∙ left_own session told lines (line_text told (slice_get (answers told.session) (rank_in front told.session)))
+        (laid_texts (front ++ told ∷ []) answers lines) its
+        ∙ ap (λ (r : Result Statement ℕ).
+        (r, line_text told (slice_get (answers told.session) (rank_in front told.session)))
+        ∷ left session lines (replicate (length lines) []) (laid_texts (front ++ told ∷ []) answers lines)) of.1
+        ∙ ap (λ (t : List ℕ). (Ok of.0, t) ∷ left session lines (replicate (length lines) [])
+        (laid_texts (front ++ told ∷ []) answers lines))
+        (line_said front answers told session of.0 at.0 is of.1 at.1)
+        ∙ ap (λ (l : List Owed). (Ok of.0, said_text session (record { statement = of.0; answer = at.0 })) ∷ l)
+        (later ∙ ap (λ n. owed_by session (said_of (statements_of session lines) (drop n (answers session)))) more)
+        ∙ ap (λ l. owed_by session (said_of (of.0 ∷ statements_of session lines) l)) (sym at.2)
+        ∙ ap (λ l. owed_by session (said_of l (drop (rank_in front session) (answers session)))) (sym given)
+    by rest false other =
+        let given : statements_of session (told ∷ lines) ≡ statements_of session lines =
+        given_other session told lines other in
+        let same : rank_in (front ++ told ∷ []) session ≡ rank_in front session = rank_other front told session other in
+        let later = rest (omega (arith, ap length given, enough, same)) in
+        ap (λ (l : List (List ℕ)). left_with session told lines l) (laid_one front answers told lines)
+        ∙ left_other session told lines (line_text told (slice_get (answers told.session) (rank_in front told.session)))
+        (laid_texts (front ++ told ∷ []) answers lines) other
+        ∙ later
+        ∙ ap (λ n. owed_by session (said_of (statements_of session lines) (drop n (answers session)))) same
+        ∙ ap (λ l. owed_by session (said_of l (drop (rank_in front session) (answers session)))) (sym given)

@@ -1,0 +1,23 @@
+use Rattle.std.proofs.Common.{◌≡◌, length, sym, ◌∙◌, rules}
+use Rattle.std.proofs.lemmas.Iterator.{YieldsList-from_zip}
+use Rattle.std.proofs.lemmas.Iterator.Adapters.{YieldsList-from_vec}
+use Rattle.std.proofs.lemmas.Iterator.Consumers.{YieldsList-end}
+use Rattle.std.specs.Iterator.Adapters.{zip_first, zip_second}
+use Rattle.std.specs.Vec.Iter.{into_iter_items, into_iter_len}
+use Rattle.xa_races.proofs.RaceRuns.{map_same}
+use Rattle.xa_races.proofs.runs_of.runs_of.Goals as goal
+
+pub returns : goal.returns
+returns c =
+    let sessions = c.args.sessions.items in
+    let lists = c.args.lists.items in
+    let s = c.into_iter-session-iterator.result in
+    let a : into_iter_items (zip_first s) ≡ sessions = search rules in
+    let b : into_iter_len (zip_first s) ≡ length sessions = search rules in
+    let d : into_iter_items (zip_second s) ≡ lists = search rules in
+    let e : into_iter_len (zip_second s) ≡ length lists = search rules in
+    let all = YieldsList-from_zip {s = s} (YieldsList-from_vec {s = zip_first s} sessions a b)
+    (YieldsList-from_vec {s = zip_second s} lists d e) in
+    let done = YieldsList-end all c.loop-session.yielded c.loop-session.session-iterator c.loop-session.yielded_by
+    c.next.result c.next.new.self c.in-None.is c.next.ensures.steps in
+    c.loop-session.invariant ∙ sym (map_same c.loop-session.yielded) ∙ done.0

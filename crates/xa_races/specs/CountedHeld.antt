@@ -1,0 +1,48 @@
+-- What the program keeps of a race of lines.
+--     list_at            the list at a place
+--     answers_of         the answers of a session
+--     AreWithin          lines of the sessions up to a number
+--     AreNumbered        sessions of consecutive numbers
+--     numbers_from       so many consecutive numbers
+--     AreRunsOf          the runs of these sessions
+use Rattle.std.specs.Prelude.{◌≡◌, ◌≤◌, ◌+◌, ◌-◌, ℕ, zero, suc, List, [], ◌∷◌}
+use Rattle.std.specs.List.{All}
+use Rattle.xa_session.specs.declared.answer.Answer.{Answer}
+use Rattle.xa_endless.specs.declared.session.EndlessSession.{EndlessSession}
+use Rattle.xa_races.specs.Long.{known_in}
+use Rattle.xa_races.specs.declared.long_run.LongRun.{LongRun}
+use Rattle.xa_orders.specs.Orders.{Told, IsSession}
+use Rattle.xa_races.specs.CountedRaced.{statements_of}
+
+-- the list at a place, or an empty list past the end
+abbrev pub list_at : {A : Type 0} → List (List A) → ℕ → List A
+list_at [] index = []
+list_at (list ∷ lists) zero = list
+list_at (list ∷ lists) (suc index) = list_at lists index
+
+-- the answers of a session; those of session 1 come first
+abbrev pub answers_of : List (List Answer) → ℕ → List Answer
+answers_of lists session = list_at lists (session - 1)
+
+-- the lines are of sessions from 1 to a number, which is at most 16
+abbrev pub AreWithin : ℕ → List Told → Type 0
+AreWithin sessions lines = All (λ told. IsSession told.session × (told.session ≤ sessions)) lines
+
+-- sessions of consecutive numbers, this one first
+abbrev pub AreNumbered : ℕ → List EndlessSession → Type 0
+AreNumbered number [] = Unit {0}
+AreNumbered number (session ∷ sessions) = ((known_in session).number ≡ number) × AreNumbered (number + 1) sessions
+
+-- so many consecutive numbers, this one first
+abbrev pub numbers_from : ℕ → ℕ → List ℕ
+numbers_from number zero = []
+numbers_from number (suc count) = number ∷ numbers_from (number + 1) count
+
+-- each run is of the session at its place, with the statements that it gives
+abbrev pub AreRunsOf : ℕ → List Told → List EndlessSession → List LongRun → Type 0
+AreRunsOf number lines [] [] = Unit {0}
+AreRunsOf number lines [] (run ∷ runs) = ⊥
+AreRunsOf number lines (session ∷ sessions) [] = ⊥
+AreRunsOf number lines (session ∷ sessions) (run ∷ runs) =
+    (run.session ≡ session) × (run.lines.items ≡ statements_of number lines)
+    × AreRunsOf (number + 1) lines sessions runs

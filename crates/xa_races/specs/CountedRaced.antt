@@ -1,0 +1,89 @@
+-- Races of lines that several sessions give.
+-- Every rule here is the project's own: docs/COMMANDS.md#race-statistics.
+--     statements_of      the statements that a session gives
+--     line_text          what is written for a line with this answer
+--     laid_texts         what is written for each line
+--     IsReadLine, AreRead     a line's statement is read;  those of all parts are
+--     IsRaced            lines raced, and this was written for each
+--     GivesRaced         the same as one text
+--     HasCome            what all lines were answered in a race of the parts
+use Rattle.std.specs.Prelude.{◌≡◌, ℕ, Bool, false, cond, ◌==◌, count_by, Option, Some, None, Result, Ok, Err, List, []}
+use Rattle.std.specs.Prelude.{◌∷◌, ◌++◌, slice_get, decimal}
+use Rattle.std.specs.List.{All, concat, filter_map}
+use Rattle.xa_xid.specs.declared.statement.Statement.{Statement}
+use Rattle.xa_statement.specs.Reading.{read_of}
+use Rattle.xa_words.specs.Entry.{Entry}
+use Rattle.xa_server.specs.State.{State, no_state}
+use Rattle.decision_log.specs.Known.{AllOf, newcomer}
+use Rattle.xa_session.specs.Replay.{state_after}
+use Rattle.xa_session.specs.declared.answer.Answer.{Answer}
+use Rattle.xa_store.specs.Legal.{IsLegal}
+use Rattle.xa_lines.specs.Printed.{reply_text, converts, answer_text}
+use Rattle.xa_orders.specs.Orders.{Told, Parts, IsSession, told_text, told_state}
+
+abbrev pub statement_in : Result Statement ℕ → Option Statement
+statement_in (Ok statement) = Some statement
+statement_in (Err place) = None
+
+-- the statement of a line, if the session gives it
+abbrev pub statement_by : ℕ → Told → Option Statement
+statement_by session told = cond (told.session == session) (statement_in (read_of told.text)) None
+
+-- the statements that the session gives, in order
+unfoldable pub statements_of : ℕ → List Told → List Statement
+statements_of session lines = filter_map (statement_by session) lines
+
+abbrev pub converts_in : Result Statement ℕ → Bool
+converts_in (Ok statement) = converts statement
+converts_in (Err place) = false
+
+-- an answer to the line, as a run of a script writes it
+abbrev pub line_text : Told → Option Answer → List ℕ
+line_text told None = []
+line_text told (Some answer) =
+    answer_text (decimal told.session) (reply_text (converts_in (read_of told.text)) answer.reply)
+
+-- the number of lines that the session gives
+abbrev pub rank_in : List Told → ℕ → ℕ
+rank_in lines session = count_by (λ told. told.session == session) lines
+
+-- each line after the ones in front has the answer that its session got at its turn
+unfoldable pub laid_texts : List Told → (ℕ → List Answer) → List Told → List (List ℕ)
+laid_texts front answers [] = []
+laid_texts front answers (told ∷ lines) =
+    line_text told (slice_get (answers told.session) (rank_in front told.session)) ∷ laid_texts
+    (front ++ told ∷ []) answers lines
+
+-- the statement of the line is read
+abbrev pub IsReadLine : Told → Type 0
+IsReadLine told = (statement : Statement) × (read_of told.text ≡ Ok statement)
+
+pub record AreRead (parts : Parts) : Type 0 where
+  pub before : All IsReadLine parts.before
+  pub beside : All IsReadLine parts.beside
+  pub later : All IsReadLine parts.later
+
+-- lines raced, beginning in the state `base`; this was written for each, and `new` is the state after them.
+-- One history explains what each session was answered to its statements, and leads to that state
+pub record IsRaced (base : State) (lines : List Told) (texts : List (List ℕ)) (new : State) : Type 0 where
+  pub history : List Entry
+  pub answers : ℕ → List Answer
+  pub sessions : All (λ told. IsSession told.session) lines
+  pub read : All IsReadLine lines
+  pub own : AllOf 16 history
+  pub legal : (session : ℕ) → IsSession session → IsLegal base history (newcomer session) (statements_of session lines)
+      (answers session)
+  pub texts_are : texts ≡ laid_texts [] answers lines
+  pub new_is : new ≡ state_after base history
+
+-- the same, with the texts joined
+abbrev pub GivesRaced : State → List Told → List ℕ → State → Type 0
+GivesRaced base lines text new = (texts : List (List ℕ)) × IsRaced base lines texts new × (text ≡ concat texts)
+
+-- the parts were raced, and this is what all lines were answered: first those before, one after another, then
+-- those side by side in a race, then the later ones, one after another
+pub record HasCome (parts : Parts) (text : List ℕ) : Type 0 where
+  pub texts : List (List ℕ)
+  pub state : State
+  pub raced : IsRaced (told_state no_state parts.before) parts.beside texts state
+  pub text_is : text ≡ told_text no_state parts.before ++ concat texts ++ told_text state parts.later

@@ -1,0 +1,8 @@
+-- The races that were held.
+--     held_in      what all lines were answered in each of them, in order
+use Rattle.std.specs.Prelude.{ℕ, List, map}
+use Rattle.xa_races.specs.declared.counted_parts.Course.{Course}
+
+-- in each race that was held so far, in order
+abbrev pub held_in : Course → List (List ℕ)
+held_in course = map (λ one. one.value.items) course.held.items

@@ -1,0 +1,153 @@
+-- With which gate and with how much room races of a script are held that are counted, and why one fails.
+-- Every rule here is the project's own: docs/COMMANDS.md#race-statistics.
+--     FitsIn           there is room for what a race adds
+--     AllOpened        the gate can let in each line
+--     IsRacedBy        lines raced so
+--     GivesRacedBy     the same as one text
+--     IsLeftIn         a state is what some sessions of a store with so many rows have seen in the end
+--     IsHeldOnce       a text is what all lines were answered in one race of the parts
+--     AreHeld          so many races gave these texts, one text each
+--     IsSeenOf         what is written for the texts that came
+--     AppendsHeldRuns  the writer got that
+--     IsShutBeside     the gate can stop a session at one of its lines
+--     IsOverfull       lines add more than there is room for
+--     EndsBeside       why a race of lines fails
+--     EndsRuns         why races of a script fail
+--     IsOverlong, EndsLong     the same of runs
+--     IsOfOpen         a fault that a race has at a gate that is always open
+use Rattle.std.specs.Prelude.{◌≡◌, ◌<◌, ◌≤◌, ◌++◌, ◌⊎◌, ℕ, Bool, false, Option, List, length}
+use Rattle.std.specs.List.{All, Contains, concat}
+use Rattle.std.specs.Io.KnownBytes.{Appends}
+use Rattle.xa_words.specs.Entry.{Entry}
+use Rattle.xa_server.specs.State.{State, no_state}
+use Rattle.decision_log.specs.Known.{newcomer}
+use Rattle.xa_session.specs.Replay.{state_after}
+use Rattle.xa_endless.specs.declared.session.EndlessSession.{EndlessSession}
+use Rattle.xa_endless.specs.declared.store.EndlessStore.{EndlessStore}
+use Rattle.xa_store.specs.Legal.{LetsIn, IsShutAt}
+use Rattle.xa_store.specs.declared.race_fault.RaceFault.TheVariants as race
+use Rattle.xa_lines.specs.declared.script_fault.ScriptFault.{ScriptFault}
+use Rattle.xa_lines.specs.declared.script_fault.ScriptFault.TheVariants.{Read, TooLong, Write, NoMemory, Full, GateShut}
+use Rattle.xa_lines.specs.declared.script_fault.ScriptFault.TheVariants.{ThreadRefused}
+use Rattle.xa_orders.specs.Orders.{Told, Parts, IsSession, told_text, told_state}
+use Rattle.xa_orders.specs.Scripts.{script_read, parts_of}
+use Rattle.xa_races.specs.Long.{seen_by_last, IsLongOutcome, IsBlamed}
+use Rattle.xa_races.specs.CountedRaced.{statements_of, IsRaced}
+use Rattle.xa_races.specs.Came.{seen_text, some_seen_text, IsWellRead}
+use Rattle.xa_races.specs.declared.long_run.LongRun.{LongRun}
+use Rattle.xa_races.specs.declared.long_outcome.LongOutcome.{LongOutcome}
+
+-- a race that renews its store has room for all that it adds; any other one for so many entries
+abbrev pub FitsIn : ℕ → Bool → List Entry → Type 0
+FitsIn capacity renews added = renews ≡ false → length added ≤ capacity
+
+-- the gate can let each session in at each of its lines
+abbrev pub AllOpened : (ℕ → ℕ → Bool → Type 0) → List Told → Type 0
+AllOpened gate lines =
+    (session : ℕ) → IsSession session → LetsIn gate session (length (statements_of session lines))
+
+-- lines raced at a gate that can let in each of them, with room for so many entries
+pub record IsRacedBy (gate : ℕ → ℕ → Bool → Type 0) (capacity : ℕ) (renews : Bool) (base : State) (lines : List Told)
+    (texts : List (List ℕ)) (new : State) : Type 0 where
+  pub raced : IsRaced base lines texts new
+  pub fits : FitsIn capacity renews raced.history
+  pub opened : AllOpened gate lines
+
+-- the same, with the texts joined
+abbrev pub GivesRacedBy : (ℕ → ℕ → Bool → Type 0) → ℕ → Bool → State → List Told → List ℕ → State → Type 0
+GivesRacedBy gate capacity renews base lines text new =
+    (texts : List (List ℕ)) × IsRacedBy gate capacity renews base lines texts new × (text ≡ concat texts)
+
+-- the state is that after all that the last of some sessions has seen; their store's ring has so many rows
+pub record IsLeftIn (rows : ℕ) (state : State) : Type 0 where
+  pub store : EndlessStore
+  pub rows_are : store.log.rows ≡ rows
+  pub sessions : List EndlessSession
+  pub some : 1 ≤ length sessions
+  pub mine : All (λ session. session.store.value ≡ store) sessions
+  pub state_is : state ≡ state_after no_state (seen_by_last sessions)
+
+-- the parts were raced over a store with so many rows, the lines side by side at the gate and with room for as many
+-- entries, and this is what all lines were answered
+pub record IsHeldOnce (gate : ℕ → ℕ → Bool → Type 0) (capacity : ℕ) (renews : Bool) (parts : Parts)
+    (text : List ℕ) : Type 0 where
+  pub texts : List (List ℕ)
+  pub state : State
+  pub raced : IsRacedBy gate capacity renews (told_state no_state parts.before) parts.beside texts state
+  pub left : IsLeftIn capacity state
+  pub text_is : text ≡ told_text no_state parts.before ++ concat texts ++ told_text state parts.later
+
+-- so many races of the parts were held, and gave these texts, one text each
+pub record AreHeld (gate : ℕ → ℕ → Bool → Type 0) (capacity : ℕ) (renews : Bool) (runs : ℕ) (parts : Parts)
+    (came : List (List ℕ)) : Type 0 where
+  pub count : length came ≡ runs
+  pub each : All (IsHeldOnce gate capacity renews parts) came
+
+-- each text that came is listed, and this is what is written for the list: with how many are listed, or without that
+pub record IsSeenOf (came : List (List ℕ)) (text : List ℕ) : Type 0 where
+  pub listed : List (List ℕ)
+  pub all : All (Contains listed) came
+  pub text_is : (text ≡ seen_text came listed) ⊎ (text ≡ some_seen_text came listed)
+
+-- if no line is faulty, the writer got what is written for so many races that were held so
+abbrev pub AppendsHeldRuns : (ℕ → ℕ → Bool → Type 0) → ℕ → Bool → ℕ → List ℕ → Option (List ℕ) → Option (List ℕ)
+    → Type 0
+AppendsHeldRuns gate capacity renews runs script old new = IsWellRead script
+    → (came : List (List ℕ)) × (text : List ℕ)
+    × AreHeld gate capacity renews runs (parts_of (script_read script)) came × IsSeenOf came text × Appends old new text
+
+-- after the lines of a session before one of them were answered, the gate can stop the session
+pub record IsShutBeside (gate : ℕ → ℕ → Bool → Type 0) (base : State) (lines : List Told) : Type 0 where
+  pub session : ℕ
+  pub line : ℕ
+  pub is_session : IsSession session
+  pub shut : IsShutAt gate base (newcomer session) (statements_of session lines) session line
+
+-- all lines were answered, and they added more entries than there is room for
+pub record IsOverfull (gate : ℕ → ℕ → Bool → Type 0) (capacity : ℕ) (renews : Bool) (base : State)
+    (lines : List Told) : Type 0 where
+  pub texts : List (List ℕ)
+  pub new : State
+  pub raced : IsRaced base lines texts new
+  pub opened : AllOpened gate lines
+  pub limited : renews ≡ false
+  pub more : capacity < length raced.history
+
+-- a fault of a stream isn't a race's, and memory or a thread may be missing anywhere; the others have their cause
+abbrev pub EndsBeside : (ℕ → ℕ → Bool → Type 0) → ℕ → Bool → State → List Told → ScriptFault → Type 0
+EndsBeside gate capacity renews base lines Read = Unit {0}
+EndsBeside gate capacity renews base lines TooLong = Unit {0}
+EndsBeside gate capacity renews base lines Write = Unit {0}
+EndsBeside gate capacity renews base lines NoMemory = Unit {0}
+EndsBeside gate capacity renews base lines Full = IsOverfull gate capacity renews base lines
+EndsBeside gate capacity renews base lines GateShut = IsShutBeside gate base lines
+EndsBeside gate capacity renews base lines ThreadRefused = Unit {0}
+
+-- the cause is one of the lines side by side, after those before
+abbrev pub EndsRuns : (ℕ → ℕ → Bool → Type 0) → ℕ → Bool → List ℕ → ScriptFault → Type 0
+EndsRuns gate capacity renews script fault =
+    EndsBeside gate capacity renews (told_state no_state (parts_of (script_read script)).before)
+    (parts_of (script_read script)).beside fault
+
+-- all statements of runs were answered, and they added more entries than there is room for
+pub record IsOverlong (gate : ℕ → ℕ → Bool → Type 0) (capacity : ℕ) (renews : Bool) (from : ℕ)
+    (runs : List LongRun) : Type 0 where
+  pub outcome : LongOutcome
+  pub is : IsLongOutcome gate from runs outcome
+  pub limited : renews ≡ false
+  pub more : capacity < length outcome.history.items
+
+-- why a race of runs fails
+abbrev pub EndsLong : (ℕ → ℕ → Bool → Type 0) → ℕ → Bool → ℕ → List LongRun → ScriptFault → Type 0
+EndsLong gate capacity renews from runs Read = Unit {0}
+EndsLong gate capacity renews from runs TooLong = Unit {0}
+EndsLong gate capacity renews from runs Write = Unit {0}
+EndsLong gate capacity renews from runs NoMemory = Unit {0}
+EndsLong gate capacity renews from runs Full = IsOverlong gate capacity renews from runs
+EndsLong gate capacity renews from runs GateShut =
+    (session : ℕ) × (line : ℕ) × IsBlamed gate runs (race.GateShut session line)
+EndsLong gate capacity renews from runs ThreadRefused = Unit {0}
+
+-- a gate that is always open stops nobody, and one line has room
+abbrev pub IsOfOpen : ScriptFault → Type 0
+IsOfOpen fault = (fault ≡ NoMemory) ⊎ (fault ≡ ThreadRefused)

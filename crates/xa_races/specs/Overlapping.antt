@@ -1,0 +1,78 @@
+-- How the runs of a race are written down as a record of overlapping calls.
+-- Every rule here is the project's own: docs/PROOF.md#the-judge.
+--     RunLine               a statement of a run, its answer, and what the record shows of that answer
+--     Lines                 the lines of each session
+--     with_lines            the same, with one session's lines replaced
+--     next_call             the call for the first line of a list
+--     first_calls           each session calls for its first line
+--     Overlap               events in which a session calls again as soon as its call has returned
+--     IsExplainedOverlap    written down so, the lines are explained
+--     AreFreshRuns          runs of the sessions 1, 2 and so on, which have done nothing before
+--     AreLinesOf            the lines are those of the runs, with these answers
+use Rattle.std.specs.Prelude.{◌≡◌, ℕ, zero, suc, ◌+◌, ◌<◌, ◌==◌, true, cond, Some, List, [], ◌∷◌, ◌++◌, length, map}
+use Rattle.std.specs.Prelude.{slice_get}
+use Rattle.xa_xid.specs.declared.statement.Statement.{Statement}
+use Rattle.xa_server.specs.State.{State}
+use Rattle.decision_log.specs.Known.{newcomer}
+use Rattle.xa_session.specs.declared.answer.Answer.{Answer}
+use Rattle.xa_store.specs.Passes.{known_of}
+use Rattle.xa_store.specs.declared.run.Run.{Run}
+use Rattle.xa_judge.specs.declared.request.Request.TheVariants.{Statement as Given}
+use Rattle.xa_judge.specs.declared.answer.Answer.TheVariants.{Reply as Replied}
+use Rattle.xa_judge.specs.declared.event.Seen.{Seen}
+use Rattle.xa_judge.specs.declared.event.Event.{Event}
+use Rattle.xa_judge.specs.declared.event.Event.TheVariants.{Call, Return}
+use Rattle.xa_judge.specs.Explained.{shows_answer, IsSession, Explained}
+
+-- a statement of a run, its answer in the race, and what the record shows as its return
+pub record RunLine : Type 0 where
+  pub statement : Statement
+  pub answer : Answer
+  pub seen : Seen
+  pub shows : shows_answer seen (Replied answer.reply) ≡ true
+
+-- at each session's number, its lines in order
+abbrev pub Lines : Type 0
+Lines = ℕ → List RunLine
+
+-- the same, but this session has these lines
+abbrev pub with_lines : Lines → ℕ → List RunLine → Lines
+with_lines lines session rest = λ other. cond (other == session) rest (lines other)
+
+-- the session calls for the first of these lines, if there is one
+abbrev pub next_call : ℕ → List RunLine → List Event
+next_call session [] = []
+next_call session (line ∷ lines) = Call session (Given line.statement) ∷ []
+
+-- the sessions from this number down to 1 call for their first lines
+unfoldable pub first_calls : ℕ → Lines → List Event
+first_calls zero lines = []
+first_calls (suc count) lines = next_call (suc count) (lines (suc count)) ++ first_calls count lines
+
+-- each session has called for its first line: some call returns, its session calls for the next line, and so
+-- on until no line is left
+pub data Overlap : Lines → List Event → Type 0 where
+  over : {lines : Lines} → ((session : ℕ) → lines session ≡ []) → Overlap lines []
+  returned : {lines : Lines} {session : ℕ} {line : RunLine} {rest : List RunLine} {events : List Event}
+      → IsSession session → lines session ≡ line ∷ rest
+      → Overlap (with_lines lines session rest) events
+      → Overlap lines (Return session line.seen ∷ (next_call session rest ++ events))
+
+-- some order of the returns makes the record explained
+abbrev pub IsExplainedOverlap : State → Lines → Type 0
+IsExplainedOverlap base lines =
+    (events : List Event) × Overlap lines events × Explained base (first_calls 16 lines ++ events)
+
+-- the runs are of the sessions 1, 2 and so on, which have seen nothing and done nothing before
+abbrev pub AreFreshRuns : List Run → Type 0
+AreFreshRuns runs = (place : ℕ) (run : Run) → slice_get runs place ≡ Some run → known_of run.pass ≡ newcomer (place + 1)
+
+-- the lines of each session are the statements of its run, with these answers; a session without a run has
+-- none
+pub record AreLinesOf (runs : List Run) (answers : List (List Answer)) (lines : Lines) : Type 0 where
+  pub none : lines 0 ≡ []
+  pub past : (session : ℕ) → length runs < session → lines session ≡ []
+  pub statements : (place : ℕ) (run : Run) → slice_get runs place ≡ Some run
+      → map (λ line. line.statement) (lines (place + 1)) ≡ run.lines.items
+  pub answered : (place : ℕ) (given : List Answer) → slice_get answers place ≡ Some given
+      → map (λ line. line.answer) (lines (place + 1)) ≡ given

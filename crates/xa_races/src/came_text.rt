@@ -1,0 +1,88 @@
+//! Writes the outcomes that came.
+ghost use Rattle.std.specs.Prelude.{◌≡◌, ◌++◌, codes, decimal, length, nat_lt, count_by, OnOk, IfOk};
+ghost use Rattle.xa_races.specs.Came.{came_text};
+ghost use Rattle.xa_races.specs.Tallied.{tallies_text};
+
+use crate::came_tally::CameTally;
+use std::alloc::Global;
+use xa_lines::push_number;
+use xa_xid::NoMemory;
+
+/// Appends the outcome of this number, if it came.
+fn push_came(text: &mut Vec<u8>, number: u64, one: &CameTally) -> Result<(), NoMemory>
+    ensures { OnOk result (text.new.items ≡ text.old.items ++ came_text number one.now.came one.now.text.items) }
+{
+    if one.came == 0 {
+        return Ok(());
+    }
+    text.extend_from_slice(b"OUTCOME ")?;
+    push_number(text, number)?;
+    text.extend_from_slice(b" CAME ")?;
+    push_number(text, one.came)?;
+    text.extend_from_slice(b"\n")?;
+    text.extend_from_slice(one.text.as_slice())
+}
+
+/// Appends the outcomes that came, of a list whose first has number 1.
+fn push_all(text: &mut Vec<u8>, tallies: &[CameTally]) -> Result<(), NoMemory>
+    ensures { OnOk result (text.new.items ≡ text.old.items ++ tallies_text 1 tallies.now) }
+{
+    for place in 0..tallies.len() {
+        push_came(text, place as u64 + 1, &tallies[place])?;
+    }
+    Ok(())
+}
+
+/// How many of the list came.
+fn count_seen(tallies: &[CameTally]) -> u64
+    ensures { result ≡ count_by (λ one. nat_lt 0 one.came) tallies.now }
+{
+    tallies.iter().filter(|one| 0 < one.came).count() as u64
+}
+
+/// Appends the outcomes that came, and how many of the list did.
+fn push_seen(text: &mut Vec<u8>, tallies: &[CameTally]) -> Result<(), NoMemory>
+    ensures { OnOk result
+        (text.new.items ≡ ((text.old.items ++ tallies_text 1 tallies.now) ++ codes "SEEN ")
+        ++ decimal (count_by (λ one. nat_lt 0 one.came) tallies.now)) }
+{
+    push_all(text, tallies)?;
+    text.extend_from_slice(b"SEEN ")?;
+    push_number(text, count_seen(tallies))
+}
+
+/// Returns what is written if the list has all outcomes: those that came, and how many of all that is.
+///
+/// May return `NoMemory`.
+pub fn seen_of_all(alloc: Global, tallies: &[CameTally]) -> Result<Vec<u8>, NoMemory>
+    ensures { IfOk result
+        (λ text. text.items
+        ≡ tallies_text 1 tallies.now
+        ++ codes "SEEN "
+        ++ decimal (count_by (λ one. nat_lt 0 one.came) tallies.now)
+        ++ codes " OF "
+        ++ decimal (length tallies.now)
+        ++ codes " OUTCOMES\n") }
+{
+    let mut text = Vec::new(alloc);
+    push_seen(&mut text, tallies)?;
+    text.extend_from_slice(b" OF ")?;
+    push_number(&mut text, tallies.len() as u64)?;
+    text.extend_from_slice(b" OUTCOMES\n")?;
+    Ok(text)
+}
+
+/// Returns what is written if the list has only those that came.
+///
+/// May return `NoMemory`.
+pub fn seen_of_some(alloc: Global, tallies: &[CameTally]) -> Result<Vec<u8>, NoMemory>
+    ensures { IfOk result
+        (λ text. text.items
+        ≡ tallies_text 1 tallies.now ++ codes "SEEN " ++ decimal (count_by (λ one. nat_lt 0 one.came) tallies.now)
+        ++ codes "\n") }
+{
+    let mut text = Vec::new(alloc);
+    push_seen(&mut text, tallies)?;
+    text.extend_from_slice(b"\n")?;
+    Ok(text)
+}

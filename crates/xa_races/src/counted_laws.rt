@@ -1,0 +1,22 @@
+//! Whatever a race of a script comes to is an outcome of an order: a law, stated as the contract of a
+//! function that does nothing.
+ghost use Rattle.std.specs.Prelude.{◌≡◌, ℕ, List};
+ghost use Rattle.xa_orders.specs.declared.outcome.Outcome.{Outcome};
+ghost use Rattle.xa_orders.specs.Orders.{Parts, Gives, IsExplored, Any};
+ghost use Rattle.xa_races.specs.CountedRaced.{HasCome};
+
+/// States that whatever all lines of a script are answered in a race is also given by an order of its lines
+/// side by side, and so is one of the explored outcomes. Does nothing when it is called.
+///
+/// Takes no memory. Doesn't wait. Own rule: docs/COMMANDS.md#race-statistics.
+pub fn race_gives_an_outcome()
+    // Proved (races, runs-order): What all lines of a script are answered in a race is given by an order of
+    //   its lines side by side.
+    ensures given { (parts : Parts) (text : List ℕ) → HasCome parts text → (order : List ℕ) × Gives parts order text }
+    // Proved (races, runs-listed): What all lines of a script are answered in a race is in the list of all
+    //   outcomes that `explore` finds.
+    ensures listed { (parts : Parts) (outcomes : List Outcome) (text : List ℕ)
+        → IsExplored parts outcomes
+        → HasCome parts text
+        → Any (λ one. one.text.items ≡ text) outcomes }
+{}

@@ -1,0 +1,90 @@
+//! The statements that sessions give on lines.
+ghost use Rattle.std.specs.Prelude.{◌≡◌, ◌<◌, ◌≤◌, ◌+◌, ◌++◌, ℕ, length, map, IfOk, OnOk};
+ghost use Rattle.std.specs.Option.{option_to_list};
+ghost use Rattle.xa_statement.specs.Reading.{read_of};
+ghost use Rattle.xa_races.specs.CountedRaced.{statements_of, statement_in, statement_by};
+ghost use Rattle.xa_races.specs.CountedHeld.{AreWithin, list_at};
+
+use std::alloc::Global;
+use xa_orders::Line;
+use xa_statement::read_statement;
+use xa_xid::{NoMemory, Statement};
+
+/// Adds the statement of this text, if it is read.
+fn push_read(statements: &mut Vec<Statement>, text: &[u8]) -> Result<(), NoMemory>
+    ensures { OnOk result (statements.new.items ≡ statements.old.items
+        ++ option_to_list (statement_in (read_of text.now))) }
+{
+    match read_statement(text) {
+        Ok(statement) => {
+            statements.push(statement)?;
+            Ok(())
+        }
+        Err(_) => Ok(()),
+    }
+}
+
+/// Adds the statement of this line, if the session gives it.
+fn push_given(
+    statements: &mut Vec<Statement>,
+    line: &Line<'_>,
+    session: u64,
+) -> Result<(), NoMemory>
+    ensures { OnOk result (statements.new.items ≡ statements.old.items
+        ++ option_to_list (statement_by session line.now)) }
+{
+    if line.session().get() == session {
+        push_read(statements, line.text())
+    } else {
+        Ok(())
+    }
+}
+
+/// The statements that the session of this number gives, in order.
+fn statements_by(
+    alloc: Global,
+    lines: &[Line<'_>],
+    session: u64,
+) -> Result<Vec<Statement>, NoMemory>
+    ensures { IfOk result (λ statements. statements.items ≡ statements_of session lines.now) }
+{
+    let mut statements = Vec::new(alloc);
+    for line in lines {
+        push_given(&mut statements, line, session)?;
+    }
+    Ok(statements)
+}
+
+/// Returns the statements of each of the sessions 1 to `count`, in order.
+///
+/// May return `NoMemory`.
+pub fn lists_of(
+    alloc: Global,
+    lines: &[Line<'_>],
+    count: u64,
+) -> Result<Vec<Vec<Statement>>, NoMemory>
+    ensures count { IfOk result (λ lists. length lists.items ≡ count) }
+    ensures each { IfOk result
+        (λ lists. (index : ℕ) → index < count → list_at (map (λ list. list.items) lists.items) index
+        ≡ statements_of (index + 1) lines.now) }
+{
+    let mut lists = Vec::new(alloc);
+    for index in 0..count {
+        let list = statements_by(alloc, lines, index + 1)?;
+        lists.push(list)?;
+    }
+    Ok(lists)
+}
+
+/// Returns the greatest session of the lines, or `least` if that is greater.
+pub fn greatest_of(lines: &[Line<'_>], least: u64) -> u64
+    ensures least { least ≤ result }
+    ensures within { least ≤ 16 → result ≤ 16 }
+    ensures each { AreWithin result lines.now }
+{
+    let mut greatest = least;
+    for line in lines {
+        greatest = greatest.max(line.session().get());
+    }
+    greatest
+}

@@ -1,0 +1,32 @@
+//! Whatever a race returns is explained: a law, stated as the contract of a function that does nothing.
+ghost use Rattle.std.specs.Prelude.{◌≤◌, List, length, map};
+ghost use Rattle.xa_server.specs.State.{State};
+ghost use Rattle.decision_log.specs.Known.{AllOf};
+ghost use Rattle.xa_store.specs.declared.run.Run.{Run};
+ghost use Rattle.xa_store.specs.declared.outcome.Outcome.{Outcome};
+ghost use Rattle.xa_store.specs.Legal.{IsOutcome};
+ghost use Rattle.xa_races.specs.Overlapping.{Lines, AreFreshRuns, AreLinesOf, IsExplainedOverlap};
+
+/// States that the answers of a race of fresh sessions are explained once they are written down as
+/// overlapping calls. Does nothing when it is called.
+///
+/// The record is made so: each session calls for its first statement before any call returns. Each return
+/// shows the answer that the race gave, and the session calls for its next statement right after it. Some
+/// order of the returns makes such a record explained, from the state in which the race began. Nothing is
+/// claimed about other orders.
+/// Premises: there are at most 16 runs, their passes have seen nothing and added nothing, and each entry of
+/// the history is of one of their sessions. A race of a script shows these premises itself. Sessions that did
+/// something before the race aren't covered.
+/// Takes no memory. Doesn't wait. Own rule: docs/PROOF.md#the-judge.
+pub fn race_is_explained()
+    // Proved (records, race-is-explained): The answers of a race of at most 16 fresh sessions, whose history
+    //   has only their entries, are explained when they are written down as overlapping calls, in some order
+    //   of the returns.
+    ensures { (base : State) (runs : List Run) (outcome : Outcome) (lines : Lines)
+        → IsOutcome base runs outcome
+        → AreFreshRuns runs
+        → length runs ≤ 16
+        → AllOf (length runs) outcome.history.items
+        → AreLinesOf runs (map (λ answers. answers.items) outcome.answers.items) lines
+        → IsExplainedOverlap base lines }
+{}

@@ -1,0 +1,259 @@
+//! Races a script many times, and counts its outcomes.
+ghost use Rattle.std.specs.Prelude.{◌≡◌, ◌++◌, [], None, map, codes, IfOk, IfErr, OnOk, IfSome};
+ghost use Rattle.std.specs.List.{All};
+ghost use Rattle.decision_log.specs.Opens.{IsCapacity};
+ghost use Rattle.xa_orders.specs.Orders.{base_of, told_state, IsExplored};
+ghost use Rattle.xa_orders.specs.Found.{IsWide};
+ghost use Rattle.xa_orders.specs.Scripts.{script_read, parts_of};
+ghost use Rattle.xa_orders.specs.Kept.{read_kept};
+ghost use Rattle.xa_races.specs.CountedRaced.{AreRead};
+ghost use Rattle.xa_races.specs.Tallied.{texts_of, IsCounted};
+ghost use Rattle.xa_races.specs.Came.{IsRunCount, ways_limit, IsSeenOfAll, IsSeenOfSome, IsRunsText, IsOfRace};
+ghost use Rattle.xa_races.specs.Came.{IsOfRuns};
+ghost use Rattle.xa_races.specs.Came.{IsPartsCome, IsWellRead};
+ghost use Rattle.xa_races.specs.Course.{held_in};
+ghost use Rattle.xa_races.specs.HeldRuns.{AreHeld, IsSeenOf, EndsBeside, EndsRuns};
+ghost use Rattle.xa_server.specs.State.{no_state};
+
+use crate::came_tally::CameTally;
+use crate::came_text::{seen_of_all, seen_of_some};
+use crate::counted_parts::{Course, race_parts};
+use crate::tallies::{note, tallies_of};
+use std::alloc::Global;
+use std::sync::Wait;
+use std::thread::Threads;
+use xa_lines::ScriptFault;
+use xa_orders::{Ended, Outcome, Script, explore, read_script};
+use xa_store::Gate;
+use xa_xid::{Key, NoMemory};
+
+/// The greatest number of ways that exploring may keep for the list of all outcomes. It is the program's
+/// usual limit.
+const WAYS: usize = 100_000;
+
+/// How races of a script ended, and what is written for them.
+#[derive(Drop)]
+pub struct Came {
+    pub ended: Ended,
+    pub text: Vec<u8>,
+}
+
+/// Races the script `runs` times, and counts each outcome as it comes. Each race of the course is counted once.
+fn count_runs<G: Gate + Sync, R: Threads + Wait + Sync>(
+    rt: &R,
+    alloc: Global,
+    tallies: &mut Vec<CameTally>,
+    script: &Script<'_>,
+    capacity: u64,
+    renews: bool,
+    runs: u64,
+    gate: &G,
+    course: &mut Course,
+) -> Result<(), ScriptFault>
+    requires none { All (λ one. one.came ≡ 0) tallies.old.items }
+    requires fresh { held_in course.old ≡ [] }
+    requires capacity { IsCapacity capacity }
+    requires read { AreRead (parts_of (read_kept script.now)) }
+    requires runs { IsRunCount runs }
+    ensures counted { OnOk result (IsCounted (parts_of (read_kept script.now)) runs (held_in course.new)
+        tallies.old.items tallies.new.items) }
+    ensures held { OnOk result (AreHeld (G.may_answer gate.now) capacity renews runs (parts_of (read_kept script.now))
+        (held_in course.new)) }
+    ensures fault { IfErr result (IsOfRace renews) }
+    ensures cause { IfErr result (EndsBeside (G.may_answer gate.now) capacity renews
+        (told_state no_state (parts_of (read_kept script.now)).before) (parts_of (read_kept script.now)).beside) }
+{
+    for _ in 0..runs {
+        let text = race_parts(rt, alloc, script, capacity, renews, gate, course)?;
+        note(alloc, tallies, text.as_slice())?;
+    }
+    Ok(())
+}
+
+/// A copy of the keys.
+fn copy_keys(alloc: Global, keys: &[Key]) -> Result<Vec<Key>, NoMemory> {
+    let mut copy = Vec::new(alloc);
+    for key in keys {
+        copy.push(key.copy())?;
+    }
+    Ok(copy)
+}
+
+/// All outcomes of the script; or None if there are too many ways to know them all.
+fn outcomes_of(alloc: Global, script: &Script<'_>) -> Result<Option<Vec<Outcome>>, NoMemory>
+    ensures explored { IfOk result (λ found. IfSome found
+        (λ outcomes. IsExplored (parts_of (read_kept script.now)) outcomes.items)) }
+    ensures wide { IfOk result
+        (λ found. found ≡ None
+        → IsWide script.now.beside.items (base_of (parts_of (read_kept script.now))) ways_limit) }
+{
+    let written = copy_keys(alloc, script.written.as_slice())?;
+    explore(
+        alloc,
+        script.before.as_slice(),
+        script.beside.as_slice(),
+        script.later.as_slice(),
+        written,
+        WAYS,
+    )
+}
+
+/// What is written for races of the script if all its outcomes are known.
+fn came_of_all<G: Gate + Sync, R: Threads + Wait + Sync>(
+    rt: &R,
+    alloc: Global,
+    outcomes: Vec<Outcome>,
+    script: &Script<'_>,
+    capacity: u64,
+    renews: bool,
+    runs: u64,
+    gate: &G,
+    course: &mut Course,
+) -> Result<Vec<u8>, ScriptFault>
+    requires explored { IsExplored (parts_of (read_kept script.now)) outcomes.items }
+    requires fresh { held_in course.old ≡ [] }
+    requires capacity { IsCapacity capacity }
+    requires read { AreRead (parts_of (read_kept script.now)) }
+    requires runs { IsRunCount runs }
+    ensures come { IfOk result (λ text. IsSeenOfAll (parts_of (read_kept script.now)) runs text.items) }
+    ensures seen { IfOk result (λ text. IsSeenOf (held_in course.new) text.items) }
+    ensures held { OnOk result (AreHeld (G.may_answer gate.now) capacity renews runs (parts_of (read_kept script.now))
+        (held_in course.new)) }
+    ensures fault { IfErr result (IsOfRace renews) }
+    ensures cause { IfErr result (EndsBeside (G.may_answer gate.now) capacity renews
+        (told_state no_state (parts_of (read_kept script.now)).before) (parts_of (read_kept script.now)).beside) }
+{
+    let mut tallies = tallies_of(alloc, outcomes)?;
+    count_runs(
+        rt,
+        alloc,
+        &mut tallies,
+        script,
+        capacity,
+        renews,
+        runs,
+        gate,
+        course,
+    )?;
+    let text = seen_of_all(alloc, tallies.as_slice())?;
+    Ok(text)
+}
+
+/// What is written for races of the script if it has too many ways to know all its outcomes.
+fn came_of_some<G: Gate + Sync, R: Threads + Wait + Sync>(
+    rt: &R,
+    alloc: Global,
+    script: &Script<'_>,
+    capacity: u64,
+    renews: bool,
+    runs: u64,
+    gate: &G,
+    course: &mut Course,
+) -> Result<Vec<u8>, ScriptFault>
+    requires wide { IsWide script.now.beside.items (base_of (parts_of (read_kept script.now))) ways_limit }
+    requires fresh { held_in course.old ≡ [] }
+    requires capacity { IsCapacity capacity }
+    requires read { AreRead (parts_of (read_kept script.now)) }
+    requires runs { IsRunCount runs }
+    ensures come { IfOk result (λ text. IsSeenOfSome (parts_of (read_kept script.now)) runs text.items) }
+    ensures seen { IfOk result (λ text. IsSeenOf (held_in course.new) text.items) }
+    ensures held { OnOk result (AreHeld (G.may_answer gate.now) capacity renews runs (parts_of (read_kept script.now))
+        (held_in course.new)) }
+    ensures fault { IfErr result (IsOfRace renews) }
+    ensures cause { IfErr result (EndsBeside (G.may_answer gate.now) capacity renews
+        (told_state no_state (parts_of (read_kept script.now)).before) (parts_of (read_kept script.now)).beside) }
+{
+    let mut tallies = Vec::new(alloc);
+    count_runs(
+        rt,
+        alloc,
+        &mut tallies,
+        script,
+        capacity,
+        renews,
+        runs,
+        gate,
+        course,
+    )?;
+    let text = seen_of_some(alloc, tallies.as_slice())?;
+    Ok(text)
+}
+
+/// What is written for races of the script.
+fn came_of<G: Gate + Sync, R: Threads + Wait + Sync>(
+    rt: &R,
+    alloc: Global,
+    script: &Script<'_>,
+    capacity: u64,
+    renews: bool,
+    runs: u64,
+    gate: &G,
+    course: &mut Course,
+) -> Result<Vec<u8>, ScriptFault>
+    requires fresh { held_in course.old ≡ [] }
+    requires capacity { IsCapacity capacity }
+    requires read { AreRead (parts_of (read_kept script.now)) }
+    requires runs { IsRunCount runs }
+    ensures come { IfOk result (λ text. IsPartsCome (parts_of (read_kept script.now)) runs text.items) }
+    ensures seen { IfOk result (λ text. IsSeenOf (held_in course.new) text.items) }
+    ensures held { OnOk result (AreHeld (G.may_answer gate.now) capacity renews runs (parts_of (read_kept script.now))
+        (held_in course.new)) }
+    ensures fault { IfErr result (IsOfRace renews) }
+    ensures cause { IfErr result (EndsBeside (G.may_answer gate.now) capacity renews
+        (told_state no_state (parts_of (read_kept script.now)).before) (parts_of (read_kept script.now)).beside) }
+{
+    match outcomes_of(alloc, script)? {
+        None => came_of_some(rt, alloc, script, capacity, renews, runs, gate, course),
+        Some(outcomes) => came_of_all(
+            rt, alloc, outcomes, script, capacity, renews, runs, gate, course,
+        ),
+    }
+}
+
+/// What is read of a script. Each line of its parts has a statement.
+fn read_well(alloc: Global, text: &[u8]) -> Result<Script<'_>, NoMemory>
+    ensures read { IfOk result (λ script. read_kept script ≡ script_read text.now) }
+    ensures well { IfOk result (λ script. AreRead (parts_of (read_kept script))) }
+{
+    let script = read_script(alloc, text)?;
+    Ok(script)
+}
+
+/// Races the script of this text `runs` times. Returns how that ended, and what is written. What is counted are the
+/// races of the course.
+///
+/// May return `NoMemory`. Waits for its threads.
+/// Own rule: docs/COMMANDS.md#race-statistics.
+pub fn runs_text<G: Gate + Sync, R: Threads + Wait + Sync>(
+    rt: &R,
+    alloc: Global,
+    text: &[u8],
+    capacity: u64,
+    renews: bool,
+    runs: u64,
+    gate: &G,
+    course: &mut Course,
+) -> Result<Came, ScriptFault>
+    requires fresh { held_in course.old ≡ [] }
+    requires capacity { IsCapacity capacity }
+    requires runs { IsRunCount runs }
+    ensures come { IfOk result (λ came. IsRunsText runs text.now came.ended came.text.items) }
+    ensures seen { IfOk result (λ came. IsWellRead text.now → IsSeenOf (held_in course.new) came.text.items) }
+    ensures held { OnOk result (IsWellRead text.now → AreHeld (G.may_answer gate.now) capacity renews runs
+        (parts_of (script_read text.now)) (held_in course.new)) }
+    ensures fault { IfErr result (IsOfRuns renews text.now) }
+    ensures cause { IfErr result (EndsRuns (G.may_answer gate.now) capacity renews text.now) }
+{
+    let script = read_well(alloc, text)?;
+    if !script.faults.is_empty() {
+        return Ok(Came {
+            ended: Ended::Faulty,
+            text: script.faults,
+        });
+    }
+    let text = came_of(rt, alloc, &script, capacity, renews, runs, gate, course)?;
+    Ok(Came {
+        ended: Ended::Done,
+        text,
+    })
+}

@@ -1,0 +1,176 @@
+-- The committed values of rows, before and after a statement.
+--     rows_left      a statement that leaves them as they are
+--     row_named      a row that a session writes at once
+--     named_after, named_made     the keys of all rows are noted
+--     is_listed      a text that is a server's listing
+--     free_told      what a session that has nothing open is answered
+use Rattle.std.proofs.Common.{◌≡◌, ◌≢◌, ℕ, List, [], ◌∷◌, ◌++◌, ◌⊎◌, true, false, inl, inr}
+use Rattle.std.proofs.Common.{refl, ap, sym, ◌∙◌, subst, arith}
+use Rattle.std.specs.Prelude.{Option, Some, None}
+use Rattle.std.specs.List.{Contains}
+use Rattle.std.specs.Option.{option_map_or}
+use Rattle.std.specs.Ordering.{eq_by_cmp}
+use Rattle.std.specs.FinMap as map
+use Rattle.std.specs.FinMap.{get-empty}
+use Rattle.std.proofs.lemmas.List.Elements.{Contains-append_left, Contains-append_right}
+use mathlib.Core.Bool.{true≢false}
+use Rattle.xa_xid.specs.declared.xid.Xid.{Xid}
+use Rattle.xa_xid.specs.Xid.{Text, bytes_cmp}
+use Rattle.xa_xid.proofs.Orders.{bytes_total, exact_texts}
+use Rattle.xa_xid.specs.declared.statement.Statement.{Statement}
+use Rattle.xa_xid.specs.declared.statement.Statement.TheVariants.{Start, End, Prepare, Commit, Rollback}
+use Rattle.xa_xid.specs.declared.statement.Statement.TheVariants.{Recover, Unsupported, Get, Put, Del, Disconnect}
+use Rattle.xa_server.specs.declared.reply.Reply.{Reply}
+use Rattle.xa_server.specs.declared.reply.Reply.TheVariants.{Ok as Accepted, Value, Recovered, Refused}
+use Rattle.xa_server.specs.declared.xa_error.XaError.TheVariants.{Rmfail}
+use Rattle.xa_server.specs.declared.xa_error.BranchState.TheVariants.{NonExisting}
+use Rattle.xa_server.specs.declared.association.Association.{Association}
+use Rattle.xa_server.specs.declared.association.Association.TheVariants.{Free, Active, Idle}
+use Rattle.xa_server.specs.State.{Branch, State, no_state, association_of}
+use Rattle.xa_server.specs.Replies.{table, reply_to}
+use Rattle.xa_server.specs.Step.{with_branch, with_changed, with_own_write, unless_refused, effect, after}
+use Rattle.xa_server.proofs.Maps.{same_or_apart, get_inserted_apart}
+use Rattle.xa_lines.specs.Listing.{listing}
+use Rattle.xa_record.specs.States.{NamesAllRows, IsStateOf, leaves_rows}
+
+-- a branch is changed
+changed_rows : (state : State) (xid : Xid) (change : Branch → Branch)
+    → (with_changed state xid change).rows ≡ state.rows
+changed_rows state xid change = by (map.get state.branches xid)
+  where
+    by : (found : Option Branch)
+        → (option_map_or (λ branch. with_branch state xid (change branch)) found state).rows ≡ state.rows
+    by None = refl
+    by (Some branch) = refl
+
+effect_rows : (state : State) (session : ℕ) (association : Association) (statement : Statement)
+    → leaves_rows association statement ≡ true
+    → (effect state session association statement).rows ≡ state.rows
+unfolding effect
+effect_rows state session association (Start xid) is = refl
+effect_rows state session association (End xid) is = changed_rows state xid _
+effect_rows state session association (Prepare xid) is = changed_rows state xid _
+effect_rows state session association (Commit xid one_phase) is = absurd (true≢false (sym is))
+effect_rows state session association (Rollback xid) is = refl
+effect_rows state session association (Recover convert) is = refl
+effect_rows state session association Unsupported is = refl
+effect_rows state session Free (Get key) is = refl
+effect_rows state session (Active own) (Get key) is = changed_rows state own _
+effect_rows state session (Idle own) (Get key) is = refl
+effect_rows state session Free (Put key value) is = absurd (true≢false (sym is))
+effect_rows state session (Active own) (Put key value) is = changed_rows state own _
+effect_rows state session (Idle own) (Put key value) is = refl
+effect_rows state session Free (Del key) is = absurd (true≢false (sym is))
+effect_rows state session (Active own) (Del key) is = changed_rows state own _
+effect_rows state session (Idle own) (Del key) is = refl
+effect_rows state session Free Disconnect is = refl
+effect_rows state session (Active own) Disconnect is = refl
+effect_rows state session (Idle own) Disconnect is = refl
+
+unless_rows : (reply : Reply) (state new : State) → new.rows ≡ state.rows
+    → (unless_refused reply state new).rows ≡ state.rows
+unless_rows Accepted state new same = same
+unless_rows (Value value) state new same = same
+unless_rows (Recovered xids) state new same = same
+unless_rows (Refused error) state new same = refl
+
+-- a statement that leaves the committed values as they are
+pub rows_left : (state : State) (session : ℕ) (statement : Statement)
+    → leaves_rows (association_of state session) statement ≡ true
+    → (after state session statement).rows ≡ state.rows
+unfolding after
+rows_left state session statement is =
+    unless_rows (reply_to state session statement) state (effect state session (association_of state session) statement)
+    (effect_rows state session (association_of state session) statement is)
+
+-- a key at the end of keys, and one before it
+at_end : (keys : List (List ℕ)) (key other : List ℕ) → other ≡ key → Contains (keys ++ key ∷ []) other
+at_end keys key other is = Contains-append_right keys (key ∷ []) other (0, omega (arith), sym is)
+
+named_still : (state : State) (keys : List (List ℕ)) (key : List ℕ) → NamesAllRows keys state
+    → NamesAllRows (keys ++ key ∷ []) state
+named_still state keys key all = record {
+  names = λ other has. Contains-append_left keys (key ∷ []) other (all.names other has);
+}
+
+pub named_by_rows : (state new : State) (keys : List (List ℕ)) → new.rows ≡ state.rows → NamesAllRows keys state
+    → NamesAllRows keys new
+named_by_rows state new keys same all = record {
+  names = λ other has. all.names other (λ none. has (ap (λ rows. map.get rows other) same ∙ none));
+}
+
+named_put : (state : State) (keys : List (List ℕ)) (key : List ℕ) (value : Text) (other : List ℕ)
+    → NamesAllRows keys state → map.get (map.insert state.rows key value) other ≢ None
+    → (other ≡ key) ⊎ (eq_by_cmp bytes_cmp other key ≡ false) → Contains (keys ++ key ∷ []) other
+named_put state keys key value other all has (inl is) = at_end keys key other is
+named_put state keys key value other all has (inr apart) =
+    Contains-append_left keys (key ∷ []) other (all.names other
+    (λ none. has (get_inserted_apart bytes_total exact_texts state.rows key value other apart ∙ none)))
+
+-- a row is written by a free session, or in a branch
+named_by_effect : (state : State) (session : ℕ) (association : Association) (keys : List (List ℕ)) (key : List ℕ)
+    (value : Text) → NamesAllRows keys state
+    → NamesAllRows (keys ++ key ∷ []) (effect state session association (Put key value))
+unfolding effect
+named_by_effect state session Free keys key value all =
+    record {
+      names = λ other has.
+          named_put state keys key value other all has (same_or_apart bytes_total exact_texts other key);
+    }
+named_by_effect state session (Active own) keys key value all =
+    named_by_rows state (with_changed state own (with_own_write key (Some value))) (keys ++ key ∷ [])
+    (changed_rows state own _)
+    (named_still state keys key all)
+named_by_effect state session (Idle own) keys key value all = named_still state keys key all
+
+unless_named : (reply : Reply) (state new : State) (keys : List (List ℕ)) → NamesAllRows keys state
+    → NamesAllRows keys new
+    → NamesAllRows keys (unless_refused reply state new)
+unless_named Accepted state new keys old after = after
+unless_named (Value value) state new keys old after = after
+unless_named (Recovered xids) state new keys old after = after
+unless_named (Refused error) state new keys old after = old
+
+-- a row that a session writes at once, or in a branch
+pub row_named : (state : State) (session : ℕ) (keys : List (List ℕ)) (key : List ℕ) (value : Text)
+    → NamesAllRows keys state
+    → NamesAllRows (keys ++ key ∷ []) (after state session (Put key value))
+unfolding after
+row_named state session keys key value all =
+    unless_named (reply_to state session (Put key value)) state
+    (effect state session (association_of state session) (Put key value)) (keys ++ key ∷ [])
+    (named_still state keys key all) (named_by_effect state session (association_of state session) keys key value all)
+
+-- a server that holds nothing
+pub none_named : (state : State) (keys : List (List ℕ)) → state ≡ no_state → NamesAllRows keys state
+unfolding no_state
+none_named state keys is = record {
+  names = λ other has. absurd (has (ap (λ (s : State). map.get s.rows other) is ∙ get-empty bytes_cmp other));
+}
+
+-- a row that was written, whose key was noted
+pub named_after : (state new : State) (session : ℕ) (keys longer : List (List ℕ)) (key : List ℕ) (value : Text)
+    → longer ≡ keys ++ key ∷ [] → new ≡ after state session (Put key value)
+    → NamesAllRows keys state → NamesAllRows longer new
+named_after state new session keys longer key value is done named =
+    subst (λ (s : State). NamesAllRows longer s) (sym done)
+    (subst (λ (l : List (List ℕ)). NamesAllRows l (after state session (Put key value))) (sym is)
+    (row_named state session keys key value named))
+
+-- rows were made over a server that holds nothing, and then branches
+pub named_made : (empty rows prepared made : State) (none keys : List (List ℕ)) → empty ≡ no_state
+    → (NamesAllRows none empty → NamesAllRows keys rows) → prepared.rows ≡ rows.rows → made.rows ≡ prepared.rows
+    → NamesAllRows keys made
+named_made empty rows prepared made none keys is taken one two =
+    named_by_rows prepared made keys two (named_by_rows rows prepared keys one (taken (none_named empty none is)))
+
+-- a text that is a server's listing
+pub is_listed : (text : List ℕ) (state : State) (keys : List (List ℕ)) → text ≡ listing state keys
+    → NamesAllRows keys state → IsStateOf text state
+is_listed text state keys lists all = record { keys = keys; lists = lists; all = all }
+
+-- a session that has nothing open can't end anything
+pub free_told : (state : State) (session : ℕ) (xid : Xid) → association_of state session ≡ Free
+    → reply_to state session (End xid) ≡ Refused (Rmfail NonExisting)
+unfolding reply_to table
+free_told state session xid free = ap (λ association. table state association (End xid)) free

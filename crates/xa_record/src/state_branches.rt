@@ -1,0 +1,110 @@
+//! The branches of a listing.
+ghost use Rattle.std.specs.Prelude.{◌≡◌, OnOk};
+
+use crate::open_branch::OpenBranch;
+use crate::state_carrying::carry_out;
+use crate::state_line::{StateLine, read_state_line};
+use xa_lines::split_line;
+use xa_server::{Phase, Server};
+use xa_xid::{NoMemory, Statement};
+
+/// Starts the branch.
+fn start(server: &mut Server, branch: &OpenBranch) -> Result<(), NoMemory>
+    ensures { OnOk result (server.new.rows ≡ server.old.rows) }
+{
+    let statement = Statement::Start(branch.xid.copy());
+    carry_out(server, branch.session, &statement)
+}
+
+/// Ends the branch, and prepares it, as its phase wants.
+fn end(server: &mut Server, branch: &OpenBranch) -> Result<(), NoMemory>
+    ensures { OnOk result (server.new.rows ≡ server.old.rows) }
+{
+    if branch.phase == Phase::Active {
+        return Ok(());
+    }
+    let statement = Statement::End(branch.xid.copy());
+    carry_out(server, branch.session, &statement)?;
+    if branch.phase == Phase::Idle {
+        return Ok(());
+    }
+    let statement = Statement::Prepare(branch.xid.copy());
+    carry_out(server, branch.session, &statement)
+}
+
+/// Ends the branch that is being made, if one is.
+fn end_last(server: &mut Server, last: &Option<OpenBranch>) -> Result<(), NoMemory>
+    ensures { OnOk result (server.new.rows ≡ server.old.rows) }
+{
+    match last {
+        None => Ok(()),
+        Some(branch) => end(server, branch),
+    }
+}
+
+/// Has the branch that is being made, if one is, hold the row of a statement.
+fn hold(
+    server: &mut Server,
+    last: &Option<OpenBranch>,
+    statement: &Statement,
+) -> Result<(), NoMemory>
+    ensures { OnOk result (server.new.rows ≡ server.old.rows) }
+{
+    match last {
+        None => Ok(()),
+        Some(branch) => carry_out(server, branch.session, statement),
+    }
+}
+
+/// Starts the branch, if it is of those that are made. Returns the branch that is being made now.
+fn begin(
+    server: &mut Server,
+    prepared: bool,
+    branch: OpenBranch,
+) -> Result<Option<OpenBranch>, NoMemory>
+    ensures { OnOk result (server.new.rows ≡ server.old.rows) }
+{
+    if prepared != (branch.phase == Phase::Prepared) {
+        return Ok(None);
+    }
+    start(server, &branch)?;
+    Ok(Some(branch))
+}
+
+/// Goes on with a line. Returns the branch that is being made after it.
+fn take_line(
+    server: &mut Server,
+    prepared: bool,
+    last: Option<OpenBranch>,
+    line: &[u8],
+) -> Result<Option<OpenBranch>, NoMemory>
+    ensures { OnOk result (server.new.rows ≡ server.old.rows) }
+{
+    match read_state_line(line) {
+        Some(StateLine::Branch(branch)) => {
+            end_last(server, &last)?;
+            begin(server, prepared, branch)
+        }
+        Some(StateLine::Held(statement)) => {
+            hold(server, &last, &statement)?;
+            Ok(last)
+        }
+        _ => Ok(last),
+    }
+}
+
+/// Makes branches of the text, each with the rows that it holds: the prepared ones, or the others.
+///
+/// May return `NoMemory`.
+pub fn take_branches(server: &mut Server, prepared: bool, text: &[u8]) -> Result<(), NoMemory>
+    ensures { OnOk result (server.new.rows ≡ server.old.rows) }
+{
+    let mut last = None;
+    let mut rest = text;
+    while !rest.is_empty() {
+        let (line, lines) = split_line(rest);
+        last = take_line(server, prepared, last, line)?;
+        rest = lines;
+    }
+    end_last(server, &last)
+}

@@ -1,0 +1,68 @@
+//! Statements of branches, which leave the committed values of rows as they are.
+ghost use Rattle.std.specs.Prelude.{◌≡◌, true, false, IfOk, OnOk};
+ghost use Rattle.xa_server.specs.State.{association_of};
+ghost use Rattle.xa_server.specs.declared.association.Association.{Association};
+ghost use Rattle.xa_server.specs.declared.reply.Reply.{Reply};
+ghost use Rattle.xa_record.specs.States.{leaves_rows as leaves_rows_by};
+
+use xa_server::{BranchState, Reply, Server, XaError};
+use xa_xid::{Bytes, NoMemory, SessionNo, Statement, Xid};
+
+/// Whether this reply to an `XA END` says that its session has nothing open.
+fn tells_free(reply: &Reply) -> bool
+    ensures { reply.now ≡ Reply.Refused (XaError.Rmfail BranchState.NonExisting) → result ≡ true }
+{
+    match reply {
+        Reply::Refused(XaError::Rmfail(BranchState::NonExisting)) => true,
+        _ => false,
+    }
+}
+
+/// Whether the session is known to have a branch open.
+#[tactic(auto, using(crate::proofs::RowsLeft::free_told))]
+fn has_open(server: &Server, session: SessionNo) -> Result<bool, NoMemory>
+    ensures { IfOk result (λ has. association_of server.now session ≡ Association.Free → has ≡ false) }
+{
+    let xid = Xid {
+        format_id: 0,
+        gtrid: Bytes::new(),
+        bqual: Bytes::new(),
+    };
+    let statement = Statement::End(xid);
+    let (reply, _enters) = server.reply(session, &statement)?;
+    let free = tells_free(&reply);
+    Ok(!free)
+}
+
+/// Whether the session's statement is known to leave the committed values of rows as they are: it is no
+/// commit, and it writes a row only in a branch.
+fn leaves_rows(server: &Server, session: SessionNo, statement: &Statement) -> Result<bool, NoMemory>
+    ensures { IfOk result
+        (λ leaves. leaves ≡ true → leaves_rows_by (association_of server.now session) statement.now ≡ true) }
+{
+    match statement {
+        Statement::Commit { .. } => Ok(false),
+        Statement::Put(_, _) => has_open(server, session),
+        Statement::Del(_) => has_open(server, session),
+        _ => Ok(true),
+    }
+}
+
+/// Has the server carry out the session's statement, if that leaves the committed values of rows as they are.
+///
+/// May return `NoMemory`.
+#[tactic(auto, using(crate::proofs::RowsLeft::rows_left))]
+pub fn carry_out(
+    server: &mut Server,
+    session: SessionNo,
+    statement: &Statement,
+) -> Result<(), NoMemory>
+    ensures { OnOk result (server.new.rows ≡ server.old.rows) }
+{
+    let leaves = leaves_rows(server, session, statement)?;
+    if !leaves {
+        return Ok(());
+    }
+    let _reply = server.apply(session, statement)?;
+    Ok(())
+}

@@ -1,0 +1,40 @@
+//! Why a state couldn't be read.
+
+use std::alloc::{AllocError, AllocFailed};
+use thiserror::Error;
+
+/// Why a state couldn't be read.
+#[derive(Clone, Copy, Debug, PartialEq, Eq, Error)]
+pub enum StateFault {
+    /// The line of this number, counted from 1, is the first that isn't one of a listing.
+    #[error("state line {0}: not a line of a store's listing; write it as show prints one")]
+    Unread(u64),
+    /// The line of this number is the first that the store which the lines make isn't listed with.
+    #[error("state line {0}: the store of these lines isn't listed so; take one listing as a whole, without --text")]
+    Differs(u64),
+    /// An allocation failed.
+    #[error("out of memory")]
+    NoMemory,
+}
+
+impl From<AllocError> for StateFault {
+    ghost use Rattle.std.specs.Prelude.{◌≡◌};
+    ghost use Rattle.xa_record.specs.declared.state_fault.StateFault.TheVariants.{NoMemory};
+
+    ghost from_gives = { λ _ fault. fault ≡ NoMemory };
+
+    fn from(_refused: AllocError) -> StateFault {
+        StateFault::NoMemory
+    }
+}
+
+impl<T: Drop> From<AllocFailed<T>> for StateFault {
+    ghost use Rattle.std.specs.Prelude.{◌≡◌};
+    ghost use Rattle.xa_record.specs.declared.state_fault.StateFault.TheVariants.{NoMemory};
+
+    ghost from_gives = { λ _ fault. fault ≡ NoMemory };
+
+    fn from(_refused: AllocFailed<T>) -> StateFault {
+        StateFault::NoMemory
+    }
+}

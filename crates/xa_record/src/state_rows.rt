@@ -1,0 +1,68 @@
+//! The rows of a listing.
+ghost use Rattle.std.specs.Prelude.{◌++◌, OnOk};
+ghost use Rattle.xa_record.specs.States.{NamesAllRows};
+
+use crate::state_fault::StateFault;
+use crate::state_line::{StateLine, read_state_line};
+use xa_lines::split_line;
+use xa_server::Server;
+use xa_xid::{Bytes, Key, NoMemory, SessionNo, Statement};
+
+/// Has the server give a row this value, and notes the row's key.
+#[tactic(auto, using(crate::proofs::RowsLeft::named_after))]
+fn put_row(
+    server: &mut Server,
+    session: SessionNo,
+    keys: &mut Vec<Key>,
+    key: Key,
+    value: Bytes,
+) -> Result<(), NoMemory>
+    ensures { OnOk result (NamesAllRows keys.old.items server.old → NamesAllRows keys.new.items server.new) }
+{
+    keys.push(key.copy())?;
+    let statement = Statement::Put(key, value);
+    let _reply = server.apply(session, &statement)?;
+    Ok(())
+}
+
+/// Makes the row of a line, if it is the line of a row.
+fn take_line(
+    server: &mut Server,
+    session: SessionNo,
+    keys: &mut Vec<Key>,
+    number: u64,
+    line: &[u8],
+) -> Result<(), StateFault>
+    ensures { OnOk result (NamesAllRows keys.old.items server.old → NamesAllRows keys.new.items server.new) }
+{
+    match read_state_line(line) {
+        None => Err(StateFault::Unread(number)),
+        Some(StateLine::Row(key, value)) => {
+            put_row(server, session, keys, key, value)?;
+            Ok(())
+        }
+        Some(_) => Ok(()),
+    }
+}
+
+/// Makes the rows of the text, and notes their keys in its order.
+///
+/// Errors: `Unread` with the first line that isn't one of a listing; `NoMemory`.
+pub fn take_rows(
+    server: &mut Server,
+    session: SessionNo,
+    keys: &mut Vec<Key>,
+    text: &[u8],
+) -> Result<(), StateFault>
+    ensures { OnOk result (NamesAllRows keys.old.items server.old → NamesAllRows keys.new.items server.new) }
+{
+    let mut number: u64 = 0;
+    let mut rest = text;
+    while !rest.is_empty() {
+        let (line, lines) = split_line(rest);
+        number = number.saturating_add(1);
+        take_line(server, session, keys, number, line)?;
+        rest = lines;
+    }
+    Ok(())
+}

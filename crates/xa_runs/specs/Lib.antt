@@ -1,5 +1,0 @@
-pub mod Raced
-pub mod Came
-pub mod Held
-pub mod Bases
-pub mod Tallied

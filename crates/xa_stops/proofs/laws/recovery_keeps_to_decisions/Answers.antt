@@ -1,5 +1,0 @@
-use Rattle.xa_stops.proofs.Recovering.{keeps_to_decisions}
-use Rattle.xa_stops.proofs.laws.recovery_keeps_to_decisions.Goals as goal
-
-pub returns : goal.returns
-returns c = keeps_to_decisions

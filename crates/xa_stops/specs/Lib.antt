@@ -1,6 +1,0 @@
-pub mod Counted
-pub mod Runs
-pub mod Stops
-pub mod Rows
-pub mod Scripts
-pub mod Atomic

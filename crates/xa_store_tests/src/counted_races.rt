@@ -1,0 +1,183 @@
+//! Races that are counted, and races that stop, at gates of these tests' own.
+//!
+//! That a race is counted for what it came to, and no other, leaves no trace where two races come to the same. So a
+//! gate here has the races come to two outcomes in turn.
+ghost use Rattle.std.specs.Prelude.{◌≡◌, IfSome};
+ghost use Rattle.std.specs.List.{All};
+ghost use Rattle.decision_log.specs.Opens.{IsCapacity};
+ghost use Rattle.xa_races.specs.Came.{IsRunCount};
+
+use std::alloc::{Alloc, Global};
+use std::sync::atomic::{AtomicU64, Ordering};
+use std::sync::{Arc, Wait};
+use std::thread::{Threads, yield_now};
+use xa_endless::EndlessStore;
+use xa_lines::ScriptFault;
+use xa_races::{LongRun, race_on, runs_script};
+use xa_statement::read_statement;
+use xa_store::{Gate, OpenGate};
+use xa_xid::{SessionNo, Statement};
+
+/// A gate that lets session 1 be first in the first race, session 2 in the next one, and so on in turn. The other
+/// session is let in when the first one's second line comes, behind the answer to its first line.
+#[derive(Drop)]
+struct TakesTurns {
+    races: AtomicU64,
+    has_answer: AtomicU64,
+}
+
+impl TakesTurns {
+    /// Whether the session is the first one of this race.
+    fn is_first(&self, session: SessionNo) -> bool {
+        let is_odd = self.races.load(Ordering::SeqCst) % 2 == 1;
+        (session.get() == 1) == is_odd
+    }
+}
+
+impl Gate for TakesTurns {
+    fn announce(&self, _runs: u64) {
+        self.has_answer.store(0, Ordering::SeqCst);
+        let _before = self.races.fetch_add(1, Ordering::SeqCst);
+    }
+
+    fn enter(&self, session: SessionNo, line: u64) -> bool {
+        if self.is_first(session) {
+            if line == 1 {
+                self.has_answer.store(1, Ordering::SeqCst);
+            }
+            return true;
+        }
+        for _ in 0..100_000_000u64 {
+            if self.has_answer.load(Ordering::SeqCst) == 1 {
+                return true;
+            }
+            yield_now();
+        }
+        false
+    }
+}
+
+/// A gate that stops each session before its second line.
+struct LetsOne;
+
+impl Gate for LetsOne {
+    fn enter(&self, _session: SessionNo, line: u64) -> bool {
+        line == 0
+    }
+}
+
+/// Races a script so often, and returns the fault.
+fn raced<G: Gate + Sync, R: Threads + Wait + Sync + Alloc<A = Global>>(
+    rt: &R,
+    script: &[u8],
+    output: &mut Vec<u8>,
+    capacity: u64,
+    renews: bool,
+    runs: u64,
+    gate: &G,
+) -> Option<ScriptFault>
+    requires capacity { IsCapacity capacity }
+    requires runs { IsRunCount runs }
+{
+    let mut input = script;
+    runs_script(
+        rt,
+        rt.alloc(),
+        &mut input,
+        output,
+        capacity,
+        renews,
+        runs,
+        gate,
+    )
+    .err()
+}
+
+/// Two sessions that start one branch.
+const BOTH_START: &[u8] = b"1 XA START 'a'\n2 XA START 'a'\n1 XA RECOVER\n2 XA RECOVER\n";
+
+/// Session 1 was first three times, and session 2 twice.
+const BOTH_CAME: &[u8] = b"OUTCOME 1 CAME 3
+1 OK
+2 ERROR 1440 (XAE08): XAER_DUPID xid already exists
+1 ROWS 0
+2 ROWS 0
+OUTCOME 2 CAME 2
+1 ERROR 1440 (XAE08): XAER_DUPID xid already exists
+2 OK
+1 ROWS 0
+2 ROWS 0
+SEEN 2 OF 2 OUTCOMES
+";
+
+#[test]
+fn each_race_is_counted_for_what_it_came_to(rt: HostRuntime) {
+    let gate = TakesTurns {
+        races: AtomicU64::new(0),
+        has_answer: AtomicU64::new(0),
+    };
+    let mut output = Vec::new(rt.alloc());
+    let fault = raced(&rt, BOTH_START, &mut output, 8, false, 5, &gate);
+    assert_eq!(rt; fault, None);
+    assert_eq!(rt; output.as_slice(), BOTH_CAME);
+}
+
+#[test]
+fn shut_gate_is_told_of_counted_races(rt: HostRuntime) {
+    let mut output = Vec::new(rt.alloc());
+    let fault = raced(&rt, BOTH_START, &mut output, 8, true, 3, &LetsOne);
+    assert_eq!(rt; fault, Some(ScriptFault::GateShut));
+    assert!(rt; output.is_empty());
+}
+
+/// One row is written before, and two by lines side by side.
+const WRITES: &[u8] = b"1 PUT 'a','1'\nBESIDE\n1 PUT 'b','2'\n2 PUT 'c','3'\n";
+
+/// What its races write.
+const WRITTEN: &[u8] = b"OUTCOME 1 CAME 2\n1 OK\n1 OK\n2 OK\nSEEN 1 OF 1 OUTCOMES\n";
+
+#[test]
+fn full_is_told_only_where_lines_side_by_side_add_more(rt: HostRuntime) {
+    let mut output = Vec::new(rt.alloc());
+    let fault = raced(&rt, WRITES, &mut output, 1, false, 2, &OpenGate);
+    assert_eq!(rt; fault, Some(ScriptFault::Full));
+    assert!(rt; output.is_empty());
+    let fault = raced(&rt, WRITES, &mut output, 2, false, 2, &OpenGate);
+    assert_eq!(rt; fault, None);
+    assert_eq!(rt; output.as_slice(), WRITTEN);
+    output.clear();
+    let fault = raced(&rt, WRITES, &mut output, 1, true, 2, &OpenGate);
+    assert_eq!(rt; fault, None);
+    assert_eq!(rt; output.as_slice(), WRITTEN);
+}
+
+/// The run of session 1, which starts a branch and ends it.
+fn only_run(alloc: Global, store: &Arc<EndlessStore>) -> Option<Vec<LongRun>>
+    ensures { IfSome result (λ runs. All (λ run. run.session.store.value ≡ store.now.value) runs.items) }
+{
+    let session = EndlessStore::take(store, 1).ok()?;
+    let mut lines = Vec::new(alloc);
+    lines.push(read_statement(b"XA START 'a'").ok()?).ok()?;
+    lines.push(read_statement(b"XA END 'a'").ok()?).ok()?;
+    let mut runs = Vec::new(alloc);
+    runs.push(LongRun { session, lines }).ok()?;
+    Some(runs)
+}
+
+/// How many entries there are after the gate has stopped that run before its second statement.
+fn entries_after_a_stop<R: Threads + Wait + Sync + Alloc<A = Global>>(rt: &R) -> Option<u64> {
+    let alloc = rt.alloc();
+    let store = EndlessStore::open(alloc, 8, 2).ok()?;
+    let mut other = EndlessStore::take(&store, 2).ok()?;
+    let runs = only_run(alloc, &store)?;
+    race_on(rt, alloc, &store, 0, runs, &LetsOne).err()?;
+    let answer = other
+        .execute(rt, &Statement::Recover { convert: false })
+        .ok()?;
+    Some(answer.place)
+}
+
+#[test]
+fn session_that_stops_adds_nothing_more(rt: HostRuntime) {
+    assert_eq!(rt; entries_after_a_stop(&rt), Some(1));
+}
