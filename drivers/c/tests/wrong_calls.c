@@ -187,6 +187,23 @@ static void taken_again(void) {
   SAME(nigbaru_close(&store), NIGBARU_OK);
 }
 
+/* Leaving and closing say nothing to the store: a branch of a session that left stays open, with its locks, also after
+   the store's handle is closed. */
+static void nothing_is_said(void) {
+  nigbaru_store store = NIGBARU_EMPTY;
+  nigbaru_session session = NIGBARU_EMPTY, other = NIGBARU_EMPTY;
+  one_of_each(&store, &session);
+  SAME(nigbaru_take(&store, 2, &other), NIGBARU_OK);
+  SAME(nigbaru_attempt(&session, "XA START 'a'", 12, &answer, NULL, 0), NIGBARU_OK);
+  SAME(nigbaru_attempt(&session, "PUT 'k','v'", 11, &answer, NULL, 0), NIGBARU_OK);
+  SAME(nigbaru_leave(&session), NIGBARU_OK);
+  SAME(nigbaru_close(&store), NIGBARU_OK);
+  SAME(nigbaru_attempt(&other, "PUT 'k','w'", 11, &answer, NULL, 0), NIGBARU_REFUSED);
+  SAME(answer.error, 3572);
+  SAME(answer.place, 2);
+  SAME(nigbaru_leave(&other), NIGBARU_OK);
+}
+
 /* Wants the next entry that a session hands out to be this one. */
 static void hands_out(nigbaru_session *session, uint64_t number, const char *text) {
   SAME(nigbaru_follow(session, &entry), NIGBARU_OK);
@@ -259,6 +276,7 @@ int main(void) {
   no_statements();
   limits();
   taken_again();
+  nothing_is_said();
   history();
   return 0;
 }
