@@ -100,8 +100,9 @@ pub fn syntax(text: &[u8], fault: Fault) -> Refusal {
     if rest.is_empty() {
         return refusal_with(1064, format!("syntax fault at byte {}, where the text ends", fault.place));
     }
-    let shown: String = String::from_utf8_lossy(rest).chars().map(|it| if it.is_control() { ' ' } else { it }).take(QUOTED).collect();
-    let more = if shown.chars().count() == QUOTED { ".." } else { "" };
+    let rest = String::from_utf8_lossy(rest);
+    let shown: String = rest.chars().map(|it| if it.is_control() { ' ' } else { it }).take(QUOTED).collect();
+    let more = if rest.chars().nth(QUOTED).is_some() { ".." } else { "" };
     refusal_with(1064, format!("syntax fault at byte {} near '{}{}'", fault.place, shown, more))
 }
 
@@ -149,6 +150,7 @@ mod tests {
         assert_eq!(said(b"SELECT * FROM t", 0), "syntax fault at byte 0 near 'SELECT * FROM t'");
         assert_eq!(said(b"XA START", 8), "syntax fault at byte 8, where the text ends");
         assert_eq!(said(b"GET a\nb", 4), "syntax fault at byte 4 near 'a b'");
-        assert!(said(&[b'x'; 500], 0).ends_with("x..'"));
+        assert_eq!(said(&[b'x'; 60], 0), format!("syntax fault at byte 0 near '{}'", "x".repeat(60)));
+        assert_eq!(said(&[b'x'; 61], 0), format!("syntax fault at byte 0 near '{}..'", "x".repeat(60)));
     }
 }

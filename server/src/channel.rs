@@ -8,6 +8,8 @@ use std::os::unix::net::UnixStream;
 use std::sync::Arc;
 use std::time::{Duration, Instant};
 
+/// Of a packet; a longer text goes on in further ones.
+const MOST: usize = 0xff_ffff;
 /// How much is read at once.
 const PIECE: usize = 4096;
 
@@ -22,8 +24,8 @@ pub enum End {
     Cut,
     /// It isn't let in, and has been told so; the text is for the log.
     Refused(String),
-    /// A packet of more bytes than may be; so many of them aren't read yet.
-    TooLong(usize),
+    /// A packet of more bytes than may be; so many of them aren't read yet, and whether no more packets belong to it.
+    TooLong(usize, bool),
     /// It said what is no packet, or nothing where something was due.
     Wrong(String),
     /// The server ends.
@@ -194,7 +196,7 @@ impl Channel {
         }
         let end = HEADER + length_in(held);
         if end > HEADER + self.limits.longest {
-            return Err(End::TooLong(end - held.len().min(end)));
+            return Err(End::TooLong(end - held.len().min(end), length_in(held) < MOST));
         }
         if held.len() < end {
             return Ok(false);
@@ -267,11 +269,12 @@ impl Channel {
     }
 
     /// Passes over the rest of a packet, so that the client reads its refusal instead of a broken connection.
-    pub fn pass_over(&mut self, mut rest: usize) {
+    /// Of a text of 16 MiB and more, which comes in several packets, all that the client still sends is the rest.
+    pub fn pass_over(&mut self, mut rest: usize, is_last: bool) {
         let deadline = Instant::now() + self.limits.patience;
         self.held.clear();
         self.taken = 0;
-        while rest > 0 && matches!(self.fill(Some(deadline)), Ok(Came::Bytes)) {
+        while (rest > 0 || !is_last) && matches!(self.fill(Some(deadline)), Ok(Came::Bytes)) {
             rest = rest.saturating_sub(self.held.len());
             self.held.clear();
         }

@@ -173,15 +173,20 @@ impl<'a> Words<'a> {
 
     fn start(&mut self) -> Option<Other> {
         let mut is_read_only = None;
-        while !self.words.is_empty() {
+        if self.words.is_empty() {
+            return Some(Other::Begin(None));
+        }
+        loop {
             if self.sees("read") {
-                is_read_only = Some(self.access()?);
+                // (a transaction isn't both)
+                is_read_only = Some(self.access().filter(|_| is_read_only.is_none())?);
             } else if !(self.sees("with") && self.sees("consistent") && self.sees("snapshot")) {
                 return None;
             }
-            self.sees_sign(b',');
+            if !self.sees_sign(b',') {
+                return Some(Other::Begin(is_read_only));
+            }
         }
-        Some(Other::Begin(is_read_only))
     }
 
     /// What stands behind READ; whether it is ONLY.
@@ -205,33 +210,36 @@ impl<'a> Words<'a> {
     // settings
 
     fn set(&mut self) -> Option<Other> {
-        if self.sees("names") {
-            return self.names();
-        }
-        if self.sees("charset") || self.words.len() > 1 && self.sees("character") && self.sees("set") {
-            return self.names();
-        }
         let mut settings = Settings::default();
         loop {
-            let is_session = self.sees("session") || self.sees("local");
-            if self.sees("transaction") {
-                return self.characteristics(is_session);
+            if self.is_names() {
+                self.names()?;
+            } else {
+                let is_session = self.sees("session") || self.sees("local");
+                if self.sees("transaction") {
+                    return self.characteristics(is_session);
+                }
+                self.assignment(is_session, &mut settings)?;
             }
-            self.assignment(is_session, &mut settings)?;
             if !self.sees_sign(b',') {
                 return Some(Other::Set(settings));
             }
         }
     }
 
+    /// Whether NAMES, CHARSET, CHARACTER SET or CHAR SET come next; they are taken.
+    fn is_names(&mut self) -> bool {
+        self.sees("names") || self.sees("charset") || (self.sees("character") || self.sees("char")) && self.sees("set")
+    }
+
     /// The name of a character set, and maybe of a collation, quoted or not.
-    fn names(&mut self) -> Option<Other> {
+    fn names(&mut self) -> Option<()> {
         self.sees_sign(b'=');
         self.name()?;
         if self.sees("collate") {
             self.name()?;
         }
-        Some(Other::Set(Settings::default()))
+        Some(())
     }
 
     fn name(&mut self) -> Option<()> {
@@ -288,7 +296,7 @@ impl<'a> Words<'a> {
                 *(if is_next { &mut settings.next } else { &mut settings.usual }) = access;
                 Some(())
             }
-            _ => self.expression().filter(|()| name == "names" || VARIABLES.iter().any(|(it, _, _)| *it == name)),
+            _ => self.expression().filter(|()| VARIABLES.iter().any(|(it, _, _)| *it == name)),
         }
     }
 
@@ -535,6 +543,9 @@ mod tests {
             "SET TRANSACTION ISOLATION LEVEL READ COMMITTED",
             "SET SESSION TRANSACTION ISOLATION LEVEL REPEATABLE READ",
             "SET NAMES `utf8`",
+            "SET NAMES utf8mb4, time_zone = '+00:00'",
+            "SET sql_mode='', NAMES 'utf8' COLLATE utf8_bin, SESSION wait_timeout = 1",
+            "SET CHAR SET utf8, CHARSET latin1, CHARACTER SET 'x'",
             "SET character_set_results = NULL",
             "SET sql_mode='STRICT_TRANS_TABLES', time_zone = '+00:00'",
             "SET @@session.wait_timeout=28800",
@@ -617,7 +628,17 @@ mod tests {
         ] {
             assert_eq!(said(text), Some(other), "{}", text);
         }
-        for text in ["COMMIT AND CHAIN", "ROLLBACK TO x", "START", "START SLAVE", "START TRANSACTION READ", "BEGIN; COMMIT"] {
+        for text in [
+            "COMMIT AND CHAIN",
+            "ROLLBACK TO x",
+            "START",
+            "START SLAVE",
+            "START TRANSACTION READ",
+            "START TRANSACTION READ ONLY,",
+            "START TRANSACTION READ ONLY READ WRITE",
+            "START TRANSACTION READ ONLY, READ WRITE",
+            "BEGIN; COMMIT",
+        ] {
             assert_eq!(said(text), None, "{}", text);
         }
     }

@@ -36,6 +36,8 @@ pub struct Conversation {
     store: Arc<Store>,
     connection: Arc<Connection>,
     account: Option<Account>,
+    /// The plugin that the greeting names.
+    auth: &'static str,
     longest: usize,
     scramble: [u8; 20],
     tls: Option<Keys>,
@@ -83,6 +85,7 @@ impl Conversation {
             store,
             connection,
             account: options.account.clone(),
+            auth: options.auth,
             longest: options.limits.longest,
             scramble,
             tls: options.tls.clone(),
@@ -99,10 +102,10 @@ impl Conversation {
     // login
 
     /// Greets the client, and hears who it is. It has no answer to that yet.
-    pub fn log_in(&mut self, auth: &str) -> Result<(), End> {
+    pub fn log_in(&mut self) -> Result<(), End> {
         let before = self.store.fault_at(Point::Connect);
         self.before(before, "the greeting")?;
-        let (number, scramble) = (self.connection.number as u32, self.scramble);
+        let (number, scramble, auth) = (self.connection.number as u32, self.scramble, self.auth);
         let has_tls = self.tls.is_some();
         self.channel.out.packet(|it| packets::greeting(it, number, &scramble, auth, has_tls));
         self.channel.send()?;
@@ -121,7 +124,7 @@ impl Conversation {
     fn prove(&mut self, login: &packets::Login) -> Result<(), End> {
         let fault = self.store.fault_at(Point::Login);
         self.before(fault, "the login")?;
-        if !login::is_right(&mut self.channel, login, self.account.as_ref(), &self.scramble)? {
+        if !login::is_right(&mut self.channel, login, self.account.as_ref(), self.auth, &self.scramble)? {
             self.connection.counts.count_refusal(1045);
             refuse(&mut self.channel, refusal(1045))?;
             return Err(End::Refused("a wrong user or password".to_string()));

@@ -114,10 +114,13 @@ impl Guest {
 
     fn crowded(&self) -> Refusal {
         let size = self.store.pool.size();
-        let wait = self.store.wait.as_secs_f64();
-        let text =
-            format!("Too many connections: each of the store's {} sessions has a branch that isn't prepared, and none was free for {} s (--wait)", size, wait);
-        refusal_with(1040, text)
+        let busy = format!("Too many connections: each of the store's {} sessions has a branch that isn't prepared, or answers a statement", size);
+        // (--wait 0 says that nothing waits)
+        let wait = self.store.wait;
+        refusal_with(
+            1040,
+            if wait.is_zero() { format!("{} (--wait 0)", busy) } else { format!("{}, and none was free for {} s (--wait)", busy, wait.as_secs_f64()) },
+        )
     }
 
     /// Asks the store, and answers. A session that is borrowed is kept until `settle`.

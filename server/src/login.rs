@@ -50,29 +50,34 @@ fn is_equal(one: &[u8], other: &[u8]) -> bool {
     one.len() == other.len() && one.iter().zip(other).fold(0, |found, (one, other)| found | (one ^ other)) == 0
 }
 
-/// Whether the client may come in. It may be asked for another proof, which is heard here.
-pub fn is_right(channel: &mut Channel, login: &Login, account: Option<&Account>, scramble: &[u8; 20]) -> Result<bool, End> {
-    let account = match account {
-        Some(account) => account,
-        None => return Ok(true),
+/// Whether the client may come in, whom the greeting named a plugin. It may be asked for another proof, which is heard here.
+pub fn is_right(channel: &mut Channel, login: &Login, account: Option<&Account>, greeted: &str, scramble: &[u8; 20]) -> Result<bool, End> {
+    let fits = |proof: &[u8], right: fn(&[u8], &[u8; 20]) -> Vec<u8>| {
+        account.map_or(true, |it| is_equal(&login.user, &it.user) && is_equal(proof, &right(&it.password, scramble)))
     };
-    let is_user = is_equal(&login.user, &account.user);
     if login.plugin == SHA2.as_bytes() && login.proof.len() == 32 {
-        let is_proved = is_equal(&login.proof, &sha2_proof(&account.password, scramble));
-        if is_proved && is_user {
-            // The fast path: the server knows the password, so it needs no more, and says so before its OK.
+        let is_right = fits(&login.proof, sha2_proof);
+        if is_right {
+            // The fast path: the server needs no more, and says so before its OK. Clients wait for that, also where anybody may come in.
             channel.out.packet(|it| it.extend([1, 3]));
         }
-        return Ok(is_proved && is_user);
+        return Ok(is_right);
     }
-    let is_native = login.plugin.is_empty() || login.plugin == NATIVE.as_bytes();
     let mut proof = login.proof.clone();
-    if !is_native {
+    if needs_other(login, account.is_some(), greeted) {
         channel.out.packet(|it| packets::other_plugin(it, NATIVE, scramble));
         channel.send()?;
         channel.receive(&mut proof)?;
     }
-    Ok(is_equal(&proof, &native_proof(&account.password, scramble)) && is_user)
+    Ok(fits(&proof, native_proof))
+}
+
+/// Whether a client is asked for a native proof. One that uses another plugin than the greeting named sends nothing at first, and waits for a scramble; no
+/// account has an empty password, so nothing is never a proof.
+fn needs_other(login: &Login, has_account: bool, greeted: &str) -> bool {
+    let is_native = login.plugin == NATIVE.as_bytes();
+    let waits = login.proof.is_empty() && (has_account || login.plugin != greeted.as_bytes());
+    !login.plugin.is_empty() && (waits || has_account && !is_native)
 }
 
 #[cfg(test)]
@@ -96,6 +101,25 @@ mod tests {
         }
         assert!(native_proof(b"", &scramble).is_empty() && sha2_proof(b"", &scramble).is_empty());
         assert!(is_equal(b"a", b"a") && !is_equal(b"a", b"b") && !is_equal(b"a", b""));
+    }
+
+    /// By plugin, proof, whether there is an account, and the greeting's plugin.
+    #[test]
+    fn who_is_asked_for_another_proof() {
+        let asked = |plugin: &str, proof: &[u8], has_account, greeted| {
+            let login = Login { can: 0, user: Vec::new(), proof: proof.to_vec(), plugin: plugin.as_bytes().to_vec() };
+            needs_other(&login, has_account, greeted)
+        };
+        for greeted in [NATIVE, SHA2] {
+            for has_account in [false, true] {
+                assert!(!asked("", b"", has_account, greeted) && !asked("", b"p", has_account, greeted));
+                assert!(!asked(NATIVE, b"p", has_account, greeted));
+                assert_eq!(asked(NATIVE, b"", has_account, greeted), has_account || greeted == SHA2);
+                assert_eq!(asked(SHA2, b"", has_account, greeted), has_account || greeted == NATIVE);
+                assert_eq!(asked("dialog", b"p", has_account, greeted), has_account);
+                assert!(asked("dialog", b"", has_account, greeted));
+            }
+        }
     }
 
     #[test]

@@ -33,6 +33,7 @@ use options::{Options, Wanted};
 use port::Port;
 use std::fs;
 use std::net::Shutdown;
+use std::os::unix::fs::MetadataExt;
 use std::path::Path;
 use std::process::ExitCode;
 use std::sync::Arc;
@@ -84,11 +85,14 @@ fn give_up(status: u8, why: &str) -> ExitCode {
     ExitCode::from(status)
 }
 
+/// When a file was changed, how long it is, and which it is: two that were written in the same moment differ in that alone.
+type Looks = (SystemTime, u64, u64);
+
 /// The file of faults, and what it was like when it was read.
 struct Watch<'a> {
     path: Option<&'a Path>,
     stores: usize,
-    seen: Option<(SystemTime, u64)>,
+    seen: Option<Looks>,
     plans: Vec<faults::Plan>,
 }
 
@@ -103,14 +107,14 @@ impl<'a> Watch<'a> {
         Ok(watch)
     }
 
-    fn looks(&self) -> Option<(SystemTime, u64)> {
+    fn looks(&self) -> Option<Looks> {
         let about = fs::metadata(self.path?).ok()?;
-        Some((about.modified().ok()?, about.len()))
+        Some((about.modified().ok()?, about.len(), about.ino()))
     }
 
     fn read(&self, path: &Path) -> Result<Vec<faults::Plan>, String> {
-        let text = fs::read_to_string(path).map_err(|fault| format!("{}: {}", path.display(), fault))?;
-        faults::read(&text, self.stores).map_err(|why| format!("{}: {}", path.display(), why))
+        let text = fs::read_to_string(path).map_err(|fault| format!("--fault {}: {}", path.display(), fault))?;
+        faults::read(&text, self.stores).map_err(|why| format!("--fault {}: {}", path.display(), why))
     }
 
     /// The plans, if the file has changed. One that can't be read leaves the faults as they are.
@@ -154,6 +158,7 @@ impl<'a> Server<'a> {
             stores.push(store);
         }
         let mut server = Server { options: Arc::clone(options), stop, stores, ports: Vec::new(), threads: Vec::new(), watch };
+        server.write_status().map_err(|fault| format!("--status {}", fault))?;
         server.set_faults(&server.watch.plans.clone());
         for (port, listener) in found {
             server.threads.push(Arc::clone(&port).listen(listener));
@@ -188,29 +193,37 @@ impl<'a> Server<'a> {
         self.end()
     }
 
-    /// Writes the status, under another name first, so that who reads it has it whole, and the history.
+    /// Writes history and status.
     fn write(&self) {
         self.stores.iter().for_each(|store| store.write_history());
-        if let Some(path) = &self.options.status {
-            let stores: Vec<String> = self.stores.iter().map(|store| status::json_of(store)).collect();
-            let mut next = path.clone().into_os_string();
-            next.push(".next");
-            let text = format!("{{\"stores\":[{}]}}\n", stores.join(","));
-            if let Err(fault) = fs::write(&next, text).and_then(|()| fs::rename(&next, path)) {
-                say(&format!("{} can't be written: {}", path.display(), fault));
-            }
+        if let Err(fault) = self.write_status() {
+            say(&format!("the status can't be written: {}", fault));
         }
     }
 
+    /// Writes the status, if that is wanted, under another name first, so that who reads it has it whole.
+    fn write_status(&self) -> Result<(), String> {
+        let path = match &self.options.status {
+            Some(path) => path,
+            None => return Ok(()),
+        };
+        let stores: Vec<String> = self.stores.iter().map(|store| status::json_of(store)).collect();
+        let mut next = path.clone().into_os_string();
+        next.push(".next");
+        let text = format!("{{\"stores\":[{}]}}\n", stores.join(","));
+        fs::write(&next, text).and_then(|()| fs::rename(&next, path)).map_err(|fault| format!("{}: {}", path.display(), fault))
+    }
+
     /// Accepts nobody further, lets statements end, and writes what is to be written.
-    fn end(mut self) -> ExitCode {
+    fn end(self) -> ExitCode {
         self.stop.end();
         self.stores.iter().for_each(|store| store.pool.close());
-        self.ports.iter().for_each(|port| port.wake());
-        for thread in self.threads.drain(..) {
-            let _ = thread.join();
-        }
         let began = Instant::now();
+        // (a unix socket that somebody has removed can't be woken, and isn't waited for)
+        while self.threads.iter().any(|it| !it.is_finished()) && began.elapsed() < WRITES {
+            self.ports.iter().for_each(|port| port.wake());
+            thread::sleep(TICK / 10);
+        }
         while self.stores.iter().any(|store| !lock(&store.connections).is_empty()) && began.elapsed() < LAST + LAST / 10 {
             let how = if began.elapsed() < LAST { Shutdown::Read } else { Shutdown::Both };
             self.stores.iter().for_each(|store| store.shut_all(how));

@@ -104,7 +104,10 @@ impl Words {
                 return Err(format!("--{} isn't an option", name));
             }
             // (a word that looks like an option isn't the value of the one before it)
-            let value = value.or_else(|| words.next().filter(|it| !it.starts_with("--"))).ok_or_else(|| format!("--{} takes a value", name))?;
+            let value = value
+                .or_else(|| words.next().filter(|it| !it.starts_with("--")))
+                .filter(|it| !it.is_empty())
+                .ok_or_else(|| format!("--{} takes a value", name))?;
             given.push((name, value));
         }
         Ok(Words { given })
@@ -234,11 +237,11 @@ fn account_of(words: &Words, host: &str) -> Result<Option<Account>, String> {
         (None, None) => return Err(format!("--host {} can be reached from other machines, so it needs --user and --password-file", host)),
         _ => return Err("--user and --password-file go together".to_string()),
     };
-    let text = std::fs::read(&file).map_err(|fault| format!("{}: {}", file.display(), fault))?;
+    let text = std::fs::read(&file).map_err(|fault| format!("--password-file {}: {}", file.display(), fault))?;
     let line = text.split(|byte| *byte == b'\n').next().unwrap_or(b"");
     let password = line.strip_suffix(b"\r").unwrap_or(line);
     if password.is_empty() {
-        return Err(format!("{} has no password in its first line", file.display()));
+        return Err(format!("--password-file {} has no password in its first line", file.display()));
     }
     Ok(Some(Account { user: user.as_bytes().to_vec(), password: password.to_vec() }))
 }
@@ -286,6 +289,9 @@ mod tests {
             ("--wait -1", "seconds"),
             ("--wait nan", "seconds"),
             ("--port", "takes a value"),
+            ("--socket=", "--socket takes a value"),
+            ("--record= --port 0", "--record takes a value"),
+            ("--user=", "--user takes a value"),
             ("--shout", "isn't an option"),
             ("program", "isn't an option"),
             ("--auth x", "--auth takes"),

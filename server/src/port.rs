@@ -8,9 +8,10 @@ use crate::system;
 use std::fs;
 use std::io::{self, ErrorKind};
 use std::net::{Shutdown, SocketAddr, TcpListener, TcpStream};
+use std::os::unix::fs::FileTypeExt;
 use std::os::unix::net::{UnixListener, UnixStream};
 use std::panic::{self, AssertUnwindSafe};
-use std::path::PathBuf;
+use std::path::{Path, PathBuf};
 use std::sync::atomic::{AtomicBool, AtomicUsize, Ordering};
 use std::sync::Arc;
 use std::thread;
@@ -54,8 +55,7 @@ impl Listener {
 
     pub fn unix(path: PathBuf) -> io::Result<(Listener, Address)> {
         let listener = match UnixListener::bind(&path) {
-            // A socket that nobody listens at is a server's that was killed.
-            Err(fault) if fault.kind() == ErrorKind::AddrInUse && UnixStream::connect(&path).is_err() => {
+            Err(fault) if fault.kind() == ErrorKind::AddrInUse && is_left(&path) => {
                 fs::remove_file(&path)?;
                 UnixListener::bind(&path)?
             }
@@ -78,6 +78,12 @@ impl Listener {
             Listener::Unix(it) => it.accept().map(|(stream, _)| (Stream::Unix(stream), "unix socket".to_string())),
         }
     }
+}
+
+/// Whether a socket lies there at which nobody listens: a server's that was killed. Any other file is left alone.
+fn is_left(path: &Path) -> bool {
+    let is_socket = fs::symlink_metadata(path).map_or(false, |it| it.file_type().is_socket());
+    is_socket && UnixStream::connect(path).map_or_else(|fault| fault.kind() == ErrorKind::ConnectionRefused, |_| false)
 }
 
 /// Accepts clients of a store until the server ends.
@@ -209,19 +215,19 @@ impl Port {
             End::Left(place) => log(format!("closed {}, without a goodbye", place)),
             End::Refused(why) => log(format!("refused: {}", why)),
             End::Wrong(why) => log(format!("closed: {}", why)),
-            End::TooLong(rest) => {
+            End::TooLong(rest, is_last) => {
                 let longest = self.options.limits.longest;
                 log(format!("closed: a packet of more than {} bytes", longest));
                 let _ = refuse(conversation.channel(), too_long(longest));
                 connection.stream.shutdown(Shutdown::Write);
-                conversation.channel().pass_over(rest);
+                conversation.channel().pass_over(rest, is_last);
             }
         }
     }
 
     /// Logs a client in, and answers it.
     fn meet(&self, conversation: &mut Conversation, connection: &Connection, place: Count) -> End {
-        if let Err(end) = conversation.log_in(self.options.auth) {
+        if let Err(end) = conversation.log_in() {
             return end;
         }
         drop(place);

@@ -10,6 +10,9 @@ use std::fmt::Write;
 use std::sync::atomic::Ordering;
 use std::time::{Duration, Instant};
 
+/// How many rows of a branch the table shows, since a packet has room for 16 MiB.
+const SHOWN: usize = 1_000;
+
 struct Branch {
     xid: String,
     state: &'static str,
@@ -118,8 +121,11 @@ impl Branch {
         if let Some(age) = self.age {
             let _ = write!(told, ", {:.1} s", age.as_secs_f64());
         }
-        for (key, is_exclusive) in &self.rows {
+        for (key, is_exclusive) in self.rows.iter().take(SHOWN) {
             let _ = write!(told, ", {} {}", if *is_exclusive { "holds" } else { "shares" }, text(key));
+        }
+        if self.rows.len() > SHOWN {
+            let _ = write!(told, ", and {} rows more", self.rows.len() - SHOWN);
         }
         told
     }

@@ -102,6 +102,13 @@ class Status(Case):
         self.ok(one, "BEGIN", "PUT 'k','v'")
         self.assertEqual(len([row for row in self.seen(two) if row[0] == b"branch" and b"LOCAL" in row[2]]), 1)
 
+    def test_a_branch_of_many_rows(self):
+        """The table shows a thousand of them."""
+        client = self.client(self.serve(record=False))
+        self.ok(client, "XA START 'a'", *(f"PUT '{number:04}','v'" for number in range(1_002)))
+        (told,) = [row[2].decode() for row in self.seen(client) if row[0] == b"branch"]
+        self.assertEqual((told.count(", holds "), told.endswith(", holds 0x30393939, and 2 rows more")), (1_000, True))
+
     def test_as_a_file(self):
         folder = Path(self.ends.enter_context(tempfile.TemporaryDirectory()))
         server = self.serve("--status", folder / "status", stores=2)

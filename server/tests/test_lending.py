@@ -11,7 +11,7 @@ from support import PROGRAM, Case, wait_for
 from wire import Client
 
 CONNECTIONS, CYCLES = 30, 60
-HELD = "each of the store's 16 sessions has a branch"
+HELD = "Too many connections: each of the store's 16 sessions has a branch that isn't prepared, or answers a statement"
 
 
 def memory(server):
@@ -114,7 +114,7 @@ class Lending(Case):
             began = time.monotonic()
             for text in ("XA START 'late'", "GET 'k'"):
                 answer = self.refused(clients[16], text, 1040, "08004")
-                self.assertIn(HELD, answer.text)
+                self.assertEqual(answer.text, HELD + (" (--wait 0)" if seconds == "0" else ", and none was free for 0.2 s (--wait)"))
             self.assertGreaterEqual(time.monotonic() - began, 2 * float(seconds))
             self.ok(clients[0], "XA END '0'", "XA ROLLBACK '0'")
             self.ok(clients[16], "XA START 'late'")

@@ -46,6 +46,13 @@ class Limits(Case):
                 answer = greedy.read(greedy.packet())
                 self.assertEqual((answer.kind, answer.number, answer.sqlstate), (ERROR, 1153, "08S01"))
                 self.assertTrue(greedy.is_closed())
+        # A text of 16 MiB and more comes in several packets. The client reads its refusal when it has sent them all.
+        with server.client() as greedy:
+            greedy.send(b"\x03" + b"x" * ((1 << 24) - 2))
+            greedy.send(b"x" * ((1 << 24) - 1), 1)
+            greedy.send(b"x" * 1000, 2)
+            answer = greedy.read(greedy.packet())
+            self.assertEqual((answer.number, answer.text), (1153, "a packet of more than 65536 bytes"))
         with Client(server.port, log_in=False) as greedy:
             greedy.greeted()
             greedy.send(b"x" * 100_000, 1)

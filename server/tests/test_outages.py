@@ -1,4 +1,5 @@
 """Further faults: connects and logins, local transactions, one phase, every nth, chances, outages, and a file that is read again."""
+import os
 import random
 import threading
 import time
@@ -126,6 +127,14 @@ class Faults(Case):
         self.change(server, "GET 1 error 1213", "PUT nonsense")
         wait_for(lambda: server.logged("the faults stay as they were"), "the file is refused")
         self.assertEqual(client.ask("PUT 'k','v'").number, 1205)
+        # of the same moment and length as the one before, and yet another file
+        about = (server.folder / "faults").stat()
+        (server.folder / "same").write_text("GET 1 error 1205\n# 34567890ab\n")
+        os.utime(server.folder / "same", ns=(about.st_atime_ns, about.st_mtime_ns))
+        self.assertEqual((server.folder / "same").stat().st_size, about.st_size)
+        (server.folder / "same").rename(server.folder / "faults")
+        wait_for(lambda: server.logged("read again: 1 of all stores"), "the file is read")
+        self.assertEqual([client.ask("GET 'k'").number for _ in range(2)], [1205, None])
         self.change(server, "NOW outage 0.5")
         wait_for(lambda: server.logged("store 1 is out for 0.5 seconds: it is told so"), "it goes out")
         wait_for(lambda: server.logged("store 1 is back"), "it is back")

@@ -34,7 +34,8 @@ class Protocol(Case):
     def test_a_fault_quotes(self):
         for text, said in (("SELECT * FROM accounts", "syntax fault at byte 0 near 'SELECT * FROM accounts'"), ("XA START", "syntax fault at byte 8, where the text ends"), ("GET 'k' now", "near 'now'")):
             self.assertIn(said, self.refused(self.one, text, 1064, "42000").text)
-        self.assertLess(len(self.one.ask("x" * 60_000).text), 200)
+        for text, shown in (("x" * 60, "x" * 60), ("x" * 61, "x" * 60 + ".."), ("x" * 60_000, "x" * 60 + "..")):
+            self.assertEqual(self.refused(self.one, text, 1064, "42000").text, f"syntax fault at byte 0 near '{shown}'")
 
     def test_settings(self):
         for text in ("SET NAMES 'latin1'", "SET NAMES utf8 COLLATE utf8_general_ci", "SET CHARACTER SET 'any'", "SET SESSION TRANSACTION READ ONLY", "SET TRANSACTION ISOLATION LEVEL READ COMMITTED", "DO 1", "USE db",
@@ -48,7 +49,8 @@ class Protocol(Case):
     def test_forms_of_settings(self):
         """Each form of SET that docs or drivers have is taken, with any name of a character set, quoted or not."""
         for name in ("utf8mb4", "'utf8mb4'", '"latin1"', "`koi8r`", "binary", "DEFAULT", "'any name'", "nobody_knows"):
-            for text in ("SET NAMES {}", "set names {};", "SET NAMES {} COLLATE utf8_bin", "SET NAMES {} COLLATE 'x'", "SET CHARACTER SET {}", "SET CHARSET {}", "/* c */ SET  NAMES\n{} -- x"):
+            for text in ("SET NAMES {}", "set names {};", "SET NAMES {} COLLATE utf8_bin", "SET NAMES {} COLLATE 'x'", "SET CHARACTER SET {}", "SET CHARSET {}", "/* c */ SET  NAMES\n{} -- x", "SET CHAR SET {}",
+                         "SET NAMES {}, time_zone = '+00:00'", "SET sql_mode = '', NAMES {}, SESSION wait_timeout = 1"):
                 self.ok(self.one, text.format(name))
         levels = ("READ UNCOMMITTED", "READ COMMITTED", "REPEATABLE READ", "SERIALIZABLE")
         for scope in ("", "SESSION ", "LOCAL "):
@@ -60,7 +62,8 @@ class Protocol(Case):
             self.ok(self.one, text, "ROLLBACK")
         for text in ("DO 1", "DO SLEEP(0)", "USE db", "SET @@session.autocommit = ON", "SET autocommit=1", "SET LOCAL autocommit = TRUE", "SET @a := 1", "SET sql_mode = DEFAULT, @@session.time_zone = '+00:00'"):
             self.ok(self.one, text)
-        for text in ("SET", "SET NAMES", "SET CHARACTER SET", "SET TRANSACTION", "SET TRANSACTION ISOLATION LEVEL", "SET TRANSACTION ISOLATION LEVEL ANY", "SET autocommit", "DO", "START TRANSACTION READ", "SET nothing_known = 1"):
+        for text in ("SET", "SET NAMES", "SET CHARACTER SET", "SET TRANSACTION", "SET TRANSACTION ISOLATION LEVEL", "SET TRANSACTION ISOLATION LEVEL ANY", "SET autocommit", "DO", "START TRANSACTION READ", "START TRANSACTION READ ONLY,", "START TRANSACTION READ ONLY, READ WRITE",
+                     "SET NAMES utf8,", "SET nothing_known = 1"):
             self.refused(self.one, text, 1064, "42000")
 
     def test_what_can_be_bound(self):
@@ -198,6 +201,17 @@ class Passwords(Case):
                     else:
                         self.assertEqual(client.read(packet).number, 1045)
 
+    def test_clients_of_each_plugin(self):
+        """The greeting names one plugin, and the client may use the other: with an account the right password alone lets it in, and without one any."""
+        for account in ([], ["--user", "judy", "--password-file", self.secret]):
+            for auth in ("mysql_native_password", "caching_sha2_password"):
+                server = self.serve(*account, "--auth", auth)
+                for plugin in ("mysql_native_password", "caching_sha2_password"):
+                    for password in ("right", "wrong", ""):
+                        words = ["mariadb", "--no-defaults", "--host=127.0.0.1", f"--port={server.port}", "--user=judy", f"--password={password}", f"--default-auth={plugin}", "-Ne", "SELECT 1"]
+                        ran = subprocess.run(words, stdout=subprocess.PIPE, stderr=subprocess.STDOUT, text=True, timeout=60)
+                        self.assertEqual(ran.stdout, "ERROR 1045 (28000): Access denied\n" if account and password != "right" else "1\n", words)
+
     def test_another_user(self):
         server = self.serve("--user", "judy", "--password-file", self.secret)
         for password, number in ((b"right", None), (b"wrong", 1045)):
@@ -283,7 +297,7 @@ class CommandLine(Case):
         (folder / "empty").write_text("\n")
         (folder / "faults").write_text("XA PREPARE 1 explode\n")
         for words, said in ((["--host", "0.0.0.0"], "needs --user"), (["--user", "u"], "go together"), (["--user", "u", "--password-file", folder / "empty"], "no password"), (["--fault", folder / "faults"], "line 1"),
-                            (["--fault", folder / "none"], "No such file"), (["--record", "r", "--history", "./r"], "same file"), (["--record", b"\xff"], "isn't UTF-8"), (["--stores", "0"], "1 to 64"), (["--port", "65535", "--stores", "2"], "no ports"), (["--nothing"], "isn't an option")):
+                            (["--fault", folder / "none"], "No such file"), (["--user", "u", "--password-file", folder / "none"], "--password-file /"), (["--socket="], "--socket takes a value"), (["--record", "r", "--history", "./r"], "same file"), (["--record", b"\xff"], "isn't UTF-8"), (["--stores", "0"], "1 to 64"), (["--port", "65535", "--stores", "2"], "no ports"), (["--nothing"], "isn't an option")):
             status, text = self.said(*words)
             self.assertEqual(status, 2, text)
             self.assertIn(said, text)
@@ -298,6 +312,9 @@ class CommandLine(Case):
         status, text = self.said("--port", "0", "--record", "/none/record")
         self.assertEqual(status, 1)
         self.assertIn("/none/record", text)
+        status, text = self.said("--port", "0", "--status", "/none/status")
+        self.assertEqual(status, 1)
+        self.assertIn("it doesn't start: --status /none/status: No such file", text)
 
     def test_a_socket(self):
         folder = Path(self.ends.enter_context(tempfile.TemporaryDirectory()))
@@ -311,3 +328,20 @@ class CommandLine(Case):
         again = self.serve("--socket", folder / "socket")
         self.assertEqual(again.end(), 0)
         self.assertFalse((folder / "socket").exists())
+
+    def test_a_file_at_the_path_of_a_socket(self):
+        """It isn't a socket that a server left, so it stays."""
+        folder = Path(self.ends.enter_context(tempfile.TemporaryDirectory()))
+        (folder / "mine").write_text("mine")
+        (folder / "link").symlink_to("mine")
+        for name in ("mine", "link"):
+            status, text = self.said("--port", "0", "--socket", folder / name)
+            self.assertEqual((status, "in use" in text, (folder / name).read_text()), (1, True, "mine"), text)
+
+    def test_a_socket_that_somebody_has_removed(self):
+        folder = Path(self.ends.enter_context(tempfile.TemporaryDirectory()))
+        server = self.serve("--socket", folder / "socket")
+        (folder / "socket").unlink()
+        self.ok(self.client(server), "PUT 'k','v'")
+        server.process.terminate()
+        self.assertEqual(server.process.wait(20), 0)
