@@ -9,23 +9,17 @@
 //!
 //! | Mode | What is done | What is counted |
 //! |---|---|---|
-//! | `cas` | entries added to a log by compare-and-swap, and not read | entries |
-//! | `proto` | cycles of sessions over such a log, each with a server of its own | cycles |
-//! | `protomix5` | of a hundred statements of such sessions outside branches five write, the others read | statements |
 //! | `lib-enum`, `lib-text` | cycles on one server behind a lock; the statements are values, or texts that are read first | cycles |
-//! | `get-text` | texts that read rows outside branches, on one server behind a lock | reads |
-//! | `libmix5`, `mix-text` | the statements of `protomix5` on one server behind a lock, as values or as texts | statements |
+//! | `libmix5`, `mix-text` | statements outside branches on one server behind a lock, as values or as texts; of a hundred five write, the others read | statements |
 //! | `times` | the statements of `lib-text`: how long one takes but for one of a thousand, and the longest | |
 //!
 //! A server behind a lock begins with ROWS rows that nobody touches, none where the word is missing.
-mod log;
 mod reader;
 mod server;
 mod statement;
 mod text;
 mod trips;
 
-use log::{Log, Session};
 use reader::Reader;
 use server::Server;
 use statement::{Statement, cycle, cycle_texts};
@@ -88,33 +82,6 @@ impl Mix {
     }
 }
 
-fn adds(threads: usize, seconds: f64) -> f64 {
-    let log = Log::new(threads as u64);
-    let statement = Statement::Put(Text::of(b"k0_1"), Text::of(b"v123"));
-    rate(threads, seconds, || log.stop(), |thread| log.add_only(thread as u64, &statement.words(thread as u64)))
-}
-
-fn sessions(threads: usize, seconds: f64) -> f64 {
-    let log = Log::new(threads as u64);
-    rate(threads, seconds, || log.stop(), |thread| {
-        let cycles: Vec<_> = (0..TURNS).map(|turn| cycle(thread, turn)).collect();
-        let mut session = Session::new(&log, thread as u64);
-        (0..).find(|turn| !cycles[*turn as usize % TURNS].iter().all(|statement| session.write(statement))).unwrap()
-    })
-}
-
-fn mixed_sessions(threads: usize, seconds: f64) -> f64 {
-    let log = Log::new(threads as u64);
-    rate(threads, seconds, || log.stop(), |thread| {
-        let (mut mix, mut session) = (Mix::new(thread), Session::new(&log, thread as u64));
-        let mut goes_on = || match mix.next() {
-            write @ Statement::Put(..) => session.write(&write),
-            read => session.read(&read),
-        };
-        (0..).find(|_| !goes_on()).unwrap()
-    })
-}
-
 /// A server with rows that nobody touches.
 fn filled(rows: usize) -> Mutex<Server> {
     let mut server = Server::default();
@@ -139,25 +106,6 @@ fn behind_a_lock(threads: usize, seconds: f64, rows: usize, reads: bool) -> f64 
             turn += 1;
         }
         turn
-    })
-}
-
-fn reads_behind_a_lock(threads: usize, seconds: f64) -> f64 {
-    let (server, stops) = (Mutex::new(Server::default()), AtomicBool::new(false));
-    for thread in 1..=threads {
-        for (key, value) in Mix::new(thread).rows {
-            server.lock().unwrap().apply(thread, &Statement::Put(key, value)).expect();
-        }
-    }
-    rate(threads, seconds, || stops.store(true, Relaxed), |thread| {
-        let texts: Vec<_> = (0..TURNS).map(|turn| format!("GET 'k{thread}_{turn}'")).collect();
-        let mut done = 0;
-        while done % 64 != 0 || !stops.load(Relaxed) {
-            let statement = Reader::read(black_box(texts[done as usize % TURNS].as_bytes())).unwrap();
-            server.lock().unwrap().apply(thread, &statement).expect();
-            done += 1;
-        }
-        done
     })
 }
 
@@ -209,12 +157,8 @@ fn timed_behind_a_lock(server: &Mutex<Server>, thread: usize, count: usize) -> V
 
 fn measured(mode: &str, threads: usize, seconds: f64, rows: usize) -> f64 {
     match mode {
-        "cas" => adds(threads, seconds),
-        "proto" => sessions(threads, seconds),
-        "protomix5" => mixed_sessions(threads, seconds),
         "lib-enum" => behind_a_lock(threads, seconds, rows, false),
         "lib-text" => behind_a_lock(threads, seconds, rows, true),
-        "get-text" => reads_behind_a_lock(threads, seconds),
         "libmix5" => mixed_behind_a_lock(threads, seconds, rows, false),
         "mix-text" => mixed_behind_a_lock(threads, seconds, rows, true),
         _ => panic!("there is no mode {mode}"),

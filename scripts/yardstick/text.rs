@@ -32,25 +32,6 @@ impl Text {
         self.length += 1;
         Some(())
     }
-
-    /// The length and the eight words that the bytes fill, the rest of which is 0.
-    pub fn words(&self) -> (u64, [u64; 8]) {
-        let word = |at: usize| u64::from_be_bytes(self.bytes[8 * at..8 * at + 8].try_into().unwrap());
-        (self.length as u64, std::array::from_fn(word))
-    }
-
-    /// The text of such a length and words; none where a byte past the end isn't 0.
-    pub fn of_words(length: u64, words: &[u64]) -> Option<Text> {
-        if length > 64 {
-            return None;
-        }
-        let mut text = Text::new();
-        for (place, word) in text.bytes.chunks_exact_mut(8).zip(words) {
-            place.copy_from_slice(&word.to_be_bytes());
-        }
-        text.length = length as u8;
-        text.bytes[length as usize..].iter().all(|byte| *byte == 0).then_some(text)
-    }
 }
 
 impl PartialEq for Text {
