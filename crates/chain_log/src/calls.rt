@@ -82,6 +82,7 @@ impl DecisionLog for ChainLog {
         self.write_cell(&mut pass.seat, own, pass.newest, entry);
         // Others may have appended since `pass.newest` was loaded: the exchange tests it.
         let found = self.exchange(&mut pass.seat, pass.newest, own, entry);
+        // Another cell was the newest, so nothing was appended.
         if found != pass.newest {
             let front = row_count(self.sessions, found);
             self.fill(&mut pass.seat, &mut pass.columns, row, front, found);
@@ -98,6 +99,7 @@ impl DecisionLog for ChainLog {
     fn meet(&self, first: &mut ChainPass, second: &mut ChainPass) {
         let newest = self.table.meet(&mut first.seat, &mut second.seat);
         let first_unseen = second.count;
+        // Else the second has seen as much already, and stays as it is.
         if first_unseen < first.count {
             // `newest` was loaded at a seat that knows both passes, so what the second has seen ends there.
             let count = row_count(self.sessions, newest);

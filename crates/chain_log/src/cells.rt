@@ -40,6 +40,7 @@ impl ChainLog {
             → ((place : ℕ) → place < index → slice_index words.now place ≡ slice_index (words_of entry) place)
             → IsEntry entry × (result ≡ slice_index (words_of entry) index) }
     {
+        // An entry has one spelling: such a word is 0.
         if is_behind_text(words, index) {
             return 0;
         }

@@ -11,8 +11,11 @@ use decision_log::LogTable;
 /// A pass that stops doesn't keep others from appending. An exchange is lost only if the history grew.
 #[derive(Drop)]
 pub struct ChainLog {
+    /// The words: the newest cell's name, and the cells row by row.
     pub(crate) table: LogTable<Links>,
+    /// How many sessions it has, in `[1, 16]`.
     pub(crate) sessions: u64,
+    /// How many entries it can have, in `[1, 1024]`.
     pub(crate) capacity: u64,
     ghost wide: { table.inner.shared.table_id.words ≡ word_count sessions capacity },
     ghost sizes: { table.inner.shared.key ≡ record { sessions = sessions; capacity = capacity } },

@@ -56,6 +56,7 @@ pub(crate) fn row_count(sessions: u64, newest: u64) -> u64
     requires { 1 ≤ sessions }
     ensures { (seen : List Entry) → AllOf sessions seen → newest ≡ newest_of sessions seen → result ≡ length seen }
 {
+    // No cell has the name 0: the history is empty.
     if newest == 0 {
         return 0;
     }

@@ -15,8 +15,11 @@ use xa_xid::SessionNo;
 /// entries it has seen. A table gives the column of the cell in each row that it has seen.
 #[derive(Drop)]
 pub struct ChainPass {
+    /// Where it takes its steps.
     pub(crate) seat: Seat<Entry, SeatView>,
+    /// The number of its session.
     pub(crate) number: SessionNo,
+    /// The name of the last cell that it has seen, or 0.
     pub(crate) newest: u64,
     /// How many entries it has seen.
     pub(crate) count: u64,

@@ -12,7 +12,9 @@ use decision_log::LogTable;
 /// history grew.
 #[derive(Drop)]
 pub struct RingLog {
+    /// The words: the newest entry's name, and the cells.
     pub(crate) table: LogTable<Turning>,
+    /// How many sessions it has, in `[1, 16]`, spares not included.
     pub(crate) sessions: u64,
     /// How many columns the cells have: one for each pass, spares included.
     pub(crate) columns: u64,

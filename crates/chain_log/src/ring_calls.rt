@@ -139,6 +139,7 @@ impl RingLog {
         self.write_cell(&mut pass.seat, start, own, pass.newest, entry);
         // Others may have appended since `pass.newest` was loaded: the exchange tests it.
         let found = self.exchange(&mut pass.seat, pass.newest, own, entry);
+        // Another entry was the newest, so nothing was appended.
         if found != pass.newest {
             let front = place_count(self.columns, found);
             pass.low = self.fill(
@@ -195,6 +196,7 @@ impl RingLog {
     {
         let newest = self.table.meet(first, &mut second.seat);
         let unseen = second.count;
+        // Else the pass has seen as much already, and stays as it is.
         if unseen < front {
             // `newest` was loaded at a seat that knows both passes, so what the second has seen ends there.
             let count = place_count(self.columns, newest);
@@ -234,6 +236,7 @@ impl RingLog {
         if at + self.rows < pass.count {
             return None;
         }
+        // A link on the way down to this place was lost, and so is the entry.
         if !self.reach(pass, at) {
             return None;
         }
@@ -254,6 +257,7 @@ impl RingLog {
         ensures reached { MatchBool result (pass.new.low ≤ at) (at + self.now.rows ≤ least_of pass.new) }
     {
         let low = pass.low;
+        // The table has the place already.
         if low <= at {
             return true;
         }

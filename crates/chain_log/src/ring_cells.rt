@@ -90,6 +90,7 @@ impl RingLog {
         ensures some { IfSome result (λ entry. slice_get (pass_view seat.old).known.seen place ≡ Some entry) }
         ensures none { IfNone result (place + rows_of (pass_view seat.old).capacity ≤ least (pass_view seat.new)) }
     {
+        // The cell was used again already.
         if self.check_name(seat, start) != name {
             return None;
         }

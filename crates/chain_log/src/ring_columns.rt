@@ -102,6 +102,7 @@ impl RingLog {
         ensures bottom { 0 < result → result < count }
         ensures kept { HasWindow self.now.rows result count (pass_view seat.old).known.seen columns.new.items }
     {
+        // Nothing is new.
         if count <= first {
             return low;
         }
@@ -128,6 +129,7 @@ fn walk_stop(rows: u64, first: u64, count: u64) -> u64
     ensures top { result < count }
     ensures reach { first < result → count ≡ result + rows }
 {
+    // Of more entries than it has rows, the table keeps the last ones.
     if count - first > rows {
         count - rows
     } else {

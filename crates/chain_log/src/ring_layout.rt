@@ -70,6 +70,7 @@ pub(crate) fn words_filled(size: u64) -> usize
     ensures most { result ≤ 8 }
     ensures behind { (word : ℕ) → result ≤ word → word < 8 → size ≤ 8 * word }
 {
+    // No text fills more words. In a cell that is written meanwhile any number may be found.
     if size > 56 {
         return 8;
     }
@@ -81,6 +82,7 @@ pub(crate) fn place_count(columns: u64, newest: u64) -> u64
     requires { 1 ≤ columns }
     ensures { (seen : List Entry) → AllOf columns seen → newest ≡ newest_of columns seen → result ≡ length seen }
 {
+    // No entry has the name 0: the history is empty.
     if newest == 0 {
         return 0;
     }

@@ -17,8 +17,11 @@ use xa_xid::SessionNo;
 /// has seen. A table gives the column of the cell of each of the last entries.
 #[derive(Drop)]
 pub struct RingPass {
+    /// Where it takes its steps.
     pub(crate) seat: Seat<Entry, SeatView>,
+    /// The number of its session, which is its column.
     pub(crate) number: SessionNo,
+    /// The name of the last entry that it has seen, or 0.
     pub(crate) newest: u64,
     /// How many entries it has seen.
     pub(crate) count: u64,

@@ -12,6 +12,7 @@ use xa_words::Entry;
 /// it. Its number is behind those of the sessions.
 #[derive(Drop)]
 pub struct RingSpare {
+    /// Where it meets passes.
     pub(crate) seat: Seat<Entry, SeatView>,
     /// How many entries it remembers.
     pub(crate) count: u64,

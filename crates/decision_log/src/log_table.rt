@@ -17,6 +17,7 @@ use xa_words::Entry;
 /// The words of a log, which its passes share under the log's rule.
 #[derive(Drop)]
 pub struct LogTable<R: LogWords> {
+    /// The words. Only this module takes steps on them.
     inner: Table<Entry, SeatView, Sizes, R, Global>,
     ghost some: { 0 < inner.shared.table_id.words },
 }

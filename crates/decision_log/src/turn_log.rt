@@ -21,8 +21,11 @@ pub use rule::Turns;
 /// If a pass stops while it has the turn, the others get `Busy` from then on.
 #[derive(Drop)]
 pub struct TurnLog {
+    /// The words: the count, the turn, and the rows.
     table: LogTable<Turns>,
+    /// How many sessions it has, in `[1, 16]`.
     sessions: u64,
+    /// How many entries it can have, in `[1, 1024]`.
     capacity: u64,
     ghost wide: { table.inner.shared.table_id.words ≡ row_at capacity },
     ghost sizes: { table.inner.shared.key ≡ record { sessions = sessions; capacity = capacity } },

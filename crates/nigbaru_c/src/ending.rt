@@ -53,6 +53,7 @@ pub extern "C" fn nigbaru_raw_close(alloc: Global, store: &mut Handle) -> u32
     let Some(chair) = store.empty(alloc) else {
         return status::NO_HANDLE;
     };
+    // The box is dropped here. Its store is freed once its sessions have left, too.
     if matches!(&chair.hold, Some(Hold::Store(_))) {
         return status::OK;
     }

@@ -17,6 +17,7 @@ use std::ptr::null_mut;
 #[repr(C)]
 #[derive(Drop)]
 pub struct Handle {
+    /// The address of the box, or null.
     at: *mut u8,
     pub ghost held: { Option ChairOf } by { held_coded },
 }

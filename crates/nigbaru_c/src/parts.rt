@@ -7,7 +7,9 @@ use std::marker::Model;
 
 /// A box, split into its pointer and its allocator. It owns what the box owned.
 pub struct Parts<T, A: Allocator> {
+    /// Where the value lies.
     pub(crate) ptr: *mut T,
+    /// The allocator that the memory is from.
     pub(crate) alloc: A,
     pub ghost value: { T },
 }
@@ -17,6 +19,7 @@ impl<T, A: Allocator> Model for Parts<T, A> {
 }
 
 impl<T, A: Allocator> Parts<T, A> {
+    /// Splits a box.
     pub(crate) fn of(b: Box<T, A>) -> Parts<T, A>
     where
         T: Drop,
@@ -26,6 +29,7 @@ impl<T, A: Allocator> Parts<T, A> {
         Parts { ptr, alloc }
     }
 
+    /// Makes the box again.
     pub(crate) fn into_box(self) -> Box<T, A>
         ensures { result.value ≡ self.value }
     {

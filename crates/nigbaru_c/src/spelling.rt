@@ -26,6 +26,7 @@ fn spell_part(bytes: &[u8]) -> ArrayVec<u8, 130>
     ensures { result.items ≡ part_text bytes.now }
 {
     let mut text = ArrayVec::<u8, 130>::new();
+    // `0x` without a digit is no literal.
     if bytes.is_empty() {
         text.try_extend_from_slice(b"X''").unwrap();
     } else {

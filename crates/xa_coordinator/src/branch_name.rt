@@ -60,6 +60,7 @@ pub(crate) fn number_of_branch(name: &Bytes, store: u8, xid: &Xid) -> Option<u64
     let Some(number) = number_behind(name.len(), xid.gtrid.as_slice()) else {
         return None;
     };
+    // The number alone doesn't show that the name, the store and the formatID are those of the branch, too.
     if *xid == branch_xid(name, number, store) {
         Some(number)
     } else {

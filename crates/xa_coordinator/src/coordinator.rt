@@ -13,8 +13,11 @@ use xa_xid::{Bytes, copy_of};
 /// A coordinator of global transactions: a name, a session of each store, and what is open in each.
 #[derive(Drop)]
 pub struct Coordinator<S: Speak> {
+    /// Its name, 1 to 56 bytes, with which the identifiers of its branches begin.
     pub(crate) name: Bytes,
+    /// A session of each store, 1 to 16.
     pub(crate) stores: Vec<S>,
+    /// The branch that it has open in each store, by the store's number.
     pub(crate) branches: [Option<OpenBranch>; 16],
     ghost named: { (1 ≤ array_vec_len name) × (array_vec_len name ≤ 56) },
     ghost sized: { (1 ≤ vec_len stores) × (vec_len stores ≤ 16) },

@@ -24,6 +24,7 @@ pub struct Closed;
 /// 1, 2, ..
 #[derive(Drop)]
 pub struct Decisions {
+    /// The states of the numbers 1, 2, .. that were given, from place 0 on.
     by_number: Vec<Decision>,
 }
 
@@ -124,6 +125,7 @@ impl Decisions {
     fn decision(&self, number: u64) -> Option<Decision>
         ensures { result ≡ decision_of self.now number }
     {
+        // Numbers begin at 1.
         if number == 0 {
             return None;
         }

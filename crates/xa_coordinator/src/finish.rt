@@ -96,6 +96,7 @@ impl<S: Speak> Coordinator<S> {
                 return Ending::Unfinished { store, cause };
             }
         }
+        // Somebody else finished these branches, so how the transaction ended isn't known.
         if !missing.is_empty() {
             return Ending::Hazard { stores: missing };
         }

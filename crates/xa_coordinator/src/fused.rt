@@ -15,7 +15,9 @@ use xa_xid::Statement;
 /// A contract sees it as the session within, so it keeps every promise of a session.
 #[derive(Drop)]
 pub struct Fused<S: Speak> {
+    /// The session within.
     pub(crate) inner: S,
+    /// How many calls are still passed on.
     pub(crate) left: u64,
 }
 

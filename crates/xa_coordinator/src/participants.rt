@@ -15,6 +15,7 @@ pub enum Participation {
 /// The stores that take part in a global transaction: a mark for each of 16.
 #[derive(Clone, Copy, Debug, PartialEq, Eq)]
 pub struct Participants {
+    /// Whether each store takes part, by its number.
     pub(crate) members: [bool; 16],
     ghost sixteen: { length members ≡ 16 },
 }

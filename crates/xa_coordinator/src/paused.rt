@@ -10,7 +10,9 @@ use xa_xid::Bytes;
 /// A coordinator without its sessions: its name, and its record of the branches that it has open in them.
 #[derive(Drop)]
 pub struct Paused {
+    /// The coordinator's name, 1 to 56 bytes.
     pub(crate) name: Bytes,
+    /// The branch that it has open in each store, by the store's number.
     pub(crate) branches: [Option<OpenBranch>; 16],
     ghost named: { (1 ≤ array_vec_len name) × (array_vec_len name ≤ 56) },
 }

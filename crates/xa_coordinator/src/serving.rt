@@ -31,6 +31,7 @@ pub(crate) fn serve(
     ensures watch { OnErr result (watch.new ≡ watch.old) }
     ensures cause { OnErr result (result ≡ Err WantsMemory) }
 {
+    // The count of looks would overflow.
     if watch.looks == u64::MAX {
         return Err(Fault::NoMemory);
     }

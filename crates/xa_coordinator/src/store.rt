@@ -22,10 +22,15 @@ use xa_xid::{SessionNo, Statement};
 /// contract sees the whole history.
 #[derive(Drop)]
 pub struct LastingStore {
+    /// The server with which it began. Only contracts see it.
     pub(crate) first: Snapshot<Server>,
+    /// The history, of which only contracts see the entries. At run time it is a length.
     pub(crate) history: Vec<Snapshot<Entry>>,
+    /// The state that the history leaves.
     pub(crate) server: Server,
+    /// What its own session has seen.
     pub(crate) own: Watch,
+    /// What the other client's session has seen.
     pub(crate) other: Watch,
     ghost lawful: { LockLaw first.value },
     ghost stands: { server ≡ state_after first.value (map (λ one. one.value) history.items) },

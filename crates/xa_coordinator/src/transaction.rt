@@ -9,9 +9,13 @@ use xa_xid::Bytes;
 /// stores that take part. `prepare` and `abandon` use it up.
 #[derive(Debug, Drop)]
 pub struct Transaction {
+    /// Its number, in `[1, 1,000,000]`.
     pub(crate) number: u64,
+    /// Its coordinator's name.
     pub(crate) name: Bytes,
+    /// How many stores its coordinator has, in `[1, 16]`.
     pub(crate) stores: u8,
+    /// The stores that take part.
     pub(crate) participants: Participants,
     ghost eight_bytes: { number < 2 ^ 64 },
     ghost among: { stores ≤ 16 },
@@ -52,7 +56,9 @@ pub enum VoteKind {
 /// A global transaction that was voted on, and takes no more work. `finish` uses it up.
 #[derive(Debug, Drop)]
 pub struct Prepared {
+    /// The transaction, which takes no more work.
     pub(crate) transaction: Transaction,
+    /// What the stores voted.
     pub(crate) vote_kind: VoteKind,
 }
 

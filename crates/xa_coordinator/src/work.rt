@@ -130,6 +130,7 @@ impl<S: Speak> Coordinator<S> {
         if self.is_working(store, transaction.number) {
             return self.work_within(rt, transaction, store, statement);
         }
+        // It worked there in a branch that this coordinator doesn't have open. In a new one that work would be missing.
         if transaction.has(store) && !self.has_open(store, transaction.number) {
             return Err(WorkFault::Lost);
         }

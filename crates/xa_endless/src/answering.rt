@@ -39,6 +39,7 @@ impl EndlessStore {
     {
         self.jump(member);
         let answered = self.try_once(member, statement);
+        // A checkpoint helps only a session that lost entries.
         if !matches!(answered, Err(EndlessFault::Behind)) {
             return answered;
         }

@@ -21,7 +21,9 @@ use std::sync::Arc;
 /// session shares the replica while it copies it. A replica that is shared can't change.
 #[derive(Drop)]
 pub(crate) struct Checkpoint {
+    /// It has seen at least what the replica has replayed.
     pub(crate) spare: RingSpare,
+    /// The replica, which sessions share while they copy it.
     pub(crate) replica: Arc<Replica>,
     ghost within: { replica.value.replayed ≤ length (spare_known_of spare).seen },
     ghost state: { replica.value.server ≡ state_at no_state (spare_known_of spare).seen replica.value.replayed } by { Coded-set coded_state _ _ },

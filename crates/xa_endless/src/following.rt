@@ -34,6 +34,7 @@ impl EndlessSession {
     {
         let log = &self.store.log;
         let told = self.member.told;
+        // A look is made only if all that was seen is handed out.
         if told == log.length(&self.member.pass) && log.look(&mut self.member.pass) == told {
             return Next::End;
         }

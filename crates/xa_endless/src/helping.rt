@@ -33,6 +33,7 @@ impl EndlessStore {
         let mut most = 0;
         for index in 0..self.checkpoints.len() {
             let offered = self.offered(index, member);
+            // 0 stands for a checkpoint from which the session can't go on.
             if offered > most {
                 most = offered;
                 best = Some(index);
@@ -122,6 +123,7 @@ impl EndlessStore {
     {
         let checkpoint = self.progress.checkpoint();
         let ahead = checkpoint - member.replica.replayed.min(checkpoint);
+        // A copy takes time for each row, so it has to save the replay of as many entries.
         if ahead < LEAST_JUMP || ahead < member.replica.row_count() {
             return;
         }

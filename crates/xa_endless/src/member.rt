@@ -12,7 +12,9 @@ use chain_log::RingPass;
 /// What a session keeps between its calls: its pass, its replica, and how far it has handed out the history.
 #[derive(Drop)]
 pub struct Member {
+    /// Its handle on the ring.
     pub(crate) pass: RingPass,
+    /// Its own server.
     pub(crate) replica: Replica,
     /// How many entries `next_entry` has handed out, lost ones included.
     pub(crate) told: u64,

@@ -37,6 +37,7 @@ impl Progress {
     /// Tells how many entries the replica of a session has replayed. Sessions are numbered from 1 on.
     pub(crate) fn tell(&self, session: u64, replayed: u64) {
         for (index, told) in self.sessions.iter().enumerate() {
+            // The number isn't known to be one of the list, so its place is looked for.
             if index as u64 + 1 == session {
                 told.store(replayed, SeqCst);
             }

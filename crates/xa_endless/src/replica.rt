@@ -14,7 +14,9 @@ use xa_xid::{NoMemory, SessionNo, Statement};
 /// A session's own server: the state after a prefix of the history.
 #[derive(Drop)]
 pub struct Replica {
+    /// The state after the entries that were replayed.
     pub(crate) server: Server,
+    /// How many entries were replayed, from the history's first on.
     pub(crate) replayed: u64,
 }
 

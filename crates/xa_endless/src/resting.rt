@@ -16,9 +16,13 @@ use std::sync::Arc;
 /// A session that nobody has.
 #[derive(Drop)]
 pub struct RestingMember {
+    /// Its handle on the ring, at rest.
     pub(crate) pass: RestingPass,
+    /// Its own server.
     pub(crate) replica: Replica,
+    /// As in `Member`: how many entries `next_entry` has handed out.
     pub(crate) told: u64,
+    /// As in `Member`: what its replica had replayed when it last looked after a checkpoint.
     pub(crate) tended: u64,
     ghost within: { replica.replayed ≤ length (resting_known_of pass).seen },
     ghost state: { replica.server ≡ state_at no_state (resting_known_of pass).seen replica.replayed } by { Coded-set coded_state _ _ },
@@ -34,7 +38,9 @@ impl Fits for RestingMember {
 /// A checkpoint that nobody looks after just now.
 #[derive(Drop)]
 pub(crate) struct RestingCheckpoint {
+    /// It has seen at least what the replica has replayed.
     pub(crate) spare: RestingSpare,
+    /// The replica, which sessions share while they copy it.
     pub(crate) replica: Arc<Replica>,
     ghost within: { replica.value.replayed ≤ length (resting_spare_known_of spare).seen },
     ghost state: { replica.value.server ≡ state_at no_state

@@ -16,7 +16,9 @@ use xa_xid::SessionNo;
 /// nobody can take its number again: end it by `leave`.
 #[derive(Drop)]
 pub struct EndlessSession {
+    /// The store, which lives as long as anybody has it.
     pub(crate) store: Arc<EndlessStore>,
+    /// Its pass and its replica.
     pub(crate) member: Member,
     ghost belongs: { log_of member.pass ≡ identity_of store.value.log },
 }

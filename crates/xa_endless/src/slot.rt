@@ -3,10 +3,10 @@ ghost use Rattle.std.specs.Prelude.{◌≡◌, IfSome, IfErr};
 
 use counted_slot::{Counted, FREE, Fits, PRESENT, TAKEN};
 
-/// The value is in its place.
+/// The value is in its place. A `Counted` begins with this state.
 const FULL: u64 = FREE;
 
-/// The value was taken out.
+/// The value was taken out. Nobody reads a value in its place, so this state is free to say so.
 const EMPTY: u64 = PRESENT;
 
 /// A place for one value. Whoever takes the value out has it alone, until it is put back.
@@ -14,6 +14,7 @@ const EMPTY: u64 = PRESENT;
 /// Nobody waits: a call that finds another thread at the place gives up.
 #[derive(Drop)]
 pub(crate) struct Slot<X: Fits> {
+    /// The value, or none, with a word that says which.
     value: Counted<Option<X>>,
 }
 
@@ -33,6 +34,7 @@ impl<X: Fits + Drop> Slot<X> {
         ensures { IfSome result (X.fits self.now.value) }
     {
         let (found, claim) = self.value.turn(FULL, TAKEN);
+        // The value is out, or another thread is at the place.
         if found != FULL {
             claim.done();
             return None;
@@ -46,6 +48,7 @@ impl<X: Fits + Drop> Slot<X> {
         ensures { IfErr result (λ back. back ≡ value) }
     {
         let (found, claim) = self.value.turn(EMPTY, TAKEN);
+        // A value is there, or another thread is at the place.
         if found != EMPTY {
             claim.done();
             return Err(value);

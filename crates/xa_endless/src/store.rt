@@ -18,10 +18,15 @@ use std::alloc::Global;
 /// each session (its own, one that it copies, and the copy), and one for each checkpoint.
 #[derive(Drop)]
 pub struct EndlessStore {
+    /// Where memory for copies of replicas is taken from.
     pub(crate) alloc: Global,
+    /// The ring with the history's last entries.
     pub(crate) log: RingLog,
+    /// The checkpoints, none to four.
     pub(crate) checkpoints: Vec<Slot<RestingCheckpoint>>,
+    /// The sessions that nobody has, each at the place of its number.
     pub(crate) places: Vec<Slot<RestingMember>>,
+    /// How far each session and the newest checkpoint have come.
     pub(crate) progress: Progress,
     ghost kept: { All (λ slot. identity_of slot.value ≡ identity_of log) checkpoints.items },
     ghost free: { All (λ slot. identity_of slot.value ≡ identity_of log) places.items },

@@ -26,6 +26,7 @@ impl EndlessStore {
     pub(crate) fn put_member(&self, index: usize, member: Member)
         requires { log_of member.pass ≡ identity_of self.now.log }
     {
+        // Each session of the store has a place. That isn't known here.
         if index < self.places.len() {
             // Nobody else fills a place whose session this call has.
             let _put = self.places[index].put(member.rest());

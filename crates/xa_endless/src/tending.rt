@@ -33,6 +33,7 @@ impl EndlessStore {
     /// How many entries a session replays before it sees to the checkpoints again.
     fn pace(&self, replica: &Replica) -> u64 {
         let most = self.most_behind();
+        // The next copy waits for twice as many entries as there are rows, so copies take only a part of the time.
         if self.copies_fast(replica) {
             replica
                 .row_count()
@@ -80,6 +81,7 @@ impl EndlessStore {
         }
         for step in 0..MOST_LOOKS {
             let index = first.wrapping_add(step) % count;
+            // If another session has this one, the next may be in its place.
             if let Some(mut checkpoint) = self.take_checkpoint(index) {
                 let _unneeded = checkpoint.renew(&self.log, member, shared);
                 self.put_checkpoint(index, checkpoint);
@@ -99,6 +101,7 @@ impl EndlessStore {
     {
         let mut old = None;
         let count = self.checkpoints.len();
+        // With one session nobody can be behind.
         if count == 0 {
             return false;
         }
@@ -123,6 +126,7 @@ impl EndlessStore {
         ensures tends { Tends member.old member.new }
     {
         let replayed = member.replica.replayed;
+        // With few rows a copy is cheap, and the checkpoint is away for a few steps only.
         let is_tended = if self.copies_fast(&member.replica) {
             self.leave_copy(member, first)
         } else {

@@ -16,7 +16,9 @@ use xa_xid::{NoMemory, SessionNo, Statement};
 /// begins.
 #[derive(Drop)]
 pub struct Replica {
+    /// The state after the entries that were replayed.
     pub(crate) server: Server,
+    /// How many entries were replayed, from the history's first on.
     pub(crate) replayed: u64,
 }
 

@@ -17,9 +17,13 @@ use xa_xid::{NoMemory, SessionNo};
 /// `session.base.now`. If a session is dropped, its branch stays open, with its locks.
 #[derive(Drop)]
 pub struct Session<'a, L: DecisionLog> {
+    /// The log that it shares.
     pub(crate) log: &'a L,
+    /// Its handle on the log.
     pub(crate) pass: L::Pass,
+    /// The state in which the history begins.
     pub(crate) base: &'a Server,
+    /// Its own server, which has replayed a prefix of what the pass has seen.
     pub(crate) replica: Replica,
     ghost belongs: { L.belongs_to pass ≡ L.identity log.now },
     // Proved (sessions, replica-is-a-prefix): At every moment a session's replica is the server after a

@@ -164,6 +164,7 @@ impl Replica {
         let session = log.number(pass);
         let (reply, enters) = self.server.reply(session, statement)?;
         let answer = Answer { place, reply };
+        // The answer stands already: nothing is to be appended.
         if !enters {
             return Ok(answer);
         }

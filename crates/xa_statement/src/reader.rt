@@ -40,6 +40,7 @@ pub(crate) fn read_tokens(text: &[u8]) -> Result<Statement, SyntaxFault>
 {
     let mut state = State::AtFirst;
     let mut rest = skip_blanks(text);
+    // `rest` never begins with a blank, so it is empty or begins with a token.
     while !rest.is_empty() {
         let (token, tail) = token_of(rest);
         match state.step(token) {

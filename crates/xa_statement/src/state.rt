@@ -83,6 +83,7 @@ impl State {
         }
     }
 
+    /// Returns the state after a word.
     fn after_word(self, word: Keyword) -> Option<State>
         ensures { result ≡ after_word self word }
     {
@@ -119,6 +120,7 @@ impl State {
         }
     }
 
+    /// Returns the state after a comma.
     fn after_comma(self) -> Option<State>
         ensures { result ≡ after_comma self }
     {
@@ -130,6 +132,7 @@ impl State {
         }
     }
 
+    /// Returns the state after a literal, a number, or both: each state takes the one that it wants.
     fn after_value(self, literal: Option<Bytes>, number: Option<u64>) -> Option<State>
         ensures { result ≡ after_value self literal number }
     {
@@ -219,6 +222,7 @@ fn xid_word(verb: Verb, xid: Xid, word: Keyword) -> Option<State>
     }
 }
 
+/// Returns the state after the key: only `PUT` goes on.
 fn after_key(verb: RowVerb, key: Key) -> State
     ensures { result ≡ after_key verb key }
 {
@@ -229,6 +233,7 @@ fn after_key(verb: RowVerb, key: Key) -> State
     }
 }
 
+/// Returns the statement of a verb and an xid, without `ONE PHASE`.
 pub(crate) fn statement_of(verb: Verb, xid: Xid) -> Statement
     ensures { result ≡ statement_of verb xid }
 {
@@ -244,6 +249,7 @@ pub(crate) fn statement_of(verb: Verb, xid: Xid) -> Statement
     }
 }
 
+/// Puts the parts of an xid together.
 fn xid_of(gtrid: Bytes, bqual: Bytes, format_id: u64) -> Xid
     ensures { result ≡ xid_of gtrid bqual format_id }
 {

@@ -35,6 +35,7 @@ fn answer_one<L: DecisionLog, G: Gate, R: Wait>(
         (L.known session.old.pass) (L.known session.new.pass) }
 {
     let number = session.number();
+    // A shut gate stops this run, before its statement is given.
     if !gate.enter(number, line) {
         return Err(RaceFault::GateShut {
             session: number,

@@ -15,8 +15,11 @@ use xa_xid::NoMemory;
 /// The result of a race: its history, and for each session its pass and its answers.
 #[derive(Drop)]
 pub(crate) struct Closed<D> {
+    /// The history that the sessions have seen.
     pub(crate) history: Vec<Entry>,
+    /// The passes of the sessions, in order.
     pub(crate) passes: Vec<Pass>,
+    /// What each session was answered.
     pub(crate) done: Vec<D>,
 }
 

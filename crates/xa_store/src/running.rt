@@ -12,9 +12,13 @@ use xa_xid::{SessionNo, Statement};
 /// A run whose session is connected, and the gate that it asks.
 #[derive(Drop)]
 pub(crate) struct Started<'a, L: DecisionLog, G> {
+    /// The session that executes the statements.
     pub(crate) session: Session<'a, L>,
+    /// Its statements, in order.
     pub(crate) lines: Vec<Statement>,
+    /// Where memory for the answers is taken from.
     pub(crate) alloc: Global,
+    /// The gate that is asked before each statement.
     pub(crate) gate: &'a G,
 }
 

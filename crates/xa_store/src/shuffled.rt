@@ -15,7 +15,9 @@ use xa_xid::SessionNo;
 /// get likelier. The scheduler decides what the turns lead to: two races with one seed can differ.
 #[derive(Drop)]
 pub struct ShuffledGate {
+    /// Where the sessions wait for each other at first.
     together: TogetherGate,
+    /// The seed of each session's stream.
     seed: u64,
 }
 

@@ -21,7 +21,9 @@ pub type Pass = ChainPass;
 /// Its sessions run on the threads of their callers.
 #[derive(Drop)]
 pub struct Store {
+    /// The state in which the history begins.
     pub(crate) base: Server,
+    /// The log that keeps the history.
     pub(crate) log: Log,
 }
 

@@ -41,6 +41,8 @@ pub trait Task {
 /// What a session's thread returns: the session, and its answers.
 #[derive(Drop)]
 pub(crate) struct Returned<'a, L: DecisionLog, D> {
+    /// The session that the thread had.
     pub(crate) session: Session<'a, L>,
+    /// What it was answered.
     pub(crate) done: D,
 }

@@ -57,6 +57,7 @@ impl Gate for TogetherGate {
     }
 
     fn enter(&self, _session: SessionNo, line: u64) -> bool {
+        // Only first statements begin together.
         if line == 0 {
             self.await_all();
         }

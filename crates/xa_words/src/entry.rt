@@ -12,7 +12,9 @@ use xa_xid::{SessionNo, Statement};
 /// Own rule: docs/INTERNALS.md#entries.
 #[derive(Debug, Drop, PartialEq, Eq)]
 pub struct Entry {
+    /// Whose statement it is.
     session: SessionNo,
+    /// The statement, one that may be logged.
     statement: Statement,
 }
 

@@ -13,13 +13,18 @@ pub(crate) const MOST_BYTES: u64 = 64;
 
 /// The parts of a statement that the words hold: the number of its kind, its formatID and its two texts.
 pub(crate) struct Parts<'a> {
+    /// 1 to 10, or 0 of a statement that can't be logged.
     pub(crate) kind: u64,
+    /// The formatID of an identifier, else 0.
     pub(crate) format_id: u64,
+    /// The gtrid or the key, else nothing.
     pub(crate) first: &'a [u8],
+    /// The bqual or the value, else nothing.
     pub(crate) second: &'a [u8],
 }
 
 impl<'a> Parts<'a> {
+    /// The parts of a statement about a branch.
     fn of_xid(kind: u64, xid: &'a Xid) -> Parts<'a>
         ensures { (result.kind ≡ kind)
             × (result.format_id ≡ xid.now.format_id)
@@ -34,6 +39,7 @@ impl<'a> Parts<'a> {
         }
     }
 
+    /// The parts of a statement about a row, or of one without texts.
     fn of_texts(kind: u64, key: &'a [u8], value: &'a [u8]) -> Parts<'a>
         ensures { (result.kind ≡ kind) × (result.format_id ≡ 0) × (result.first.now ≡ key.now)
             × (result.second.now ≡ value.now) }
@@ -151,6 +157,7 @@ pub fn is_behind_text(words: &[u64; WORDS], index: usize) -> bool
         → ((place : ℕ) → place < index → slice_index words.now place ≡ slice_index (words_of entry) place)
         → slice_index (words_of entry) index ≡ 0 }
 {
+    // The first five words are numbers, not texts.
     if index < 5 {
         return false;
     }

@@ -5,6 +5,7 @@ ghost use Rattle.xa_words.specs.Entry.{IsText, IsXid, IsNonEmptyText, KeepsLimit
 
 use xa_xid::{Bytes, Key, Statement, Xid};
 
+/// States that a text of at most 64 bytes is one of an entry.
 fn of_bytes(bytes: &[u8])
     requires { length bytes.now ≤ text_bytes }
     ensures { IsText bytes.now }
@@ -17,6 +18,7 @@ pub(crate) fn of_text(text: &Bytes)
     of_bytes(text.as_slice());
 }
 
+/// States that an identifier is within the limits of its parts.
 fn of_xid(xid: &Xid)
     ensures { IsXid xid.now }
 {
@@ -25,6 +27,7 @@ fn of_xid(xid: &Xid)
     of_text(&xid.bqual);
 }
 
+/// States that a key has 1 to 64 bytes.
 fn of_key(key: &Key)
     ensures { IsNonEmptyText key.now }
 {

@@ -44,6 +44,7 @@ fn bytes_of(words: &[u64], size: usize) -> Bytes
 {
     let whole = size / 8;
     let mut text = whole_words(words, whole);
+    // The last word is filled in part.
     if size % 8 > 0 {
         push_bytes(&mut text, words[whole], size % 8);
     }
@@ -99,6 +100,7 @@ fn with_texts(kind: u64, first: Bytes, second: Bytes) -> Option<Statement>
         (λ statement. IsTrue (may_be_entry statement) × (parts_of statement ≡ of_texts kind first.items second.items)) }
     ensures none { IfNone result (RowParts (of_texts kind first.items second.items) → ⊥) }
 {
+    // `DISCONNECT` has no text.
     if kind == 10 {
         let empty = first.is_empty() && second.is_empty();
         return if empty {
@@ -129,6 +131,7 @@ fn statement_of(kind: u64, format_id: u64, first: Bytes, second: Bytes) -> Optio
         → parts_of statement ≡ record { kind = kind; format_id = format_id; first = first.items; second = second.items }
         → ⊥) }
 {
+    // Kinds 1 to 6 have an identifier; of all others the formatID is 0.
     if kind <= 6 {
         let xid = Xid {
             format_id,

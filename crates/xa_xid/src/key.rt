@@ -21,6 +21,7 @@ pub struct Key {
     /// The first eight bytes as one number. It decides most comparisons, and a search among rows is mostly
     /// these.
     head: u64,
+    /// The key, 1 to 64 bytes.
     bytes: Bytes,
 }
 

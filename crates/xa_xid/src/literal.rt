@@ -82,6 +82,7 @@ fn hex_in_quotes(body: &[u8]) -> Result<(Bytes, &[u8]), LiteralFault>
     ensures within { IfOk result (λ found. length found.1.now ≤ length body.now) }
 {
     let (digits, rest) = ByteClass::Hexadecimal.split(body);
+    // A missing quote comes before every other fault, and the length last.
     if rest.is_empty() {
         Err(LiteralFault::Unclosed)
     } else if rest[0] != b'\'' {
@@ -137,6 +138,7 @@ fn even_digits(digits: &[u8]) -> ArrayVec<u8, 128>
     ensures { result.items ≡ evened digits.now }
 {
     let mut even = ArrayVec::new();
+    // `0xabc` stands for the bytes 0a bc.
     if digits.len() % 2 == 1 {
         even.push(b'0');
     }

@@ -49,6 +49,7 @@ pub fn number_of(text: &[u8]) -> Result<(u64, &[u8]), LiteralFault>
 fn value_of_run(run: &[u8]) -> Result<u64, LiteralFault>
     ensures { result ≡ number_in run.now }
 {
+    // Digits alone are a decimal number, anything else is one only as `0x` and hexadecimal digits.
     if !run.is_empty() && ByteClass::Decimal.split(run).1.is_empty() {
         return fitting_value(run, 10);
     }

@@ -20,10 +20,12 @@ pub enum Mode {
 /// The bytes that a literal stands for so far; `None` if they are more than 64.
 #[derive(Drop)]
 struct Kept {
+    /// The bytes; `None` from the 65th on.
     bytes: Option<Bytes>,
 }
 
 impl Kept {
+    /// No bytes yet.
     fn new() -> Kept
         ensures { result.bytes ≡ kept [] }
     {

@@ -6,6 +6,7 @@ use std::marker::Model;
 /// The number of a session, in `[1, 16]`. A contract sees it as that number.
 #[derive(Clone, Copy, Debug, PartialEq, Eq, PartialOrd, Ord)]
 pub struct SessionNo {
+    /// The number itself.
     number: u8,
 }
 

@@ -48,6 +48,7 @@ pub fn read_xid(text: &[u8], at: usize) -> Result<(Xid, usize), (LiteralFault, u
     }
 }
 
+/// Reads an xid from its gtrid on. Without more the bqual is empty, and the formatID 1.
 fn read_gtrid(text: &[u8]) -> Parse<'_>
     ensures value { MatchResult result
         (λ found. gtrid_next text.now ≡ Ok (found.0, found.1.now))
@@ -72,6 +73,7 @@ fn read_gtrid(text: &[u8]) -> Parse<'_>
     }
 }
 
+/// Reads on from the bqual. Without more the formatID is 1.
 fn read_bqual(gtrid: Bytes, text: &[u8]) -> Parse<'_>
     ensures value { MatchResult result
         (λ found. bqual_next gtrid text.now ≡ Ok (found.0, found.1.now))
@@ -96,6 +98,7 @@ fn read_bqual(gtrid: Bytes, text: &[u8]) -> Parse<'_>
     }
 }
 
+/// Reads the formatID, with which an xid ends.
 fn read_format_id(gtrid: Bytes, bqual: Bytes, text: &[u8]) -> Parse<'_>
     ensures value { MatchResult result
         (λ found. format_id_next gtrid bqual text.now ≡ Ok (found.0, found.1.now))
@@ -166,6 +169,7 @@ pub fn with_part(mut text: Vec<u8>, bytes: &[u8]) -> Result<Vec<u8>, NoMemory>
     requires { length bytes.now ≤ text_bytes }
     ensures { IfOk result (λ longer. longer.items ≡ text.items ++ part_text bytes.now) }
 {
+    // `0x` without a digit is no literal.
     if bytes.is_empty() {
         text.extend_from_slice(b"X''")?;
     } else {

@@ -55,11 +55,13 @@ impl DecisionLog for TurnLog {
             return Err(AddFault::Full);
         }
         let had = self.take_turn(&mut pass.seat, pass.number.get());
+        // Another pass has the turn.
         if had != 0 {
             return Err(AddFault::Busy);
         }
         // With the turn no other pass adds, so this count holds until the turn is given back.
         let front = self.load_count(&mut pass.seat);
+        // Another pass appended since this one looked.
         if front != pass.front {
             self.give_turn(&mut pass.seat);
             pass.front = front;
@@ -74,6 +76,7 @@ impl DecisionLog for TurnLog {
 
     fn meet(&self, first: &mut TurnPass, second: &mut TurnPass) {
         let count = self.table.meet(&mut first.seat, &mut second.seat);
+        // Else the second has seen as much already. The count was loaded at a seat that knows both.
         if second.front < first.front {
             second.front = count;
         }

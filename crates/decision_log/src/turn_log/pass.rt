@@ -11,8 +11,11 @@ use xa_xid::SessionNo;
 /// seen.
 #[derive(Drop)]
 pub struct TurnPass {
+    /// Where it takes its steps.
     pub(super) seat: Seat<Entry, SeatView>,
+    /// The number of its session.
     pub(super) number: SessionNo,
+    /// How many entries it has seen.
     pub(super) front: u64,
     ghost held: { seat.me ≡ seated (pass_view_of seat.me.0) },
     ghost state: { IsPass number front (pass_view_of seat.me.0) },
