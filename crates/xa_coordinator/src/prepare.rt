@@ -76,7 +76,7 @@ impl<S: Speak> Coordinator<S> {
         }
     }
 
-    /// Ends and prepares each participant's branch.
+    /// Ends and prepares each participant's branch, of at least two. Votes `Ready`, or `No` for the first that fails.
     fn prepare_each<R: Wait>(&mut self, rt: &R, transaction: Transaction) -> Vote
         requires name { transaction.name.items ≡ self.old.name.items }
         requires stores { transaction.stores ≡ vec_len self.old.stores }

@@ -13,7 +13,9 @@ use xa_lines::{Answer, LineServer};
 /// A transaction manager that answers lines, each of which is a call, by `Manager::answer_beside`.
 #[derive(Drop)]
 pub struct BesideServer<'r, C: Speak, T: Speak, R: Wait> {
+    /// The manager that carries calls out.
     manager: Manager<C, T>,
+    /// The runtime by which it waits.
     rt: &'r R,
 }
 
@@ -41,6 +43,7 @@ impl<'r, S: Beside, T: Speak, R: Wait> LineServer for BesideServer<'r, Fused<S>,
 
     fn answer(&mut self, alloc: Global, line: &[u8]) -> Answer {
         let call = read_call(line);
+        // A blank line or a comment is answered by nothing, and needs no memory.
         if let Call::Silent = call {
             return Answer::Short(ArrayVec::new());
         }

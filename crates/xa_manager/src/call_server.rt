@@ -33,7 +33,9 @@ pub(crate) fn unread() -> Answer
 /// A transaction manager that answers lines, each of which is a call.
 #[derive(Drop)]
 pub struct CallServer<'r, C: Speak, T: Speak, R: Wait> {
+    /// The manager that carries calls out.
     manager: Manager<C, T>,
+    /// The runtime by which it waits.
     rt: &'r R,
 }
 
@@ -68,6 +70,7 @@ impl<'r, S: Speak, T: Speak, R: Wait> LineServer for CallServer<'r, Fused<S>, T,
 
     fn answer(&mut self, alloc: Global, line: &[u8]) -> Answer {
         let call = read_call(line);
+        // A blank line or a comment is answered by nothing, and needs no memory.
         if let Call::Silent = call {
             return Answer::Short(ArrayVec::new());
         }

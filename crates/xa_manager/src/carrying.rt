@@ -57,7 +57,7 @@ pub fn carry_out<R: Wait>(
 {
     for call in calls {
         let response = manager.answer_beside(rt, alloc, call)?;
-        // no session of these stores has a limit yet, so memory was refused
+        // No session of these stores has a limit yet, so memory was refused.
         if is_unanswered(&response) {
             return Err(AllocError);
         }

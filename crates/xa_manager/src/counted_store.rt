@@ -12,6 +12,7 @@ use xa_xid::Statement;
 /// statement.
 #[derive(Drop)]
 pub struct CountedStore {
+    /// The store whose sessions answer.
     pub(crate) store: LastingStore,
     /// How many statements its own session was given.
     pub(crate) given: u64,

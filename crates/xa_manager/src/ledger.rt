@@ -16,6 +16,7 @@ use xa_xid::NoMemory;
 /// A contract sees them as the list of their stages.
 #[derive(Drop)]
 pub struct Ledger {
+    /// The stage of transaction n, at place n - 1.
     stages: Vec<Stage>,
 }
 
@@ -69,6 +70,7 @@ impl Ledger {
         ensures none { result ≡ None → stage_of self.now number ≡ None }
         ensures absent { result ≡ None → (number ≡ 0) ⊎ (length self.now < number) }
     {
+        // Transactions are numbered from 1 on, and none is left out.
         if number == 0 || number > self.stages.len() as u64 {
             return None;
         }

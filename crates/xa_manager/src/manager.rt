@@ -25,9 +25,13 @@ fn name() -> Bytes
 /// the decisions, and the stage of each transaction.
 #[derive(Drop)]
 pub struct Manager<C: Speak, T: Speak> {
+    /// The coordinator, with its session in each store.
     pub(crate) coordinator: Coordinator<C>,
+    /// The other client's session in each store.
     pub(crate) other_clients: Vec<T>,
+    /// The decisions, which outlive a coordinator that stops.
     pub(crate) decisions: Decisions,
+    /// The stage of each transaction that was begun.
     pub(crate) ledger: Ledger,
     ghost named: { coordinator.name.items ≡ codes "c" },
     ghost pairs: { vec_len other_clients ≡ vec_len coordinator.stores },

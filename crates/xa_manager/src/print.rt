@@ -304,6 +304,7 @@ fn write_into(
     requires words { has_few_words response.now ≡ false }
     ensures { IfOk result (λ written. written.items ≡ answer_text decisions.now response.now) }
 {
+    // Not even a line feed is written.
     if matches!(response, Response::Silent) {
         return Ok(text);
     }

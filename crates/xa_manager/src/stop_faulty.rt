@@ -80,6 +80,7 @@ fn carry_line<R: Wait>(
         × (is_unanswered_of response ≡ false)) }
 {
     let response = manager.answer_beside(rt, alloc, call)?;
+    // No session of these stores fails, so memory was refused.
     if is_unanswered(&response) {
         return Err(AllocError);
     }

@@ -48,6 +48,7 @@ fn add_line_stops(
 ) -> Result<(), NoMemory>
     ensures { OnOk result (stops.new.items ≡ stops.old.items ++ stops_at place call.now made.now) }
 {
+    // A coordinator stops only in lines that it carries out.
     if !is_own(call) {
         return Ok(());
     }
@@ -55,7 +56,7 @@ fn add_line_stops(
     add_stops(stops, place, calls)
 }
 
-/// The stops of a script whose lines make so many calls in each store.
+/// The stops of a script. `made` has for each line how many calls it makes in each store.
 pub fn stops_in(alloc: Global, calls: &[Call], made: &[Vec<u64>]) -> Result<Vec<Stop>, NoMemory>
     requires { length made.now ≡ length calls.now }
     ensures { IfOk result (λ stops. stops.items ≡ stops_of calls.now (map (λ one. one.items) made.now)) }

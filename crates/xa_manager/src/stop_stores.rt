@@ -73,6 +73,7 @@ pub fn fed_stores(
     let mut stores = Vec::new(alloc);
     for session in manager.into_sessions() {
         let store = session.into_inner();
+        // The calls were cut short there, so its count isn't theirs.
         if store.starved {
             return Err(AllocError);
         }

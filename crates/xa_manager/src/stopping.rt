@@ -60,7 +60,7 @@ fn with_recovery<R: Wait>(
 {
     let _stopped = stop(rt, alloc, &mut manager)?;
     let response = recover(rt, alloc, &mut manager)?;
-    // no session has a limit after the stop, so memory was refused
+    // No session has a limit after the stop, so memory was refused.
     if is_unanswered(&response) {
         return Err(AllocError);
     }
@@ -118,7 +118,7 @@ fn with_cut_line<R: Wait>(
     carry_out(rt, alloc, &mut manager, &calls[..place])?;
     limit_each(rt, alloc, &mut manager, limits)?;
     let response = manager.answer_beside(rt, alloc, &calls[place])?;
-    // the line makes more calls than these, so one of them wasn't passed on
+    // The line makes more calls than these, so one of them wasn't passed on.
     if !is_unanswered(&response) {
         return Err(AllocError);
     }
@@ -146,6 +146,7 @@ pub fn with_stop<R: Wait>(
         × IsCutAt stop.place stop.calls (limits_of made.now stop.calls) left.responses
         × (longer.items ≡ text.items ++ rest)) }
 {
+    // Nothing of the line itself is carried out then.
     if stop.calls == 0 {
         let longer = with_lines(rt, alloc, text, &calls[..stop.place], keys)?;
         return Ok(longer);

@@ -32,6 +32,7 @@ fn place_each(places: &mut Vec<Option<Entry>>, from: u64, added: Vec<Added>)
 {
     for one in added {
         let Added { place, entry } = one;
+        // Every entry of the race lies there. That isn't known here.
         if place >= from && place - from < places.len() as u64 {
             places[(place - from) as usize] = Some(entry);
         }

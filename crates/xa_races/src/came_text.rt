@@ -12,6 +12,7 @@ use xa_xid::NoMemory;
 fn push_came(text: &mut Vec<u8>, number: u64, one: &CameTally) -> Result<(), NoMemory>
     ensures { OnOk result (text.new.items ≡ text.old.items ++ came_text number one.now.came one.now.text.items) }
 {
+    // An outcome that didn't come isn't printed.
     if one.came == 0 {
         return Ok(());
     }

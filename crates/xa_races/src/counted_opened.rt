@@ -16,7 +16,9 @@ use xa_xid::NoMemory;
 /// A store without an end, and all its sessions, each of which has seen the whole history.
 #[derive(Drop)]
 pub struct Opened {
+    /// The store.
     pub store: Arc<EndlessStore>,
+    /// Its sessions, from number 1 on, at most 16.
     pub sessions: Vec<EndlessSession>,
     ghost mine: { All (λ session. session.store.value ≡ store.value) sessions.items },
     ghost few: { length sessions.items ≤ 16 },

@@ -26,6 +26,7 @@ use xa_xid::NoMemory;
 /// The races that were held, as contracts see them: what all lines were answered in each. Only `race_parts` adds one.
 #[derive(Drop)]
 pub struct Course {
+    /// What each race came to, which only contracts see. At run time it is a count.
     held: Vec<Snapshot<Vec<u8>>>,
 }
 

@@ -15,8 +15,11 @@ use xa_xid::NoMemory;
 /// The sessions, and for each its answers and what it added.
 #[derive(Drop)]
 pub(crate) struct Parts {
+    /// The sessions, in order.
     pub(crate) sessions: Vec<EndlessSession>,
+    /// What each session was answered.
     pub(crate) answers: Vec<Vec<Answer>>,
+    /// What each session added.
     pub(crate) added: Vec<Vec<Added>>,
 }
 

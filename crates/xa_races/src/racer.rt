@@ -15,8 +15,10 @@ use xa_xid::{SessionNo, Statement};
 #[derive(Drop)]
 pub(crate) struct Racer<'g, G> {
     pub(crate) session: EndlessSession,
+    /// Its statements, in order.
     pub(crate) lines: Vec<Statement>,
     pub(crate) said: Said,
+    /// The gate that is asked before each statement.
     pub(crate) gate: &'g G,
     ghost none: { said.answers.items ≡ [] },
     ghost nothing: { said.added.items ≡ [] },
@@ -29,6 +31,7 @@ pub(crate) struct Racer<'g, G> {
 pub struct Raced {
     pub(crate) session: EndlessSession,
     pub(crate) said: Said,
+    /// Why it stopped before its last statement, if it did.
     pub(crate) fault: Option<RaceFault>,
 }
 
@@ -44,6 +47,7 @@ fn leave_checkpoint(session: &mut EndlessSession)
     ensures rests { AddsNothing (known_of session.old.member.pass) (known_of session.new.member.pass) }
 {
     for _ in 0..TURNS {
+        // It fails while others have all checkpoints, and if memory is refused.
         if session.leave_checkpoint() {
             return;
         }

@@ -16,6 +16,7 @@ use xa_xid::SessionNo;
 /// can do no more than one with `OpenGate`.
 #[derive(Drop)]
 pub struct ReshuffledGate {
+    /// Where the sessions of a race wait for each other at first.
     together: TogetherGate,
     /// The seed of the next race.
     seed: AtomicU64,
@@ -37,6 +38,7 @@ impl ReshuffledGate {
     fn turns(&self, session: SessionNo, line: u64) -> u32
         ensures { result < 64 }
     {
+        // The race that runs was announced, and `announce` has counted the seed on.
         let seed = self.seed.load(Ordering::SeqCst).wrapping_sub(1);
         let mut stream = Pcg32::new(seed, session.get());
         stream.advance(line);

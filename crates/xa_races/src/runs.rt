@@ -34,7 +34,9 @@ const WAYS: usize = 100_000;
 /// How races of a script ended, and what is written for them.
 #[derive(Drop)]
 pub struct Came {
+    /// Whether the script was raced, or has faulty lines.
     pub ended: Ended,
+    /// What is written.
     pub text: Vec<u8>,
 }
 

@@ -26,6 +26,7 @@ fn answer_one<G: Gate, R: Wait>(
     ensures ends { EndsOne (G.may_answer gate.now) line statement.now result session.old session.new }
 {
     let number = session.number();
+    // A shut gate stops this run, before its statement is given.
     if !gate.enter(number, line) {
         return Err(RaceFault::GateShut {
             session: number,

@@ -94,6 +94,7 @@ fn enlist(alloc: Global, tallies: &mut Vec<CameTally>, text: &[u8]) -> Result<()
     ensures room { OnOk result ((most : ℕ) → All (λ one. one.came ≤ most) tallies.old.items
         → All (λ one. one.came ≤ most) tallies.new.items) }
 {
+    // A text that came before is counted, not listed again.
     if is_listed(tallies.as_slice(), text) {
         return Ok(());
     }

@@ -60,6 +60,7 @@ impl<'r, S: LineServer + Drop, R: Eprint + Alloc<A = Global>> Advised<'r, S, R> 
     fn look(&mut self, line: &[u8], answer: &[u8])
         ensures { self.new.inner ≡ self.old.inner }
     {
+        // A call may have been missed, so how far transactions have come isn't known any more.
         if self.refused {
             return;
         }

@@ -68,6 +68,7 @@ fn rows_of(reply: &[u8]) -> u64 {
 fn reply_in(line: &[u8]) -> &[u8] {
     let mut reply = line;
     for _number in 0..2 {
+        // Not every answer has a place, and a comment has no session either.
         if first_number(reply).is_some() {
             reply = behind_first(reply);
         }

@@ -139,6 +139,7 @@ fn words<R: Env + Alloc<A = Global>>(rt: &R) -> io::Result<Vec<String>> {
 
 /// Reports why the words can't be had, and returns the exit status.
 fn refuse_words<R: Eprint>(rt: &R, error: &io::Error) -> u8 {
+    // Two things can go wrong: no memory for the words, or a word that isn't UTF-8.
     if error.kind() == io::ErrorKind::OutOfMemory {
         tell(rt, &ScriptFault::NoMemory);
         return GAVE_OUT;
@@ -281,6 +282,7 @@ fn carry_out_on<
         let output = jobs::output(rt, manner.verbose)?;
         carry_out_job(rt, &mut watch, output, job, manner, allowances, base)?
     };
+    // Any other status says more than that a line wasn't read.
     if watch.has_faults()? && manner.strict && status == DONE {
         return Ok(UNREAD);
     }
@@ -354,6 +356,7 @@ fn refuse<R: Print + Eprint>(rt: &R, error: &Error) -> u8 {
         return GAVE_OUT;
     }
     let printed = error.print(rt);
+    // Else help or the version was asked for.
     if error.use_stderr() {
         COMMAND_FAULT
     } else if printed.is_err() {

@@ -9,8 +9,11 @@ use std::io::Write;
 /// A writer that reports on the standard error why a write failed, once, if `speaks`.
 #[derive(Drop)]
 pub struct Spoken<'r, W: Write + Drop, R> {
+    /// The writer that is written to.
     inner: W,
+    /// The runtime whose standard error is written to.
     rt: &'r R,
+    /// Whether a failed write is still to be reported.
     speaks: bool,
 }
 

@@ -7,6 +7,7 @@ use xa_xid::NoMemory;
 /// The transactions that were begun, 1, 2, .., and how far each has come.
 #[derive(Drop)]
 pub struct Standings {
+    /// How far transaction n has come, at place n - 1.
     standings: Vec<Standing>,
 }
 
@@ -85,6 +86,7 @@ impl Standings {
     pub fn note(&mut self, call: &Call, answer: &[u8]) -> Result<(), NoMemory> {
         match call {
             Call::Begin => {
+                // Any other answer says that no number was given.
                 if answer.starts_with(b"TRANSACTION ") {
                     self.standings.push(Standing::Working)?;
                 }
@@ -102,6 +104,7 @@ impl Standings {
     ///
     /// Returns `None` if the answer isn't that the call is out of turn. Takes no memory. Doesn't wait.
     pub fn out_of_turn(&self, call: &Call, answer: &[u8]) -> Option<(u64, Standing, &'static str)> {
+        // This answer alone says that the call came out of turn.
         if !answer.starts_with(b"WRONG STAGE ") {
             return None;
         }

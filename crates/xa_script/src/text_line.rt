@@ -13,6 +13,7 @@ pub type Room = ArrayVec<u8, 512>;
 #[derive(Drop)]
 struct TextLine {
     text: Room,
+    /// The bytes of the word that has begun.
     word: Room,
 }
 
@@ -61,6 +62,7 @@ fn put_between(text: &mut Room, bytes: &[u8]) -> Option<()>
     ensures { IfSome result (λ _. text.new.items ≡ text.old.items ++ between_quotes bytes.now) }
 {
     for byte in bytes {
+        // Within quotes a quote and a backslash stand for themselves only if they are doubled.
         if *byte == b'\'' || *byte == b'\\' {
             put(text, *byte)?;
         }
@@ -85,6 +87,7 @@ fn put_written(text: &mut Room, word: &[u8]) -> Option<()>
 {
     match literal_of(word) {
         Ok((bytes, [])) => {
+            // Other bytes wouldn't be seen, or would change a terminal.
             if are_plain(bytes.as_slice()) {
                 put_text(text, bytes.as_slice())
             } else {

@@ -80,6 +80,7 @@ impl<W: Write + Drop> Texts<W> {
         ensures more { OnOk result (self.old.given < self.new.given) }
     {
         let count = self.inner.write(&self.due.as_slice()[self.given..])?;
+        // A writer that takes nothing would be asked for ever.
         if count == 0 {
             return Err(ErrorKind::WriteZero.into());
         }
@@ -135,6 +136,7 @@ impl<W: Write + Drop> Texts<W> {
         ensures held { OnOk result (self.new.held.items ≡ []) }
     {
         self.give()?;
+        // Nothing of a line is held back, so its rest needn't pass unchanged.
         if self.held.is_empty() {
             return Ok(());
         }

@@ -61,6 +61,7 @@ fn names_behind(alloc: Global, front: &[u8]) -> Result<Vec<&'static str>, NoMemo
             names.push(*name)?;
         }
     }
+    // A list of nothing would say nothing, so the end is named also if no statement begins so.
     if names.is_empty() || read_statement(front).is_ok() {
         names.push("the end of the line")?;
     }

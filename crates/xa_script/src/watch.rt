@@ -121,6 +121,7 @@ impl<'r, I: Read + Drop, R: Eprint + Alloc<A = Global>> Watch<'r, I, R> {
         if self.line.len() > self.most {
             return Some(LineFault::TooLong);
         }
+        // A row of a return may hold any bytes.
         if self.rows > 0 {
             return None;
         }
@@ -132,6 +133,7 @@ impl<'r, I: Read + Drop, R: Eprint + Alloc<A = Global>> Watch<'r, I, R> {
         ensures { self.new.inner ≡ self.old.inner }
     {
         let line = self.line.as_slice();
+        // Only returns in records have rows, and a silent line is none of them.
         if self.kind != LineKind::Record || skip_blanks(line).is_empty() || is_comment(line) {
             return;
         }

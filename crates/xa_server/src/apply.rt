@@ -25,6 +25,7 @@ impl Server {
         let Association::Active(own) = self.association(session) else {
             return Ok(());
         };
+        // Its hold is enough to read, also if it is exclusive.
         if self.holds(own.xid(), key) {
             return Ok(());
         }

@@ -23,11 +23,13 @@ use xa_xid::{Key, NoMemory, SessionNo, Xid};
 /// The records of all branches: by identifier in logarithmic time, by session in constant time.
 #[derive(Drop)]
 pub struct BranchTable {
+    /// The record of each branch, by its identifier.
     by_xid: BTreeMap<Xid, BranchRecord>,
     /// What each session has open, at the place of its number. A session past the end has nothing open.
     opened: Vec<Association>,
     /// Nothing open: lent for a session past the end.
     nothing: Association,
+    /// Where memory for keys and lists is taken from.
     alloc: Global,
 }
 

@@ -92,6 +92,7 @@ impl XidList {
         // Proved (server, memory-for-lists)
         ensures memory { OnErr result (self.now ≢ []) }
     {
+        // An empty list is copied without memory.
         if self.xids.is_empty() {
             return Ok(XidList {
                 xids: Vec::new(*self.xids.allocator()),

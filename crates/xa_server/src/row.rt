@@ -112,6 +112,7 @@ pub fn free(row: &mut RowRecord, alloc: Global, xid: &Xid, commits: bool) -> boo
     let (lock, change) = held.without(alloc, xid);
     row.lock = lock;
     if let Some(change) = change {
+        // A branch that is rolled back leaves the value as it was.
         if commits {
             row.committed = change.into_value();
         }
@@ -137,6 +138,7 @@ pub fn value_within(own: &Xid, row: Option<&RowRecord>) -> Option<Bytes>
     let Lock::Exclusive { holder, change } = &record.lock else {
         return copy_of_value(&record.committed);
     };
+    // What another branch wrote isn't seen before its commit.
     if !is_same(holder.xid(), own) {
         return copy_of_value(&record.committed);
     }

@@ -22,7 +22,9 @@ use xa_xid::{Bytes, Key, NoMemory, Xid};
 /// The records of all rows, by key in logarithmic time.
 #[derive(Drop)]
 pub struct RowTable {
+    /// The record of each row that has a value or is held, by its key.
     by_key: BTreeMap<Key, RowRecord>,
+    /// Where memory for values and sharers is taken from.
     alloc: Global,
 }
 
@@ -203,6 +205,7 @@ impl RowTable {
             (shared_row xid.now (map.get self.old key.now))) }
         ensures err { OnErr result (self.new ≡ self.old) }
     {
+        // The row has a record already.
         if share_in(&mut self.by_key, key, xid)? {
             return Ok(());
         }
@@ -242,6 +245,7 @@ impl RowTable {
     pub fn free(&mut self, key: &Key, xid: &Xid, commits: bool)
         ensures { Frees commits xid.now (key.now ∷ []) self.old self.new }
     {
+        // A row without a value that nobody holds has no record.
         if !free_in(&mut self.by_key, self.alloc, key, xid, commits) {
             take_out(&mut self.by_key, key);
         }

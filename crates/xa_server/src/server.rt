@@ -23,7 +23,9 @@ use xa_xid::{Bytes, Key, NoMemory, SessionNo, Xid};
 /// constant time. Ending a branch takes no memory, and time only for what the branch did.
 #[derive(Drop)]
 pub struct Server {
+    /// The branches, and what each session has open.
     branches: BranchTable,
+    /// The rows, with their values and locks.
     rows: RowTable,
 }
 
@@ -50,6 +52,7 @@ fn unlist_refused(branches: &mut BranchTable, own: &Xid, held: &Result<(), NoMem
     ensures refused { OnErr held.now (branches.new ≡ with_record branches.old own.now
         (λ branch. record branch { held = without_last branch.held })) }
 {
+    // A branch lists exactly the rows that it holds.
     if held.is_err() {
         branches.unlist(own);
     }
@@ -262,6 +265,7 @@ impl Server {
     {
         let xid = own.xid();
         let holder = own.try_clone()?;
+        // The branch has listed the key already.
         if row::is_held_by(xid, self.rows.row(key)) {
             return self.rows.hold(key, holder, change);
         }

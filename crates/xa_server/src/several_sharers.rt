@@ -165,6 +165,7 @@ impl SeveralSharers {
         ensures ok { OnOk result (self.new ≡ set.insert self.old xid.now) }
         ensures err { OnErr result (self.new ≡ self.old) }
     {
+        // The list may have room again after a removal: the set isn't moved into it.
         if self.few.len() < FEW {
             self.few.push(xid.try_clone()?)?;
         } else {
@@ -185,6 +186,7 @@ impl SeveralSharers {
     pub fn take_only(&mut self) -> Option<SharedXid>
         ensures { MatchOption result (self.new ≡ self.old) (λ only. self.old ≡ set.insert set.empty only) }
     {
+        // An identifier of the set would have to be copied, and removing a branch takes no memory.
         if self.few.len() != 1 || !self.many.is_empty() {
             return None;
         }

@@ -12,6 +12,7 @@ use xa_xid::{Bytes, NoMemory, copy_of};
 /// sees the text.
 #[derive(Drop)]
 pub struct SharedText {
+    /// The value, in one place in memory for all its owners.
     shared: Arc<Bytes>,
 }
 

@@ -12,6 +12,7 @@ use xa_xid::{NoMemory, Xid};
 /// was among the first to share. A contract sees the identifier.
 #[derive(Debug, Drop)]
 pub struct SharedXid {
+    /// The identifier, in one place in memory for all its owners.
     shared: Arc<Xid>,
 }
 

@@ -21,6 +21,7 @@ use xa_xid::{NoMemory, Xid};
 pub struct Sharers {
     /// The branches.
     branches: Branches,
+    /// Where memory for several branches is taken from.
     alloc: Global,
 }
 
