@@ -52,7 +52,7 @@ won h entry = record {
   turn = Without;
 }
 
--- after an exchange that lost: this history was seen
+-- after an exchange that lost: one more try was made, and this history was seen; looks are counted anew since then
 abbrev pub lost : PassView → List Entry → PassView
 lost h seen = record {
   known = record {

@@ -24,5 +24,6 @@ abbrev pub holds : Ptr → Option the_row.Denot → Fml
 holds at None = fex (at ≡ null_ptr) (λ _. ftrue)
 holds at (Some chair) = boxed at chair
 
+-- what a handle holds is encoded as a chair is, or as nothing
 abbrev pub held_coded : Coded (Option the_row.Denot)
 held_coded = coded_option the_row.coded

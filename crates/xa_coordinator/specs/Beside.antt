@@ -15,6 +15,7 @@ pub record IsLeftAlone (old new : SessionView) : Type 0 where
   pub base : new.base ≡ old.base
   pub known : new.known ≡ old.known
 
+-- the session answered the statement, or failed, with this result
 abbrev pub AnswersSo : Statement → Result Answer Fault → SessionView → SessionView → Type 0
 AnswersSo statement (Ok answer) old new = IsAnswered old.base statement answer old.known new.known
 AnswersSo statement (Err fault) old new =

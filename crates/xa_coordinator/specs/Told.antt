@@ -60,8 +60,8 @@ abbrev pub IsMissing : (ends : Bool) → Statement → Xid → SessionView → S
 IsMissing false statement xid old new = IsUndone statement (RefusedBy Nota) old new
 IsMissing true statement xid old new = IsUndoneBehind statement xid (RefusedBy Nota) old new
 
--- the statement, which XA END of the branch comes before or not, wasn't carried out, and wasn't answered XAER_NOTA, or
--- that XA END wasn't carried out
+-- the branch isn't ended, for this cause: the statement wasn't carried out, for another cause than XAER_NOTA. If XA END
+-- of the branch comes before it (`ends`), that wasn't carried out, or it was and the statement wasn't
 abbrev pub IsUnfinished : (ends : Bool) → Statement → Xid → Cause → SessionView → SessionView → Type 0
 IsUnfinished false statement xid cause old new = (cause ≢ RefusedBy Nota) × IsUndone statement cause old new
 IsUnfinished true statement xid cause old new =

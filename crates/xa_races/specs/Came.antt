@@ -63,6 +63,7 @@ seen_text came listed =
 abbrev pub some_seen_text : List (List ℕ) → List (List ℕ) → List ℕ
 some_seen_text came listed = came_texts 1 came listed ++ codes "SEEN " ++ decimal (count_seen came listed) ++ codes "\n"
 
+-- the text comes before the other, byte by byte
 abbrev pub ComesBefore : List ℕ → List ℕ → Type 0
 ComesBefore one other = bytes_cmp one other ≡ Less
 
@@ -91,6 +92,7 @@ pub record IsSeenOfSome (parts : Parts) (runs : ℕ) (text : List ℕ) : Type 0 
   pub ascending : Pairwise ComesBefore listed
   pub text_is : text ≡ some_seen_text came listed
 
+-- the text is what is written for races of the parts, whether or not all outcomes are known
 abbrev pub IsPartsCome : Parts → ℕ → List ℕ → Type 0
 IsPartsCome parts runs text = IsSeenOfAll parts runs text ⊎ IsSeenOfSome parts runs text
 
@@ -106,6 +108,7 @@ abbrev pub IsRunsText : ℕ → List ℕ → Ended → List ℕ → Type 0
 IsRunsText runs script ended text =
     IsRunsTold (script_read script).faults (parts_of (script_read script)) runs ended text
 
+-- the text is what is written for this many races of a script, however they end
 abbrev pub IsSomeRunsText : ℕ → List ℕ → List ℕ → Type 0
 IsSomeRunsText runs script text = (ended : Ended) × IsRunsText runs script ended text
 

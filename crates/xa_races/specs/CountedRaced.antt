@@ -21,6 +21,7 @@ use Rattle.xa_store.specs.Legal.{IsLegal}
 use Rattle.xa_lines.specs.Printed.{reply_text, converts, answer_text}
 use Rattle.xa_orders.specs.Orders.{Told, Parts, IsSession, told_text, told_state}
 
+-- the statement that was read, if one was
 abbrev pub statement_in : Result Statement ℕ → Option Statement
 statement_in (Ok statement) = Some statement
 statement_in (Err place) = None
@@ -33,6 +34,7 @@ statement_by session told = cond (told.session == session) (statement_in (read_o
 unfoldable pub statements_of : ℕ → List Told → List Statement
 statements_of session lines = filter_map (statement_by session) lines
 
+-- the statement that was read asks for identifiers in hexadecimal
 abbrev pub converts_in : Result Statement ℕ → Bool
 converts_in (Ok statement) = converts statement
 converts_in (Err place) = false

@@ -42,6 +42,7 @@ use Rattle.xa_races.specs.declared.racer.Raced.{Raced}
 use Rattle.xa_races.specs.declared.long_run.LongRun.{LongRun}
 use Rattle.xa_races.specs.declared.long_outcome.LongOutcome.{LongOutcome}
 
+-- what the pass of a session knows
 abbrev pub known_in : EndlessSession → Known
 known_in session = known_of session.member.pass
 

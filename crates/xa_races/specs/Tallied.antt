@@ -12,12 +12,15 @@ use Rattle.xa_orders.specs.Orders.{Parts, Pairwise}
 use Rattle.xa_races.specs.declared.came_tally.CameTally.{CameTally}
 use Rattle.xa_races.specs.Came.{times, came_text, ComesBefore, HaveCome}
 
+-- the texts of a list, in order
 abbrev pub texts_of : List CameTally → List (List ℕ)
 texts_of tallies = map (λ one. one.text.items) tallies
 
+-- 1 if the texts are the same, else 0
 abbrev pub once_if : List ℕ → List ℕ → ℕ
 once_if one other = cond (pointwise nat_eq one other) 1 0
 
+-- the tally after this text has come: one more if it is its own
 abbrev pub counted_up : List ℕ → CameTally → CameTally
 counted_up text one = record { text = one.text; came = one.came + once_if text one.text.items }
 
@@ -35,6 +38,7 @@ pub record IsCounted (parts : Parts) (runs : ℕ) (came : List (List ℕ)) (old 
   pub ascending : Pairwise ComesBefore (texts_of old) → Pairwise ComesBefore (texts_of new)
   pub only : texts_of old ≡ [] → All (Contains came) (texts_of new)
 
+-- the outcomes of a list that came, the first of which has this number
 unfoldable pub tallies_text : ℕ → List CameTally → List ℕ
 tallies_text number [] = []
 tallies_text number (one ∷ tallies) = came_text number one.came one.text.items ++ tallies_text (number + 1) tallies

@@ -23,11 +23,13 @@ number_of_phase Active = 0
 number_of_phase Idle = 1
 number_of_phase Prepared = 2
 
+-- the phase of a number; any number from 2 on is PREPARED
 abbrev pub phase_of_number : ℕ → Phase
 phase_of_number zero = Active
 phase_of_number (suc zero) = Idle
 phase_of_number (suc (suc n)) = Prepared
 
+-- a phase is found again by its number
 abbrev pub phase_back : (phase : Phase) → phase_of_number (number_of_phase phase) ≡ phase
 phase_back Active = refl
 phase_back Idle = refl
@@ -36,6 +38,7 @@ phase_back Prepared = refl
 abbrev pub coded_phase : Coded Phase
 coded_phase = code_by ℕ coded_ℕ number_of_phase phase_of_number phase_back
 
+-- a key is encoded as the list of its bytes
 abbrev pub coded_key : Coded (List ℕ)
 coded_key = coded_list coded_ℕ
 
@@ -44,10 +47,12 @@ abbrev pub number_of_mode : LockMode → ℕ
 number_of_mode Shared = 0
 number_of_mode Exclusive = 1
 
+-- the lock mode of a number; any number from 1 on is exclusive
 abbrev pub mode_of_number : ℕ → LockMode
 mode_of_number zero = Shared
 mode_of_number (suc n) = Exclusive
 
+-- a lock mode is found again by its number
 abbrev pub mode_back : (mode : LockMode) → mode_of_number (number_of_mode mode) ≡ mode
 mode_back Shared = refl
 mode_back Exclusive = refl
@@ -86,6 +91,7 @@ abbrev pub change_of : Write → Change
 change_of (Some value) = Put value
 change_of None = Delete
 
+-- a change is found again by what it writes
 abbrev pub change_back : (change : Change) → change_of (write_of change) ≡ change
 change_back (Put value) = refl
 change_back Delete = refl
@@ -98,10 +104,12 @@ abbrev pub holder_and_sharers : Lock → Option (Xid × Change) × Sharing
 holder_and_sharers (HeldBy holder change) = (Some (holder, change), set.empty)
 holder_and_sharers (SharedBy sharers) = (None, sharers)
 
+-- the lock of a holder, if there is one, else of sharers
 abbrev pub lock_of_parts : Option (Xid × Change) × Sharing → Lock
 lock_of_parts (Some held, sharers) = HeldBy held.0 held.1
 lock_of_parts (None, sharers) = SharedBy sharers
 
+-- a lock is found again by its parts
 abbrev pub lock_back : (lock : Lock) → lock_of_parts (holder_and_sharers lock) ≡ lock
 lock_back (HeldBy holder change) = refl
 lock_back (SharedBy sharers) = refl

@@ -22,6 +22,7 @@ lock_at state xid key = option_and_then (λ branch. map.get branch.locks key) (m
 abbrev pub holds : State → Xid → List ℕ → Bool
 holds state xid key = is_some (lock_at state xid key)
 
+-- the lock is held, and exclusively
 abbrev pub is_exclusive : Option LockMode → Bool
 is_exclusive None = false
 is_exclusive (Some Shared) = false

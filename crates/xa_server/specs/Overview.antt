@@ -32,6 +32,7 @@ hold_of None = Shares
 hold_of (Some (Some value)) = Puts value
 hold_of (Some None) = Deletes
 
+-- a row that the branch holds, with what the branch did to it
 abbrev pub held_row : Branch → List ℕ × LockMode → HeldRow
 held_row branch lock = record { key = lock.0; hold = hold_of (fin.get branch.writes lock.0) }
 

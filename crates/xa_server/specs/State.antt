@@ -60,11 +60,13 @@ is_known state xid = map.contains_key state.branches xid
 abbrev pub phase_at : State → Xid → Option Phase
 phase_at state xid = option_map (λ branch. branch.phase) (map.get state.branches xid)
 
+-- the phase is PREPARED
 abbrev pub is_prepared_phase : Phase → Bool
 is_prepared_phase PhaseActive = false
 is_prepared_phase PhaseIdle = false
 is_prepared_phase PhasePrepared = true
 
+-- a branch of this identifier is PREPARED
 abbrev pub is_prepared : State → Xid → Bool
 is_prepared state xid = option_map_or is_prepared_phase (phase_at state xid) false
 
@@ -72,6 +74,7 @@ is_prepared state xid = option_map_or is_prepared_phase (phase_at state xid) fal
 abbrev pub owner_at : State → Xid → Option ℕ
 owner_at state xid = option_and_then (λ branch. branch.owner) (map.get state.branches xid)
 
+-- the session owns the branch of this identifier
 abbrev pub owns : State → ℕ → Xid → Bool
 owns state session xid = option_map_or (λ owner. owner == session) (owner_at state xid) false
 
