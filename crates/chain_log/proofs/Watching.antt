@@ -162,6 +162,7 @@ pub word_there : (start place index word : ℕ) (entry : Entry) (h k : PassView)
 word_there start place index word entry h k is reads won below =
     reads.2 won place index entry is.seen (is.word ∙ is.cell) is.name (ap (λ n. n + index) (sym is.word)) below
 
+-- the link that was read between two loads of the name, both of which found it, is that of the entry before
 pub link_there : (start first second name place link : ℕ) (entry : Entry) (h g v k : PassView)
     → IsLookedFor start name place entry h → Checks start h first g
     → first ≡ name → Reads (start + 1) g link v → Checks start v second k → second ≡ name

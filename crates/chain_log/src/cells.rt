@@ -80,6 +80,7 @@ impl ChainLog {
         ensures entry { slice_get (pass_view seat.old).known.seen row ≡ Some result }
     {
         let words = self.read_cell(seat, name);
+        // The words are those of an entry of the history, so an entry is found.
         read_back(&words).unwrap()
     }
 

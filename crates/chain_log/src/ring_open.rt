@@ -103,6 +103,7 @@ fn deal_all(
     let mut passes = Vec::with_capacity(alloc, log.sessions as usize)?;
     for index in 0..log.sessions {
         let seat = log.table.issue(rest);
+        // There are at most 16 sessions.
         let number = SessionNo::of(index + 1).unwrap();
         passes.push(RingPass::at_seat(alloc, seat, number, log.rows)?)?;
     }

@@ -96,6 +96,7 @@ fn deal_all<R: LogWords, P: SeatedPass + Drop>(
     let mut passes = Vec::with_capacity(alloc, sizes.sessions as usize)?;
     for index in 0..sizes.sessions {
         let seat = table.issue(&mut rest);
+        // There are at most 16 sessions.
         let number = SessionNo::of(index + 1).unwrap();
         passes.push(P::at_seat(alloc, seat, number, sizes)?)?;
     }

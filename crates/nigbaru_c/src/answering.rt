@@ -39,7 +39,7 @@ fn answer(session: &mut EndlessSession, text: &[u8]) -> Outcome
 {
     match read_statement(text) {
         Ok(statement) => {
-            // X/Open's formatID has a sign: from 2^63 on one would come back as a negative number.
+            // X/Open's formatID has a sign, so a list of branches can't show one from 2^63 on.
             if fits(&statement) {
                 attempt(session, &statement)
             } else {

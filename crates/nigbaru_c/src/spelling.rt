@@ -20,7 +20,7 @@ fn small_digits(bytes: &[u8]) -> ArrayVec<u8, 128>
     digits
 }
 
-/// The text of a gtrid, a bqual, a key or a value.
+/// The text of a gtrid, a bqual, a key or a value: `0x` and two digits for each of at most 64 bytes.
 fn spell_part(bytes: &[u8]) -> ArrayVec<u8, 130>
     requires { length bytes.now ≤ text_bytes }
     ensures { result.items ≡ part_text bytes.now }
@@ -52,7 +52,7 @@ fn spell_pair(first: &[u8], second: &[u8]) -> ArrayVec<u8, 261>
     text
 }
 
-/// The text of an identifier.
+/// The text of an identifier. A formatID has at most 20 digits.
 fn spell_xid(xid: &Xid) -> ArrayVec<u8, 282>
     ensures { result.items ≡ xid_text xid.now }
 {

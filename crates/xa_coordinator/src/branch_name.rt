@@ -24,6 +24,7 @@ pub fn branch_xid(name: &Bytes, number: u64, store: u8) -> Xid
     ensures { result ≡ xid_of_branch name.now.items number store }
 {
     let mut gtrid = copy_of(name);
+    // A name has at most 56 bytes, so eight more fit.
     gtrid.try_extend_from_slice(&number.to_be_bytes()).unwrap();
     let mut bqual = Bytes::new();
     bqual.push(store);

@@ -37,6 +37,7 @@ fn list_prepared<S: Speak, R: Wait>(rt: &R, session: &mut S) -> Result<(XidList,
     let Answer { place, reply } = session.execute(rt, &Statement::Recover { convert: false })?;
     match reply {
         Reply::Recovered(xids) => Ok((xids, place)),
+        // `XA RECOVER` is answered by a list, whatever the session has open.
         _ => unreachable!(),
     }
 }

@@ -135,6 +135,7 @@ impl EndlessSession {
                     thread::yield_now(),
             }
         }
+        // The loop above ends only by a return.
         unreachable!()
     }
 }

@@ -16,6 +16,7 @@ use Rattle.xa_manager.specs.Whole.{IsPair}
 abbrev pub IsOwn : Store → Pass → Type 0
 IsOwn store pass = log_of pass ≡ identity_of store.log
 
+-- the pass at a place is one of the store at that place
 at_place : (stores : List Store) (passes : List Pass) (place : ℕ) (store : Store) (pass : Pass)
     → AllZip IsOwn stores passes → place < length passes
     → store ≡ get_or stores place store → pass ≡ get_or passes place pass → IsOwn store pass

@@ -54,6 +54,7 @@ fine_work : (number store : ℕ) (read : Result Statement ℕ) → Fine (work_ca
 fine_work number store (Ok statement) = fine_row number store statement (takes_rows statement) refl
 fine_work number store (Err place) = record { is = tt }
 
+-- a line of AT is fine, whether its statement was read or not
 fine_at : (store : ℕ) (read : Result Statement ℕ) → Fine (at_call store read)
 fine_at store (Ok statement) = record { is = tt }
 fine_at store (Err place) = record { is = tt }

@@ -48,6 +48,7 @@ impl CountedStore {
         ensures refused { answered ≡ false → self.new.starved ≡ true }
         ensures kept { answered ≡ true → self.new.starved ≡ self.old.starved }
     {
+        // No script is long enough for 2^64 calls. That isn't known here.
         self.given = self.given.saturating_add(1);
         self.starved = self.starved || !answered;
     }

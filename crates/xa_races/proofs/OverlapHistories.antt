@@ -188,7 +188,7 @@ enters_there base history place session line rest left at in' =
     sym (ap (slice_get history) at) ∙ left.answered.1.next
     (ap (λ (n : ℕ). enters (state_at base history n) session line.statement) at ∙ in')
 
--- behind an entry of another session
+-- behind an entry of another session, the session's lines that are left still explain its entries
 pub waiting : (base : State) (history : List Entry) (place session : ℕ) (lines : List RunLine) (entry : Entry)
     → Remains base history place session lines
     → Drained base history place session lines → slice_get history place ≡ Some entry

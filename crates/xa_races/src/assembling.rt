@@ -82,6 +82,7 @@ pub(crate) fn assembled(
         → All (λ added. All (IsWithin list limit from) added.items) lists.items
         → IfOk result (λ entries. (entries.items ≡ list) × AllOf limit entries.items) }
 {
+    // The history doesn't get shorter. That isn't known here.
     let mut places = empty_places(alloc, count.saturating_sub(from))?;
     place_all(&mut places, from, lists);
     entries_at(alloc, places)

@@ -57,6 +57,7 @@ fn entered(
         (λ both. (lines : List (List ℕ)) → greatest ≡ last_session lines
         → IsGiven lines (map (λ list. list.items) lists.items) → AreRuns lines both.1.items) }
 {
+    // A store has at least one session, also if the script names none. Its sizes are in their ranges.
     let Ok((store, mut passes)) = Store::open(alloc, capacity, greatest.max(1)) else {
         return Err(AllocError);
     };

@@ -159,6 +159,7 @@ pub fn hold_long_race<G: Gate + Sync, R: Threads + Wait + Sync>(
     // Proved (races, long-fault)
     ensures fault { IfErr result (BlamesRace (G.may_answer gate.now) (map (λ list. list.items) lists.items)) }
 {
+    // A store has at least one session, also if there is no list. Its sizes are in their ranges.
     let Ok(store) = EndlessStore::open(alloc, rows, (lists.len() as u64).max(1)) else {
         return Err(RaceFault::NoMemory);
     };

@@ -345,6 +345,7 @@ fn carry_out_job<
         }
         Job::Explore { limit } => jobs::explore(rt, input, output, limit, manner.json),
         Job::Stops { stores, .. } => jobs::stops(rt, input, output, stores, manner.json),
+        // `carry_out` does audits, which have several readers.
         Job::Audit { .. } => unreachable!(),
     }
 }

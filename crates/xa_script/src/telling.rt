@@ -21,6 +21,7 @@ fn grouped(alloc: Global, number: u64) -> Result<String, NoMemory> {
     let digits = digits.as_bytes();
     let mut text = String::new(alloc);
     for place in 0..digits.len() {
+        // Thousands are counted from the last digit on.
         if place > 0 && (digits.len() - place) % 3 == 0 {
             text.push(',')?;
         }
@@ -55,6 +56,7 @@ impl<'r, R: Clock + Eprint + Alloc<A = Global>> Progress for Telling<'r, R> {
     fn judged(&mut self, done: u64, all: u64, configurations: u64) {
         if let Some(last) = self.last {
             let passed = last.elapsed(self.rt);
+            // Less than a second after the last line a new one would say little.
             if passed.is_ok_and(|passed| passed.as_secs() >= 1) {
                 let _ = self.say(done, all, configurations);
                 self.last = Instant::now(self.rt).ok();

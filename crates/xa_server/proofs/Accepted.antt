@@ -263,6 +263,7 @@ may_run_out old session statement accepted enters_it makes =
     or_true true = refl
     or_true false = refl
 
+-- the same of a result that is a fault
 pub may_run_out_at : {T E : Type 0} (result : Result T E) (old : State) (session : ℕ) (statement : Statement) →
     is_refused (reply_to old session statement) ≡ false → OnErr result
     (may_enter old (association_of old session) statement ≡ true)

@@ -141,7 +141,7 @@ beside_mode commits xid keys old new frees other apart key =
         (λ row. freed_beside xid other row.lock apart) (map.get old key)
     at false = refl
 
--- what it writes
+-- what another branch writes to each row
 beside_write : (commits : Bool) (xid : Xid) (keys : List (List ℕ)) (old new : RowMap) → Frees commits xid keys old new
     → (other : Xid)
     → same_xid other xid ≡ false → (key : List ℕ) →

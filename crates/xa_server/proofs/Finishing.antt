@@ -188,6 +188,7 @@ prepared_before base (entry ∷ entries) (suc end_at) xid e f =
     by_first base entry entries end_at xid e (is_prepared (after base entry.0 entry.1) xid) refl
     (λ now. prepared_before (after base entry.0 entry.1) entries end_at xid now f)
 
+-- what finishes a branch behind the first entry finishes it after that entry was carried out
 later_finish : (base : State) (entry : ℕ × Statement) (entries : List (ℕ × Statement)) (place : ℕ) (xid : Xid)
     → FinishesAt base (entry ∷ entries) (suc place) xid → FinishesAt (after base entry.0 entry.1) entries place xid
 later_finish base entry entries place xid is =

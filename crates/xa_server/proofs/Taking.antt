@@ -107,11 +107,13 @@ before_same passes taking key change same None e = inl e
 before_same passes taking key change same (Some branch) e =
     inl (sym (ap (λ locks. passes (map.get locks key)) (same branch)) ∙ e)
 
+-- a change that changes nothing
 before_still : (passes : Option LockMode → Bool) (taking : Type 0) (key : List ℕ) (found : Option Branch)
     → Before passes taking key found found
 unfolding Before
 before_still passes taking key found e = inl e
 
+-- a change under a condition, if the change itself takes only what it may
 before_if : (passes : Option LockMode → Bool) (taking : Type 0) (key : List ℕ) (b : Bool) (new found : Option Branch)
     → (b ≡ true → Before passes taking key new found) → Before passes taking key (cond b new found) found
 unfolding Before

@@ -49,6 +49,7 @@ impl<'a, L: DecisionLog> Session<'a, L> {
                 answered => return answered,
             }
         }
+        // The loop above ends only by a return.
         unreachable!()
     }
 

@@ -20,6 +20,7 @@ fn disconnect_all(mut server: Server, sessions: u64) -> Server
     ensures { result ≡ disconnected sessions server }
 {
     for index in 0..sessions {
+        // There are at most 16 sessions, and DISCONNECT takes no memory.
         let session = SessionNo::of(index + 1).unwrap();
         let _reply = server.apply(session, &Statement::Disconnect).unwrap();
     }

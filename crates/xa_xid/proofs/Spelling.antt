@@ -188,6 +188,7 @@ pub evened_length : (digits : List ℕ) → (odd : Bool) → (length digits % 2 
 evened_length digits true e = rw e (omega arith, omega arith)
 evened_length digits false e = rw e (omega arith, omega arith)
 
+-- the digits of `0x..` with a 0 in front, if they are odd, are the bytes; more than 64 bytes are too long
 run_sized : (digits bytes rest : List ℕ) → decode_of (evened digits) ≡ Ok bytes
     → hex_run_of (Some digits) rest ≡ sized (kept bytes) rest
 run_sized digits bytes rest e =

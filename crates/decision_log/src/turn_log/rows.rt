@@ -43,6 +43,7 @@ impl TurnLog {
         ensures entry { slice_get (pass_view seat.old).known.seen place ≡ Some result }
     {
         let words = self.read_row(seat, place);
+        // The words are those of an entry of the history, so an entry is found.
         read_back(&words).unwrap()
     }
 
