@@ -22,7 +22,9 @@ use xa_xid::{SessionNo, Statement};
 /// session is let in when the first one's second line comes, behind the answer to its first line.
 #[derive(Drop)]
 struct TakesTurns {
+    /// How many races were announced.
     races: AtomicU64,
+    /// 1 if the session that comes first has the answer to its first line, else 0.
     has_answer: AtomicU64,
 }
 

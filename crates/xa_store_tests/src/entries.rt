@@ -7,8 +7,11 @@ use xa_xid::{Bytes, Key, SessionNo, Statement, Xid};
 /// A statement of a session, and the words of its entry that aren't 0.
 #[derive(Clone, Copy)]
 struct Laid {
+    /// The session's number.
     session: u64,
+    /// The statement.
     text: &'static str,
+    /// Words 0 to 4.
     head: [u64; 5],
     /// The first word of the first text.
     first: u64,
@@ -16,6 +19,7 @@ struct Laid {
     second: u64,
 }
 
+/// Entries with words that were laid out by hand.
 const LAID: [Laid; 4] = [
     Laid {
         session: 1,
@@ -122,6 +126,7 @@ fn other_words_are_no_entry(rt: HostRuntime) {
     }
 }
 
+/// 64 bytes, no two of which are the same.
 const PATTERN: &[u8] = b"\xff0123456789abcdefghijklmnopqrstuvwxyzABCDEFGHIJKLMNOPQRSTUVWXYZ\xfe";
 
 /// The first bytes of the pattern.

@@ -84,6 +84,7 @@ fn read_that_overlaps_a_write_may_come_before_it(rt: HostRuntime) -> Result<(), 
 /// Counts how often progress is reported to it.
 #[derive(Drop)]
 struct Counted {
+    /// How often progress was reported.
     times: u64,
     all: u64,
 }

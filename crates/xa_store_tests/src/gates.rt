@@ -48,6 +48,7 @@ impl Gate for ShutsFirst {
 /// too for a line that is asked for twice, or not in order.
 #[derive(Drop)]
 pub(crate) struct CountsQuestions {
+    /// How often it was asked.
     pub(crate) asked: AtomicU64,
     pub(crate) shut_from: u64,
     pub(crate) is_in_order: bool,
@@ -65,10 +66,13 @@ impl Gate for CountsQuestions {
 /// before all was announced.
 #[derive(Drop)]
 pub(crate) struct KeepsAccount {
+    /// How often runs were announced.
     pub(crate) announced: AtomicU64,
+    /// How many were announced last.
     pub(crate) runs: AtomicU64,
     pub(crate) first: AtomicU64,
     pub(crate) second: AtomicU64,
+    /// How many questions were odd.
     pub(crate) odd: AtomicU64,
     pub(crate) shut_from: u64,
 }
@@ -117,7 +121,9 @@ impl Gate for KeepsAccount {
 #[derive(Drop)]
 pub(crate) struct Watches<G> {
     pub(crate) behind: G,
+    /// How many sessions have come to their first line.
     pub(crate) come: AtomicU64,
+    /// How many were let past it alone.
     pub(crate) alone: AtomicU64,
 }
 

@@ -23,8 +23,11 @@ const CALLS: [u8; 15] = [0, 0, 1, 1, 2, 2, 0, 0, 1, 1, 2, 2, 0, 1, 2];
 /// What happens at which call, and whether a vote of Ready is decided.
 #[derive(Clone, Copy, Debug, PartialEq, Eq)]
 pub(crate) struct Plan {
+    /// What happens.
     pub(crate) way: Way,
+    /// At which of the coordinator's calls, from 0.
     pub(crate) call: u8,
+    /// Whether a vote of Ready is decided.
     pub(crate) decides: bool,
 }
 

@@ -58,7 +58,9 @@ pub(crate) struct Meddled<'a, S: Speak> {
     pub(crate) other_client: S,
     pub(crate) store: u8,
     pub(crate) way: Way,
+    /// How many calls go by before it happens. For `Outrun` it is 1 if it happens at the next list.
     pub(crate) left: u64,
+    /// The first branch of the last list, if another client is to roll it back.
     pub(crate) listed: Option<Xid>,
     pub(crate) account: &'a AtomicU64,
 }

@@ -87,7 +87,9 @@ fn explains_at(
 pub(crate) struct Account {
     pub(crate) session: SessionNo,
     pub(crate) told: Vec<Told>,
+    /// Whether it was answered that the log is full.
     pub(crate) is_full: bool,
+    /// How many of its answers were explained, from the first on.
     pub(crate) explained: usize,
 }
 

@@ -61,13 +61,15 @@ fn told(alloc: Global, error: XaError) -> Result<String, Fail> {
     Ok(format!(in alloc; "{} {} {code} {error}", error.number(), error.sqlstate())?)
 }
 
-/// What is said before the copy is made, then to the copy, and then to the server.
+/// What is said before the copy is made.
 const BEGUN: &str =
     "1 PUT 'k','v' => OK\n1 XA START 'a' => OK\n1 PUT 'm','w' => OK\n1 GET 's' => NONE\n";
 
+/// What is then said to the copy.
 const APART: &str =
     "1 GET 'm' => 0x77\n2 PUT 's','x' => 3572\n1 DISCONNECT => OK\n1 PUT 'k','x' => OK\n2 PUT 's','x' => OK\n";
 
+/// What is said last, to the server itself.
 const STAYED: &str = "2 GET 'k' => 0x76\n2 PUT 'm','y' => 3572\n2 PUT 's','x' => 3572\n";
 
 #[test]

@@ -187,10 +187,11 @@ fn shut_gate_writes_nothing(rt: HostRuntime) {
     }
 }
 
-/// What two sessions that start one branch at once can be answered.
+/// What two sessions that start one branch at once are answered, if session 1 comes first.
 const FIRST_WINS: &[u8] =
     b"HISTORY 1\n0 1 XA START 0x61,X'',1\n1 0 OK\n2 1 ERROR 1440 (XAE08): XAER_DUPID xid already exists\n";
 
+/// The same, if session 2 comes first.
 const SECOND_WINS: &[u8] =
     b"HISTORY 1\n0 2 XA START 0x61,X'',1\n1 1 ERROR 1440 (XAE08): XAER_DUPID xid already exists\n2 0 OK\n";
 
