@@ -29,6 +29,7 @@ fn call_in(line: &[u8]) -> Call
     ensures call { result ≡ call_of_line line.now }
     ensures written { IsWritten result }
 {
+    // `coordinate` takes no such line either.
     if LINE_BYTES < line.len() {
         return Call::Unread(0);
     }

@@ -59,6 +59,7 @@ fn take_next<I: Read + Drop, R: Eprint + Alloc<A = Global>>(
     ensures fault { IfErr result IsOfReading }
 {
     let taken = add_history(rt.alloc(), audit, &mut input);
+    // Of any other fault the file isn't the cause.
     if matches!(taken, Err(ScriptFault::Read | ScriptFault::TooLong)) {
         input.tell_unread();
     }

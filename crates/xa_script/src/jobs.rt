@@ -214,6 +214,7 @@ pub fn coordinate<I: Read + Drop, W: Write + Drop, R: Eprint + Alloc<A = Global>
     requires { IsStoreCount stores }
 {
     let mut transport = Transport::new(input, output);
+    // Nothing is explained, so nobody has to follow the transactions.
     if !speaks {
         return converse_lasting(rt, rt.alloc(), &mut transport, stores).and(Ok(DONE));
     }
@@ -239,6 +240,7 @@ pub fn coordinate_fixed<I: Read + Drop, W: Write + Drop, R: Eprint + Alloc<A = G
     let mut transport = Transport::new(input, output);
     let (stores, firsts, seconds) = open_stores(rt.alloc(), stores, capacity)?;
     let stores = stores.as_slice();
+    // Nothing is explained, so nobody has to follow the transactions.
     if !speaks {
         return converse(rt, rt.alloc(), &mut transport, stores, firsts, seconds).and(Ok(DONE));
     }

@@ -67,6 +67,7 @@ fn call_fault(line: &[u8]) -> LineFault<'_> {
     let (word, _) = split_word(skip_blanks(line));
     let works = word == b"WORK".as_slice() && has_number(line, 1) && has_number(line, 2);
     let asks = word == b"AT".as_slice() && has_number(line, 1);
+    // With these first words the line was to give a statement, so that is what may be wrong.
     if works {
         statement_fault(behind(line, 3)).unwrap_or(LineFault::NoWork)
     } else if asks {
@@ -125,6 +126,7 @@ impl LineKind {
     ///
     /// The line is without its line feed. Takes no memory. Doesn't wait.
     pub fn settled_by(self, line: &[u8]) -> LineKind {
+        // The first line that isn't blank says whether a script for races has comments.
         if self != LineKind::Raced || skip_blanks(line).is_empty() {
             self
         } else if is_comment(line) {

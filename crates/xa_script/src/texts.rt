@@ -186,6 +186,7 @@ impl<W: Write + Drop> Texts<W> {
         ensures inner { self.new.inner ≡ self.old.inner }
     {
         let held = mem::replace(&mut self.held, Room::new());
+        // A row of a list may hold any bytes, so it is left as it is.
         if self.rows > 0 {
             self.rows -= 1;
             self.owe(held);
@@ -226,6 +227,7 @@ impl<W: Write + Drop> Texts<W> {
     {
         let line = &bytes[..line_length(bytes)];
         let count = self.inner.write(line)?;
+        // The line ends here, so the next one can be taken.
         if count > 0 && bytes[count - 1] == b'\n' {
             self.passes = false;
         }

@@ -37,6 +37,7 @@ impl FirstFault {
         ensures either { (result ≡ self) ⊎ (result ≡ other) }
         ensures lowest { (result.session ≤ self.session) × (result.session ≤ other.session) }
     {
+        // Of several faults the one of the lowest session is returned.
         if other.session < self.session {
             other
         } else {

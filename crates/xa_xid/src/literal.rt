@@ -108,6 +108,7 @@ fn hex_run(text: &[u8]) -> Result<(Bytes, &[u8]), LiteralFault>
     match hex_digits(run) {
         None => Err(LiteralFault::NotALiteral),
         Some(digits) => {
+            // A text has at most 64 bytes, and a byte two digits.
             if digits.len() > 128 {
                 Err(LiteralFault::TooLong)
             } else {
@@ -121,6 +122,7 @@ fn hex_run(text: &[u8]) -> Result<(Bytes, &[u8]), LiteralFault>
 pub(crate) fn hex_digits(run: &[u8]) -> Option<&[u8]>
     ensures { option_copied result ≡ hex_digits_of run.now }
 {
+    // At least one digit comes after `0x`.
     if run.len() < 3 || run[0] != b'0' || run[1] != b'x' {
         return None;
     }
