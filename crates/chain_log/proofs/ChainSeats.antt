@@ -10,6 +10,7 @@ use Rattle.chain_log.specs.ChainRule.{newest_for, HasCells, HasDraft}
 use Rattle.chain_log.proofs.ChainSteps.{Rules, blank}
 use Rattle.chain_log.proofs.Names.{name_zero}
 
+-- what a log has to show of its own words
 has_words : HasWords HasCells HasDraft newest_for
 has_words = record {
   idle = λ words log h empty without. blank words log h empty;

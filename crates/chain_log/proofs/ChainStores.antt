@@ -33,6 +33,7 @@ use Rattle.chain_log.proofs.Chains.{chain_of, one_chain}
 use Rattle.chain_log.proofs.ChainSteps.{Rules, blank, newest_by, seen_keeps}
 use Rattle.chain_log.proofs.Names.{name_begins, name_low, newest_added, one_cell, one_length, within_words, words_apart}
 
+-- the words alone say which history it is
 one_log : (sizes : Sizes) (words : List ℕ) (one other : List SeatView) (p : ChainRule sizes words one)
     (q : ChainRule sizes words other) → p.log ≡ q.log
 one_log sizes words one other p q =
@@ -333,6 +334,7 @@ exchange_step sizes slots id old own h entry last name is mine whole room state 
       ),
     ))
 
+-- a step by which looks rise sees the whole history, and adds nothing
 pub look_sees : (sizes : Sizes) (words words' : List ℕ) (views views' : List SeatView) (r : ChainRule sizes words views)
     (after : ChainRule sizes words' views')
     (step : Atomic) (found id : ℕ) (old new : PassView) → Does step words found words'

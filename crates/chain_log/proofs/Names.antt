@@ -15,6 +15,7 @@ use Rattle.chain_log.specs.Cells.{word_count, name_at, cell_at, session_at, name
 
 -- rows and columns
 
+-- a row above begins where this one has ended, or later
 further : (row above sessions : ℕ) → row < above → row * sessions + sessions ≤ above * sessions
 further row above sessions low =
     let a : suc row * sessions ≤ above * sessions = mul-le-mul_right sessions low in

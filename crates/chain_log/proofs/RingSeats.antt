@@ -11,6 +11,7 @@ use Rattle.chain_log.specs.Places.{rows_of, word_count}
 use Rattle.chain_log.specs.RingRule.{newest_for, HasCells, HasNotes}
 use Rattle.chain_log.proofs.RingSteps.{Rules, idle}
 
+-- what a log has to show of its own words
 has_words : HasWords HasCells HasNotes newest_for
 has_words = record {
   idle = λ words log h empty without. idle words log h empty without;

@@ -13,6 +13,7 @@ pub rows_most : (rows : ℕ) → rows_of (most + rows) ≡ rows
 unfolding rows_of
 rows_most rows = omega arith
 
+-- a row above begins where this one has ended, or later
 further : (row above width : ℕ) → row < above → row * width + width ≤ above * width
 further row above width low =
     let a : suc row * width ≤ above * width = mul-le-mul_right width low in

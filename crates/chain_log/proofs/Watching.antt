@@ -144,6 +144,7 @@ missed_later start found name place entry h g k keeps checks is other =
     subst (λ c. place + rows_of c ≤ least k) keeps.capacity
     (missed start found name place entry g k checks (still_for start name place entry h g keeps is) other)
 
+-- a name that is found before and after a word is read: the word is of its entry's cell
 pub won_between : (start first second name place : ℕ) (entry : Entry) (h g v k : PassView)
     → IsLookedFor start name place entry h → Checks start h first g
     → first ≡ name → KeepsWatch g v → Checks start v second k → second ≡ name

@@ -37,6 +37,7 @@ first_rows words place entry is =
     let here : place ≡ 0 + place = omega arith in
     subst (λ n. IsEntry entry × HasWordsAt words (row_at n) (words_of entry)) here is
 
+-- the words of a row spell one entry
 one_row : (words : List ℕ) (from : ℕ) (x y : Entry) (xs ys : List Entry) → Spelled words from (x ∷ xs)
     → Spelled words from (y ∷ ys) → x ≡ y
 unfolding Spelled
@@ -54,6 +55,7 @@ spelled_rest words from x xs s place entry is =
     let here : from + suc place ≡ from + 1 + place = omega arith in
     subst (λ n. IsEntry entry × HasWordsAt words (row_at n) (words_of entry)) here (s (suc place) entry is)
 
+-- the words of as many rows spell one list
 one_list : (words : List ℕ) (from : ℕ) (xs ys : List Entry) → length xs ≡ length ys → Spelled words from xs
     → Spelled words from ys → xs ≡ ys
 one_list words from [] [] same s t = refl
@@ -126,6 +128,7 @@ all_seen : (sizes : Sizes) (words : List ℕ) (views : List SeatView) (r : TurnR
     → slice_index words 0 ≡ count_for h → h.known.seen ≡ r.log
 all_seen sizes words views r h k same = begins_same h.known.seen r.log k.seen (omega (arith, r.spelled.count, same))
 
+-- a step by which looks rise sees the whole history, and adds nothing
 pub look_sees : (sizes : Sizes) (words words' : List ℕ) (views views' : List SeatView) (r : TurnRule sizes words views)
     (after : TurnRule sizes words' views')
     (step : Atomic) (found id : ℕ) (old new : PassView) → Does step words found words'

@@ -9,6 +9,7 @@ use Rattle.decision_log.proofs.Drafts.{holds_nothing}
 use Rattle.decision_log.proofs.SeatRule.{HasWords, seats_kept, opens_seats}
 use Rattle.decision_log.proofs.TurnSteps.{Rules}
 
+-- what a log has to show of its own words
 has_words : HasWords HasRows HasDraft count_for
 has_words = record {
   idle = λ words log h blank without. record {

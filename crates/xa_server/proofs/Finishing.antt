@@ -30,6 +30,7 @@ is_ready found = option_map_or is_prepared_phase (option_map (λ (b : Branch). b
 
 -- ---- what makes a branch PREPARED
 
+-- neither the old nor the new branch is PREPARED, so none is, whichever it becomes
 stays : (b : Bool) (new found : Option Branch) → is_ready found ≡ false → is_ready new ≡ false
     → is_ready (cond b new found) ≡ false
 stays true new found e n = n
@@ -121,6 +122,7 @@ becomes_prepared state session statement xid e f = elim (outcome state session s
 
 -- ---- what finishes a branch
 
+-- a branch that an accepted statement removes isn't PREPARED afterwards
 gone : (state : State) (session : ℕ) (statement : Statement) (xid : Xid) → reply_to state session statement ≡ Accepted →
     branch_after session (association_of state session) statement xid (map.get state.branches xid) ≡ None
     → is_prepared (after state session statement) xid ≡ false

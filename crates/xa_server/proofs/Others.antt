@@ -182,6 +182,7 @@ unknown_owned other (Some branch) e = absurd (true≢false e)
 
 -- ---- another session's branch stays as it is
 
+-- a change of a branch that the other session doesn't own leaves the branches that it owns
 spared : (state : State) (other : ℕ) (touched at : Xid) (new : Option Branch) → owns state other touched ≡ false
     → owns state other at ≡ true
     → cond (same_xid at touched) new (map.get state.branches at) ≡ map.get state.branches at
@@ -190,6 +191,7 @@ spared state other touched at new no_owner e = elim (same_or_apart xids_total ex
   | inr apart ↦ ap (λ b. cond b new (map.get state.branches at)) apart
 ]
 
+-- an accepted statement of one session leaves the branches that the other owns
 kept : (state : State) (session other : ℕ) → LockLaw state → session ≢ other → (association : Association)
     → IsOwn state session association
     → (statement : Statement)

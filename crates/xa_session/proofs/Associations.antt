@@ -132,6 +132,7 @@ state_entered base statement answer old new is entering =
     ap (state_after base) (is.entered entering).seen ∙ state_after-last base (take answer.place new.seen)
     (entry_of old.number statement)
 
+-- a statement that doesn't enter is answered in the state after all that is seen
 pub state_outside : (base : State) (statement : Statement) (answer : Answer) (old new : Known)
     → IsAnswered base statement answer old new
     → enters (state_at base new.seen answer.place) old.number statement ≡ false →

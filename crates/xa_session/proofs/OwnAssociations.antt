@@ -126,6 +126,7 @@ changed_within state law session xid statement change association accepted is ow
     ∙ sym (associated state law session xid own.branch own.found own.owner)
     ∙ association
 
+-- after a GET the session still owns its branch
 pub read : (state : State) → LockLaw state → (session : ℕ) (xid : Xid) (key : List ℕ)
     → association_of state session ≡ Active xid
     → is_refused (reply_to state session (Get key)) ≡ false
@@ -135,6 +136,7 @@ read state law session xid key association accepted =
     changed_within state law session xid (Get key) (with_lock key) association accepted (λ found. refl) (λ branch. refl)
     (λ branch. refl)
 
+-- after a PUT the session still owns its branch
 pub written : (state : State) → LockLaw state → (session : ℕ) (xid : Xid) (key : List ℕ) (value : Text)
     → association_of state session ≡ Active xid
     → is_refused (reply_to state session (Put key value)) ≡ false
@@ -145,6 +147,7 @@ written state law session xid key value association accepted =
     (λ found. refl) (λ branch. refl)
     (λ branch. refl)
 
+-- after a DEL the session still owns its branch
 pub deleted : (state : State) → LockLaw state → (session : ℕ) (xid : Xid) (key : List ℕ)
     → association_of state session ≡ Active xid
     → is_refused (reply_to state session (Del key)) ≡ false
@@ -181,6 +184,7 @@ unowned state law session own owned at is =
     itself : (xid : Xid) → same_xid xid xid ≡ true
     itself xid = same_itself xids_total exact_xids xid
 
+-- a session whose branch is gone is free
 freed : (state : State) → LockLaw state → (session : ℕ) (own : Xid) → owns state session own ≡ true
     → association_of (without_branch state own) session ≡ Free
 unfolding association_of

@@ -22,6 +22,7 @@ module _ {S : Type 0} (pass_of : S → Pass) (history : List Entry) where
   leaves (session ∷ sessions) (pass ∷ passes) zip whole =
       (record { same_log = zip.0.0; adds_nothing = zip.0.1; taken_in = whole.0 }, leaves sessions passes zip.1 whole.1)
 
+-- sessions that met, and whose passes were returned, have closed
 pub closes : {S : Type 0} (pass_of : S → Pass) (identity : LogIdentity) (sessions : List S) (history : List Entry)
     (passes : List Pass)
     → AllZip (λ session pass. (log_of pass ≡ log_of (pass_of session))

@@ -157,6 +157,7 @@ pub record IsOnTheWay (base : State) (old now : Known) (statements : List Statem
   pub legal : IsLegal base now.seen old statements answers
   pub within : reached base now.seen old.number (length old.seen) statements answers ≤ length now.seen
 
+-- before its first statement a session is on the way
 pub sets_out : (base : State) (old : Known) → entries_of old.number old.seen ≡ old.mine → IsOnTheWay base old old [] []
 unfolding reached
 sets_out base old part = record {
