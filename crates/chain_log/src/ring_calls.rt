@@ -228,8 +228,8 @@ impl RingLog {
         ensures same { known_of pass.new ≡ known_of pass.old }
         // Proved (log, ring-entry)
         ensures some { IfSome result (λ entry. slice_get (known_of pass.old).seen at ≡ Some entry) }
-        // Proved (log, ring-lost-entries): An entry of a ring is lost only if from its place on the history has as many
-        //   entries as the ring has rows.
+        // Proved (log, ring-lost-entries): An entry of a ring is lost only if from its place on the history has at
+        //   least as many entries as the ring has rows.
         ensures none { IfNone result (at + self.now.rows ≤ least_of pass.new) }
     {
         // The table has one byte for each row, and this row's is a later entry's.

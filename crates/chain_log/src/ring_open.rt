@@ -29,9 +29,9 @@ impl RingLog {
         sessions: u64,
         spares: u64,
     ) -> Result<(RingLog, Vec<RingPass>, Vec<RingSpare>), RingFault>
-        // Proved (log, ring-opening): A ring opens with the passes of sessions 1 to S, in order, and with spares whose
-        //   numbers follow these, all with nothing seen; or with the first fault, in the order of test, whose cause
-        //   holds.
+        // Proved (log, ring-opening): A ring opens with the passes of sessions 1 to S, in order, and with spares
+        //   whose numbers follow these, all with nothing seen; or with the first fault, in the order of test, whose
+        //   cause holds. Of `NoMemory` only that is known that the tests before it were passed.
         ensures ok { IfOk result (λ opened. OpensRing rows sessions spares opened.0 opened.1.items opened.2.items) }
         // Proved (log, ring-opening)
         ensures err { IfErr result (λ fault. Refuses rows sessions spares fault) }

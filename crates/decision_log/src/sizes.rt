@@ -25,8 +25,9 @@ impl Sizes {
     /// wait.
     /// Own rule: docs/INTERNALS.md#what-a-log-promises.
     pub fn of(capacity: u64, sessions: u64) -> Result<Sizes, OpenFault>
-        // Proved (log, opening): A log opens with the passes of sessions 1 to S, in order, with nothing
-        //   seen; or with the first fault, in the order of test, whose cause holds.
+        // Proved (log, opening): A log opens with the passes of sessions 1 to S, in order, with nothing seen; or with
+        //   the first fault, in the order of test, whose cause holds. Of `NoMemory` only that is known that the tests
+        //   before it were passed.
         ensures ok { IfOk result (λ sizes. AreSizes sizes × (sizes.capacity ≡ capacity) × (sizes.sessions ≡ sessions)) }
         // Proved (log, opening)
         ensures err { IfErr result (λ fault. Refuses capacity sessions fault) }

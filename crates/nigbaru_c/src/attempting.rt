@@ -41,14 +41,18 @@ pub extern "C" fn nigbaru_raw_attempt(
     told: &mut Told,
     xids: &mut [XidPart],
 ) -> u32
-    // Proved (c, attempt): At status 0 to 4 the text spells a statement, and the answer is the server's reply
-    //   to it at `place`, in the store's one history, which begins with all that the session had seen.
-    // Proved (c, attempt-fails): At any other status nothing of the text's statement was added, and the status'
-    //   cause holds: at `BEHIND` entries that the session needs are overwritten, at `OVERTAKEN` the one try was lost
-    //   to a longer history. The statuses for syntax and range change nothing, and a
-    //   handle without a session stays as it is.
+    // Proved (c, attempt): At status 0 to 4 the text spells a statement, and the answer is the server's reply to it
+    //   after the first `place` entries of the store's one history, which have all that the session had seen. A
+    //   statement that is logged is the next entry, once.
+    // Proved (c, attempt-fails): At any other status nothing of the text's statement was added, and the status' cause
+    //   holds. At `OVERTAKEN` the one try was lost to a longer history. At `BEHIND` the history has at least as many
+    //   entries as the ring has rows, from the next one on that the session would replay. `NO_MEMORY` is for a list,
+    //   for a session that hasn't replayed all that is seen and whose next entry may take memory or that needs a copy
+    //   of all rows, or after more than 2^59 entries. The statuses for syntax and range change nothing, and a handle
+    //   without a session stays as it is.
     // Proved (c, attempt-answer): The answer's fields and the identifiers that C gets are those of the reply, and 0
-    //   where the reply has none. Identifiers are written only for a list.
+    //   where the reply has none. Identifiers are written only for a list, as many as there is room for; a formatID
+    //   of 2^63 or more is written as -1.
     ensures outcome { (outcome : OutcomeOf) × (result ≡ status_of outcome) × Tells outcome told.new
         × Lists outcome xids.old xids.new × Comes text.now outcome (session_of session.old.held)
         (session_of session.new.held) }

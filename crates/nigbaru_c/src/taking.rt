@@ -63,12 +63,13 @@ pub extern "C" fn nigbaru_raw_take(
     number: u64,
     session: &mut Handle,
 ) -> u32
-    // Proved (c, take): A session that C takes, for the first time or after it left, is of the store, and has the
-    //   number that was asked for.
+    // Proved (c, take): A session that C takes is of the store, and has the number that was asked for. Its handle was
+    //   empty.
     ensures ok { result ≡ 0 → (session.old.held ≡ None) × Takes number (store_of store.old.held)
         (session_of session.new.held) }
-    // Proved (c, take-fails): After a fault of taking a session no handle has changed. The fault is the first in the
-    //   order of test whose cause holds.
+    // Proved (c, take-fails): After a fault of taking a session no handle has changed. `NO_HANDLE` is returned
+    //   exactly if no store is held. `HELD` and `OUT_OF_RANGE` have their causes; of `NO_MEMORY` and `NO_SESSION`
+    //   only that is known that the tests before them were passed.
     ensures err { result ≢ 0 → session.new.held ≡ session.old.held }
     // Proved (c, take-fails)
     ensures same { store.new.held ≡ store.old.held }

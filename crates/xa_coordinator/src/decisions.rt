@@ -96,8 +96,8 @@ impl Decisions {
         ensures ok { IfOk result (λ decisions. decisions ≡ list.now) }
         // Proved (coordinator, decisions-of)
         ensures stands { OnOk result (CanStand list.now) }
-        // Proved (coordinator, decisions-refused): A list is refused as decisions only for the cause that the
-        //   fault names.
+        // Proved (coordinator, decisions-refused): A list is refused as decisions only for the cause that the fault
+        //   names. Of `NoMemory` only that is known that the list can be decisions.
         ensures fault { IfErr result (IsNoList list.now) }
     {
         if Self::MOST < list.len() {

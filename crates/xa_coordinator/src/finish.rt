@@ -136,9 +136,10 @@ impl<S: Speak> Coordinator<S> {
         //   the others are finished.
         // Proved (coordinator, end-first): `XA END` comes before the statement that finishes a branch exactly
         //   if a branch that is open and ACTIVE is rolled back.
-        // Proved (coordinator, unfinished): After Unfinished the named store didn't carry its statement out,
-        //   for the session's fault or for the server's refusal at a place not before what had been seen. The
-        //   cause is never XAER_NOTA of the statement that finishes the branch.
+        // Proved (coordinator, unfinished): After Unfinished the named store didn't carry its statement out, for the
+        //   session's fault or for the server's refusal at a place not before what had been seen. The cause is never
+        //   XAER_NOTA of the statement that finishes the branch. The participants below it are finished, or answered
+        //   XAER_NOTA; the stores above it got no statement.
         ensures ends { EndsAs S.view self.old.branches prepared.transaction
             (finish_of_vote (is_decided decisions.now prepared.transaction.number) prepared.vote_kind) result
             self.old.stores.items self.new.stores.items }

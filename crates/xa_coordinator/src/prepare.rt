@@ -121,9 +121,9 @@ impl<S: Speak> Coordinator<S> {
         // Proved (coordinator, votes): After a vote of Ready at least two stores take part, and each
         //   participant's `XA END` and `XA PREPARE` were added. After OnePhase one store takes part, and its
         //   `XA END` was added; after Nothing none does.
-        // Proved (coordinator, vote-no): After a vote of No the named store didn't carry its statement out.
-        //   The cause is the session's fault, or the server's refusal at a place not before what had been
-        //   seen.
+        // Proved (coordinator, vote-no): After a vote of No the named store didn't carry its statement out. The cause
+        //   is the session's fault, or the server's refusal at a place not before what had been seen. The
+        //   participants below it were ended and prepared; the stores above it got no statement.
         ensures vote { VotesAs S.view transaction result self.old.stores.items self.new.stores.items }
         // Proved (coordinator, agrees)
         ensures agrees { (decisions : List Decision) → EachStore S.view

@@ -238,11 +238,12 @@ impl<S: Speak> Coordinator<S> {
         //   in the report, the end of all that it has seen, no branch of this coordinator's naming is
         //   prepared.
         ensures recovers { IfOk result (λ report. Recovers S.view decisions.new self.old.name.items report self.old.stores.items self.new.stores.items) }
-        // Proved (coordinator, recovery-fault): A fault of recovery names a store, and the stores below it
-        //   are recovered. There the session couldn't answer, or the store refused for another cause than
-        //   XAER_NOTA, or a branch of this naming is prepared.
-        // Proved (coordinator, recovery-fault-extent): The store that a fault of recovery names got exactly
-        //   the statements that come before the one that failed. After `NoMemory` no session got a statement.
+        // Proved (coordinator, recovery-fault): Each fault of recovery but `NoMemory` names a store, and the stores
+        //   below it are recovered. In that store the session couldn't answer, or the store refused for another cause
+        //   than XAER_NOTA, or a branch of this naming is prepared.
+        // Proved (coordinator, recovery-fault-extent): The store that a fault of recovery names got exactly the
+        //   statements up to the one that failed, and the stores above it got none. After `NoMemory` no session got a
+        //   statement, and what is open is as before.
         // Proved (coordinator, recovery-open)
         ensures breaks { IfErr result
             (λ fault. BreaksOff S.view decisions.new self.old.name.items fault self.old.branches self.new.branches

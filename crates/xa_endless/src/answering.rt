@@ -81,19 +81,23 @@ impl EndlessSession {
     /// yields no processor.
     /// Own rule: docs/RATTLE.md#a-store-without-an-end.
     pub fn attempt(&mut self, statement: &Statement) -> Result<Answer, EndlessFault>
-        // Proved (endless, stays): A session stays with its store, and how many entries it has replayed never falls.
+        // Proved (endless, stays): A session stays with its store, how many entries it has replayed never falls, and
+        //   as much of the history is handed out as before.
         ensures stays { Stays self.old self.new }
         // Proved (endless, answers): An answered statement got the sequential server's reply in the state after a
         //   prefix of the store's one history, which has all that the session had seen. A statement that is logged is
-        //   the entry right after that prefix, once. After a fault nothing of the statement was appended.
+        //   the entry right after that prefix, once. The session has then replayed all that it has seen, unless the
+        //   statement was logged and replaying it may take memory. After a fault nothing of the statement was
+        //   appended.
         // Proved (endless, causes): `Behind` is returned only if the history has at least as many entries as the ring
         //   has rows, from the next one on that the session would replay. `Overtaken` only if a try was lost to a
-        //   longer history, after the session had replayed all that it had seen before. `NoMemory` only for a list, for
-        //   a replica that hasn't replayed all that is seen, or after 2^59 entries. Such a replica's next entry is one
-        //   that may take memory, or the replica needs a copy of all rows: as many entries as the ring has rows are
-        //   left to replay.
+        //   longer history, after the session had replayed all that it had seen before, and to entries that it hasn't
+        //   replayed. `NoMemory` only for a list, for a replica that hasn't replayed all that is seen, or after more
+        //   than 2^59 entries. Such a replica's next entry is one that may take memory, or the replica needs a copy
+        //   of all rows: as many entries as the ring has rows are left to replay.
         ensures finds { Finds self.old.store.value.log statement.now result self.new.member.replica self.old.member.pass self.new.member.pass }
-        // Proved (endless, one-try): An attempt looks, and makes at most one exchange of the word that sessions share.
+        // Proved (endless, one-try): An attempt looks, and makes at most one exchange of the word that sessions
+        //   share: one if it ends in `Overtaken`, none if it ends in `NoMemory` or `Behind`.
         ensures once { TriesOnce result (known_of self.old.member.pass) (known_of self.new.member.pass) }
     {
         self.store.attempt(&mut self.member, statement)
@@ -114,8 +118,8 @@ impl EndlessSession {
         ensures err { OnErr result
             (HasFailed self.old.store.value.log statement.now IsNoMemory self.new.member.replica self.old.member.pass
             self.new.member.pass) }
-        // Proved (endless, how-executing-ends): Executing returns `NoMemory` only after more looks than tries, so never
-        //   in place of a try that was lost.
+        // Proved (endless, how-executing-ends): Executing returns `NoMemory` only after more looks than tries. Which
+        //   of them came last isn't said.
         ensures tried { OnErr result
             (LooksLast (known_of self.old.member.pass) (known_of self.new.member.pass)) }
     {

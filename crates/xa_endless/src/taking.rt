@@ -58,6 +58,8 @@ impl EndlessStore {
     /// Own rule: docs/RATTLE.md#a-store-without-an-end.
     pub fn take(store: &Arc<EndlessStore>, number: u64) -> Result<EndlessSession, TakeFault>
         // Proved (endless, take): A session that is taken is of the store, and has the number that was asked for.
+        //   `OutOfRange` is returned only for a number that the store doesn't have, `NoMemory` and `Taken` only for
+        //   one that it has.
         ensures store { IfOk result (λ session. session.store.value ≡ store.now.value) }
         // Proved (endless, take)
         ensures number { IfOk result (λ session. (known_of session.member.pass).number ≡ number) }

@@ -50,9 +50,10 @@ pub fn serve_statements<P: Client<Server>>(alloc: Global, client: &mut P) -> Res
     //   script's run. A line that is too long has the answer of a bad line. A statement may instead be
     //   answered out of memory, and has then changed nothing.
     ensures told { OnOk result (IfSome (P.exchange client.new) IsToldAll) }
-    // Proved (scripts, serving-faults): After a read fault all whole lines are answered. After a write fault
-    //   the first answers were given, the last of them perhaps in part. If there was no memory for one line,
-    //   nothing was read or written.
+    // Proved (scripts, serving-faults): After a read fault all whole lines are answered. After a write fault the
+    //   first answers were given, the last of them perhaps in part. If there was no memory for one line, nothing was
+    //   read or written. A read fault is returned only if a read failed, or after 2^64 - 1 bytes, and a write fault
+    //   only if a write or a flush failed.
     ensures fault { IfErr result (λ fault. IfSome (P.exchange client.new) (AfterFaultOfStatements fault)) }
 {
     let mut server = Server::new(alloc);

@@ -54,8 +54,8 @@ impl CountedStore {
     }
 }
 
-// Proved (scripts, stops-counted): The stores on which stops are tried count each statement of the
-//   coordinator's session, and note if memory was refused for one.
+// Proved (scripts, stops-counted): The stores on which stops are tried count each statement of the coordinator's
+//   session, up to 2^64 - 1 of them, and note if memory was refused for one.
 impl Speak for CountedStore {
     ghost use Rattle.xa_manager.specs.Counted.{own_of, IsCounted};
 

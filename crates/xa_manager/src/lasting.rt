@@ -48,8 +48,8 @@ pub fn lasting_manager(
 ) -> Result<Manager<Fused<LastingStore>, LastingStore>, NoMemory>
     requires some { 1 ≤ count }
     requires most { count ≤ 16 }
-    // Proved (manager, unbounded-begins): A manager over unbounded stores has as many of them as asked, with
-    //   nothing begun, nothing open and no session that fails.
+    // Proved (manager, unbounded-begins): A manager over unbounded stores has as many of them as asked, with nothing
+    //   begun and nothing open, and each session passes on 2^64 - 1 calls.
     ensures stores { IfOk result (λ manager. vec_len manager.coordinator.stores ≡ count) }
     // Proved (manager, unbounded-begins)
     ensures begins { IfOk result

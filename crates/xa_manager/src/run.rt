@@ -127,9 +127,9 @@ pub fn manager_over<'a>(
     requires most { length stores.now ≤ 16 }
     requires first { AreOf stores.now firsts.items }
     requires second { AreOf stores.now seconds.items }
-    // Proved (manager, manager-begins): A manager over opened stores has in each the coordinator's session
-    //   and the other client's, both of that store, which have seen nothing. Nothing has begun, nothing is
-    //   open, and no session is limited.
+    // Proved (manager, manager-begins): A manager over opened stores has in each the coordinator's session and the
+    //   other client's, both of that store, which have seen nothing. Nothing has begun, nothing is open, and each of
+    //   the coordinator's sessions passes on 2^64 - 1 calls.
     ensures stores { IfOk result (λ manager. vec_len manager.coordinator.stores ≡ length stores.now) }
     // Proved (manager, manager-begins)
     ensures decisions { IfOk result (λ manager. manager.decisions ≡ []) }

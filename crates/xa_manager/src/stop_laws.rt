@@ -22,9 +22,10 @@ ghost use Rattle.xa_manager.specs.Stops.{IsStopText, IsShown};
 /// branches is prepared.
 /// Own rule: docs/COORDINATOR.md#stops.
 pub fn recovery_keeps_to_decisions()
-    // Proved (coordinator, recovery-keeps-to-decisions): In any run of a manager's calls over unbounded
-    //   stores, in which only the last is `RECOVER` and is answered with a report, all that the coordinator
-    //   added goes with the final decisions, whatever other clients do. None of its branches is prepared.
+    // Proved (coordinator, recovery-keeps-to-decisions): In any run of a manager's calls over unbounded stores that
+    //   begins with nothing, in which memory is refused for no statement, and in which only the last call is
+    //   `RECOVER` and is answered with a report, all that the coordinator added goes with the final decisions,
+    //   whatever other clients do. None of its branches is prepared.
     // Proved (coordinator, goes-with-decisions): `XA COMMIT` goes with the decisions if it is of a decided
     //   transaction, or with ONE PHASE of an undecided one that has a branch in no other store. `XA ROLLBACK`
     //   does if it is of an undecided one.
@@ -41,10 +42,12 @@ pub fn recovery_keeps_to_decisions()
 /// naming.
 /// Own rule: docs/COORDINATOR.md#stops.
 pub fn transactions_stand_whole_or_not_at_all()
-    // Proved (coordinator, whole-or-not-at-all): After a run of a manager's calls that ends in its only, and
-    //   completed, `RECOVER`, a decided transaction was committed in each store in which the coordinator
-    //   began a branch of it. An undecided one was committed only with ONE PHASE, and then has a branch in no
-    //   other store. Premise: no `AT` commits or rolls back a branch of the coordinator's naming.
+    // Proved (coordinator, whole-or-not-at-all): After a run of a manager's calls that begins with nothing, in which
+    //   memory is refused for no statement, and that ends in its only, and completed, `RECOVER`, a decided
+    //   transaction was committed in each store in which the coordinator began a branch of it, with all writes of
+    //   that branch at once. An undecided one was committed, by whomever, only with ONE PHASE, and then the
+    //   coordinator began a branch of it in no other store. Premise: no `AT` commits or rolls back a branch of the
+    //   coordinator's naming.
     ensures { (stores : ℕ) (told : List Call) (responses : List Response) (report : Report) (last : Managing)
         → All IsPlain told
         → All LeavesBranches told
@@ -79,8 +82,8 @@ pub fn each_stop_leaves_all_or_none()
 ///
 /// Own rule: docs/STATEMENTS.md#rows-and-locks.
 pub fn commits_change_rows()
-    // Proved (scripts, commits-change-rows): In a store's history only commits, and writes of sessions that
-    //   have no branch open, change a committed value.
+    // Proved (scripts, commits-change-rows): In the history of a store on which stops are tried only commits, and
+    //   writes of sessions that have no branch open, change a committed value.
     ensures { (counted : CountedStore) (place : ℕ) (entry : Entry)
         → slice_get (history_of counted.store) place ≡ Some entry → KeepsRowsOr counted place entry }
 {}

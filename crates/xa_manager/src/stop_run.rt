@@ -139,10 +139,11 @@ pub fn stops_text<R: Wait>(
 ) -> Result<Told, NoMemory>
     requires some { 1 ≤ stores }
     requires most { stores ≤ 16 }
-    // Proved (scripts, stops-shown): Of a coordinator's script exactly its stops are written: for each call
-    //   of the coordinator one before each call of a session that its line makes, or one if it makes none.
-    //   For each is written what a manager that carried out just these lines, the last up to that call,
-    //   answered to `RECOVER`, and the committed values then.
+    // Proved (scripts, stops-shown): Of a coordinator's script exactly its stops are written: for each call of the
+    //   coordinator one before each call of a session that its line makes, or one if it makes none. For each is
+    //   written what a manager that carried out just these lines, the last up to that call, answered to `RECOVER`,
+    //   and the committed values then of the rows that the script names. After the stops the same is written for all
+    //   lines.
     // Proved (scripts, stops-cut): In the lines before a stop, and in the recovery after it, sessions answered
     //   each statement. In the stop's own line, if a call was made in it, a session didn't answer one. In a
     //   count of calls, and in the search for faulty lines, each statement was answered.
@@ -210,8 +211,9 @@ pub fn stops_script<H: Wait, R: PieceReader, W: PieceWriter>(
     // Proved (scripts, stops-read)
     ensures short { OnOk result (IfSome (R.remaining reader.old) (λ script. length script ≤ script_bytes)) }
 
-    // Proved (scripts, stops-fault): If showing stops fails with `Write`, a prefix of the text was written,
-    //   after any other fault nothing. `TooLong` is returned only if more than 1,048,576 bytes were read.
+    // Proved (scripts, stops-fault): If showing stops fails with `Write`, a prefix of the text was written, after any
+    //   other fault nothing. The fault is `Read`, `TooLong`, `Write` or `NoMemory`. `TooLong` is returned only if
+    //   more than 1,048,576 bytes were read.
     ensures fault { IfErr result (λ fault. AfterStopsFault stores fault (R.remaining reader.old) (W.contents writer.old)
         (W.contents writer.new)) }
     // Proved (scripts, stops-fault)

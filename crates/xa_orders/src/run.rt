@@ -31,9 +31,9 @@ pub struct Explored {
 /// May return `NoMemory`. Doesn't wait.
 /// Own rule: docs/COMMANDS.md#explore.
 pub fn explore_text(alloc: Global, text: &[u8], limit: usize) -> Result<Explored, NoMemory>
-    // Proved (orders, text): A script with faulty lines ends as faulty, and exactly its faulty lines are
-    //   written. Otherwise the text lists the outcomes of its parts, each once with its least order, or is
-    //   `UNDECIDED`.
+    // Proved (orders, text): A script with faulty lines ends as faulty, and exactly its faulty lines are written.
+    //   Otherwise the text lists the outcomes of its parts, each once with its least order; or it is `UNDECIDED`, and
+    //   then orders of one length lead to more ways than the limit, no two of which have come to the same.
     ensures { IfOk result (λ explored. IsExploredText text.now limit explored.ended explored.text.items) }
 {
     let script = read_script(alloc, text)?;
@@ -117,9 +117,10 @@ pub fn explore_script<R: PieceReader, W: PieceWriter>(
     ensures too_long { result ≡ Err ScriptFault.TooLong → ConsumesMoreThan script_bytes (R.remaining reader.old)
         (R.remaining reader.new) }
 
-    // Proved (orders, script-stream-faults): After Ok of exploring all calls on the reader and the writer
-    //   succeeded. Otherwise the last call on one of them failed, and that is the fault, or exploring itself
-    //   ran out of memory. This holds for every reader and writer.
+    // Proved (orders, script-stream-faults): After Ok of exploring all calls on the reader and the writer succeeded.
+    //   `Read` is returned only if the last read failed or no more reads are allowed, `TooLong` only if too much was
+    //   read, and `Write` only if the last write failed or took nothing. Any other fault is want of memory. A stream
+    //   that failed isn't called again. This holds for every reader and writer.
     ensures calls { OnOk result (Completes R.gives W.takes script_reads
         (IsSomeText limit) reader.old reader.new writer.old writer.new) }
     // Proved (orders, script-stream-faults)

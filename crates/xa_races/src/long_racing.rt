@@ -115,14 +115,16 @@ pub fn race_on<G: Gate + Sync, R: Threads + Wait + Sync>(
     gate: &G,
 ) -> Result<LongOutcome, RaceFault>
     requires { All (λ run. run.session.store.value ≡ store.now.value) runs.items }
-    // Proved (races, long-one-history): One history explains the answers of a race over a store without an end. Each is
-    //   the reply after a prefix that has all that its run's session had seen. Each statement that is logged is in the
-    //   history once, in order. The entries that are returned are those of the history from the given place on.
+    // Proved (races, long-one-history): One history explains the answers of a race over a store without an end. Each
+    //   is the reply after a prefix that has all that its run's session had seen. Each statement that is logged is in
+    //   the history once, in order. The entries that are returned are those of the history from the given place on,
+    //   and are of sessions up to the greatest that has a run.
     // Proved (races, long-gate-opened): If all runs of such a race are answered, the gate can let in each of their
     //   statements.
     ensures outcome { IfOk result (IsLongOutcome (G.may_answer gate.now) from runs.items) }
-    // Proved (races, long-fault): A fault of such a race names a statement at which the gate can stop the run. Those
-    //   before it were answered, and the session has added nothing after that. A history is never full.
+    // Proved (races, long-fault): `GateShut` of such a race names a statement at which the gate can stop the run. A
+    //   history explains the answers to those before it, and has nothing more of that session. `Full` is never
+    //   returned, and `ThreadRefused` only if there is a run.
     ensures fault { IfErr result (BlamesLong (G.may_answer gate.now) runs.items) }
 {
     gate.announce(count_speakers(runs.as_slice()));

@@ -47,9 +47,10 @@ pub fn race_script<I: PieceReader, O: PieceWriter, G: Gate + Sync, R: Threads + 
     //   for, and explains every answer.
     ensures written { OnOk result (IfSome (I.remaining reader.old)
         (λ script. AppendsRace (Some capacity) script (O.contents writer.old) (O.contents writer.new))) }
-    // Proved (races, script-held-as-asked): A race of a script is held in a log with the room, or over a ring with
-    //   the rows, that was asked for, and the gate can let in each statement. After `GateShut` the gate can shut a
-    //   statement of one of the script's runs; after `Full` such a statement has no room in the log.
+    // Proved (races, script-held-as-asked): After Ok, if no line is faulty, a race of the script was held in a log
+    //   with the room, or over a ring with the rows, that was asked for, and the gate can let in each statement.
+    //   After `GateShut` the gate can shut a statement of one of the script's runs; after `Full` such a statement has
+    //   no room in the log.
     ensures held { OnOk result (IfSome (I.remaining reader.old) (λ script.
         AppendsHeld (IsHeldInLog (G.may_answer gate.now) capacity) script (O.contents writer.old)
         (O.contents writer.new))) }
@@ -67,9 +68,10 @@ pub fn race_script<I: PieceReader, O: PieceWriter, G: Gate + Sync, R: Threads + 
     ensures too_long { result ≡ Err ScriptFault.TooLong → ConsumesMoreThan script_bytes (I.remaining reader.old)
         (I.remaining reader.new) }
 
-    // Proved (races, script-stream-faults): `Read`, `TooLong` and `Write` have only their causes: the last
-    //   call on that stream failed, or too much was read. A stream that failed isn't called again. After Ok
-    //   all calls on both streams succeeded. This holds for every reader and writer.
+    // Proved (races, script-stream-faults): `Read` is returned only if the last read failed or no more reads are
+    //   allowed, `TooLong` only if too much was read, and `Write` only if the last write failed or took nothing. A
+    //   stream that failed isn't called again. After Ok all calls on both streams succeeded. This holds for every
+    //   reader and writer.
     ensures calls { OnOk result (Completes I.gives O.takes script_reads
         (IsRaceText (Some capacity)) reader.old reader.new writer.old writer.new) }
     // Proved (races, script-stream-faults)

@@ -64,19 +64,21 @@ pub fn runs_script<I: PieceReader, O: PieceWriter, G: Gate + Sync, R: Threads + 
 
     // Proved (races, runs-reads-all): After Ok of several races the whole script was read.
     ensures read { OnOk result (IsAtEnd (I.remaining reader.new)) }
-    // Proved (races, runs-outcomes): Each of N races of a script comes to a text that one history explains.
-    //   Each text that came is written once, with its number in the list of all outcomes and how often it
-    //   came, and then how many of all came. A script with faulty lines has exactly these written.
-    // Proved (races, runs-too-many): If exploring finds too many ways to list all outcomes, each text that
-    //   came is written once, ascending, with how often it came, and then how many came.
+    // Proved (races, runs-outcomes): N texts are counted, each of which a race of the script can come to: one history
+    //   explains it. Each different text is written once, with its number in the list of all outcomes and how often
+    //   it is among the N, and then how many of all outcomes are among them. A script with faulty lines has exactly
+    //   these written.
+    // Proved (races, runs-too-many): Only if orders of one length lead to more than 100,000 ways, no two of which
+    //   have come to the same, the list of all outcomes may be missing. Then each different one of the N texts is
+    //   written once, ascending, with how often it is among them, and then how many there are.
     ensures written { IfOk result
         (λ ended. IfSome (I.remaining reader.old) (λ script. AppendsRuns runs ended script (O.contents writer.old)
         (O.contents writer.new))) }
-    // Proved (races, runs-held-as-asked): Each of N races is held over a store of its own with as many rows as were
-    //   asked for, the gate can let in each line side by side, and these add no more entries than were asked for,
-    //   unless races renew their stores. What is counted are the texts of N such races. After `GateShut` the gate can
-    //   stop a session at one of its lines side by side; after `Full` these lines add more entries, and races don't
-    //   renew their stores.
+    // Proved (races, runs-held-as-asked): For each of the N texts that are counted there is a race over a store with
+    //   as many rows as were asked for. The gate can let in each line side by side, and these add no more entries
+    //   than were asked for, unless races renew their stores. Two texts may be of one race. After `GateShut` the gate
+    //   can stop a session at one of its lines side by side; after `Full` these lines can add more entries, and races
+    //   don't renew their stores.
     ensures held { OnOk result (IfSome (I.remaining reader.old) (λ script. AppendsHeldRuns (G.may_answer gate.now)
         capacity renews runs script (O.contents writer.old) (O.contents writer.new))) }
     // Proved (races, runs-held-as-asked)
@@ -94,9 +96,10 @@ pub fn runs_script<I: PieceReader, O: PieceWriter, G: Gate + Sync, R: Threads + 
     ensures too_long { result ≡ Err ScriptFault.TooLong → ConsumesMoreThan script_bytes (I.remaining reader.old)
         (I.remaining reader.new) }
 
-    // Proved (races, runs-stream-faults): After Ok of several races all calls on the reader and the writer
-    //   succeeded. Otherwise the last call on one of them failed, and that is the fault, or the fault is a
-    //   race's. This holds for every reader and writer.
+    // Proved (races, runs-stream-faults): After Ok of several races all calls on the reader and the writer succeeded.
+    //   `Read` is returned only if the last read failed or no more reads are allowed, `TooLong` only if too much was
+    //   read, and `Write` only if the last write failed or took nothing. Any other fault is want of memory or a
+    //   race's. A stream that failed isn't called again. This holds for every reader and writer.
     ensures calls { OnOk result (Completes I.gives O.takes script_reads
         (IsSomeRunsText runs) reader.old reader.new writer.old writer.new) }
     // Proved (races, runs-stream-faults)

@@ -130,10 +130,10 @@ pub fn judge_record<R: PieceReader, W: PieceWriter, P: Progress>(
     ensures too_long { result ≡ Err ScriptFault.TooLong → ConsumesMoreThan record_bytes (R.remaining reader.old)
         (R.remaining reader.new) }
 
-    // Proved (records, record-stream-faults): `Read`, `TooLong` and `Write` have only their causes when a
-    //   record is judged: the last call on that stream failed, or too much was read. A stream that failed
-    //   isn't called again. After Ok all calls on both streams succeeded. This holds for every reader and
-    //   writer.
+    // Proved (records, record-stream-faults): When a record is judged, `Read` is returned only if the last read
+    //   failed or no more reads are allowed, `TooLong` only if too much was read, and `Write` only if the last write
+    //   failed or took nothing. A stream that failed isn't called again. After Ok all calls on both streams
+    //   succeeded. This holds for every reader and writer.
     ensures calls { OnOk result (Completes R.gives W.takes record_reads
         (IsJudgedText allowances.now asked) reader.old reader.new writer.old writer.new) }
     // Proved (records, record-stream-faults)

@@ -39,8 +39,8 @@ fn allowances_in<I: Read, R: Eprint + Alloc<A = Global>>(
     rt: &R,
     input: &mut I,
 ) -> Result<Option<Vec<Allowance>>, ScriptFault>
-    // Proved (scripts, allowances): The allowances that a record is judged with are those of the file's text,
-    //   or some line of that isn't an allowance.
+    // Proved (scripts, allowances): The allowances that are read are those of the file's text; or none are, and some
+    //   line of it isn't an allowance.
     ensures { IfOk result (λ allowed. IfSome (I.remaining input.old)
         (IsAllowedBy (option_map (λ list. list.items) allowed))) }
 {

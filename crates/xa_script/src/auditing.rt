@@ -33,7 +33,8 @@ fn status_of_ended(ended: Ended) -> u8
 
 /// Returns the form in which an audit is written. An object of JSON has one line, so `quiet` doesn't change it.
 pub fn form_asked(json: bool, quiet: bool) -> Form
-    // Proved (scripts, audit-as-asked): An audit is written in the form that the command line asks for.
+    // Proved (scripts, audit-as-asked): The form of an audit is the one that the table has for `--json` and
+    //   `--quiet`.
     ensures { result ≡ audit_form json quiet }
 {
     if json {
@@ -100,8 +101,8 @@ pub fn audit_within<I: Read + Drop, W: Write, R: Eprint + Alloc<A = Global>>(
     form: Form,
 ) -> Result<u8, ScriptFault>
     requires { length inputs.items ≤ 64 }
-    // Proved (scripts, status-of-an-audit): What is written is the audit of all that the inputs hold, in their
-    //   order, and the exit status is the one that the table has for how it ended.
+    // Proved (scripts, status-of-an-audit): What is written is the audit of all that the inputs hold, in their order,
+    //   and the status that is returned is the one that the table has for how it ended.
     ensures audited { IfOk result (λ status. (histories : List (List ℕ))
         → map (λ input. I.remaining input.inner) inputs.entry.items ≡ map Some histories
         → AppendsAuditBy histories form status (W.contents writer.old) (W.contents writer.new)) }

@@ -68,9 +68,9 @@ pub fn explore_objects<R: Read, W: Write>(
     limit: u64,
 ) -> Result<u8, ScriptFault>
     requires { IsLimit limit }
-    // Proved (scripts, output-as-json): With `--json`, `explore`, `race` and `stops` write the objects of the lines
-    //   that they write without it, in the same order, and end with the same status. After `Write` a prefix of these
-    //   was written, after another fault nothing.
+    // Proved (scripts, output-as-json): The objects of `explore`, `race` and `stops` are those of the lines that they
+    //   write without `--json`, in the same order, and the status is the same. After `Write` of exploring, of counted
+    //   races or of stops a prefix of these was written, after another fault of theirs nothing.
     ensures explored { IfOk result
         (λ status. AppendsObjects (AppendsOutcomes limit status (R.remaining reader.old)) (W.contents writer.old)
         (W.contents writer.new)) }

@@ -44,8 +44,8 @@ fn status_of_outcome(outcome: Outcome) -> u8
 /// `limit` is in `[1, 1_000_000]`.
 pub fn asked(limit: u64, explains: bool, json: bool) -> Asked
     requires { IsLimit limit }
-    // Proved (scripts, judging-as-asked): A record is judged with the limit, the form and the explanation
-    //   that the command line asks for.
+    // Proved (scripts, judging-as-asked): What is asked of judging has the limit, the form and the explanation that
+    //   were given.
     ensures limit { result.limit ≡ limit }
     // Proved (scripts, judging-as-asked)
     ensures form { result.form ≡ form_of json }
@@ -77,8 +77,8 @@ pub fn judge_within<R: Read, W: Write, P: Progress>(
     progress: &mut P,
 ) -> Result<u8, ScriptFault>
     requires { IsLimit asked.limit }
-    // Proved (scripts, status-of-an-end): The exit status of `judge`, `explore`, `race --runs` and `stops` is
-    //   the one that the table has for the end of the job. The text that was written is right for that end.
+    // Proved (scripts, status-of-an-end): The status that judging, exploring, counted races and stops return is the
+    //   one that the table has for their end. The text that was written is right for that end.
     ensures judged { IfOk result
         (λ status. AppendsVerdict base.now allowances.now asked status (R.remaining reader.old)
         (W.contents writer.old) (W.contents writer.new)) }

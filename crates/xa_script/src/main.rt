@@ -370,8 +370,8 @@ fn refuse<R: Print + Eprint>(rt: &R, error: &Error) -> u8 {
 
 /// Returns the exit status of a job that ended in this fault.
 fn status_of(fault: ScriptFault) -> u8
-    // Proved (scripts, status-after-a-fault): After `read fault`, `script too long` and `write fault` the
-    //   exit status is 1, after every other fault 3.
+    // Proved (scripts, status-after-a-fault): The status of a fault is 1 for `read fault`, `script too long` and
+    //   `write fault`, and 3 for every other one.
     ensures { result ≡ status_after fault }
 {
     match fault {

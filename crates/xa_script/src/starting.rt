@@ -43,8 +43,8 @@ fn state_in<I: Read, R: Eprint + Alloc<A = Global>>(
     rt: &R,
     input: &mut I,
 ) -> Result<Option<Server>, ScriptFault>
-    // Proved (scripts, judging-from): The store with which a record begins is the one that the file of
-    //   `--from` lists. If the file is no listing of a store, nothing is judged.
+    // Proved (scripts, judging-from): A store that is made of the file of `--from` is the one that the file lists.
+    //   Without such a file it holds nothing.
     ensures { IfOk result (λ found. IfSome (I.remaining input.old) (λ text. IfSome found (IsStateOf text))) }
 {
     let text = read_within(rt.alloc(), input, STATE_BYTES, STATE_READS)?;

@@ -64,9 +64,8 @@ pub fn statement_outside_history_changes_nothing()
 /// memory. Doesn't wait.
 /// Source: MySQL 8.0 Reference Manual, 'XA Transaction States'.
 pub fn prepared_branch_finishes_once()
-    // Proved (server, finished-once): Between two finishes of a prepared branch in one history there is an
-    //   accepted `XA PREPARE` of it. So a prepared branch is finished once for each time that it was
-    //   prepared.
+    // Proved (server, finished-once): Between two finishes of a prepared branch in one history there is an accepted
+    //   `XA PREPARE` of it. So a prepared branch is finished at most once for each time that it was prepared.
     ensures { (base : State) (history : List (ℕ × Statement)) (first second : ℕ) (xid : Xid)
         → first < second
         → FinishesAt base history first xid

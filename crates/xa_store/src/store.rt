@@ -49,7 +49,8 @@ impl Store {
             (λ opened. Opens ⟦<Log as DecisionLog>⟧.belongs_to ⟦<Log as DecisionLog>⟧.known capacity sessions
             (⟦<Log as DecisionLog>⟧.identity opened.0.log)
             opened.1.items) }
-        // Proved (stores, open-fault): If a store can't be opened, the fault is the first whose cause holds.
+        // Proved (stores, open-fault): If a store can't be opened, the fault is the first whose cause holds. Of
+        //   `NoMemory` only that is known that the tests before it were passed.
         ensures err { IfErr result (λ fault. Refuses capacity sessions fault) }
     {
         let (log, passes) = Log::open(alloc, capacity, sessions)?;
