@@ -495,14 +495,14 @@ static uint32_t list_prepared(struct opening *it, XID **listed, size_t *count) {
 }
 
 /* What a call returns for a branch that isn't as it has to be: it is there in another state, or unknown. */
-static int code_of_other(struct opening *it, const XID *xid) {
+static int code_of_other(struct opening *it, const XID *xid, int without_memory) {
   XID *listed;
   size_t count;
   uint64_t word;
   if (place_of(it->store, xid, &word) != NULL)
     return XAER_PROTO;
   if (list_prepared(it, &listed, &count) != NIGBARU_OK)
-    return XAER_RMERR;
+    return without_memory;
   int code = XAER_NOTA;
   for (size_t index = 0; index < count; index++)
     if (is_same_branch(&listed[index], xid))
@@ -547,7 +547,7 @@ static int xa_end_here(XID *xid, int rmid, long flags) {
     return XAER_PROTO;
   XID own = branch_of(it->active);
   if (!is_same_branch(xid, &own))
-    return code_of_other(it, xid);
+    return code_of_other(it, xid, XAER_RMERR);
   code = say(it->active, "XA END ", xid, "", XAER_RMERR);
   if (code == XA_OK) {
     put_back(it->active, IDLE);
@@ -578,7 +578,7 @@ static int xa_prepare_here(XID *xid, int rmid, long flags) {
   if (code != XA_OK)
     return code;
   code = finish(it, "XA PREPARE ", xid, "", XAER_RMERR);
-  return code == XAER_NOTA ? code_of_other(it, xid) : code;
+  return code == XAER_NOTA ? code_of_other(it, xid, XAER_RMERR) : code;
 }
 
 static int xa_commit_here(XID *xid, int rmid, long flags) {
@@ -589,7 +589,8 @@ static int xa_commit_here(XID *xid, int rmid, long flags) {
     return code;
   if (flags & TMONEPHASE) {
     code = finish(it, "XA COMMIT ", xid, " ONE PHASE", XAER_RMFAIL);
-    return code == XAER_NOTA ? code_of_other(it, xid) : code;
+    /* XAER_RMERR would say that the branch was rolled back. */
+    return code == XAER_NOTA ? code_of_other(it, xid, XAER_RMFAIL) : code;
   }
   return place_of(it->store, xid, &word) != NULL ? XAER_PROTO : say_anywhere(it, "XA COMMIT ", xid, XA_RETRY);
 }

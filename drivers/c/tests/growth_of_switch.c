@@ -65,6 +65,7 @@ int main(void) {
   end(&b);
   prepare(&b);
   AGAIN(xa->xa_prepare_entry(&b, RM, TMNOFLAGS), XAER_RMERR, XAER_PROTO);
+  AGAIN(xa->xa_commit_entry(&b, RM, TMONEPHASE), XAER_RMFAIL, XAER_PROTO);
   AGAIN(xa->xa_recover_entry(listed, 3, RM, TMSTARTRSCAN), XAER_RMERR, 2);
   AGAIN(xa->xa_commit_entry(&a, RM, TMNOFLAGS), XA_RETRY, XA_OK);
   AGAIN(xa->xa_rollback_entry(&b, RM, TMNOFLAGS), XAER_RMFAIL, XA_OK);
