@@ -1,9 +1,11 @@
 #!/usr/bin/env python3
-"""What became of each global transaction of some stores, by their histories: the text of `xa_script audit`, from the rules and by other means.
+"""What became of each global transaction of some stores, by their histories: the text of `xa_script audit`, from the
+rules and by other means.
 
     reference_audit.py [--json | --quiet] [--text] HISTORY..
 
-Tests compare it with the program, and the bench uses it where a program hasn't that job. docs/STATEMENTS.md has the rules of the server, docs/HISTORIES.md#audits those of the verdict.
+Tests compare it with the program, and the bench uses it where a program hasn't that job. docs/STATEMENTS.md has the
+rules of the server, docs/HISTORIES.md#audits those of the verdict.
 """
 import json
 import re
@@ -21,12 +23,16 @@ class Fault(Exception):
     """A line that isn't read, and the byte where."""
 
 
-TOKEN = re.compile(rb"""(?P<quoted>'(?:[^'\\]|\\.|'')*'(?!')|"(?:[^"\\]|\\.|"")*"(?!"))|[Xx]'(?P<pairs>[0-9A-Fa-f]*)'|(?P<run>[A-Za-z0-9_$\x80-\xff]+)|(?P<sign>[,;])""", re.DOTALL)
+TOKEN = re.compile(
+    rb"""(?P<quoted>'(?:[^'\\]|\\.|'')*'(?!')|"(?:[^"\\]|\\.|"")*"(?!"))"""
+    rb"""|[Xx]'(?P<pairs>[0-9A-Fa-f]*)'|(?P<run>[A-Za-z0-9_$\x80-\xff]+)|(?P<sign>[,;])""",
+    re.DOTALL)
 ESCAPES = {b"0": b"\0", b"b": b"\b", b"t": b"\t", b"n": b"\n", b"r": b"\r", b"Z": b"\x1a", b"%": rb"\%", b"_": rb"\_"}
 
 
 def tokens(text):
-    """Each token with its place: (place, kind, value). Kinds are word, literal, sign, and bad, which ends the list; a run of digits may be number, or both."""
+    """Each token with its place: (place, kind, value). Kinds are word, literal, sign, and bad, which ends the list; a
+    run of digits may be number, or both."""
     place = 0
     while True:
         while place < len(text) and text[place:place + 1] in (b" ", b"\t", b"\n", b"\r"):
@@ -39,7 +45,8 @@ def tokens(text):
             return
         if found["quoted"] is not None:
             quote, inner = found["quoted"][:1], found["quoted"][1:-1]
-            data = re.sub(rb"(?s)\\(.)|" + quote * 2, lambda it: ESCAPES.get(it[1], it[1]) if it[1] is not None else quote, inner)
+            data = re.sub(rb"(?s)\\(.)|" + quote * 2,
+                          lambda it: ESCAPES.get(it[1], it[1]) if it[1] is not None else quote, inner)
             yield place, "literal" if len(data) <= MOST else "bad", data
         elif found["pairs"] is not None:
             is_right = len(found["pairs"]) % 2 == 0 and len(found["pairs"]) <= 2 * MOST
@@ -66,7 +73,8 @@ class Reader:
 
     def sees(self, *words):
         """Takes a word or sign, if one of these comes next."""
-        if self.place < len(self.tokens) and self.tokens[self.place][1] in ("word", "sign") and self.tokens[self.place][2] in words:
+        if (self.place < len(self.tokens) and self.tokens[self.place][1] in ("word", "sign")
+            and self.tokens[self.place][2] in words):
             self.place += 1
             return self.tokens[self.place - 1][2].decode()
         return None
@@ -84,7 +92,8 @@ class Reader:
         self.fail()
 
     def number(self):
-        if self.place < len(self.tokens) and self.tokens[self.place][1] in ("number", "both") and self.tokens[self.place][2][1] < 2 ** 64:
+        if (self.place < len(self.tokens) and self.tokens[self.place][1] in ("number", "both")
+            and self.tokens[self.place][2][1] < 2 ** 64):
             self.place += 1
             return self.tokens[self.place - 1][2][1]
         self.fail()
@@ -101,7 +110,8 @@ class Reader:
     def statement(self):
         verb = self.must(b"XA", b"GET", b"PUT", b"DEL", b"DISCONNECT")
         if verb == "XA":
-            verb = self.must(b"START", b"BEGIN", b"END", b"PREPARE", b"COMMIT", b"ROLLBACK", b"RECOVER").replace("BEGIN", "START")
+            verb = self.must(b"START", b"BEGIN", b"END", b"PREPARE", b"COMMIT", b"ROLLBACK",
+                             b"RECOVER").replace("BEGIN", "START")
             if verb == "RECOVER":
                 read = verb, self.sees(b"CONVERT") and self.must(b"XID")
             else:
@@ -141,7 +151,8 @@ def read_line(line):
 # the server
 
 class Store:
-    """A sequential server as docs/STATEMENTS.md describes it, without the values of its rows; `lives` has the end of each life of each branch."""
+    """A sequential server as docs/STATEMENTS.md describes it, without the values of its rows; `lives` has the end of
+    each life of each branch."""
 
     def __init__(self):
         self.own = {}  # session: the identifier of its branch
@@ -222,7 +233,8 @@ def literal(data, is_text=False):
 
 
 def audit(histories):
-    """Faults as (store, line, byte), and the global transactions as (formatID, gtrid, [(store, bqual, ends)], verdict)."""
+    """Faults as (store, line, byte), and the global transactions as (formatID, gtrid, [(store, bqual, ends)],
+    verdict)."""
     faults, stores = [], []
     for number, history in enumerate(histories, 1):
         store = Store()
@@ -239,7 +251,8 @@ def audit(histories):
     names = sorted({xid[:2] for store in stores for xid in store.lives})
     found = []
     for name in names:
-        branches = [(number, xid[2], store.ends(xid)) for number, store in enumerate(stores, 1) for xid in sorted(store.lives) if xid[:2] == name]
+        branches = [(number, xid[2], store.ends(xid)) for number, store in enumerate(stores, 1)
+                    for xid in sorted(store.lives) if xid[:2] == name]
         found.append((*name, branches, verdict_of([ends for _, _, ends in branches])))
     return faults, found
 
@@ -262,7 +275,8 @@ def last_line(found):
 
 
 def json_of(found):
-    transactions = [{"format": format_id, "gtrid": literal(gtrid), "branches": [{"store": store, "bqual": literal(bqual), "ends": ends} for store, bqual, ends in branches], "verdict": verdict}
+    transactions = [{"format": format_id, "gtrid": literal(gtrid), "branches": [
+        {"store": store, "bqual": literal(bqual), "ends": ends} for store, bqual, ends in branches], "verdict": verdict}
                     for format_id, gtrid, branches, verdict in found]
     counts = {word.lower().replace(" ", "_"): sum(verdict == word for *_, verdict in found) for word in COUNTED}
     return json.dumps({"globals": transactions, **counts}, separators=(",", ":")) + "\n"

@@ -1,6 +1,8 @@
-"""Makes the wheel of the package, for pip: PEP 517's hooks, with the standard library alone, so that a build needs no network and no setuptools.
+"""Makes the wheel of the package, for pip: PEP 517's hooks, with the standard library alone, so that a build needs no
+network and no setuptools.
 
-It reads those lines of pyproject.toml that are a name and a text, or a list of texts. Two wheels of the same files are the same bytes.
+It reads those lines of pyproject.toml that are a name and a text, or a list of texts. Two wheels of the same files are
+the same bytes.
 """
 from __future__ import annotations
 
@@ -29,16 +31,19 @@ def project() -> Dict[str, Any]:
 
 def metadata(fields: Dict[str, Any]) -> bytes:
     """What METADATA says."""
-    lines = ["Metadata-Version: 2.1", f"Name: {fields['name']}", f"Version: {fields['version']}", f"Summary: {fields['description']}",
-             f"Requires-Python: {fields['requires-python']}", *(f"Classifier: {it}" for it in fields["classifiers"]),
-             "Description-Content-Type: text/markdown", "", (HERE / "README.md").read_text(encoding="utf-8")]
+    lines = ["Metadata-Version: 2.1", f"Name: {fields['name']}", f"Version: {fields['version']}",
+             f"Summary: {fields['description']}", f"Requires-Python: {fields['requires-python']}",
+             *(f"Classifier: {it}" for it in fields["classifiers"]), "Description-Content-Type: text/markdown", "",
+             (HERE / "README.md").read_text(encoding="utf-8")]
     return "\n".join(lines).encode()
 
 
 def record(files: Iterable[Tuple[str, bytes]], info: str) -> bytes:
     """What RECORD says: each file with its sum and size."""
-    sums = ((name, base64.urlsafe_b64encode(hashlib.sha256(data).digest()).rstrip(b"=").decode(), len(data)) for name, data in files)
-    return "".join([*(f"{name},sha256={sum_of},{size}\n" for name, sum_of, size in sums), f"{info}/RECORD,,\n"]).encode()
+    sums = ((name, base64.urlsafe_b64encode(hashlib.sha256(data).digest()).rstrip(b"=").decode(), len(data))
+            for name, data in files)
+    return "".join([*(f"{name},sha256={sum_of},{size}\n" for name, sum_of, size in sums),
+                    f"{info}/RECORD,,\n"]).encode()
 
 
 def sources_of_package() -> Files:
@@ -62,12 +67,14 @@ def write_wheel(folder: str, files: Files) -> str:
     return name
 
 
-def build_wheel(wheel_directory: str, config_settings: Optional[Dict[str, Any]] = None, metadata_directory: Optional[str] = None) -> str:
+def build_wheel(wheel_directory: str, config_settings: Optional[Dict[str, Any]] = None,
+                metadata_directory: Optional[str] = None) -> str:
     """PEP 517's: a wheel of the package."""
     return write_wheel(wheel_directory, sources_of_package())
 
 
-def build_editable(wheel_directory: str, config_settings: Optional[Dict[str, Any]] = None, metadata_directory: Optional[str] = None) -> str:
+def build_editable(wheel_directory: str, config_settings: Optional[Dict[str, Any]] = None,
+                   metadata_directory: Optional[str] = None) -> str:
     """PEP 660's: a wheel that leads to this folder, for `pip install -e`."""
     return write_wheel(wheel_directory, [(f"{PACKAGE}.pth", f"{HERE}\n".encode())])
 

@@ -1,11 +1,13 @@
 #!/usr/bin/python3
-"""Runs the sessions of a script against a MySQL or MariaDB server at the same time, and writes what they saw as a record.
+"""Runs the sessions of a script against a MySQL or MariaDB server at the same time, and writes what they saw as a \
+record.
 
-    record.py --socket PATH [--user NAME] [--password WORD] [--database NAME] [--in-turn | --pauses SEED] [--first N] [--timeout SECONDS] [--lose S:N ..] [--cut S:N ..] SCRIPT > RECORD
+    record.py --socket PATH [--user NAME] [--password WORD] [--database NAME] [--in-turn | --pauses SEED]
+              [--first N] [--timeout SECONDS] [--lose S:N ..] [--cut S:N ..] SCRIPT > RECORD
 
-Each session of the script has a thread and a connection of its own. All begin together, and each gives its statements in order, as fast as they are
-answered. The lines of the record stand in the order in which they were seen (docs/HISTORIES.md). README.md, beside this file, says how rows are kept, and what is
-recorded for what.
+Each session of the script has a thread and a connection of its own. All begin together, and each gives its statements
+in order, as fast as they are answered. The lines of the record stand in the order in which they were seen
+(docs/HISTORIES.md). README.md, beside this file, says how rows are kept, and what is recorded for what.
 
 It needs Python 3.9 and PyMySQL (Debian's python3-pymysql). Nothing of it is proved.
 """
@@ -36,7 +38,8 @@ PAIR = re.compile(r"(\d+):(\d+)")
 BLANKS = b" \t\r\n"
 # a lock that wasn't there at once: ER_LOCK_WAIT_TIMEOUT, which MariaDB gives, and ER_LOCK_NOWAIT, which MySQL gives
 NO_LOCK = (1205, 3572)
-# the connection was closed by the server: CR_SERVER_GONE_ERROR, CR_SERVER_LOST, ER_CONNECTION_KILLED; 0 where it was closed before
+# the connection was closed by the server: CR_SERVER_GONE_ERROR, CR_SERVER_LOST, ER_CONNECTION_KILLED; 0 where it was
+# closed before
 GONE = (2006, 2013, 1927, 0)
 # XA_RBROLLBACK: the branch was rolled back
 ROLLED_BACK = 1402
@@ -85,7 +88,8 @@ class Watch:
             return cursor.fetchall()
 
     def await_end(self, thread):
-        """Waits until the server has ended a connection. It ends the connection's branch before it takes it from the list."""
+        """Waits until the server has ended a connection. It ends the connection's branch before it takes it from the
+        list."""
         end = time.monotonic() + PATIENCE
         while self.ask(f"SELECT 1 FROM information_schema.processlist WHERE id = {thread}"):
             if time.monotonic() > end:
@@ -156,7 +160,8 @@ class Session:
             self.lose()
 
     def lose(self, how=b"LOST"):
-        """Records that the client is gone, or found its connection closed, and only then breaks the connection, if it is open yet."""
+        """Records that the client is gone, or found its connection closed, and only then breaks the connection, if it
+        is open yet."""
         self.record.add(b"%d ! %s" % (self.number, how))
         self.lost = True
         if self.connection is not None:
@@ -212,7 +217,8 @@ class Session:
         return b"%d %d %d %s" % (row[0], row[1], row[2], data if is_converted else b"0x" + data.hex().encode())
 
     def row_statement(self, cursor, act, literals):
-        """Reads or writes a row: in the branch, or in a transaction of its own. Only a free session's read, which takes no lock, doesn't wait for its turn."""
+        """Reads or writes a row: in the branch, or in a transaction of its own. Only a free session's read, which takes
+        no lock, doesn't wait for its turn."""
         if act == self.get and not self.in_branch:
             return self.row_transaction(cursor, act, literals)
         with self.turns[literals[0]]:
@@ -292,7 +298,8 @@ def pairs(given, lines, flag):
 
 
 def keys_of(lines, watch, path):
-    """The key of each literal that names one; where a key or a value is longer or shorter than it may be, its line is faulty."""
+    """The key of each literal that names one; where a key or a value is longer or shorter than it may be, its line is
+    faulty."""
     keys = {}
     for place, _, statement in lines:
         for form in (GET, PUT, DEL):
@@ -324,7 +331,8 @@ def roll_back_all(watch):
 
 
 def make_table(options, watch, lines):
-    """Rolls back what is prepared, finds how a shared lock is asked for, and makes the table, with a row for each key of the script; gives the keys."""
+    """Rolls back what is prepared, finds how a shared lock is asked for, and makes the table, with a row for each key
+    of the script; gives the keys."""
     options.is_mariadb = b"MariaDB" in watch.ask("SELECT VERSION()")[0][0]
     options.share = b"LOCK IN SHARE MODE" if options.is_mariadb else b"FOR SHARE"
     keys = keys_of(lines, watch, options.script)
@@ -397,7 +405,8 @@ def record_of(options):
         locks = {key: threading.Lock() for key in keys.values()}
         turns = {literal: locks[key] for literal, key in keys.items()}
         record = Record()
-        sessions = {number: Session(number, options, record, watch, turns) for number in sorted({line[1] for line in lines})}
+        sessions = {number: Session(number, options, record, watch, turns)
+                    for number in sorted({line[1] for line in lines})}
         for session in sessions.values():
             session.open()
         first = len(lines) if options.in_turn else options.first
@@ -429,15 +438,23 @@ def main():
     parser.add_argument("--socket", required=True, metavar="PATH", help="the server's socket")
     parser.add_argument("--user", default="root", metavar="NAME", help="root where it isn't given")
     parser.add_argument("--password", default="", metavar="WORD", help="none where it isn't given")
-    parser.add_argument("--database", default="judged", metavar="NAME", help="where the table `judged` is made anew; judged where it isn't given")
+    parser.add_argument("--database", default="judged", metavar="NAME",
+                        help="where the table `judged` is made anew; judged where it isn't given")
     manner = parser.add_mutually_exclusive_group()
-    manner.add_argument("--in-turn", action="store_true", help="give the statements in the script's order, each once the one before it has returned")
-    parser.add_argument("--first", type=count_of, default=0, metavar="N", help="give the script's first N statements in turn, before the sessions begin together")
-    manner.add_argument("--pauses", type=int, metavar="SEED", help="have each session pause before each statement, for 0 to 4 ms, by a generator of this seed")
-    parser.add_argument("--timeout", type=seconds_of, metavar="SECONDS", help="an answer that comes later isn't looked at; the session goes on")
-    parser.add_argument("--lose", action="append", default=[], metavar="S:N", help="cut session S off once its Nth statement has returned")
-    parser.add_argument("--cut", action="append", default=[], metavar="S:N", help="cut session S off once its Nth statement is sent, without its answer")
-    parser.add_argument("script", metavar="SCRIPT", help="lines of a session, 1 to 16, and a statement; # begins a remark")
+    manner.add_argument("--in-turn", action="store_true",
+                        help="give the statements in the script's order, each once the one before it has returned")
+    parser.add_argument("--first", type=count_of, default=0, metavar="N",
+                        help="give the script's first N statements in turn, before the sessions begin together")
+    manner.add_argument("--pauses", type=int, metavar="SEED", help="have each session pause before each statement, for "
+                        "0 to 4 ms, by a generator of this seed")
+    parser.add_argument("--timeout", type=seconds_of, metavar="SECONDS",
+                        help="an answer that comes later isn't looked at; the session goes on")
+    parser.add_argument("--lose", action="append", default=[], metavar="S:N",
+                        help="cut session S off once its Nth statement has returned")
+    parser.add_argument("--cut", action="append", default=[], metavar="S:N",
+                        help="cut session S off once its Nth statement is sent, without its answer")
+    parser.add_argument("script", metavar="SCRIPT",
+                        help="lines of a session, 1 to 16, and a statement; # begins a remark")
     options = parser.parse_args()
     if pymysql is None:
         sys.exit("record: PyMySQL isn't there; Debian packages it as python3-pymysql")

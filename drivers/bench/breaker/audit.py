@@ -1,4 +1,5 @@
-"""What became of each global transaction, by `xa_script audit`; by the reference in Python while a program hasn't that job."""
+"""What became of each global transaction, by `xa_script audit`; by the reference in Python while a program hasn't that
+job."""
 import importlib.util
 import json
 import subprocess
@@ -43,7 +44,8 @@ def reference():
 
 class Auditor:
     def __init__(self, program: str) -> None:
-        has_job = subprocess.run([program, "audit", "--quiet", "/dev/null"], stdin=subprocess.DEVNULL, stdout=subprocess.PIPE, stderr=subprocess.DEVNULL).stdout.startswith(b"GLOBALS 0 ")
+        has_job = subprocess.run([program, "audit", "--quiet", "/dev/null"], stdin=subprocess.DEVNULL,
+                                 stdout=subprocess.PIPE, stderr=subprocess.DEVNULL).stdout.startswith(b"GLOBALS 0 ")
         self._reference = None if has_job else reference()
         self._program = program
 
@@ -57,12 +59,14 @@ class Auditor:
             if faults:
                 raise ValueError(f"the histories can't be audited: {faults}")
             return self._reference.json_of(found)
-        ran = subprocess.run([self._program, "audit", "--json", *map(str, histories)], stdin=subprocess.DEVNULL, stdout=subprocess.PIPE, stderr=subprocess.PIPE, text=True)
+        ran = subprocess.run([self._program, "audit", "--json", *map(str, histories)], stdin=subprocess.DEVNULL,
+                             stdout=subprocess.PIPE, stderr=subprocess.PIPE, text=True)
         if ran.returncode not in (0, NOT_ATOMIC):
             raise ValueError(f"the histories can't be audited: {ran.stdout}{ran.stderr}")
         return ran.stdout
 
     def globals(self, histories: Sequence[Path]) -> list[Global]:
         """Each global transaction of the histories, one for each store."""
-        return [Global(it["format"], data(it["gtrid"]), [Branch(branch["store"], data(branch["bqual"]), branch["ends"]) for branch in it["branches"]], it["verdict"])
-                for it in json.loads(self._text(histories))["globals"]]
+        return [Global(it["format"], data(it["gtrid"]),
+                       [Branch(branch["store"], data(branch["bqual"]), branch["ends"]) for branch in it["branches"]],
+                       it["verdict"]) for it in json.loads(self._text(histories))["globals"]]

@@ -7,7 +7,8 @@ from .points import ALL_ACTIONS, REDO, REFUSALS, RUN, UNDO, Point, actions
 
 WITHOUT = "without a fault"
 ALONE = (*ALL_ACTIONS, "run", REDO.strip(), UNDO.strip(), WITHOUT)  # names that say no statement
-NAME = re.compile(rf"(?:{REDO}|{UNDO})?store (?P<store>[1-9]\d*) (?P<kind>{'|'.join(REFUSALS)}) [1-9]\d*(?:, (?P<action>.*))?")
+NAME = re.compile(
+    rf"(?:{REDO}|{UNDO})?store (?P<store>[1-9]\d*) (?P<kind>{'|'.join(REFUSALS)}) [1-9]\d*(?:, (?P<action>.*))?")
 SHOWN = 3  # nearest names
 
 

@@ -10,7 +10,8 @@ PAUSES = (1.5, 6, 24)
 OUTAGE = 0.3  # seconds that a store is away while it is restarted
 
 LOST, UNANSWERED, KILLED_BEFORE, KILLED_AFTER, ROLLED_BACK, RESTARTED = (
-    "lost on its way", "answer lost", "manager killed before", "manager killed after", "branch rolled back", "store restarted")
+    "lost on its way", "answer lost", "manager killed before", "manager killed after", "branch rolled back",
+    "store restarted")
 FAULTS = {
     LOST: "close-before",
     UNANSWERED: "close-after",
@@ -20,23 +21,28 @@ FAULTS = {
     RESTARTED: f"outage {OUTAGE}",
 }
 KILLS = (KILLED_BEFORE, KILLED_AFTER)
-REFUSALS = {"XA START": (1399,), "XA END": (1399, 1402), "XA PREPARE": (1397, 1399, 1402), "XA COMMIT": (1397, 1399, 1402), "ONE PHASE": (1397, 1399, 1402),
-            "XA ROLLBACK": (1397, 1399, 1402), "XA RECOVER": (1399,), "GET": (3572,), "PUT": (3572,), "DEL": (3572,)}
+REFUSALS = {"XA START": (1399,), "XA END": (1399, 1402), "XA PREPARE": (1397, 1399, 1402),
+            "XA COMMIT": (1397, 1399, 1402), "ONE PHASE": (1397, 1399, 1402), "XA ROLLBACK": (1397, 1399, 1402),
+            "XA RECOVER": (1399,), "GET": (3572,), "PUT": (3572,), "DEL": (3572,)}
 
 ALL_ACTIONS = (*FAULTS, *sorted({f"refused {number}" for numbers in REFUSALS.values() for number in numbers}))
-RUN, REDO, UNDO = "", "redo ", "undo "  # where a point is: in the run, or in the recovery of a run that was killed after or before its decision
+# where a point is: in the run, or in the recovery of a run that was killed after or before its decision
+RUN, REDO, UNDO = "", "redo ", "undo "
 
-MARKED = "0x" + b"the bench looks".hex()  # the key that the bench reads when it looks, so that the log shows where a recovery begins
+# the key that the bench reads when it looks, so that the log shows where a recovery begins
+MARKED = "0x" + b"the bench looks".hex()
 MOST = 100  # statements of a kind that are counted at a store
 
 # How the server tells that it held a statement: its store, kind and number, and the statement.
 TOLD = re.compile(r"store (\d+), .*?the fault ([A-Z]+(?: [A-Z]+)?) (\d+) stall(?: 0)?, at (.*): held before it")
-HELD = re.compile(rf"the fault .* stall(?:-after)? (?:{'|'.join(map(str, (HOLD, *PAUSES)))}), at .*: held (?:before|after) it$")
+HELD = re.compile(
+    rf"the fault .* stall(?:-after)? (?:{'|'.join(map(str, (HOLD, *PAUSES)))}), at .*: held (?:before|after) it$")
 
 
 @dataclass(frozen=True)
 class Site:
-    """A statement of a run or of its recovery: the nth of its kind at its store. `fault` is its number for the server, which counts all."""
+    """A statement of a run or of its recovery: the nth of its kind at its store. `fault` is its number for the server,
+    which counts all."""
     phase: str
     store: int
     kind: str
@@ -64,7 +70,8 @@ class Point:
 
     def is_wanted(self, only: Sequence[str]) -> bool:
         """Whether its name, or its statement's or action's, is one of those; all are where there are none."""
-        return not only or any(it in (str(self), str(self.site), self.action, self.site.phase.strip() or "run") for it in only)
+        return (not only
+                or any(it in (str(self), str(self.site), self.action, self.site.phase.strip() or "run") for it in only))
 
 
 def actions(kind: str) -> list[str]:
@@ -73,14 +80,16 @@ def actions(kind: str) -> list[str]:
 
 
 def counting(stores: int, points: Iterable[Point]) -> list[str]:
-    """Lines that have the server tell each statement that reaches it, with its number: each is held for no time. Those of the points have lines of their own."""
+    """Lines that have the server tell each statement that reaches it, with its number: each is held for no time. Those
+    of the points have lines of their own."""
     taken = {(point.site.store, point.site.kind, point.site.fault) for point in points}
-    return [f"STORE {store} {kind} {number} stall 0" for store in range(1, stores + 1) for kind in REFUSALS for number in range(1, MOST + 1)
-            if (store, kind, number) not in taken]
+    return [f"STORE {store} {kind} {number} stall 0" for store in range(1, stores + 1) for kind in REFUSALS
+            for number in range(1, MOST + 1) if (store, kind, number) not in taken]
 
 
 def sites(log: Iterable[str], phase: str) -> list[Site]:
-    """The statements of a run, or those of the recovery after it, in the order in which the server told them. The bench's own, by which these are told apart, are left out."""
+    """The statements of a run, or those of the recovery after it, in the order in which the server told them. The
+    bench's own, by which these are told apart, are left out."""
     found = []
     counts: Counter[tuple[int, str]] = Counter()
     looks: Counter[int] = Counter()
@@ -91,7 +100,8 @@ def sites(log: Iterable[str], phase: str) -> list[Site]:
         store, kind = int(told[1]), told[2]
         if told[4] == f"GET {MARKED}":
             looks[store] += 1
-        elif looks[store] == (1 if phase == RUN else 3):  # a look ends what is planted, and two stand around the XA RECOVER of each further one
+        elif looks[store] == (1 if phase == RUN else 3):
+            # a look ends what is planted, and two stand around the XA RECOVER of each further one
             counts[store, kind] += 1
             found.append(Site(phase, store, kind, counts[store, kind], int(told[3])))
     return found

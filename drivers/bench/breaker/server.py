@@ -1,4 +1,5 @@
-"""The server under a trial: started afresh with its faults, watched while it runs, and ended. Another server is another command with the same options."""
+"""The server under a trial: started afresh with its faults, watched while it runs, and ended. Another server is another
+command with the same options."""
 import re
 import subprocess
 import threading
@@ -28,7 +29,8 @@ class Server:
         (folder / "faults").write_text("".join(f"{line}\n" for line in faults))
         words = [*command, "--port", str(port), "--stores", str(stores), "--fault", str(folder / "faults"),
                  "--record", str(folder / "record"), "--history", str(folder / "history")]
-        self.process = subprocess.Popen(words, stdin=subprocess.DEVNULL, stdout=subprocess.DEVNULL, stderr=subprocess.PIPE, text=True, errors="replace", start_new_session=True)
+        self.process = subprocess.Popen(words, stdin=subprocess.DEVNULL, stdout=subprocess.DEVNULL,
+                                        stderr=subprocess.PIPE, text=True, errors="replace", start_new_session=True)
         self._reader = threading.Thread(target=self._read, daemon=True)
         self._reader.start()
         if not self.wait(lambda: len(self.ports) == stores, PATIENCE):

@@ -22,7 +22,8 @@ FOREIGN = b"\0another manager's "  # how the gtrid of a planted branch begins: b
 OWN = b"local "  # how the server names branches of its own, for local transactions
 
 ATOMIC, TOLD, MIXED, PARTIAL, LOST_WORK, IN_DOUBT, OPEN, UNTRUE, TOUCHED, UNREACHED = (
-    "atomic", "heuristic, told", "MIXED", "PARTIAL", "LOST WORK", "IN DOUBT", "OPEN", "UNTRUE", "FOREIGN", "not reached")
+    "atomic", "heuristic, told", "MIXED", "PARTIAL", "LOST WORK", "IN DOUBT", "OPEN", "UNTRUE", "FOREIGN",
+    "not reached")
 RIGHT = (ATOMIC, TOLD, UNREACHED)
 
 
@@ -39,7 +40,8 @@ class Setup:
     keep: Path | None
     limit: float  # seconds for a command
     foreign: int  # branches of another manager that are planted in each store
-    names: frozenset[tuple[int, int, bytes]] = frozenset()  # the manager's branches by store, formatID and bqual, in a run without faults
+    # the manager's branches by store, formatID and bqual, in a run without faults
+    names: frozenset[tuple[int, int, bytes]] = frozenset()
     base: frozenset[int] = frozenset()  # the stores that a run without faults commits in
     rows: Sequence[Rows] = ()  # what a run without faults leaves in each store
 
@@ -80,7 +82,9 @@ class Commands:
         with self._lock, (folder.parent / name).open("wb") as said:
             if self._is_over:
                 raise Stopped
-            process = subprocess.Popen(["/bin/sh", "-c", command], cwd=folder, env=environment, stdin=subprocess.DEVNULL, stdout=said, stderr=subprocess.STDOUT, start_new_session=True)
+            process = subprocess.Popen(["/bin/sh", "-c", command], cwd=folder, env=environment,
+                                       stdin=subprocess.DEVNULL, stdout=said, stderr=subprocess.STDOUT,
+                                       start_new_session=True)
             self._groups.add(process.pid)
         return process
 
@@ -124,7 +128,8 @@ class Trial:
         return outcome
 
     def _is_late(self) -> bool:
-        return self.point is not None and self.point.action == ROLLED_BACK and story.is_late(self.records[self.point.site.store - 1])
+        return (self.point is not None and self.point.action == ROLLED_BACK
+                and story.is_late(self.records[self.point.site.store - 1]))
 
     def _try(self) -> Outcome:
         folder = Path(tempfile.mkdtemp(prefix="bench-"))
@@ -149,12 +154,14 @@ class Trial:
             work.mkdir()
         points = [point for point in (self.base, self.point) if point]
         lines = [point.line(self.pause) for point in points]
-        if not self.point or self.setup.keep:  # the statements are wanted in their order, for the points or for the story
+        # the statements are wanted in their order, for the points or for the story
+        if not self.point or self.setup.keep:
             lines += counting(self.setup.stores, points)
         self.server = Server(self.setup.server, self.setup.stores, self.setup.port, folder, lines)
         try:
             ports = self.server.ports
-            self.environment = {**os.environ, "STORES": str(len(ports)), "PORTS": " ".join(map(str, ports)), **{f"PORT{store}": str(port) for store, port in enumerate(ports, 1)}}
+            self.environment = {**os.environ, "STORES": str(len(ports)), "PORTS": " ".join(map(str, ports)),
+                                **{f"PORT{store}": str(port) for store, port in enumerate(ports, 1)}}
             for store, port in enumerate(ports, 1):
                 self._plant(store, port)
             broken = self._break(work)
@@ -168,10 +175,12 @@ class Trial:
     # before
 
     def _plant(self, store: int, port: int) -> None:
-        """Prepares branches of another manager, which the manager must leave alone, and marks the log. They are named as its own, but for the gtrid."""
+        """Prepares branches of another manager, which the manager must leave alone, and marks the log. They are named
+        as its own, but for the gtrid."""
         with Client(port) as client:
             for number in range(self.setup.foreign):
-                for place, (_, format_id, bqual) in enumerate(sorted(name for name in self.setup.names if name[0] == store)):
+                for place, (_, format_id, bqual) in enumerate(
+                        sorted(name for name in self.setup.names if name[0] == store)):
                     key = FOREIGN + b"%d %d" % (number, place)
                     xid = f"{literal(FOREIGN + b'%d' % number)},{literal(bqual)},{format_id}"
                     for text in (f"XA START {xid}", f"PUT {literal(key)},'row'", f"XA END {xid}", f"XA PREPARE {xid}"):
@@ -182,7 +191,8 @@ class Trial:
 
     def _break(self, work: Path) -> bool:
         """Runs, and breaks it; whether the point was one of the run."""
-        self._command(self.setup.run, work, "run.out", self.base or (self.point if self.point and self.point.site.phase == RUN else None))
+        self._command(self.setup.run, work, "run.out",
+                      self.base or (self.point if self.point and self.point.site.phase == RUN else None))
         return self.base is None
 
     def _command(self, command: str, work: Path, name: str, point: Point | None) -> None:
@@ -243,7 +253,8 @@ class Trial:
         return found
 
     def _recover(self, work: Path, was_of_run: bool) -> list[int]:
-        """Recovers once, with the point's fault if it is one of the recovery, and again if something is left; what is left in the end."""
+        """Recovers once, with the point's fault if it is one of the recovery, and again if something is left; what is
+        left in the end."""
         left = self._look()
         self.outcome.in_between = sum(left)
         for attempt in range(3):
@@ -257,7 +268,9 @@ class Trial:
     # the verdict
 
     def _was_reached(self) -> bool:
-        return self.point is None or any(f"fault {self.point.line(self.pause).split(' ', 2)[2]}" in line for line in self.server.log if line.startswith(f"store {self.point.site.store},"))
+        return self.point is None or any(f"fault {self.point.line(self.pause).split(' ', 2)[2]}" in line
+                                         for line in self.server.log
+                                         if line.startswith(f"store {self.point.site.store},"))
 
     def _judge(self, left: Sequence[int]) -> None:
         """Says what became of the manager's transactions, by the histories and by what is left."""
@@ -281,15 +294,19 @@ class Trial:
         elif touched:
             it.verdict, it.why = TOUCHED, f"another manager's branch: {ends_of(touched[0])}"
         elif any(left):
-            it.verdict, it.why = IN_DOUBT, f"left in {stores_of(store for store, count in enumerate(left, 1) if count)} by {recoveries} recoveries"
+            it.verdict, it.why = (IN_DOUBT,
+                                  f"left in {stores_of(store for store, count in enumerate(left, 1) if count)} by "
+                                  f"{recoveries} recoveries")
         elif mixed:
             it.verdict, it.why = TOLD, ends_of(mixed[0])
         elif any(one.verdict != "ATOMIC" for one in found):
             it.verdict, it.why = OPEN, ends_of(next(one for one in found if one.verdict != "ATOMIC"))
         elif it.committed and not it.committed >= self.setup.base:
-            it.verdict, it.why = PARTIAL, f"only {stores_of(it.committed)} committed, where {stores_of(self.setup.base)} had to"
+            it.verdict, it.why = (
+                PARTIAL, f"only {stores_of(it.committed)} committed, where {stores_of(self.setup.base)} had to")
         elif it.committed and missing:
-            it.verdict, it.why = LOST_WORK, f"store {missing[0][0]} committed, and its row {readable(missing[0][1])} isn't as a run without faults leaves it"
+            it.verdict, it.why = (LOST_WORK, f"store {missing[0][0]} committed, and its row {readable(missing[0][1])} "
+                                  "isn't as a run without faults leaves it")
         elif it.statuses[0] == 0 and not it.committed:
             it.verdict, it.why = UNTRUE, "the run ended with status 0, and nothing is committed"
         if it.verdict in (MIXED, PARTIAL, LOST_WORK, IN_DOUBT, OPEN, TOLD):

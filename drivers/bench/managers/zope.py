@@ -3,7 +3,8 @@
 
     zope.py run VALUE | recover
 
-It writes a row into each store of 127.0.0.1 whose port is in $PORTS, in one transaction, and keeps its decisions in the current folder. Status 0: all is committed, or recovered.
+It writes a row into each store of 127.0.0.1 whose port is in $PORTS, in one transaction, and keeps its decisions in the
+current folder. Status 0: all is committed, or recovered.
 """
 import os
 import sys

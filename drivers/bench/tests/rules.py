@@ -4,8 +4,8 @@ Each rule follows from the manager's wrong line, from what the reference does at
 action does. None is taken from a table.
 
 What the reference does: it votes in the order of the stores, and goes on with the next vote whatever the last one said.
-It commits in the same order, with two tries at once. It gives a commit up if it is told 1397 and hadn't asked before, or
-if both tries fail; then the branch is left to the recovery.
+It commits in the same order, with two tries at once. It gives a commit up if it is told 1397 and hadn't asked before,
+or if both tries fail; then the branch is left to the recovery.
 """
 from collections.abc import Callable
 from dataclasses import dataclass
@@ -23,7 +23,8 @@ Sites = dict[str, dict[int, list[str]]]
 WORKS = [START, PUT, END, PREPARE, COMMIT]
 COMMITS_ONCE = {store: [RECOVER, COMMIT] for store in STORES}
 ENDS_ONCE = {store: [RECOVER, ROLLBACK] for store in STORES}
-USUAL: Sites = {RUN: {store: WORKS for store in STORES}, REDO: COMMITS_ONCE, UNDO: ENDS_ONCE}  # the statements of the reference
+# the statements of the reference
+USUAL: Sites = {RUN: {store: WORKS for store in STORES}, REDO: COMMITS_ONCE, UNDO: ENDS_ONCE}
 MIXED, IN_DOUBT, FOREIGN, LOST_WORK, TOLD = "MIXED", "IN DOUBT", "FOREIGN", "LOST WORK", "heuristic, told"
 
 
@@ -69,7 +70,8 @@ def is_refused(point: Point) -> bool:
 
 
 def splits(point: Point, kind: str = COMMIT) -> bool:
-    """The manager is killed when the first store has committed, or done another such statement, and the second hasn't."""
+    """The manager is killed when the first store has committed, or done another such statement, and the second
+    hasn't."""
     after_one, before_two = point.action == KILLED_AFTER, point.action == KILLED_BEFORE
     return is_at(point, kind, 1) and after_one or is_at(point, kind, 2) and before_two
 
@@ -111,7 +113,8 @@ def without_decision(point: Point) -> bool:
 def nota(point: Point) -> bool:
     """In the run, and in the recovery that commits."""
     wrong = {1: UNANSWERED, 2: "refused 1397"}
-    return any(is_at(point, COMMIT, store, phase) and point.action == wrong[store] for store in STORES for phase in (RUN, REDO))
+    return any(is_at(point, COMMIT, store, phase) and point.action == wrong[store] for store in STORES
+               for phase in (RUN, REDO))
 
 
 LISTS = {store: [RECOVER] for store in STORES}

@@ -28,7 +28,8 @@ def bench(*words, status=None):
     with tempfile.TemporaryDirectory() as folder:
         report = Path(folder) / "report.json"
         server = ["--server", os.environ["SERVER"]] if os.environ.get("SERVER") else []
-        ran = subprocess.run([PYTHON, BENCH, "--program", PROGRAM, "--jobs", JOBS, "--json", report, *server, *words], stdout=subprocess.PIPE, stderr=subprocess.STDOUT, text=True, timeout=3_000)
+        ran = subprocess.run([PYTHON, BENCH, "--program", PROGRAM, "--jobs", JOBS, "--json", report, *server, *words],
+                             stdout=subprocess.PIPE, stderr=subprocess.STDOUT, text=True, timeout=3_000)
         if status is not None and ran.returncode != status:
             raise AssertionError(f"status {ran.returncode}, and not {status}:\n{ran.stdout}")
         return ran.stdout, json.loads(report.read_text())["points"] if report.exists() else []
@@ -44,4 +45,5 @@ def verdicts(points):
 
 def found(points):
     """The points that aren't right, with their verdicts."""
-    return [f"{name_of(point)}: {point['verdict']}" for point in points if point["verdict"] not in ("atomic", "heuristic, told", "not reached")]
+    return [f"{name_of(point)}: {point['verdict']}"
+            for point in points if point["verdict"] not in ("atomic", "heuristic, told", "not reached")]

@@ -1,4 +1,5 @@
-"""Managers that are right at all points, and those that are wrong, each found at the points of its rule, and at no other.
+"""Managers that are right at all points, and those that are wrong, each found at the points of its rule, and at no
+other.
 
 With --long these are whole tables; without it a part of each, as rules.py chooses it.
 """
@@ -68,11 +69,13 @@ class Planted(unittest.TestCase):
     """What the page plants into the manager in shell: it forgets its decision when the run ends."""
 
     def test_it_is_found(self):
-        """At each commit that is given up, where the branch stays prepared and the other store commits; and at no other."""
+        """At each commit that is given up, where the branch stays prepared and the other store commits; and at no
+        other."""
         wanted = {str(point): "MIXED" if is_given_up(point) else "atomic" for point in RIGHT.points()}
         wanted.update({name: TOLD for name in told(RIGHT.points())})
         chosen = [] if IS_LONG else ["--only", "store 2 XA COMMIT 1", "--only", "store 1 XA COMMIT 1, answer lost",
-                                     "--only", "store 1 XA COMMIT 1, refused 1399", "--only", "store 2 XA PREPARE 1, answer lost"]
+                                     "--only", "store 1 XA COMMIT 1, refused 1399", "--only",
+                                     "store 2 XA PREPARE 1, answer lost"]
         with tempfile.TemporaryDirectory() as folder:
             text = SHELL.read_text()
             self.assertEqual(text.count(OVER), 1)
@@ -139,7 +142,8 @@ class Bitronix(unittest.TestCase):
                 shutil.copy(path, folder)
             subprocess.run(["javac", "-cp", JARS, "Transfer.java"], cwd=folder, check=True)
             lines = (HERE / "bitronix.txt").read_text().splitlines()[1:]
-            some = [lines[0].rpartition(": ")[0], "store 1 XA COMMIT 1, manager killed before", "store 2 XA PREPARE 1, answer lost"]
+            some = [lines[0].rpartition(": ")[0], "store 1 XA COMMIT 1, manager killed before",
+                    "store 2 XA PREPARE 1, answer lost"]
             chosen = [] if IS_LONG else [word for name in some for word in ("--only", name)]
             words = ["--run", "sh run.sh 90", "--recover", "sh run.sh", "--folder", folder]
             said, points = bench(*words, *chosen, status=1)

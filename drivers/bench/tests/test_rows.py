@@ -21,15 +21,17 @@ class Left(unittest.TestCase):
         """Only what commits counts, whoever commits it."""
         begun = branch(1, OWN, "PUT 0x6b,0x76")
         prepared = [*begun, f"1 XA PREPARE {OWN},0x31,1"]
-        for lines, left in ((begun, {}), ([*begun, "1 DISCONNECT"], {}), ([*begun, f"1 XA ROLLBACK {OWN},0x31,1"], {}), (prepared, {}),
-                            ([*prepared, f"2 XA ROLLBACK {OWN},0x31,1"], {}), ([*prepared, f"2 XA COMMIT {OWN},0x31,1"], {b"0x6b": b"0x76"}),
+        for lines, left in ((begun, {}), ([*begun, "1 DISCONNECT"], {}), ([*begun, f"1 XA ROLLBACK {OWN},0x31,1"], {}),
+                            (prepared, {}), ([*prepared, f"2 XA ROLLBACK {OWN},0x31,1"], {}),
+                            ([*prepared, f"2 XA COMMIT {OWN},0x31,1"], {b"0x6b": b"0x76"}),
                             ([*begun, f"1 XA COMMIT {OWN},0x31,1 ONE PHASE"], {b"0x6b": b"0x76"})):
             self.assertEqual(rows(*lines), left, lines)
 
     def test_whose_rows_count(self):
         """Those of the manager's branches: not another manager's, and none that was written outside a branch."""
         lines = [*branch(1, OTHER, "PUT 0x61,0x76"), f"1 XA COMMIT {OTHER},0x31,1 ONE PHASE", "2 PUT 0x62,0x76",
-                 *branch(1, OWN, "PUT 0x63,X''"), "2 PUT 0x64,0x76", f"1 XA COMMIT {OWN},0x31,1 ONE PHASE", "1 PUT 0x65,0x76"]
+                 *branch(1, OWN, "PUT 0x63,X''"), "2 PUT 0x64,0x76", f"1 XA COMMIT {OWN},0x31,1 ONE PHASE",
+                 "1 PUT 0x65,0x76"]
         self.assertEqual(rows(*lines), {b"0x63": b"X''"})
 
     def test_the_last_value_counts(self):
@@ -37,13 +39,15 @@ class Left(unittest.TestCase):
         yet."""
         one = [*branch(1, OWN, "PUT 0x6b,0x31", "PUT 0x6b,0x32", "DEL 0x6c"), f"1 XA COMMIT {OWN},0x31,1 ONE PHASE"]
         self.assertEqual(rows(*one), {b"0x6b": b"0x32", b"0x6c": DELETED})
-        self.assertEqual(rows(*one, *branch(1, OWN, "PUT 0x6c,0x33"), f"1 XA COMMIT {OWN},0x31,1 ONE PHASE"), {b"0x6b": b"0x32", b"0x6c": b"0x33"})
+        self.assertEqual(rows(*one, *branch(1, OWN, "PUT 0x6c,0x33"), f"1 XA COMMIT {OWN},0x31,1 ONE PHASE"),
+                         {b"0x6b": b"0x32", b"0x6c": b"0x33"})
 
 
 class Missing(unittest.TestCase):
     def test_what_a_run_has_to_leave(self):
         """What two runs wrote: a value that differs may be any, and a key that only one has isn't wanted."""
-        self.assertEqual(expected([{b"a": b"1", b"b": b"2", b"c": b"3"}, {}], [{b"a": b"1", b"b": b"4", b"d": b"3"}, {b"a": b"1"}]), [{b"a": b"1", b"b": ANY}, {}])
+        self.assertEqual(expected([{b"a": b"1", b"b": b"2", b"c": b"3"}, {}],
+                                  [{b"a": b"1", b"b": b"4", b"d": b"3"}, {b"a": b"1"}]), [{b"a": b"1", b"b": ANY}, {}])
 
     def test_what_is_missing(self):
         wanted = [{b"a": b"1", b"b": ANY}, {b"c": DELETED}]

@@ -7,7 +7,8 @@ from typing import Optional
 from .record_lines import CALL, EVENTS, GONE, LOSS, RETURN, Line
 
 DISCONNECT = re.compile(rb"DISCONNECT[ \t\r]*;?", re.I)
-PIECE = re.compile(rb"""[xX]'([0-9a-fA-F]*)'|0x([0-9a-fA-F]*)|'((?:[^'\\]|\\.|'')*)'|"((?:[^"\\]|\\.|"")*)"|([A-Za-z]+)""", re.S)
+PIECE = re.compile(
+    rb"""[xX]'([0-9a-fA-F]*)'|0x([0-9a-fA-F]*)|'((?:[^'\\]|\\.|'')*)'|"((?:[^"\\]|\\.|"")*)"|([A-Za-z]+)""", re.S)
 
 
 @dataclass
@@ -42,7 +43,8 @@ def calls_of(lines):
 
 
 def losses_of(lines):
-    """For each session that is lost, from which line on it may be: that of the loss, or of its last return where its connection was found closed. 0 is before all lines."""
+    """For each session that is lost, from which line on it may be: that of the loss, or of its last return where its
+    connection was found closed. 0 is before all lines."""
     returns, found = {}, {}
     for line in lines:
         if line.kind == RETURN:
@@ -53,7 +55,8 @@ def losses_of(lines):
 
 
 def effects_of(order, lines):
-    """The effects of an order, each as late as the lines and the order allow; none where the order isn't one of these calls."""
+    """The effects of an order, each as late as the lines and the order allow; none where the order isn't one of these
+    calls."""
     waiting, losses = {}, losses_of(lines)
     for call in calls_of(lines):
         waiting.setdefault(call.begin.session, []).append(call)
@@ -77,10 +80,12 @@ def pieces(text):
 
 
 def next_call(calls, text, left):
-    """The call of a session that has this effect: the first that waits, unless the effect is that the lost client's session ends. One whose answer isn't
-    known may have had none: it is passed over where the effect is another statement's, or the session's `left` effects are those of other calls."""
+    """The call of a session that has this effect: the first that waits, unless the effect is that the lost client's
+    session ends. One whose answer isn't known may have had none: it is passed over where the effect is another
+    statement's, or the session's `left` effects are those of other calls."""
     while calls and calls[0].is_answered() and calls[0].may_have_no_effect() and (
-            pieces(calls[0].begin.text) != pieces(text) or left <= sum(not call.may_have_no_effect() for call in calls)):
+            pieces(calls[0].begin.text) != pieces(text)
+            or left <= sum(not call.may_have_no_effect() for call in calls)):
         calls.pop(0)
     if not calls:
         return None

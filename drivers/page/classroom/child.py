@@ -4,7 +4,8 @@ import select
 import subprocess
 import time
 
-# The shell bounds its own memory and then becomes the program, so the bound stands from the program's first instruction on.
+# The shell bounds its own memory and then becomes the program, so the bound stands from the program's first instruction
+# on.
 BOUNDED = 'ulimit -c 0 && ulimit -v "$0" && exec "$@"'
 CHUNK = 65536
 MOST_SAID = 1 << 20  # bytes of the standard error that are kept
@@ -17,7 +18,8 @@ class Trouble(Exception):
 class Child:
     def __init__(self, program, words, memory_kib):
         self.process = subprocess.Popen(
-            ["/bin/sh", "-c", BOUNDED, str(memory_kib), str(program), *words], stdin=subprocess.PIPE, stdout=subprocess.PIPE,
+            ["/bin/sh", "-c", BOUNDED, str(memory_kib), str(program), *words], stdin=subprocess.PIPE,
+            stdout=subprocess.PIPE,
             stderr=subprocess.PIPE, bufsize=0, cwd="/", env={"LC_ALL": "C"}, start_new_session=True)
         for pipe in (self.process.stdin, self.process.stdout, self.process.stderr):
             os.set_blocking(pipe.fileno(), False)
@@ -26,7 +28,8 @@ class Child:
     def exchange(self, text, last, seconds, most):
         """Writes a text and reads at the same time, up to where the output ends with `last`, or to its end.
 
-        Where `last` is None the child's input is closed behind the text. Trouble: a child that answers too much or too slowly.
+        Where `last` is None the child's input is closed behind the text. Trouble: a child that answers too much or too
+        slowly.
         """
         answer, left = bytearray(), memoryview(text)
         deadline = time.monotonic() + seconds

@@ -1,4 +1,5 @@
-"""A coordinator's calls as a sequence diagram: what the program answers, how many statements each call made, and the drawing."""
+"""A coordinator's calls as a sequence diagram: what the program answers, how many statements each call made, and the
+drawing."""
 from .exchanges import answered, exchanges, reasons
 from .sequence import Sequence
 
@@ -6,8 +7,8 @@ FILE_WIDTH = 1000
 
 
 def diagram(run, counts, lines, stores, seconds, at=None, **drawing):
-    """The drawing as SVG, and whether all of it is known. `run` gives what `coordinate` prints for an input, with more words, and on its standard error;
-    `counts` keeps how many statements calls make. The lines from `at` on wait."""
+    """The drawing as SVG, and whether all of it is known. `run` gives what `coordinate` prints for an input, with more
+    words, and on its standard error; `counts` keeps how many statements calls make. The lines from `at` on wait."""
     given = lines if at is None else lines[:at]
 
     def output(text):

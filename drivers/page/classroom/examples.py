@@ -14,8 +14,8 @@ MOST = 1 << 18  # a longer file isn't offered
 
 
 def examples(root):
-    return {kind: [entry(path) for pattern in patterns for path in sorted(root.glob(pattern)) if path.stat().st_size <= MOST]
-            for kind, patterns in KINDS.items()}
+    return {kind: [entry(path) for pattern in patterns for path in sorted(root.glob(pattern))
+                   if path.stat().st_size <= MOST] for kind, patterns in KINDS.items()}
 
 
 def entry(path):

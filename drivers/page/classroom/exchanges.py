@@ -1,7 +1,8 @@
-"""What the calls of a transaction manager made of the stores: the statements that each store got for a call, and what each was answered.
+"""What the calls of a transaction manager made of the stores: the statements that each store got for a call, and what
+each was answered.
 
-How many there were is the program's word (probe.py); which they are follows from docs/COORDINATOR.md. Where the two don't agree, a statement is named by its
-number alone.
+How many there were is the program's word (probe.py); which they are follows from docs/COORDINATOR.md. Where the two
+don't agree, a statement is named by its number alone.
 """
 import re
 import secrets
@@ -17,8 +18,10 @@ VOTES = (b"READY", b"ONE PHASE", b"NO", b"NOTHING")
 FAIL = re.compile(rb"[ \t]*FAIL[ \t]+(\d{1,2})[ \t]+AFTER[ \t]+(\d{1,18})[ \t\r]*")
 STOP = re.compile(rb"[ \t]*STOP[ \t\r]*")
 STOPPED_AT = re.compile(rb"(?:NO|UNFINISHED|UNRECOVERED) (\d+): (.*)", re.S)
-BAD = re.compile(rb"ERROR|FAULT|NOT STARTED|LOST|NO \d|HAZARD|UNFINISHED|UNRECOVERED|STILL PREPARED|UNKNOWN|WRONG STAGE|CLOSED|NUMBERS SPENT")
-EXPLAINED = re.compile(rb"WRONG STAGE|UNKNOWN|ERROR 1064")  # answers that the program explains where it is asked to be verbose
+BAD = re.compile(rb"ERROR|FAULT|NOT STARTED|LOST|NO \d|HAZARD|UNFINISHED|UNRECOVERED|STILL PREPARED|UNKNOWN|WRONG "
+                 rb"STAGE|CLOSED|NUMBERS SPENT")
+# answers that the program explains where it is asked to be verbose
+EXPLAINED = re.compile(rb"WRONG STAGE|UNKNOWN|ERROR 1064")
 REASON = re.compile(rb"xa_script: line (\d+): (.*)")
 NAMED = re.compile(rb"0x63([0-9a-f]{16}),0x([0-9a-f]{2}),22593")
 LISTED = re.compile(rb"(\d+) (\d+) (\d+) 0x([0-9a-f]*)")
@@ -90,7 +93,8 @@ def read_call(place, line):
     def store(at):
         return int(words[at]) if at < len(words) and re.fullmatch(rb"\d{1,2}", words[at]) else None
 
-    kind, at = {b"WORK": (WORK, 1), b"AT": (STRANGER, 0), b"FAIL": (CRASH, 0), b"STOP": (CRASH, 99)}.get(word, (COORDINATOR, 99))
+    kind, at = {b"WORK": (WORK, 1), b"AT": (STRANGER, 0), b"FAIL": (CRASH, 0),
+                b"STOP": (CRASH, 99)}.get(word, (COORDINATOR, 99))
     return Exchange(place, line, kind, store(at), trimmed)
 
 
@@ -122,7 +126,8 @@ def read_shown(text):
 
 
 def answered(run, lines):
-    """For each line its answer, and what `SHOW` lists behind it, as far as the program comes. `run` gives what it prints for an input, and on its standard error."""
+    """For each line its answer, and what `SHOW` lists behind it, as far as the program comes. `run` gives what it
+    prints for an input, and on its standard error."""
     markers, asked = [], []
     first = secrets.randbits(61) | 1 << 62
     for at, line in enumerate(lines):
@@ -139,7 +144,8 @@ def answered(run, lines):
 
 
 def reasons(explain, lines, answers):
-    """For each line why it was refused, as the program says where it is verbose: `explain` gives its standard error for an input."""
+    """For each line why it was refused, as the program says where it is verbose: `explain` gives its standard error for
+    an input."""
     if not any(EXPLAINED.match(answer) for answer, _ in answers):
         return {}
     found = (REASON.fullmatch(line) for line in lines_of(explain(b"".join(line + b"\n" for line in lines))))
@@ -147,7 +153,8 @@ def reasons(explain, lines, answers):
 
 
 def exchanges(lines, answers, counts, why=None):
-    """Every call, with what came of those that are answered. `counts` has for each line how many calls it makes of the session in each store."""
+    """Every call, with what came of those that are answered. `counts` has for each line how many calls it makes of the
+    session in each store."""
     found = [read_call(place, line) for place, line in enumerate(lines)]
     votes, decided, fuses, is_failing, before = {}, set(), {}, False, Shown()
     for it in found[:len(answers)]:
@@ -161,9 +168,11 @@ def exchanges(lines, answers, counts, why=None):
         elif STOP.fullmatch(it.line):
             fuses, is_failing = {}, False
         wanted = counts[it.place] if it.place < len(counts) else []
-        it.groups = [group for store, of in enumerate(wanted) if of for group in said(it, store, of, fuses, number in decided)]
+        it.groups = [group for store, of in enumerate(wanted) if of
+                     for group in said(it, store, of, fuses, number in decided)]
         if it.words[0] == b"PREPARE":
-            votes.update({number: vote for vote in VOTES if it.first.startswith(vote)} if any(map(it.first.startswith, VOTES)) else {})
+            votes.update({number: vote for vote in VOTES if it.first.startswith(vote)}
+                         if any(map(it.first.startswith, VOTES)) else {})
         elif it.words[0] == b"DECIDE" and it.first == b"DECIDED":
             decided.add(number)
         before = it.behind
@@ -177,9 +186,11 @@ def said(it, store, of, fuses, is_decided):
         fuses[store] -= answered_here
     words = statements_in(it, store, of, is_decided)
     words = words if words and len(words) == of else None
-    made = [Statement(words[at] if words else b"call %d of %d" % (at + 1, of), b"", at < answered_here, at, of) for at in range(min(of, answered_here + 1))]
+    made = [Statement(words[at] if words else b"call %d of %d" % (at + 1, of), b"", at < answered_here, at, of)
+            for at in range(min(of, answered_here + 1))]
     for statement in made:
-        statement.answer = b"stopped" if not statement.is_answered else answer_in(it, store, words, statement.call) if words else b""
+        statement.answer = b"stopped" if not statement.is_answered else answer_in(it, store, words,
+                                                                                  statement.call) if words else b""
     if it.words[0] == b"RECOVER" and words:
         parts = [made[:2], *([one] for one in made[2:])]
     else:
@@ -192,11 +203,13 @@ def statements_in(it, store, count, is_decided):
     word = it.words[0]
     if word == b"WORK":
         statement = re.sub(rb"^WORK[ \t\r]+\d+[ \t\r]+\d+[ \t\r]+", b"", it.said)
-        return [b"XA START", statement] if count == 2 else [b"XA START" if it.first.startswith(b"NOT STARTED") else statement]
+        return ([b"XA START", statement] if count == 2
+                else [b"XA START" if it.first.startswith(b"NOT STARTED") else statement])
     if word == b"PREPARE":
         return [b"XA END", b"XA PREPARE"][:count]
     if word == b"FINISH":
-        ending = b"XA COMMIT" if is_decided else b"XA COMMIT .. ONE PHASE" if it.vote == b"ONE PHASE" else b"XA ROLLBACK"
+        ending = (b"XA COMMIT" if is_decided else b"XA COMMIT .. ONE PHASE" if it.vote == b"ONE PHASE"
+                  else b"XA ROLLBACK")
         return [b"XA END", ending][-count:]
     if word == b"ABANDON":
         return [b"XA END", b"XA ROLLBACK"][-count:]
@@ -208,7 +221,8 @@ def statements_in(it, store, count, is_decided):
 def endings(before, store):
     """Those that a recovery gives a store: one for each prepared branch that it finds there."""
     named = [found for found in map(transaction_of, before.prepared.get(store, [])) if found and found[1] == store]
-    return [b"%s of %d" % (b"XA COMMIT" if number in before.of("DECIDED") else b"XA ROLLBACK", number) for number, _ in named]
+    return [b"%s of %d" % (b"XA COMMIT" if number in before.of("DECIDED") else b"XA ROLLBACK", number)
+            for number, _ in named]
 
 
 def answer_in(it, store, words, at):

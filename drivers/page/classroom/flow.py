@@ -6,8 +6,8 @@ from .svg import element, pieces, width_of
 LETTER = 0.605      # the width of a letter of one width, in letters' heights
 GAP = 0.55          # between two runs
 # The widths of letters in the type of terms and of remarks: those of DejaVu Sans, which other faces don't pass.
-NARROW = {**dict.fromkeys(" ijl.,:;'|", 0.34), **dict.fromkeys("frt()[]-", 0.45), **dict.fromkeys("csz?", 0.56), **dict.fromkeys("mwMW", 0.99),
-          **dict.fromkeys("ABCEFKLPRSTVXYZ", 0.7), **dict.fromkeys("DGHNOQU", 0.79)}
+NARROW = {**dict.fromkeys(" ijl.,:;'|", 0.34), **dict.fromkeys("frt()[]-", 0.45), **dict.fromkeys("csz?", 0.56),
+          **dict.fromkeys("mwMW", 0.99), **dict.fromkeys("ABCEFKLPRSTVXYZ", 0.7), **dict.fromkeys("DGHNOQU", 0.79)}
 BOLD = {char: wide * 1.12 for char, wide in NARROW.items()}
 KINDS = {"term": (BOLD, 0.72), "remark": (NARROW, 0.645), "reason": (NARROW, 0.645), "note": (NARROW, 0.645)}
 
@@ -54,11 +54,13 @@ class Run:
         return [*found, *([self.of(word)] if word else [])]
 
     def inside(self):
-        return "".join(escape(piece) if seen else element("tspan", {"class_": "byte"}, escape(piece)) for piece, seen in self.parts)
+        return "".join(escape(piece) if seen else element("tspan", {"class_": "byte"}, escape(piece))
+                       for piece, seen in self.parts)
 
 
 def flow(runs, room):
-    """Lines of pairs, where each run begins and the run; and how wide the widest line is. A run moves to a new line before it is parted at blanks, and then anywhere."""
+    """Lines of pairs, where each run begins and the run; and how wide the widest line is. A run moves to a new line
+    before it is parted at blanks, and then anywhere."""
     lines, at = [[]], 0.0
     for run in runs:
         whole = run.width()

@@ -46,7 +46,8 @@ class Handler(BaseHTTPRequestHandler):
             self.close_connection = True
 
     def _check_whence(self):
-        """A page of another address may neither read nor ask anything here, also where a name of its own leads to 127.0.0.1."""
+        """A page of another address may neither read nor ask anything here, also where a name of its own leads to
+        127.0.0.1."""
         hosts, origins = self.headers.get_all("Host") or [], self.headers.get_all("Origin") or []
         if len(hosts) != 1 or hosts[0] not in self._own_hosts():
             raise Refused(403, "this host isn't served")
@@ -54,7 +55,8 @@ class Handler(BaseHTTPRequestHandler):
             raise Refused(403, "this origin isn't served")
 
     def _own_hosts(self):
-        """Those of the server; where others may come, also the address of this machine to which this connection was made."""
+        """Those of the server; where others may come, also the address of this machine to which this connection was
+        made."""
         reached = {f"{self.connection.getsockname()[0]}:{self.server.server_port}"} if self.server.is_open else set()
         return self.server.hosts | reached
 

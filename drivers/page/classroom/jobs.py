@@ -81,7 +81,8 @@ def run_once(pool, words, text, seconds, memory_kib=None):
 
 
 def race(pool, question):
-    """Races a script so often, each time in a child of its own, and sends back what each wrote; where it has parts, one child counts the outcomes of all."""
+    """Races a script so often, each time in a child of its own, and sends back what each wrote; where it has parts, one
+    child counts the outcomes of all."""
     text, times = script(question, "script"), number(question, "times", 1, pool.limits.batch, 1)
     words = ["race", "--capacity", str(number(question, "capacity", 1, 1024, 1024))]
     words += [f"--{option}" for option in ("together", "renew") if field(question, option, bool, False)]
@@ -90,7 +91,8 @@ def race(pool, question):
         seed = number(question, "seed", 0, 2 ** 53, 0)
     if field(question, "parts", bool, False):
         shuffled = [] if seed is None else ["--shuffle", str(seed)]
-        return {"words": words, "ran": [run_once(pool, [*words, *shuffled, "--runs", str(times)], text, pool.limits.answer_seconds, pool.limits.judge_kib(pool.limits.ways))]}
+        return {"words": words, "ran": [run_once(pool, [*words, *shuffled, "--runs", str(times)], text,
+                                                 pool.limits.answer_seconds, pool.limits.judge_kib(pool.limits.ways))]}
     ran = []
     for turn in range(times):
         shuffled = [] if seed is None else ["--shuffle", str(seed + turn)]
@@ -103,7 +105,8 @@ def race(pool, question):
 def outcomes(pool, question):
     """All that a race's script can be answered, in a child that may use what its limit needs."""
     ways = pool.limits.ways
-    return run_once(pool, ["explore", "--limit", str(ways)], script(question, "script"), pool.limits.answer_seconds, pool.limits.judge_kib(ways))
+    return run_once(pool, ["explore", "--limit", str(ways)], script(question, "script"), pool.limits.answer_seconds,
+                    pool.limits.judge_kib(ways))
 
 
 def calls(pool, question):
@@ -119,7 +122,8 @@ def calls(pool, question):
 
 
 def sequence(pool, question):
-    """The calls as a sequence diagram, those from `at` on waiting, and whether all of it is known: else the page asks once more."""
+    """The calls as a sequence diagram, those from `at` on waiting, and whether all of it is known: else the page asks
+    once more."""
     words, lines, limits = coordinate_words(question), lines_in(question), pool.limits
     at = number(question, "at", 0, len(lines), len(lines))
     drawing = {"width": number(question, "width", 200, 8000, FILE_WIDTH), "size": number(question, "size", 8, 120, 14),
@@ -144,10 +148,12 @@ def judge(pool, question):
     limit, record = number(question, "limit", 1, 1_000_000, 100_000), script(question, "record")
 
     def run(text):
-        return run_once(pool, ["judge", "--quiet", "--limit", str(limit)], text, pool.limits.judge_seconds, pool.limits.judge_kib(limit))
+        return run_once(pool, ["judge", "--quiet", "--limit", str(limit)], text, pool.limits.judge_seconds,
+                        pool.limits.judge_kib(limit))
 
     ran = run(record)
-    return {**ran, "picture": picture(record, ran["output"].encode("latin-1"), lambda text: run(text)["output"].encode("latin-1"))}
+    return {**ran, "picture": picture(record, ran["output"].encode("latin-1"),
+                                      lambda text: run(text)["output"].encode("latin-1"))}
 
 
 def server(pool, _):
@@ -168,4 +174,5 @@ def end(pool, question):
     return {}
 
 
-JOBS = {"talk": talk, "calls": calls, "sequence": sequence, "stops": stops, "race": race, "outcomes": outcomes, "judge": judge, "server": server, "program": program, "end": end}
+JOBS = {"talk": talk, "calls": calls, "sequence": sequence, "stops": stops, "race": race, "outcomes": outcomes,
+        "judge": judge, "server": server, "program": program, "end": end}

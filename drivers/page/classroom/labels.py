@@ -1,4 +1,5 @@
-"""What is written in a picture: the lines' numbers, statements, answers, remarks, and what is said below a marked line."""
+"""What is written in a picture: the lines' numbers, statements, answers, remarks, and what is said below a marked
+line."""
 
 from .layout import BAR, EVENT, GUTTER, HEAD, LETTER, LINE
 from .record_lines import BLANK, CALL, EVENTS, LOSS, REMARK, RETURN, ROW
@@ -27,8 +28,10 @@ class Labels:
 
     def _line(self, line):
         unjudged = " unjudged" if self.mark is not None and line.number > self.mark else ""
-        number = element("text", {"class_": "line-number", "x": GUTTER - 14, "y": self.layout.top[line.number] + self._foot(line)}, str(line.number))
-        draw = {CALL: self._call, RETURN: self._return, LOSS: self._loss, ROW: self._row, REMARK: self._remark}.get(line.kind, self._other)
+        number = element("text", {"class_": "line-number", "x": GUTTER - 14,
+                                  "y": self.layout.top[line.number] + self._foot(line)}, str(line.number))
+        draw = {CALL: self._call, RETURN: self._return, LOSS: self._loss, ROW: self._row,
+                REMARK: self._remark}.get(line.kind, self._other)
         return element("g", {"class_": f"line{unjudged}", "data_line": line.number}, number, *draw(line))
 
     @staticmethod
@@ -36,7 +39,8 @@ class Labels:
         return BASE if line.kind in EVENTS else 13
 
     def _beside(self, kind, session, y, text):
-        return element("text", {"class_": kind, "x": self.layout.beside(session), "y": y}, shown(text, self.layout.letters))
+        return element("text", {"class_": kind, "x": self.layout.beside(session), "y": y},
+                       shown(text, self.layout.letters))
 
     def _carried(self, call):
         return self._beside("statement halo", call.begin.session, HEAD + BASE, call.begin.text)
@@ -51,7 +55,8 @@ class Labels:
     def _loss(self, line):
         layout, x, y = self.layout, self.layout.bar(line.session) + BAR / 2, self.layout.middle(line.number)
         cross = element("path", {"class_": "cross", "d": f"M{x - 7} {y - 7}l14 14m0 -14l-14 14"})
-        return [cross, element("text", {"class_": "reply refused halo", "x": layout.beside(line.session), "y": y + 4.5}, shown(line.text, layout.letters))]
+        return [cross, element("text", {"class_": "reply refused halo", "x": layout.beside(line.session), "y": y + 4.5},
+                               shown(line.text, layout.letters))]
 
     def _row(self, line):
         text, y = line.text, self.layout.top[line.number] + 13
@@ -65,12 +70,14 @@ class Labels:
         return found
 
     def _remark(self, line):
-        return [element("text", {"class_": "remark halo", "x": GUTTER, "y": self.layout.top[line.number] + 13 + LINE * at}, shown(part, columns(part)))
+        return [element("text", {"class_": "remark halo", "x": GUTTER,
+                                 "y": self.layout.top[line.number] + 13 + LINE * at}, shown(part, columns(part)))
                 for at, part in enumerate(self.layout.wrapped(line.text))]
 
     def _other(self, line):
         most = int((self.layout.width - GUTTER) / LETTER) - 2
-        return [element("text", {"class_": "text halo", "x": GUTTER, "y": self.layout.top[line.number] + 13}, shown(line.text, most))]
+        return [element("text", {"class_": "text halo", "x": GUTTER, "y": self.layout.top[line.number] + 13},
+                        shown(line.text, most))]
 
     def _mark(self, line):
         """The frame of a marked return."""
@@ -78,7 +85,8 @@ class Labels:
             return []
         left, top = self.layout.bar(line.session) - 6, self.layout.top[line.number]
         width = BAR + 24 + LETTER * min(self.layout.letters, columns(line.text))
-        return [element("rect", {"class_": "mark" + self._undecided(line), "x": left, "y": top + 1, "width": width, "height": EVENT - 2, "rx": 5})]
+        return [element("rect", {"class_": "mark" + self._undecided(line), "x": left, "y": top + 1, "width": width,
+                                 "height": EVENT - 2, "rx": 5})]
 
     def _undecided(self, line):
         return " undecided" if "undecided" in self.layout.notes[line.number][0][1] else ""
@@ -89,6 +97,8 @@ class Labels:
         left = layout.beside(line.session) - 4 if line.kind in EVENTS else GUTTER
         top = layout.top[line.number] + (EVENT if line.kind in EVENTS else LINE) + 4
         width = 20 + LETTER * max(columns(text) for text, _ in texts)
-        paper = element("rect", {"class_": "note" + self._undecided(line), "x": left, "y": top, "width": width, "height": LINE * len(texts) + 8, "rx": 5})
+        paper = element("rect", {"class_": "note" + self._undecided(line), "x": left, "y": top, "width": width,
+                                 "height": LINE * len(texts) + 8, "rx": 5})
         return element("g", {"class_": "marked", "data_line": line.number}, paper, *(
-            element("text", {"class_": kind, "x": left + 10, "y": top + 17 + LINE * at}, shown(text, columns(text))) for at, (text, kind) in enumerate(texts)))
+            element("text", {"class_": kind, "x": left + 10, "y": top + 17 + LINE * at}, shown(text, columns(text)))
+            for at, (text, kind) in enumerate(texts)))

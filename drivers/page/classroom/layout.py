@@ -18,11 +18,13 @@ LETTERS = ((2, 34), (16, 20))  # where there are so many lanes at most, one has 
 
 
 class Layout:
-    """Of the lines that are drawn, with the calls and effects among them. `notes` have what is said below a line, by its number: texts with their classes."""
+    """Of the lines that are drawn, with the calls and effects among them. `notes` have what is said below a line, by
+    its number: texts with their classes."""
 
     def __init__(self, lines, calls, effects, notes):
         self.lines, self.effects, self.notes = lines, effects, notes
-        self.sessions = sorted({line.session for line in lines if line.kind in EVENTS} | {call.begin.session for call in calls} | {effect.session for effect in effects})
+        self.sessions = sorted({line.session for line in lines if line.kind in EVENTS}
+                               | {call.begin.session for call in calls} | {effect.session for effect in effects})
         self.carried = [call for call in calls if lines and call.begin.number < lines[0].number]
         self.losses = {line.session: line for line in lines if line.kind == LOSS}
         self.margin = 14 + LETTER * len(str(max((effect.number for effect in effects), default=0)))
@@ -36,13 +38,15 @@ class Layout:
 
     def _letters(self, calls):
         most = next(letters for lanes, letters in LETTERS if len(self.sessions) <= lanes)
-        said = [columns(call.begin.text) for call in calls] + [columns(line.text) for line in self.lines if line.kind in (RETURN, ROW)]
+        said = [columns(call.begin.text) for call in calls] + [columns(line.text)
+                                                               for line in self.lines if line.kind in (RETURN, ROW)]
         return min(most, max(said + [len("Session 16")]))
 
     def _width(self):
         lanes = GUTTER + self.lane * len(self.sessions)
         widest = [LETTER * columns(text) for note in self.notes.values() for text, _ in note]
-        beside = max((self.beside(line.session) for line in self.lines if line.number in self.notes and line.session), default=GUTTER)
+        beside = max((self.beside(line.session) for line in self.lines if line.number in self.notes and line.session),
+                     default=GUTTER)
         return max(NARROWEST, lanes, beside + max(widest) + 40 if widest else 0)
 
     def _place(self):

@@ -11,7 +11,8 @@ class Limits:
     memory_kib: object = 1 << 20    # of a child's address space, or "unlimited"
     judged_kib: int = 30            # of the judge's child beside that, for each configuration that it may keep
     answer_seconds: float = 10      # for the answer to a line, and for a run of a race
-    probe_seconds: float = 3        # for which a diagram asks how many statements its calls make; the page asks again for the rest
+    # for which a diagram asks how many statements its calls make; the page asks again for the rest
+    probe_seconds: float = 3
     judge_seconds: float = 60       # for a verdict
     output_bytes: int = 8 << 20     # of what a child may answer to one request
     status_bytes: int = 8 << 20     # of the file of a server that is watched

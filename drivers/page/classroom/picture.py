@@ -1,4 +1,5 @@
-"""Draws a record and its verdict as SVG: a lane for each session, a bar from each call to its return, and a stroke where an order puts its effect."""
+"""Draws a record and its verdict as SVG: a lane for each session, a bar from each call to its return, and a stroke
+where an order puts its effect."""
 from pathlib import Path
 from xml.sax.saxutils import escape
 
@@ -19,15 +20,17 @@ ORDER = "Numbered strokes: an order of the effects that explains"
 
 
 def before_mark(lines, mark):
-    """The lines before the one at which a record is ILLEGAL, and those behind it by which a session's connection was found closed that never returned since: it may have ended before."""
+    """The lines before the one at which a record is ILLEGAL, and those behind it by which a session's connection was
+    found closed that never returned since: it may have ended before."""
     above, below = lines[:mark - 1], lines[mark - 1:]
     here = {line.session for line in below if line.kind in EVENTS and line.kind != LOSS}
     return above + [line for line in below if line.kind == LOSS and line.text == GONE and line.session not in here]
 
 
 def picture(record, judged, judge, chosen=None):
-    """The picture of a record of which this was judged, or none where that is no verdict. `judge` judges a record: an ILLEGAL one's lines before
-    its mark are explained by an order of their own. `chosen` are the first and the last line that are drawn."""
+    """The picture of a record of which this was judged, or none where that is no verdict. `judge` judges a record: an
+    ILLEGAL one's lines before its mark are explained by an order of their own. `chosen` are the first and the last line
+    that are drawn."""
     verdict = read_verdict(judged)
     if verdict.kind is None:
         return None
@@ -52,7 +55,8 @@ def notes_of(verdict):
     if verdict.kind == "ILLEGAL":
         answers = [line for answer in verdict.could for line in lines_of(b"COULD BE " + answer.replace(b"\n", b"\n  "))]
         more = [(b"and %d lines more" % (len(answers) - MOST_ANSWERS), "hint")] if len(answers) > MOST_ANSWERS else []
-        return {verdict.line: [(b"ILLEGAL at line %d" % verdict.line, "said illegal"), *((line, "text could") for line in answers[:MOST_ANSWERS]), *more]}
+        return {verdict.line: [(b"ILLEGAL at line %d" % verdict.line, "said illegal"),
+                               *((line, "text could") for line in answers[:MOST_ANSWERS]), *more]}
     if verdict.kind == "UNDECIDED":
         return {verdict.line: [(b"UNDECIDED at line %d" % verdict.line, "said undecided")]}
     return {number: [(cause, "said faulty")] for number, cause in verdict.faults.items()}
@@ -69,7 +73,8 @@ class Picture:
         self.effects = [effect for effect in effects if effect.behind in numbers]
         self.strokes = {effect.call.begin.number: effect.number for effect in self.effects if effect.call}
         self.calls = [call for call in calls_of(lines)
-                      if call.begin.number <= last and (call.end is None or call.end.number >= first or call.begin.number in self.strokes)]
+                      if call.begin.number <= last
+                      and (call.end is None or call.end.number >= first or call.begin.number in self.strokes)]
         notes = {number: note for number, note in notes_of(verdict).items() if number in numbers}
         self.layout = Layout(drawn, self.calls, self.effects, notes)
         self.labels = Labels(self.layout, self.mark)
@@ -81,8 +86,9 @@ class Picture:
             element("rect", {"class_": "paper", "width": width, "height": height}),
             *self._heads(), *map(self._guide, self.layout.sessions), *map(self._bar, self.calls),
             *self.labels.all(self.calls), *map(self._tick, self.effects), *self._foot()]
-        return element("svg", {"xmlns": "http://www.w3.org/2000/svg", "class_": "lanes-picture", "width": width, "height": height,
-                               "viewBox": f"0 0 {width} {height}", "role": "img"}, "\n", "\n".join(inside), "\n") + "\n"
+        return element("svg", {"xmlns": "http://www.w3.org/2000/svg", "class_": "lanes-picture", "width": width,
+                               "height": height, "viewBox": f"0 0 {width} {height}", "role": "img"}, "\n",
+                       "\n".join(inside), "\n") + "\n"
 
     def _heading(self):
         if self.verdict.kind == "FAULTY":
@@ -92,9 +98,10 @@ class Picture:
     def _heads(self):
         found = [element("text", {"class_": f"verdict {self.verdict.kind.lower()}", "x": 12, "y": 26}, self._heading())]
         if self.last - self.first + 1 < self.all:
-            found.append(element("text", {"class_": "hint", "x": 250, "y": 26}, f"lines {self.first:,} to {self.last:,} of {self.all:,}"))
-        return found + [element("text", {"class_": f"session s{session}", "x": self.layout.bar(session), "y": 52}, f"Session {session}")
-                        for session in self.layout.sessions]
+            found.append(element("text", {"class_": "hint", "x": 250, "y": 26},
+                                 f"lines {self.first:,} to {self.last:,} of {self.all:,}"))
+        return found + [element("text", {"class_": f"session s{session}", "x": self.layout.bar(session), "y": 52},
+                                f"Session {session}") for session in self.layout.sessions]
 
     def _guide(self, session):
         """The line of a lane, up to where its client is lost."""
@@ -108,12 +115,14 @@ class Picture:
         parts = [self._piece(session, "bar", top, known)]
         if bottom > known:
             parts.append(self._piece(session, "bar open", known, bottom))
-        parts.append(element("text", {"class_": "who", "x": layout.bar(session) + BAR / 2, "y": top + 13}, str(session)))
+        parts.append(element("text", {"class_": "who", "x": layout.bar(session) + BAR / 2, "y": top + 13},
+                             str(session)))
         said = f"Session {session}, line {call.begin.number}: {plain(call.begin.text)}"
         if call.end is not None:
             said += f"; line {call.end.number}: {plain(call.end.text)}"
         unjudged = " unjudged" if self.mark is not None and call.begin.number > self.mark else ""
-        return element("g", {"class_": f"call s{session}{unjudged}", "data_line": call.begin.number}, element("title", {}, escape(said)), *parts)
+        return element("g", {"class_": f"call s{session}{unjudged}", "data_line": call.begin.number},
+                       element("title", {}, escape(said)), *parts)
 
     def _reach(self, call):
         """Where a bar begins, up to where its call is known to be open, and where it ends."""
@@ -129,7 +138,8 @@ class Picture:
         return top, known, max(known, stroke, layout.bottom if call.end is None else known)
 
     def _piece(self, session, kind, top, bottom):
-        return element("rect", {"class_": kind, "x": self.layout.bar(session), "y": top, "width": BAR, "height": bottom - top, "rx": CORNER})
+        return element("rect", {"class_": kind, "x": self.layout.bar(session), "y": top, "width": BAR,
+                                "height": bottom - top, "rx": CORNER})
 
     def _tick(self, effect):
         layout, y = self.layout, self.layout.ticks[effect.number]
@@ -137,8 +147,10 @@ class Picture:
         parts = [element("line", {"class_": "tick", "x1": left - 5, "x2": left + BAR + 5, "y1": y, "y2": y}),
                  element("text", {"class_": "nth halo", "x": left - 8, "y": y + 4}, str(effect.number))]
         if effect.call is None:
-            parts.append(element("text", {"class_": "remark halo", "x": layout.beside(effect.session), "y": y + 4}, "DISCONNECT"))
-        return element("g", {"class_": "effect", "data_nth": effect.number, "data_line": effect.call.begin.number if effect.call else None}, *parts)
+            parts.append(element("text", {"class_": "remark halo", "x": layout.beside(effect.session), "y": y + 4},
+                                 "DISCONNECT"))
+        return element("g", {"class_": "effect", "data_nth": effect.number,
+                             "data_line": effect.call.begin.number if effect.call else None}, *parts)
 
     def _foot(self):
         said = [READING]

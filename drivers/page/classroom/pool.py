@@ -19,7 +19,8 @@ class Pool:
     # children
 
     def start(self, words, memory_kib=None):
-        """A child at these words of the command line, with so much memory, or the limits' own. Trouble: all places are taken, and no talk is idle."""
+        """A child at these words of the command line, with so much memory, or the limits' own. Trouble: all places are
+        taken, and no talk is idle."""
         with self._lock:
             if self._closed.is_set():
                 raise Trouble("the page is ending")

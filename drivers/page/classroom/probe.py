@@ -1,7 +1,8 @@
-"""How many calls a call of the transaction manager makes of the coordinator's session in each store, as the program itself shows it.
+"""How many calls a call of the transaction manager makes of the coordinator's session in each store, as the program
+itself shows it.
 
-`FAIL k AFTER j` has the session in store k answer j calls and no more. So the call makes as many there as the least j with which it is
-answered as with a j that is never reached.
+`FAIL k AFTER j` has the session in store k answer j calls and no more. So the call makes as many there as the least j
+with which it is answered as with a j that is never reached.
 """
 import hashlib
 import re
@@ -15,11 +16,13 @@ from .talk import unknown_transaction
 NEVER = 1_000_000
 MOST = 64  # calls in one store that are looked for
 KEPT = 4096  # lines of which the calls are kept
-ASKS = re.compile(rb"[ \t]*(WORK|PREPARE|FINISH|ABANDON|RECOVER)\b")  # a line for which the coordinator may ask its sessions something
+# a line for which the coordinator may ask its sessions something
+ASKS = re.compile(rb"[ \t]*(WORK|PREPARE|FINISH|ABANDON|RECOVER)\b")
 
 
 def answer_with(run, lines, store, after):
-    """What answers the last line where the session in the store fails behind so many calls; None where the program doesn't come as far."""
+    """What answers the last line where the session in the store fails behind so many calls; None where the program
+    doesn't come as far."""
     (begin, begun), (end, ended) = (unknown_transaction(secrets.randbits(62) | 1 << 62) for _ in range(2))
     failing = b"FAIL %d AFTER %d" % (store, after)
     output = run(b"\n".join([*lines[:-1], failing, begin, lines[-1], end]) + b"\n")
@@ -43,7 +46,8 @@ class Counts:
         self._kept, self._lock = OrderedDict(), threading.Lock()
 
     def of(self, run, lines, stores, seconds):
-        """For each line how many calls it makes in each store, as far as that is known or found within so many seconds."""
+        """For each line how many calls it makes in each store, as far as that is known or found within so many
+        seconds."""
         digest, found, deadline = hashlib.sha256(b"%d\n" % stores), [], time.monotonic() + seconds
         for at, line in enumerate(lines):
             digest.update(line + b"\n")

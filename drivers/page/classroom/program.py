@@ -9,7 +9,8 @@ ROOT = Path(__file__).resolve().parents[3]
 def usual_program():
     """What NIGBARU_PROGRAM has, a release's, a checkout's, or the one on PATH."""
     built = [ROOT / "bin/xa_script", ROOT / "crates/xa_script/out/xa_script"]
-    found = os.environ.get("NIGBARU_PROGRAM") or next((it for it in built if it.is_file()), None) or shutil.which("xa_script")
+    found = (os.environ.get("NIGBARU_PROGRAM") or next((it for it in built if it.is_file()), None)
+             or shutil.which("xa_script"))
     return Path(found or built[1])
 
 

@@ -1,4 +1,5 @@
-"""Draws the calls of a coordinator as a sequence diagram: a lifeline for the transaction manager, the coordinator, each store and the other client, and time goes down.
+"""Draws the calls of a coordinator as a sequence diagram: a lifeline for the transaction manager, the coordinator, each
+store and the other client, and time goes down.
 
 Each message has a row of its own with its label above its arrow, so no label can lie over another.
 """
@@ -42,12 +43,13 @@ class Button:
 
     def around(self, *inside):
         data = {f"data_{name}": value for name, value in self.numbers.items()}
-        return element("g", {"class_": f"button {self.act}", "role": "button", "tabindex": 0, "data_act": self.act, "aria_label": self.says, **data},
-                       element("title", {}, escape(self.says)), *inside)
+        return element("g", {"class_": f"button {self.act}", "role": "button", "tabindex": 0, "data_act": self.act,
+                             "aria_label": self.says, **data}, element("title", {}, escape(self.says)), *inside)
 
 
 class Sequence:
-    """`at` is how many lines were given; `asked` is whether the next one's answer is asked for. Where `is_file`, there are no buttons, and a legend below."""
+    """`at` is how many lines were given; `asked` is whether the next one's answer is asked for. Where `is_file`, there
+    are no buttons, and a legend below."""
 
     def __init__(self, found, stores, at, width=900, size=14, asked=False, is_file=False):
         self.found, self.stores, self.at, self.asked, self.is_file = found, stores, at, asked, is_file
@@ -59,11 +61,13 @@ class Sequence:
         self.step = (self.width - self.gutter - 0.4 * size) / count
         self.y = HEAD * size
         self.below, self.marks = [], []     # what lies below the labels, and these
-        self.doubts, self.closed = {}, []   # the branches in doubt: from where on, and which place beside one another; and those that were
+        # the branches in doubt: from where on, and which place beside one another; and those that were
+        self.doubts, self.closed = {}, []
         self.alive = self.y                 # from where on the coordinator's lifeline goes, or None while it is crashed
         self.lives, self.restarts = [], 0
         self.current = None
-        self.ended = {}                     # where a store's branch is prepared or finished within a call, by the call's place and the store
+        # where a store's branch is prepared or finished within a call, by the call's place and the store
+        self.ended = {}
 
     # places
 
@@ -93,18 +97,23 @@ class Sequence:
             self.lives.append((self.alive, end))
         foot = self.legend() if self.is_file else []
         height, size = round(self.y), self.size
-        inside = [element("title", {}, "Sequence diagram of a two-phase commit"), element("style", {}, escape(STYLE)), self.hatching(),
+        inside = [element("title", {}, "Sequence diagram of a two-phase commit"), element("style", {}, escape(STYLE)),
+                  self.hatching(),
                   element("rect", {"class_": "paper", "width": self.width, "height": height}),
-                  *([self.current] if self.current else []), *self.lifelines(end), *self.closed, *self.below, *self.marks, *foot, self.heads()]
-        return element("svg", {"xmlns": "http://www.w3.org/2000/svg", "class_": "sequence", "width": self.width, "height": height, "font_size": size,
-                               "viewBox": f"0 0 {self.width} {height}", "role": "group" if not self.is_file else "img",
-                               "aria_label": "Sequence diagram"}, "\n", "\n".join(inside), "\n") + "\n"
+                  *([self.current] if self.current else []), *self.lifelines(end), *self.closed, *self.below,
+                  *self.marks, *foot, self.heads()]
+        return element("svg", {"xmlns": "http://www.w3.org/2000/svg", "class_": "sequence", "width": self.width,
+                               "height": height, "font_size": size, "viewBox": f"0 0 {self.width} {height}",
+                               "role": "group" if not self.is_file else "img", "aria_label": "Sequence diagram"}, "\n",
+                       "\n".join(inside), "\n") + "\n"
 
     def hatching(self):
         size = round(self.size * 0.6, 1)
-        return element("defs", {}, element("pattern", {"id": "hatching", "width": size, "height": size, "patternUnits": "userSpaceOnUse", "patternTransform": "rotate(45)"},
-                                           element("rect", {"class_": "doubt-paper", "width": size, "height": size}),
-                                           element("rect", {"class_": "doubt-stripe", "width": round(size * 0.45, 1), "height": size})))
+        return element("defs", {}, element(
+            "pattern", {"id": "hatching", "width": size, "height": size, "patternUnits": "userSpaceOnUse",
+                        "patternTransform": "rotate(45)"},
+            element("rect", {"class_": "doubt-paper", "width": size, "height": size}),
+            element("rect", {"class_": "doubt-stripe", "width": round(size * 0.45, 1), "height": size})))
 
     def heads(self):
         found, size = [], self.size
@@ -112,13 +121,16 @@ class Sequence:
             x, room = self.x(lifeline), self.step - 0.35 * size
             names = self.names(lifeline)
             name = next((name for name in names if 0.68 * size * len(name) <= room), names[-1])
-            part = "participant" if FIRST_STORE <= lifeline < FIRST_STORE + self.stores and 0.54 * size * 11 <= room else ""
+            part = ("participant"
+                    if FIRST_STORE <= lifeline < FIRST_STORE + self.stores and 0.54 * size * 11 <= room else "")
             wide = min(room, max(0.68 * size * len(name), 0.54 * size * len(part)) + 0.8 * size)
-            found += [element("rect", {"class_": "head-box", "x": x - wide / 2, "y": 0.25 * size, "width": wide, "height": (HEAD - 0.6) * size, "rx": 0.3 * size}),
+            found += [element("rect", {"class_": "head-box", "x": x - wide / 2, "y": 0.25 * size, "width": wide,
+                                       "height": (HEAD - 0.6) * size, "rx": 0.3 * size}),
                       element("text", {"class_": "head", "x": x, "y": (1.3 if part else 1.8) * size}, name)]
             if part:
                 found.append(element("text", {"class_": "role", "x": x, "y": 2.35 * size}, part))
-        return element("g", {"class_": "heads"}, element("rect", {"class_": "paper", "width": self.width, "height": HEAD * size - 0.35 * size}), *found)
+        return element("g", {"class_": "heads"}, element("rect", {"class_": "paper", "width": self.width,
+                                                                  "height": HEAD * size - 0.35 * size}), *found)
 
     def names(self, lifeline):
         if FIRST_STORE <= lifeline < FIRST_STORE + self.stores:
@@ -129,7 +141,8 @@ class Sequence:
         top = (HEAD - 0.35) * self.size
         whole = [(at, top, end) for at in range(self.stores + 3) if at != COORDINATOR]
         return [element("line", {"class_": "lifeline", "x1": self.x(at), "x2": self.x(at), "y1": y, "y2": to})
-                for at, y, to in [*whole, *((COORDINATOR, top if y == HEAD * self.size else y, to) for y, to in self.lives)]]
+                for at, y, to in [*whole,
+                                  *((COORDINATOR, top if y == HEAD * self.size else y, to) for y, to in self.lives)]]
 
     def legend(self):
         self.y += 0.6 * self.size
@@ -151,10 +164,13 @@ class Sequence:
         for line in lines:
             if line:
                 last = line[-1]
-                self.marks.append(element("rect", {"class_": "behind", "x": start - 0.15 * size, "y": self.y + 0.08 * size,
-                                                   "width": (last[0] + last[1].width()) * size + 0.3 * size, "height": LINE * size - 0.1 * size, "rx": 0.2 * size}))
+                self.marks.append(element("rect",
+                                          {"class_": "behind", "x": start - 0.15 * size, "y": self.y + 0.08 * size,
+                                           "width": (last[0] + last[1].width()) * size + 0.3 * size,
+                                           "height": LINE * size - 0.1 * size, "rx": 0.2 * size}))
             for at, run in line:
-                text = element("text", {"class_": f"{run.kind} label", "x": start + at * size, "y": self.y + size}, run.inside())
+                text = element("text", {"class_": f"{run.kind} label", "x": start + at * size, "y": self.y + size},
+                               run.inside())
                 self.marks.append(run.button.around(text) if run.button and not self.is_file else text)
             self.y += LINE * size
         self.y += height * size
@@ -169,14 +185,20 @@ class Sequence:
         if is_lost:
             end -= way * 0.9 * size
             reach = 0.42 * size
-            self.marks.append(element("path", {"class_": "cross", "d": f"M{end - reach:.1f} {self.y - reach:.1f}l{2 * reach:.1f} {2 * reach:.1f}m0 {-2 * reach:.1f}l{-2 * reach:.1f} {2 * reach:.1f}"}))
+            self.marks.append(
+                element("path", {"class_": "cross", "d": f"M{end - reach:.1f} {self.y - reach:.1f}l{2 * reach:.1f} "
+                                 f"{2 * reach:.1f}m0 {-2 * reach:.1f}l{-2 * reach:.1f} {2 * reach:.1f}"}))
         else:
             head = 0.6 * size
-            self.marks.append(element("path", {"class_": f"head-of {kind}", "d": f"M{end:.1f} {self.y:.1f}l{-way * head:.1f} {-0.34 * size:.1f}v{0.68 * size:.1f}z"}))
-        self.below.append(element("line", {"class_": f"arrow {kind}", "x1": start, "x2": end - (0 if is_lost else way * 0.3 * size), "y1": self.y, "y2": self.y}))
+            self.marks.append(element(
+                "path", {"class_": f"head-of {kind}",
+                         "d": f"M{end:.1f} {self.y:.1f}l{-way * head:.1f} {-0.34 * size:.1f}v{0.68 * size:.1f}z"}))
+        self.below.append(element("line", {"class_": f"arrow {kind}", "x1": start, "x2": end
+                                           - (0 if is_lost else way * 0.3 * size), "y1": self.y, "y2": self.y}))
         count = self.stores + 3
         made, self.marks = self.marks[before:], self.marks[:before]
-        self.marks.append(element("g", {"class_": f"message {kind}", "data_from": sender % count, "data_to": receiver % count}, *made))
+        self.marks.append(element("g", {"class_": f"message {kind}", "data_from": sender % count,
+                                        "data_to": receiver % count}, *made))
         self.y += BELOW * size
 
     def remark(self, text, kind="remark"):
@@ -190,10 +212,12 @@ class Sequence:
         wide, high = (widest + 0.9) * size, (LINE * len(lines) + 0.2) * size
         left = max(self.gutter, min(self.x(lifeline) - 0.7 * size, self.width - 0.6 * size - wide))
         self.y += 0.15 * size
-        self.marks.append(element("rect", {"class_": "note-box", "x": left, "y": self.y, "width": wide, "height": high, "rx": 0.25 * size}))
+        self.marks.append(element("rect", {"class_": "note-box", "x": left, "y": self.y, "width": wide, "height": high,
+                                           "rx": 0.25 * size}))
         self.y += 0.08 * size
         for line in lines:
-            self.marks += [element("text", {"class_": f"{run.kind} label", "x": left + (0.45 + at) * size, "y": self.y + size}, run.inside()) for at, run in line]
+            self.marks += [element("text", {"class_": f"{run.kind} label", "x": left + (0.45 + at) * size,
+                                            "y": self.y + size}, run.inside()) for at, run in line]
             self.y += LINE * size
         self.y += 0.4 * size
 
@@ -213,11 +237,13 @@ class Sequence:
         self.follow_doubt(it)
         number = self.number(it, top) if it.kind not in CAPTIONS else []
         if not self.is_file and it.kind not in CAPTIONS and it.place == self.at - 1 - self.captions_behind():
-            self.current = element("rect", {"class_": "current", "x": 0, "y": top, "width": self.width, "height": self.y - top})
+            self.current = element("rect",
+                                   {"class_": "current", "x": 0, "y": top, "width": self.width, "height": self.y - top})
         kind = " waiting" if it.answer is None and not (self.asked and it.place == self.next()) else ""
         made, self.marks = self.marks[before:], self.marks[:before]
         attributes = {"class_": f"call {it.kind}{kind}", "data_line": it.place + 1, "data_bottom": self.y,
-                      "data_answer": None if it.answer is None or it.kind in CAPTIONS else "\n".join(map(plain, lines_of(it.answer)))}
+                      "data_answer": None if it.answer is None or it.kind in CAPTIONS
+                      else "\n".join(map(plain, lines_of(it.answer)))}
         if it.kind not in CAPTIONS:
             self.y += BETWEEN * size
         self.marks.append(element("g", attributes, *number, *made))
@@ -249,7 +275,8 @@ class Sequence:
         if self.alive is None and it.kind != STRANGER and it.words[0] not in (b"FAIL", b"STOP"):
             self.restarts += 1
             self.y += 0.15 * self.size
-            self.note(COORDINATOR, [Run("term", "new coordinator"), Run("note", "of the same name, with the same decisions")])
+            self.note(COORDINATOR,
+                      [Run("term", "new coordinator"), Run("note", "of the same name, with the same decisions")])
             self.alive = self.y - 0.55 * self.size
 
     def draw_crash(self, it):
@@ -257,8 +284,11 @@ class Sequence:
         bad = [Run("bad", plain(it.first)), Run("reason", it.reason)] if it.is_bad() else []
         if it.words[0] == b"STOP" and it.answer is not None and not bad:
             y, x, reach = self.y + 0.65 * size, self.x(COORDINATOR), 0.6 * size
-            self.marks.append(element("path", {"class_": "cross crash", "d": f"M{x - reach:.1f} {y - reach:.1f}l{2 * reach:.1f} {2 * reach:.1f}m0 {-2 * reach:.1f}l{-2 * reach:.1f} {2 * reach:.1f}"}))
-            self.row([Run("term", "crash", None), Run("statement", "STOP"), Run("reason", "the coordinator is gone; its decisions are kept")], x + 1.1 * size, 0.35)
+            self.marks.append(
+                element("path", {"class_": "cross crash", "d": f"M{x - reach:.1f} {y - reach:.1f}l{2 * reach:.1f} "
+                                 f"{2 * reach:.1f}m0 {-2 * reach:.1f}l{-2 * reach:.1f} {2 * reach:.1f}"}))
+            self.row([Run("term", "crash", None), Run("statement", "STOP"),
+                      Run("reason", "the coordinator is gone; its decisions are kept")], x + 1.1 * size, 0.35)
             if self.alive is not None:
                 self.lives.append((self.alive, y))
             self.alive = None
@@ -266,7 +296,8 @@ class Sequence:
         says = [Run("statement", it.said), *bad]
         if store is not None and not bad:
             after = int(it.words[-1])
-            how = "fails at its next call" if after == 0 else f"answers {after} more call{'' if after == 1 else 's'}, and then fails"
+            how = ("fails at its next call" if after == 0
+                   else f"answers {after} more call{'' if after == 1 else 's'}, and then fails")
             says.append(Run("reason", f"the coordinator's session in store {it.store} {how}"))
         self.row([Run("cut-sign", "✂"), *says], self.x(COORDINATOR) + 0.5 * size, 0.35)
 
@@ -289,9 +320,11 @@ class Sequence:
     def notes_before(self, it):
         word = it.words[0]
         if word == b"DECIDE" and it.first == b"DECIDED":
-            self.note(COORDINATOR, [Run("term", "decision: commit"), Run("note", "recorded, before any participant is told")])
+            self.note(COORDINATOR,
+                      [Run("term", "decision: commit"), Run("note", "recorded, before any participant is told")])
         elif word == b"DECIDE" and it.first == b"CLOSED":
-            self.note(COORDINATOR, [Run("term", "no decision any more"), Run("note", "the number is closed: presumed abort")])
+            self.note(COORDINATOR,
+                      [Run("term", "no decision any more"), Run("note", "the number is closed: presumed abort")])
         elif word == b"FINISH" and it.groups and it.groups[0][1][-1].text == b"XA ROLLBACK":
             why = "a participant voted no" if it.vote == b"NO" else "no decision was recorded: presumed abort"
             self.note(COORDINATOR, [Run("term", "roll back"), Run("note", why)])
@@ -299,36 +332,43 @@ class Sequence:
             self.note(COORDINATOR, [Run("term", "one phase"), Run("note", "one participant: no vote, no decision")])
         elif word == b"RECOVER" and it.before.of("UNDECIDED") and it.behind.of("CLOSED") != it.before.of("CLOSED"):
             numbers = ", ".join(map(str, it.before.of("UNDECIDED")[:8]))
-            self.note(COORDINATOR, [Run("term", "presumed abort"), Run("note", f"no decision for {numbers}: rolled back")])
+            self.note(COORDINATOR,
+                      [Run("term", "presumed abort"), Run("note", f"no decision for {numbers}: rolled back")])
 
     def notes_behind(self, it):
         """An other client that finished a branch of the coordinator's."""
         if it.kind != STRANGER or self.store(it.store) is None:
             return
-        gone = [xid for xid in it.before.prepared.get(it.store, []) if xid not in it.behind.prepared.get(it.store, []) and transaction_of(xid)]
+        gone = [xid for xid in it.before.prepared.get(it.store, [])
+                if xid not in it.behind.prepared.get(it.store, []) and transaction_of(xid)]
         if gone:
             way = "rollback" if b"ROLLBACK" in it.said.upper() else "commit"
-            self.note(self.store(it.store), [Run("term", f"heuristic {way}"), Run("note", f"of {branch_name(gone[0]).decode()}, by another client")])
+            self.note(self.store(it.store), [Run("term", f"heuristic {way}"),
+                                             Run("note", f"of {branch_name(gone[0]).decode()}, by another client")])
 
     def draw_group(self, it, store, said):
         lifeline, line = FIRST_STORE + store, it.place + 1
         asks, answers = self.terms(it, said)
         runs = [Run("term", asks)] if asks else []
         for one in said:
-            says = (f"Cut here: {one.text.decode('latin-1')} doesn't reach store {store}, nor does a later call of this session"
-                    f" (FAIL {store} AFTER {one.call} before line {line})")
+            says = (f"Cut here: {one.text.decode('latin-1')} doesn't reach store {store}, nor does a later call of "
+                    f"this session (FAIL {store} AFTER {one.call} before line {line})")
             cut = Button("fail", says, line=line, store=store, call=one.call)
-            runs += [*([] if self.is_file else [Run("cut-sign", "✂", cut)]), Run("statement" if one.is_answered else "statement stopped", one.text + (b"," if one is not said[-1] else b""))]
+            runs += [*([] if self.is_file else [Run("cut-sign", "✂", cut)]),
+                     Run("statement" if one.is_answered else "statement stopped",
+                         one.text + (b"," if one is not said[-1] else b""))]
             if len(said) > 1 and one is not said[-1] and one.is_answered and one.answer not in (b"", b"OK"):
                 runs.append(Run("reply", one.answer))
         is_whole = all(one.is_answered for one in said)
         if not is_whole:
-            runs.append(Run("bad", "stopped: no answer" + (", which counts as no" if it.words[0] == b"PREPARE" else "")))
+            runs.append(Run("bad",
+                            "stopped: no answer" + (", which counts as no" if it.words[0] == b"PREPARE" else "")))
         self.message(COORDINATOR, lifeline, runs, "inner" if is_whole else "inner broken", is_lost=not is_whole)
         if is_whole:
             is_bad = said[-1].answer.startswith((b"ERROR", b"XAER", b"FAULT"))
             runs = [Run("term bad" if is_bad else "term good", answers)] if answers else []
-            self.message(lifeline, COORDINATOR, [*runs, Run("bad" if is_bad else "reply", said[-1].answer)], "inner-answer fails" if is_bad else "inner-answer")
+            self.message(lifeline, COORDINATOR, [*runs, Run("bad" if is_bad else "reply", said[-1].answer)],
+                         "inner-answer fails" if is_bad else "inner-answer")
         if said[-1].text.startswith((b"XA PREPARE", b"XA COMMIT", b"XA ROLLBACK")):
             self.ended[(it.place, store)] = self.y - 0.3 * self.size
 
@@ -364,7 +404,8 @@ class Sequence:
             runs.append(Run("reason", it.reason))
         elif it.first.startswith(b"HAZARD"):
             runs.append(Run("reason", "in these stores somebody else had finished the branch"))
-        elif it.kind == STRANGER and it.first.startswith(b"ERROR 3572") and any(map(transaction_of, it.behind.prepared.get(it.store, []))):
+        elif (it.kind == STRANGER and it.first.startswith(b"ERROR 3572")
+              and any(map(transaction_of, it.behind.prepared.get(it.store, [])))):
             runs.append(Run("reason", "a branch is in doubt here, and keeps its locks"))
         if it.kind != STRANGER and not self.is_file:
             says = f"Cut here: the coordinator crashes after line {line} (STOP)"
@@ -394,8 +435,10 @@ class Sequence:
         wide = min(BAND * size, self.step * 0.6)
         says = f"In doubt in store {store}: {plain(branch_name(xid))}"
         x = self.x(FIRST_STORE + store) - wide / 2 + min(beside * wide * 0.6, self.step / 2)
-        self.closed.append(element("g", {"class_": "doubt", "data_store": store, "data_xid": xid.decode("latin-1")}, element("title", {}, escape(says)),
-                                   element("rect", {"class_": "band", "x": x, "y": since, "width": wide, "height": max(2, y - since), "rx": 2})))
+        self.closed.append(element("g", {"class_": "doubt", "data_store": store,
+                                         "data_xid": xid.decode("latin-1")}, element("title", {}, escape(says)),
+                                   element("rect", {"class_": "band", "x": x, "y": since, "width": wide,
+                                                    "height": max(2, y - since), "rx": 2})))
 
 
 def readable_row(line):

@@ -12,8 +12,8 @@ from .status import Status
 from .tables import tables
 
 STATIC = Path(__file__).resolve().parent.parent / "static"
-KINDS = {".html": "text/html; charset=utf-8", ".css": "text/css; charset=utf-8", ".js": "text/javascript; charset=utf-8",
-         ".svg": "image/svg+xml"}
+KINDS = {".html": "text/html; charset=utf-8", ".css": "text/css; charset=utf-8",
+         ".js": "text/javascript; charset=utf-8", ".svg": "image/svg+xml"}
 
 
 def files(root):
@@ -39,7 +39,8 @@ class Classroom(ThreadingHTTPServer):
         self.host, self.is_open = host, not host.startswith("127.")
         here = "127.0.0.1" if host == "0.0.0.0" else host
         self.address = f"http://{here}:{self.server_port}/"
-        self.hosts = {f"{here}:{self.server_port}", *([f"localhost:{self.server_port}"] if here.startswith("127.") else [])}
+        self.hosts = {f"{here}:{self.server_port}",
+                      *([f"localhost:{self.server_port}"] if here.startswith("127.") else [])}
 
     def process_request(self, request, address):
         """A connection for which there is no place is closed at once."""

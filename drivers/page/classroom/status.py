@@ -1,4 +1,5 @@
-"""What a nigbaru-server does, as it writes it each second with `--status FILE`. Only this file is read, whatever the page asks."""
+"""What a nigbaru-server does, as it writes it each second with `--status FILE`. Only this file is read, whatever the
+page asks."""
 import json
 import os
 import time
@@ -16,7 +17,8 @@ class Status:
             with open(self._path, "rb") as file:
                 written, text = os.fstat(file.fileno()).st_mtime, file.read(self._most + 1)
         except OSError as fault:
-            return {"fault": f"{self._path.name} can't be read: {fault.strerror}. Start the server by nigbaru-server --status FILE"}
+            return {"fault": f"{self._path.name} can't be read: {fault.strerror}. Start the server by nigbaru-server "
+                    "--status FILE"}
         if len(text) > self._most:
             return {"fault": f"{self._path.name} has more than {self._most} bytes"}
         try:
@@ -41,5 +43,6 @@ def store_of(it):
 def branch_of(it):
     def number(name):
         return None if it[name] is None else float(it[name])
-    return {"xid": str(it["xid"]), "state": str(it["state"]), "connection": number("connection"), "session": number("session"), "age": number("age"),
+    return {"xid": str(it["xid"]), "state": str(it["state"]), "connection": number("connection"),
+            "session": number("session"), "age": number("age"),
             "rows": {str(key): str(how) for key, how in it["rows"].items()}}

@@ -1,4 +1,5 @@
-"""Texts of SVG. Bytes become characters that keep to themselves: each that can't be seen is written in digits, and what is markup is escaped."""
+"""Texts of SVG. Bytes become characters that keep to themselves: each that can't be seen is written in digits, and what
+is markup is escaped."""
 import unicodedata
 from xml.sax.saxutils import escape, quoteattr
 
@@ -7,7 +8,8 @@ CUT = "…"
 
 def element(tag, attributes, *inside):
     """An element: its attributes, underscores for hyphens, and what stands in it, which is markup already."""
-    named = "".join(f" {name.rstrip('_').replace('_', '-')}={quoteattr(number(value))}" for name, value in attributes.items() if value is not None)
+    named = "".join(f" {name.rstrip('_').replace('_', '-')}={quoteattr(number(value))}"
+                    for name, value in attributes.items() if value is not None)
     return f"<{tag}{named}>{''.join(inside)}</{tag}>" if inside else f"<{tag}{named}/>"
 
 
@@ -34,7 +36,8 @@ def is_seen(char):
 
 def width_of(piece):
     """How many columns a piece takes in letters of one width."""
-    return sum(2 if unicodedata.east_asian_width(char) in "WF" else 0 if unicodedata.combining(char) else 1 for char in piece)
+    return sum(2 if unicodedata.east_asian_width(char) in "WF" else 0 if unicodedata.combining(char) else 1
+               for char in piece)
 
 
 def columns(text):

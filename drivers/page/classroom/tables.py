@@ -1,4 +1,5 @@
-"""What the page cites of docs/STATEMENTS.md: the table of replies, and the table of errors; and the words of two-phase commit."""
+"""What the page cites of docs/STATEMENTS.md: the table of replies, and the table of errors; and the words of two-phase
+commit."""
 import re
 
 from .sequence import LEGEND

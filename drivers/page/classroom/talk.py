@@ -7,7 +7,8 @@ from .child import Trouble
 
 
 class Talk:
-    """One child, and the lines that it was given. Whoever asks gives all lines, so a child can be replaced by another at any time."""
+    """One child, and the lines that it was given. Whoever asks gives all lines, so a child can be replaced by another
+    at any time."""
 
     def __init__(self, pool, words, marker, after):
         self.lock = threading.Lock()
@@ -72,8 +73,8 @@ class Talk:
         self.child, self._given = None, []
 
 
-# What is asked behind a line, so that the end of its answer is known: a line that changes nothing, and the whole line that answers it.
-# Its number is drawn anew each time, so that nothing that a store holds can be taken for it.
+# What is asked behind a line, so that the end of its answer is known: a line that changes nothing, and the whole line
+# that answers it. Its number is drawn anew each time, so that nothing that a store holds can be taken for it.
 
 def remark(number):
     """`show` says a remark again behind two blanks."""

@@ -13,7 +13,8 @@ COULD_BE = b"COULD BE "
 
 @dataclass
 class Verdict:
-    kind: Optional[str] = None                  # LEGAL, ILLEGAL, UNDECIDED, EMPTY or FAULTY; none where it is none of these
+    # LEGAL, ILLEGAL, UNDECIDED, EMPTY or FAULTY; none where it is none of these
+    kind: Optional[str] = None
     line: Optional[int] = None                  # of ILLEGAL and UNDECIDED
     could: list = field(default_factory=list)   # what could have been answered there, each with its rows below it
     order: list = field(default_factory=list)   # of LEGAL: sessions and statements

@@ -14,8 +14,8 @@ from selenium.webdriver.chrome.service import Service
 
 PATIENCE = float(os.environ.get("PAGE_PATIENCE", 240))  # seconds: a machine may be busy with other work
 ROUNDS = 50  # the page may change under the keys, so what is left to go is counted anew after each round of them
-# How many elements the tabulator has to pass from the focus to the wanted one; fewer than 0 where it lies behind, 0 where it has the focus.
-# Nothing where it isn't there, or takes no focus.
+# How many elements the tabulator has to pass from the focus to the wanted one; fewer than 0 where it lies behind, 0
+# where it has the focus. Nothing where it isn't there, or takes no focus.
 STEPS = """
     const wanted = document.querySelector(arguments[0]), focus = document.activeElement;
     const all = [...document.querySelectorAll('a[href], button, input, select, textarea, summary, [tabindex="0"]')]
@@ -29,8 +29,9 @@ STEPS = """
 
 ELSEWHERE = "elsewhere.example"  # a name that leads to this machine
 SIZE = (1000, 800)
-WORDS = ("--headless=new", "--disable-gpu", "--disable-dev-shm-usage", "--force-prefers-reduced-motion", "--no-first-run", "--disable-extensions",
-         "--disable-background-networking", "--disable-component-update", "--disable-sync", "--disable-breakpad", "--disable-back-forward-cache",
+WORDS = ("--headless=new", "--disable-gpu", "--disable-dev-shm-usage", "--force-prefers-reduced-motion",
+         "--no-first-run", "--disable-extensions", "--disable-background-networking", "--disable-component-update",
+         "--disable-sync", "--disable-breakpad", "--disable-back-forward-cache",
          "--disable-features=PreloadTopChromeWebUI,Translate,MediaRouter", f"--window-size={SIZE[0]},{SIZE[1]}",
          f"--host-resolver-rules=MAP {ELSEWHERE} 127.0.0.1")
 
@@ -67,7 +68,8 @@ class Browser:
         self.until(lambda: self.text("#program"), "the page says the program's version")
 
     def leave(self):
-        """Leaves the page while its server is still there, to which it says so; what the browser complained of is no further test's."""
+        """Leaves the page while its server is still there, to which it says so; what the browser complained of is no
+        further test's."""
         self.driver.get("about:blank")
         self.complaints()
 
@@ -140,11 +142,13 @@ class Browser:
         self.press(Keys.ENTER)
 
     def choose(self, css, beginning):
-        """Chooses an option by typing its first word; where that was too slow to be taken for one word, once more. (A blank that comes late opens the list.)"""
+        """Chooses an option by typing its first word; where that was too slow to be taken for one word, once more. (A
+        blank that comes late opens the list.)"""
         self.focus(css)
         for _ in range(5):
             self.press(beginning.split(" ")[0])
-            if self.run("return document.querySelector(arguments[0]).selectedOptions[0].textContent", css).startswith(beginning):
+            if self.run("return document.querySelector(arguments[0]).selectedOptions[0].textContent",
+                        css).startswith(beginning):
                 return
             time.sleep(2)
         raise AssertionError(f"{beginning} can't be chosen in {css}")

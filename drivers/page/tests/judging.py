@@ -1,4 +1,5 @@
-"""A program that judges as it is asked to, and passes all other jobs on to the built one: so each form of a verdict can be looked at."""
+"""A program that judges as it is asked to, and passes all other jobs on to the built one: so each form of a verdict can
+be looked at."""
 import stat
 from pathlib import Path
 

@@ -15,7 +15,8 @@ HERE = Path(__file__).resolve().parent
 PAGE = HERE.parent
 ROOT = PAGE.parents[1]
 PROGRAM = Path(os.environ["XA_SCRIPT"])
-MEMORY = os.environ.get("XA_SCRIPT_MEMORY", "1024")  # MiB for each child, or unlimited where the program has an address sanitizer
+# MiB for each child, or unlimited where the program has an address sanitizer
+MEMORY = os.environ.get("XA_SCRIPT_MEMORY", "1024")
 PICTURES = Path(os.environ.get("PAGE_PICTURES", PAGE / "out"))
 sys.path.insert(0, str(PAGE))
 
@@ -25,7 +26,8 @@ from classroom.server import Classroom  # noqa: E402
 
 def says(job, text, *words):
     """What the program itself writes for an input, and its status."""
-    ran = subprocess.run([PROGRAM, job, *words], input=text, stdout=subprocess.PIPE, stderr=subprocess.DEVNULL, timeout=60)
+    ran = subprocess.run([PROGRAM, job, *words], input=text, stdout=subprocess.PIPE, stderr=subprocess.DEVNULL,
+                         timeout=60)
     return ran.stdout, ran.returncode
 
 
@@ -37,7 +39,8 @@ class Page:
     """A page that is served by a process of its own, as a person starts it."""
 
     def __init__(self, *words, program=PROGRAM):
-        self.process = subprocess.Popen([PAGE / "serve", "--port", "0", "--program", program, "--memory", MEMORY, *words], stdout=subprocess.PIPE)
+        self.process = subprocess.Popen([PAGE / "serve", "--port", "0", "--program", program, "--memory", MEMORY,
+                                         *words], stdout=subprocess.PIPE)
         self.address = self.process.stdout.readline().decode().strip()
         assert self.address.startswith("http://127.0.0.1:"), self.address
         self.port = int(self.address.split(":")[2].strip("/"))

@@ -1,4 +1,5 @@
-"""A point of the bench's table as a story: the page that the bench keeps of it leads to the view of two-phase commit."""
+"""A point of the bench's table as a story: the page that the bench keeps of it leads to the view of two-phase
+commit."""
 import subprocess
 import sys
 import tempfile
@@ -21,8 +22,10 @@ class Story(View):
         folder = tempfile.TemporaryDirectory()
         cls.addClassCleanup(folder.cleanup)
         manager = f"{sys.executable} {BENCH}/managers/wrong.py never-decides"
-        words = ["--program", PROGRAM, "--run", f"{manager} run 90", "--recover", f"{manager} recover", "--only", POINT, "--keep", folder.name]
-        ran = subprocess.run([sys.executable, BENCH / "bench", *words], stdout=subprocess.PIPE, stderr=subprocess.STDOUT, text=True)
+        words = ["--program", PROGRAM, "--run", f"{manager} run 90", "--recover", f"{manager} recover", "--only", POINT,
+                 "--keep", folder.name]
+        ran = subprocess.run([sys.executable, BENCH / "bench", *words], stdout=subprocess.PIPE,
+                             stderr=subprocess.STDOUT, text=True)
         assert ran.returncode == 1, ran.stdout
         cls.kept = Path(folder.name) / POINT.replace(",", "").replace(" ", "-")
         usual = (cls.kept / "story.html").read_text()
@@ -30,14 +33,17 @@ class Story(View):
         (cls.kept / "story.html").write_text(usual.replace("http://127.0.0.1:8400/", cls.page.address))
 
     def calls(self):
-        return self.browser.run("return [...document.querySelectorAll('#sequence .call[data-answer]')].map((it) => [it.dataset.line, it.dataset.answer])")
+        return self.browser.run("return [...document.querySelectorAll('#sequence .call[data-answer]')].map((it) => "
+                                "[it.dataset.line, it.dataset.answer])")
 
     def test_the_link_shows_what_each_store_was_asked(self):
-        """Store 1 has committed, store 2 waits in doubt until the recovery rolls it back, and the rows differ in the end."""
+        """Store 1 has committed, store 2 waits in doubt until the recovery rolls it back, and the rows differ in the
+        end."""
         story = (self.kept / "story.calls").read_text().splitlines()
         self.browser.driver.get((self.kept / "story.html").as_uri())
         self.browser.push("a")
-        self.until(lambda: len(self.calls()) == sum(line.startswith("AT ") for line in story), "the whole story is drawn")
+        self.until(lambda: len(self.calls()) == sum(line.startswith("AT ") for line in story),
+                   "the whole story is drawn")
         said = {story[int(line) - 1]: answer for line, answer in self.calls()}
         self.assertEqual((said["AT 1 GET 'row'"], said["AT 2 GET 'row'"]), ("VALUE '90'", "NONE"))
         (commit,) = [line for line in story if " XA COMMIT " in line and line.startswith("AT ")]
@@ -46,7 +52,8 @@ class Story(View):
         remarks = " ".join(self.browser.texts("#sequence .remark"))
         self.assertIn(f"{POINT}: MIXED, store 1 committed, store 2 rolled back", remarks)
         self.assertIn("The manager is killed. The store never gets XA COMMIT", remarks)
-        bands = self.browser.run("return [...document.querySelectorAll('#sequence .doubt')].map((it) => [it.dataset.store, it.querySelector('rect').getBBox().height])")
+        bands = self.browser.run("return [...document.querySelectorAll('#sequence .doubt')].map((it) => "
+                                 "[it.dataset.store, it.querySelector('rect').getBBox().height])")
         heights = dict(bands)
         self.assertEqual(sorted(heights), ["1", "2"])
         self.assertGreater(heights["2"], 2 * heights["1"])

@@ -36,14 +36,16 @@ class Commit(View):
 
     def answers(self):
         """What the program printed for each call, its values as texts."""
-        return self.browser.run("return [...document.querySelectorAll('#sequence .call[data-answer]')].map((it) => it.dataset.answer)")
+        return self.browser.run(
+            "return [...document.querySelectorAll('#sequence .call[data-answer]')].map((it) => it.dataset.answer)")
 
     def doubt(self):
         """The identifiers of the cards in doubt."""
         return self.browser.run("return [...document.querySelectorAll('#doubt .card')].map((it) => it.dataset.xid)")
 
     def marked(self, stores):
-        """The branches whose bands reach over the end of each call: for each call the identifiers of each store, in order."""
+        """The branches whose bands reach over the end of each call: for each call the identifiers of each store, in
+        order."""
         return self.browser.run("""const bands = [...document.querySelectorAll('#sequence .doubt')].map((it) => [it.dataset, it.querySelector('rect').getBBox()]);
             return [...document.querySelectorAll('#sequence .call')].map((call) => Array.from({ length: arguments[0] }, (_, store) =>
                 bands.filter(([data, box]) => Number(data.store) === store && box.y < call.dataset.bottom && box.y + box.height > call.dataset.bottom - 1)
@@ -67,7 +69,8 @@ class Commit(View):
         return self.browser.texts("#stops optgroup option")
 
     def test_every_stop_is_shown(self):
-        """Each stop that the program lists is offered, and the calls that show it are answered with what it recovers."""
+        """Each stop that the program lists is offered, and the calls that show it are answered with what it
+        recovers."""
         printed = says("stops", TRANSFER.encode())[0].decode().splitlines()
         stops = [(line.split()[1:], printed[at + 1]) for at, line in enumerate(printed) if line.startswith("STOP ")]
         self.open(calls=TRANSFER, at=0)
@@ -84,7 +87,8 @@ class Commit(View):
                 self.assertEqual(len(self.listed()), len(stops), "the other stops are still offered")
 
     def texts_of_last(self):
-        found = self.browser.run("return [...document.querySelectorAll('#sequence .call:not(.remark, .blank)')].map((it) => it.querySelector('.statement').textContent)")
+        found = self.browser.run("return [...document.querySelectorAll('#sequence .call:not(.remark, "
+                                 ".blank)')].map((it) => it.querySelector('.statement').textContent)")
         return found[-1] if found else ""
 
     def test_calls_with_crashes_have_no_stops(self):
@@ -93,7 +97,8 @@ class Commit(View):
         self.assertEqual(self.listed(), [])
 
     def test_branches_are_shaded_from_the_vote_to_their_end(self):
-        calls = ["BEGIN", "FAIL 1 AFTER 4", *[f"WORK 1 {store} PUT 'k','v'" for store in range(3)], "PREPARE 1", "DECIDE 1", "FINISH 1", "STOP", "RECOVER", "SHOW"]
+        calls = ["BEGIN", "FAIL 1 AFTER 4", *[f"WORK 1 {store} PUT 'k','v'" for store in range(3)], "PREPARE 1",
+                 "DECIDE 1", "FINISH 1", "STOP", "RECOVER", "SHOW"]
         self.open(calls="\n".join(calls))
         self.until(lambda: self.given() == len(calls) and len(self.sessions(6)) == 3, "all is answered")
         marks = self.marked(3)
@@ -126,8 +131,10 @@ class Commit(View):
         self.push("ABANDON n")
         self.browser.type("#any-call", "  PREPARE 77 \n")
         self.until(lambda: self.given() == 11, "any call")
-        calls = ["BEGIN", "WORK 1 0 PUT 'k','v'", "WORK 1 1 PUT 'k','v'", "PREPARE 1", "DECIDE 1", "FINISH 1", "AT 1 GET 'k'", "SHOW", "BEGIN", "ABANDON 2", "PREPARE 77"]
-        self.assertEqual("\n".join(self.answers()) + "\n", says("coordinate", "\n".join(calls).encode() + b"\n", "--text")[0].decode())
+        calls = ["BEGIN", "WORK 1 0 PUT 'k','v'", "WORK 1 1 PUT 'k','v'", "PREPARE 1", "DECIDE 1", "FINISH 1",
+                 "AT 1 GET 'k'", "SHOW", "BEGIN", "ABANDON 2", "PREPARE 77"]
+        self.assertEqual("\n".join(self.answers()) + "\n",
+                         says("coordinate", "\n".join(calls).encode() + b"\n", "--text")[0].decode())
 
     def test_a_crash_at_each_arrow_of_the_second_phase(self):
         """FAIL at the arrow to store 1, STOP behind its answer, RECOVER: decided, so the rest commits."""
@@ -140,14 +147,18 @@ class Commit(View):
         cut = '#sequence .call[data-line="7"] .fail[data-store="1"]'
         self.browser.focus(cut)
         self.assertEqual(self.browser.text("#cut-says"), self.browser.one(cut).get_attribute("aria-label"))
-        self.assertEqual(self.browser.text("#cut-says"), "Cut here: XA COMMIT doesn't reach store 1, nor does a later call of this session "
+        self.assertEqual(self.browser.text("#cut-says"),
+                         "Cut here: XA COMMIT doesn't reach store 1, nor does a later call of this session "
                          "(FAIL 1 AFTER 0 before line 7)")
         self.browser.press(Keys.ENTER)
         self.until(lambda: self.given() == 8, "the call fails")
         self.assertEqual(self.answers()[-2:], ["OK", "UNFINISHED 1: out of memory"])
-        self.until(lambda: self.sessions(8) == [[0, ["XA COMMIT"], "acknowledgement OK"], [1, ["XA COMMIT"], "stopped: no answer"]], "the arrow is broken")
-        self.assertIn("UNFINISHED 1: stopped", self.browser.text('#sequence .call[data-line="8"]'), "it is said what happened")
-        self.assertEqual(self.browser.run("return document.activeElement.dataset.line"), "7", "the focus stays at the line")
+        self.until(lambda: self.sessions(8) == [[0, ["XA COMMIT"], "acknowledgement OK"],
+                                                [1, ["XA COMMIT"], "stopped: no answer"]], "the arrow is broken")
+        self.assertIn("UNFINISHED 1: stopped", self.browser.text('#sequence .call[data-line="8"]'),
+                      "it is said what happened")
+        self.assertEqual(self.browser.run("return document.activeElement.dataset.line"), "7",
+                         "the focus stays at the line")
         self.assertEqual(len(self.doubt()), 2)
         self.browser.focus('#sequence .call[data-line="8"] .stop')
         self.assertEqual(self.browser.text("#cut-says"), "Cut here: the coordinator crashes after line 8 (STOP)")
@@ -158,11 +169,14 @@ class Commit(View):
         self.assertEqual(self.answers()[-1], "RECOVERED committed 2 rolled back 0 missing 0")
         self.assertEqual(self.doubt(), [])
         self.assertIn("new coordinator", self.browser.text('#sequence .call[data-line="10"]'))
-        found = [["DISCONNECT", "XA RECOVER"], "1 prepared"], [["XA COMMIT of 1"], "acknowledgement OK"], [["XA RECOVER"], "none"]
+        found = ([["DISCONNECT", "XA RECOVER"], "1 prepared"], [["XA COMMIT of 1"], "acknowledgement OK"],
+                 [["XA RECOVER"], "none"])
         none = [["DISCONNECT", "XA RECOVER"], "0 prepared"], [["XA RECOVER"], "none"]
-        self.assertEqual(self.sessions(10), [[store, *part] for store, parts in enumerate([none, found, found]) for part in parts])
+        self.assertEqual(self.sessions(10),
+                         [[store, *part] for store, parts in enumerate([none, found, found]) for part in parts])
         self.assertEqual("\n".join(self.answers()) + "\n",
-                         says("coordinate", "\n".join([*calls[:6], "FAIL 1 AFTER 0", calls[6], "STOP", "RECOVER"]).encode() + b"\n")[0].decode())
+                         says("coordinate", "\n".join([*calls[:6], "FAIL 1 AFTER 0", calls[6], "STOP",
+                                                       "RECOVER"]).encode() + b"\n")[0].decode())
 
     def test_its_state_is_in_the_address(self):
         self.open()
@@ -211,7 +225,8 @@ class Commit(View):
     def test_bytes_of_any_kind_are_shown_as_text(self):
         text = b"<img src=x onerror=window.hacked=1>\xff\n"
         xid = f"X'{text.hex()}',X''"
-        calls = [f"AT 0 XA START {xid}", f"AT 0 XA END {xid}", f"AT 0 XA PREPARE {xid}", "AT 0 XA RECOVER", "<b>what</b>", "# <script>window.hacked=1</script>"]
+        calls = [f"AT 0 XA START {xid}", f"AT 0 XA END {xid}", f"AT 0 XA PREPARE {xid}", "AT 0 XA RECOVER",
+                 "<b>what</b>", "# <script>window.hacked=1</script>"]
         self.open(calls="\n".join(calls))
         self.until(lambda: self.given() == len(calls), "all is answered")
         self.assertEqual(self.doubt(), [f"0x{text.hex()},X'',1"])

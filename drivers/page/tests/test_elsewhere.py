@@ -40,7 +40,8 @@ class Elsewhere(unittest.TestCase):
             self.assertEqual(self.browser.text("body").strip(), "this host isn't served")
 
     def test_a_page_of_another_address_starts_nothing_and_reads_nothing(self):
-        with tempfile.TemporaryDirectory() as folder, standing_in(f"echo ran >> {folder}/ran") as program, room(program) as served:
+        with tempfile.TemporaryDirectory() as folder, standing_in(f"echo ran >> {folder}/ran") as program, room(
+                program) as served:
             with serving(TRIES.replace("TARGET", served.address)) as port:
                 self.browser.driver.get(f"http://{ELSEWHERE}:{port}/")
                 self.browser.until(lambda: self.browser.driver.title != "trying", "all was tried")

@@ -1,4 +1,5 @@
-"""For a lecture hall: the projector, zoom, a clicker, the marked line, the quiz and the hand-out, and how much of it is in sight on small and large screens."""
+"""For a lecture hall: the projector, zoom, a clicker, the marked line, the quiz and the hand-out, and how much of it is
+in sight on small and large screens."""
 import unittest
 
 from selenium.webdriver.common.keys import Keys
@@ -25,7 +26,8 @@ class Hall(View):
     view = "sessions"
 
     def sized(self, width, height):
-        self.browser.driver.execute_cdp_cmd("Emulation.setDeviceMetricsOverride", {"width": width, "height": height, "deviceScaleFactor": 1, "mobile": False})
+        self.browser.driver.execute_cdp_cmd("Emulation.setDeviceMetricsOverride",
+                                            {"width": width, "height": height, "deviceScaleFactor": 1, "mobile": False})
         self.addCleanup(self.browser.driver.execute_cdp_cmd, "Emulation.clearDeviceMetricsOverride", {})
 
     def at(self, view, **state):
@@ -40,15 +42,17 @@ class Hall(View):
 
     def test_type_is_large_on_a_projector(self):
         self.sized(1920, 1080)
-        for view, state, there in [("sessions", {"script": STORY, "at": 8}, "#given > li"), ("commit", {"calls": CALLS, "at": 9}, "#sequence .reply"),
-                                   ("race", {"script": "1 PUT 'k','v'\n2 GET 'k'", "runs": 2, "go": 1}, "#history .reply"),
-                                   ("judge", {"record": RECORD, "go": 1}, "#picture svg")]:
+        for view, state, there in [("sessions", {"script": STORY, "at": 8}, "#given > li"),
+                                   ("commit", {"calls": CALLS, "at": 9}, "#sequence .reply"),
+                                   ("race", {"script": "1 PUT 'k','v'\n2 GET 'k'", "runs": 2, "go": 1},
+                                    "#history .reply"), ("judge", {"record": RECORD, "go": 1}, "#picture svg")]:
             self.at(view, **state)
             self.until(lambda there=there: self.browser.all(there), f"{view} is drawn")
             self.browser.press("f")
             self.until(lambda: not self.browser.one("header").is_displayed(), "no tools")
-            self.until(lambda view=view: not [it for it in self.browser.run(FONTS) if it[0] < LEAST], f"all type of {view} is large: " +
-                       str([it for it in self.browser.run(FONTS) if it[0] < LEAST][:5]))
+            self.until(
+                lambda view=view: not [it for it in self.browser.run(FONTS) if it[0] < LEAST],
+                f"all type of {view} is large: " + str([it for it in self.browser.run(FONTS) if it[0] < LEAST][:5]))
 
     def test_zoom(self):
         self.open(script=STORY, at=3)
@@ -65,7 +69,8 @@ class Hall(View):
         self.assertEqual(self.browser.run(size), before, "in a text it is a letter")
 
     def test_a_clicker_steps_in_every_mode(self):
-        for view, state in [("sessions", {"script": "1 PUT 'a','1'\n1 PUT 'a','2'\n1 PUT 'a','3'\n1 PUT 'a','4'", "at": 0}), ("commit", {"calls": "BEGIN\nBEGIN\nBEGIN\nBEGIN", "at": 0})]:
+        for view, state in [("sessions", {"script": "1 PUT 'a','1'\n1 PUT 'a','2'\n1 PUT 'a','3'\n1 PUT 'a','4'",
+                                          "at": 0}), ("commit", {"calls": "BEGIN\nBEGIN\nBEGIN\nBEGIN", "at": 0})]:
             self.at(view, **state)
             for mode in ("plain", "projected"):
                 for key, wanted in [(Keys.PAGE_DOWN, 1), (Keys.SPACE, 2), (Keys.PAGE_UP, 1), (Keys.PAGE_UP, 0)]:
@@ -91,8 +96,11 @@ class Hall(View):
 
     def test_a_story_is_in_sight_at_1280(self):
         self.sized(1280, 800)
-        for view, state, needs in [("sessions", {"script": STORY, "at": 9}, ["#heads", ".line.current", "#branches", "#rows", '#sessions [data-do="step"]', "#entry"]),
-                                   ("commit", {"calls": CALLS, "at": 6}, ["#sequence-heads svg", '#sequence .call[data-line="6"]', "#doubt", "#decisions", '#commit [data-do="step"]'])]:
+        for view, state, needs in [
+                ("sessions", {"script": STORY, "at": 9},
+                 ["#heads", ".line.current", "#branches", "#rows", '#sessions [data-do="step"]', "#entry"]),
+                ("commit", {"calls": CALLS, "at": 6}, ["#sequence-heads svg", '#sequence .call[data-line="6"]',
+                                                       "#doubt", "#decisions", '#commit [data-do="step"]'])]:
             self.at(view, **state)
             self.until(lambda state=state: self.given() == state["at"], "it is answered")
             self.until(lambda needs=needs: self.browser.run(IN_SIGHT, needs) == [True] * len(needs), f"all of {needs}")
@@ -118,19 +126,25 @@ class Hall(View):
 
     def test_a_telephone(self):
         self.sized(390, 844)
-        for view, state in [("sessions", {}), ("sessions", {"script": STORY, "at": 9}), ("commit", {}), ("commit", {"calls": CALLS, "at": 9}), ("race", {}),
-                            ("race", {"script": "1 PUT 'k','v'\n2 GET 'k'", "runs": 2, "go": 1}), ("judge", {}), ("judge", {"record": RECORD, "go": 1})]:
+        for view, state in [("sessions", {}), ("sessions", {"script": STORY, "at": 9}), ("commit", {}),
+                            ("commit", {"calls": CALLS, "at": 9}), ("race", {}),
+                            ("race", {"script": "1 PUT 'k','v'\n2 GET 'k'", "runs": 2, "go": 1}), ("judge", {}),
+                            ("judge", {"record": RECORD, "go": 1})]:
             self.at(view, **state)
             self.until(lambda: self.browser.run(WIDE) == 0, f"nothing of {view} is beside the screen")
             if state.get("at"):
                 self.until(lambda: self.given() == 9, "it is answered")
                 self.browser.press(Keys.PAGE_DOWN)
                 self.until(lambda: self.given() > 9, "a step")
-                current = ".line.current .cell" if view == "sessions" else f'#sequence .call[data-line="{self.given()}"]'
+                current = (".line.current .cell" if view == "sessions"
+                           else f'#sequence .call[data-line="{self.given()}"]')
                 seen = [current, f'#{view} [data-do="step"]']
-                self.until(lambda seen=seen: self.browser.run(IN_SIGHT, seen) == [True, True], "what was answered is in sight, and Step")
-                self.assertLessEqual(*self.browser.run("""return [document.querySelector(arguments[0]).getBoundingClientRect().bottom,
-                    document.querySelector(arguments[1]).closest('.tape').getBoundingClientRect().top + 1]""", *seen), "the tools aren't over it")
+                self.until(lambda seen=seen: self.browser.run(IN_SIGHT, seen) == [True, True],
+                           "what was answered is in sight, and Step")
+                self.assertLessEqual(
+                    *self.browser.run("""return [document.querySelector(arguments[0]).getBoundingClientRect().bottom,
+                    document.querySelector(arguments[1]).closest('.tape').getBoundingClientRect().top + 1]""", *seen),
+                    "the tools aren't over it")
 
     def test_a_race_by_hand_on_a_telephone(self):
         self.sized(390, 844)
@@ -139,8 +153,10 @@ class Hall(View):
         for session in ("3", "1"):
             before = len(self.browser.all("#hand-lines .reply"))
             self.browser.push(f'#hand-next [data-session="{session}"]')
-            self.until(lambda before=before: len(self.browser.all("#hand-lines .reply")) == before + 1, "it is answered")
-            self.until(lambda: self.browser.run(IN_SIGHT, ["#hand-lines .line.current .cell"]) == [True], "the answer is in sight")
+            self.until(lambda before=before: len(self.browser.all("#hand-lines .reply")) == before + 1,
+                       "it is answered")
+            self.until(lambda: self.browser.run(IN_SIGHT, ["#hand-lines .line.current .cell"]) == [True],
+                       "the answer is in sight")
             self.assertEqual(self.browser.run(WIDE), 0)
 
     def test_a_quiz_in_sessions(self):
@@ -154,7 +170,8 @@ class Hall(View):
         self.browser.type("#sessions .quiz input", "ok" + Keys.ENTER)
         self.until(lambda: self.browser.text("#sessions .quiz-said") == "Right. Line 1: OK (1 of 1)", "right")
         self.assertEqual(self.given(), 1)
-        for guess, said in [("VALUE 'w'", "No. Line 2: VALUE 'v' (1 of 2)"), (None, "Line 4: OK"), ("1399", "Right. Line 5: ERROR 1399")]:
+        for guess, said in [("VALUE 'w'", "No. Line 2: VALUE 'v' (1 of 2)"), (None, "Line 4: OK"),
+                            ("1399", "Right. Line 5: ERROR 1399")]:
             self.browser.push('#sessions [data-do="step"]')
             self.until(lambda: self.browser.one("#sessions .quiz").is_displayed(), "it asks")
             if guess is None:
@@ -195,8 +212,9 @@ class Hall(View):
         self.at("commit", calls="BEGIN\nDECIDE 1\nRECOVER\nBEGIN", at=0)
         self.until(lambda: self.browser.all("#sequence .call"), "it is drawn")
         self.browser.push('#commit [data-do="quiz"]')
-        for guess, said in [("transaction", "Right. Line 1: TRANSACTION 1 (1 of 1)"), ("wrong stage", "Right. Line 2: WRONG STAGE 1"),
-                            ("recovered", "Right. Line 3: RECOVERED"), ("ready", "No. Line 4: TRANSACTION 2 (3 of 4)")]:
+        for guess, said in [("transaction", "Right. Line 1: TRANSACTION 1 (1 of 1)"),
+                            ("wrong stage", "Right. Line 2: WRONG STAGE 1"), ("recovered", "Right. Line 3: RECOVERED"),
+                            ("ready", "No. Line 4: TRANSACTION 2 (3 of 4)")]:
             self.browser.press(Keys.PAGE_DOWN)
             self.until(lambda: self.browser.one("#commit .quiz").is_displayed(), "it asks")
             self.browser.type("#commit .quiz input", guess + Keys.ENTER)
@@ -204,7 +222,8 @@ class Hall(View):
             self.browser.focus('#commit [data-do="quiz"]')
 
     def test_a_race_by_hand_on_a_projector(self):
-        """Who goes next is asked there too, and a digit answers; a clicker steps if one session alone is left, and back."""
+        """Who goes next is asked there too, and a digit answers; a clicker steps if one session alone is left, and
+        back."""
         self.sized(1920, 1080)
         self.at("race", script="1 PUT 'k','1'\n2 GET 'k'\n2 GET 'k'", hand="0")
         self.until(lambda: len(self.browser.all("#hand-next .go-next")) == 2, "two sessions can go")
@@ -227,7 +246,8 @@ class Hall(View):
         self.at("race", script="1 XA START 'a'\n2 XA START 'a'", runs=20, seed=1, go=1)
         self.until(lambda: self.browser.text("#race-progress") == "20 of 20 runs", "all runs came back")
         self.assertEqual(len(self.browser.all("#histories .history")), 2)
-        pressed = "return [...document.querySelectorAll('#histories .history')].map((it) => it.getAttribute('aria-pressed'))"
+        pressed = (
+            "return [...document.querySelectorAll('#histories .history')].map((it) => it.getAttribute('aria-pressed'))")
         for key, wanted in [(Keys.PAGE_DOWN, ["false", "true"]), (Keys.PAGE_UP, ["true", "false"])]:
             self.browser.press(key)
             self.until(lambda wanted=wanted: self.browser.run(pressed) == wanted, "the next one, and back")
@@ -252,25 +272,31 @@ class Hall(View):
         self.assertEqual(self.browser.text("#commit .quiz-said"), "Line 5: READY")
 
     def test_a_hand_out(self):
-        for view, state, css, count in [("sessions", {"script": STORY, "at": 3}, "#given > li", len(STORY.splitlines())),
+        for view, state, css, count in [("sessions", {"script": STORY, "at": 3}, "#given > li",
+                                         len(STORY.splitlines())),
                                         ("commit", {"calls": CALLS * 2, "at": 3}, "#sequence-pages svg > svg", 2)]:
             self.at(view, **state)
             self.until(lambda: self.given() == 3, "three lines")
-            self.browser.run(f"""window.print = () => {{ window.handedOut = document.querySelectorAll({css!r}).length; }};""")
+            self.browser.run(
+                f"""window.print = () => {{ window.handedOut = document.querySelectorAll({css!r}).length; }};""")
             self.browser.push(f"#{view} .more summary")
             self.browser.push(f'#{view} [data-do="print"]')
             self.until(lambda: self.browser.run("return window.handedOut ?? 0") >= count, "the whole story is printed")
             self.until(lambda: self.given() == 3, "and the page is where it was")
         dark = [{"name": "prefers-color-scheme", "value": "dark"}]
         self.browser.driver.execute_cdp_cmd("Emulation.setEmulatedMedia", {"media": "print", "features": dark})
-        self.addCleanup(self.browser.driver.execute_cdp_cmd, "Emulation.setEmulatedMedia", {"media": "", "features": []})
+        self.addCleanup(self.browser.driver.execute_cdp_cmd, "Emulation.setEmulatedMedia",
+                        {"media": "", "features": []})
         self.assertFalse(self.browser.one("#commit .tools").is_displayed())
         self.assertTrue(self.browser.one("#sequence-pages svg").is_displayed())
         self.assertFalse(self.browser.one("#calls-form").is_displayed())
         style = "return getComputedStyle(document.querySelector(arguments[0]))[arguments[1]]"
-        self.assertEqual(self.browser.run(style, "#sequence-pages .paper", "fill"), "rgb(255, 255, 255)", "no ink for paper")
-        self.assertEqual(self.browser.run(style, "#sequence-pages .statement", "fill"), "rgb(29, 33, 38)", "dark on it, also if the screen is dark")
-        self.assertIn("hatching", self.browser.run(style, "#sequence-pages .band", "fill"), "what is in doubt is hatched")
+        self.assertEqual(self.browser.run(style, "#sequence-pages .paper", "fill"), "rgb(255, 255, 255)",
+                         "no ink for paper")
+        self.assertEqual(self.browser.run(style, "#sequence-pages .statement", "fill"), "rgb(29, 33, 38)",
+                         "dark on it, also if the screen is dark")
+        self.assertIn("hatching", self.browser.run(style, "#sequence-pages .band", "fill"),
+                      "what is in doubt is hatched")
         self.assertEqual(len(self.browser.all("#sequence #hatching .doubt-stripe")), 1, "and the stripes are there")
         self.at("sessions", script=STORY)
         self.until(lambda: self.given() == len(STORY.splitlines()), "all is answered")
@@ -295,7 +321,8 @@ class Hall(View):
         self.assertEqual(len(ends), 1, "two pages")
         self.assertGreater(min(bottom - top for top, bottom in boxes), 5)
         self.assertEqual([(end, box) for end in ends for box in boxes if box[0] + 0.5 < end < box[1] - 0.5], [])
-        self.assertEqual([end for end in ends if min(abs(end - it) for it in remarks) < 10], [], "a remark stays with what follows it")
+        self.assertEqual([end for end in ends if min(abs(end - it) for it in remarks) < 10], [],
+                         "a remark stays with what follows it")
 
 
 if __name__ == "__main__":

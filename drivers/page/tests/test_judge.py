@@ -1,4 +1,5 @@
-"""The view of the judge: each form of a verdict from a program that gives it, and the built program's own where it has the job."""
+"""The view of the judge: each form of a verdict from a program that gives it, and the built program's own where it has
+the job."""
 import re
 import tempfile
 import unittest
@@ -35,7 +36,8 @@ class Verdicts(View):
         return self.browser.text("#verdict")
 
     def marked(self):
-        return self.browser.run("return [...document.querySelectorAll('#record-lines .marked')].map((it) => Number(it.dataset.line))")
+        return self.browser.run(
+            "return [...document.querySelectorAll('#record-lines .marked')].map((it) => Number(it.dataset.line))")
 
     def test_a_legal_record_is_played(self):
         """Three statements that overlap, and the one order in which they can have been."""
@@ -48,7 +50,8 @@ class Verdicts(View):
         self.assertEqual(self.browser.text("#printed"), "2 VALUE 0x76\n  ROW 0x6b VALUE 0x76\n")
         self.assertEqual(self.browser.texts("#given .statement"), ["GET 'k'", "PUT 'k','v'", "GET 'k'"])
         self.assertEqual(self.browser.texts("#given .reply"), ["NONE", "OK", "VALUE 'v'"])
-        self.assertEqual(self.as_printed("#given .reply"), [line.split(" ", 1)[1] for line in says("run", order)[0].decode().splitlines()])
+        self.assertEqual(self.as_printed("#given .reply"),
+                         [line.split(" ", 1)[1] for line in says("run", order)[0].decode().splitlines()])
 
     def test_an_illegal_line_is_marked_with_what_could_have_been_answered(self):
         record = RECORDS["dirty_read"]
@@ -64,8 +67,9 @@ class Verdicts(View):
         could = b"COULD BE ROWS 0\nCOULD BE ROWS 1\n1 1 0 0x61\nCOULD BE ERROR 1399 (XAE07): XAER_RMFAIL state ACTIVE\n"
         self.judge(b"1 > XA RECOVER\n1 < ROWS 1\n1 1 0 0x62\n", b"ILLEGAL line 2\n" + could, 4)
         self.assertEqual(self.marked(), [2])
-        self.assertEqual(self.browser.texts("#record-lines .could"), ["could be ROWS 0", "could be ROWS 1\n1 1 0 0x61",
-                                                                      "could be ERROR 1399 (XAE07): XAER_RMFAIL state ACTIVE"])
+        self.assertEqual(self.browser.texts("#record-lines .could"),
+                         ["could be ROWS 0", "could be ROWS 1\n1 1 0 0x61",
+                          "could be ERROR 1399 (XAE07): XAER_RMFAIL state ACTIVE"])
 
     def test_an_undecided_line_is_marked(self):
         self.assertRegex(self.judge(b"1 > GET 'k'\n1 < NONE\n", b"UNDECIDED line 2\n", 5), "^UNDECIDED at line 2:")
@@ -81,7 +85,8 @@ class Verdicts(View):
         got = self.judge(record, b"LINE 2: session 1 has an open call\nLINE 3: not a line of a record\n", 6)
         self.assertRegex(got, "^No verdict")
         self.assertEqual(self.marked(), [2, 3])
-        self.assertEqual(self.browser.texts("#record-lines .fault"), ["session 1 has an open call", "not a line of a record"])
+        self.assertEqual(self.browser.texts("#record-lines .fault"),
+                         ["session 1 has an open call", "not a line of a record"])
 
     def test_a_program_that_ends_is_said_so(self):
         self.assertIn("status 3", self.judge(b"1 > GET 'k'\n", b"", 3))
@@ -97,7 +102,8 @@ class Verdicts(View):
         self.judging.gives(b"UNDECIDED line 3\n", 5)
         self.open()
         self.browser.choose("#record-example", "handed over")
-        self.until(lambda: self.browser.one("#record").get_property("value").startswith("# Session 1 prepares"), "the record")
+        self.until(lambda: self.browser.one("#record").get_property("value").startswith("# Session 1 prepares"),
+                   "the record")
         self.browser.replace("#limit", "7")
         self.browser.push('#judge-form button[type="submit"]')
         self.until(lambda: self.marked() == [3], "the verdict")

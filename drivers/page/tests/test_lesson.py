@@ -1,4 +1,5 @@
-"""The lesson of drivers/page/README.md#a-lesson-of-half-an-hour, step by step, by keys alone: what it says is what is seen."""
+"""The lesson of drivers/page/README.md#a-lesson-of-half-an-hour, step by step, by keys alone: what it says is what is
+seen."""
 import re
 import unittest
 from pathlib import Path
@@ -11,9 +12,10 @@ ROOT = Path(__file__).resolve().parents[3]
 PAGE = (ROOT / "drivers/page/README.md").read_text(encoding="utf-8")
 LESSON = PAGE.partition("\n## A lesson of half an hour\n")[2].partition("\n## ")[0]
 # what the page tells a teacher to choose, to type and to see, and what the steps below do
-NAMED = ["`two phase commit`", "At line 5 ", "After line 8 ", "Run to line 10.", "`GET 'alice'`", "`GET 'bob'`", "session 3: `VALUE '90'` and `NONE`", "`lock conflict`, and run to line 4.",
-         "`two writers`", f"race it {RUNS} times", "`transfer`", "`17.0`", "`PREPARE 1`", "`19.0`", "`DECIDE 1`", "`FINISH`", "`SHOW`", "`STOP`", "`RECOVER`", "`dirty read`",
-         "`lost while committing`"]
+NAMED = ["`two phase commit`", "At line 5 ", "After line 8 ", "Run to line 10.", "`GET 'alice'`", "`GET 'bob'`",
+         "session 3: `VALUE '90'` and `NONE`", "`lock conflict`, and run to line 4.", "`two writers`",
+         f"race it {RUNS} times", "`transfer`", "`17.0`", "`PREPARE 1`", "`19.0`", "`DECIDE 1`", "`FINISH`", "`SHOW`",
+         "`STOP`", "`RECOVER`", "`dirty read`", "`lost while committing`"]
 
 
 class Text(unittest.TestCase):
@@ -41,10 +43,12 @@ class Lesson(View):
         return self.browser.texts("#given .reply")[-1]
 
     def calls(self):
-        return self.browser.run("return [...document.querySelectorAll('#sequence .call:not(.remark, .blank)')].map((it) => it.querySelector('.statement').textContent)")
+        return self.browser.run("return [...document.querySelectorAll('#sequence .call:not(.remark, "
+                                ".blank)')].map((it) => it.querySelector('.statement').textContent)")
 
     def replies(self):
-        return self.browser.run("return [...document.querySelectorAll('#sequence .call[data-answer]')].map((it) => it.dataset.answer)")
+        return self.browser.run(
+            "return [...document.querySelectorAll('#sequence .call[data-answer]')].map((it) => it.dataset.answer)")
 
     def cards(self):
         return self.browser.run("""return [...document.querySelectorAll('#branches .card')].map((it) =>
@@ -57,7 +61,8 @@ class Lesson(View):
         for line in range(2, 6):
             self.browser.chord(Keys.ALT, Keys.ARROW_RIGHT)
             self.until(lambda line=line: self.given("sessions") == line, "a step")
-        self.assertEqual([card[0] for card in self.cards()], ["'transfer','credit',1", "'transfer','debit',1"], "two branches of one transaction")
+        self.assertEqual([card[0] for card in self.cards()], ["'transfer','credit',1", "'transfer','debit',1"],
+                         "two branches of one transaction")
         self.run_to("sessions", 8)
         self.assertIn(["'transfer','debit',1", "PREPARED", "no owner"], self.cards())
         self.assertEqual(self.browser.text("#heads .s1 .seat"), "free")
@@ -74,7 +79,8 @@ class Lesson(View):
         self.assertEqual(self.browser.texts("#given .rule"), [])
         self.browser.push('#sessions [data-do="step"]')
         self.until(lambda: self.given("sessions") == 5, "line 5")
-        cell = re.search(r"^\| PUT, DEL \|[^|]*\| ([^|]*) \|", (ROOT / "docs/STATEMENTS.md").read_text(encoding="utf-8"), re.MULTILINE)[1]
+        cell = re.search(r"^\| PUT, DEL \|[^|]*\| ([^|]*) \|",
+                         (ROOT / "docs/STATEMENTS.md").read_text(encoding="utf-8"), re.MULTILINE)[1]
         self.assertTrue(cell.startswith("3572 "), cell)
         self.assertEqual(self.browser.text("#given li:last-child .rule .table"), f"PUT, DEL, ACTIVE: {cell}")
 
@@ -87,11 +93,13 @@ class Lesson(View):
         self.until(lambda: self.browser.text("#race-progress") == f"{RUNS} of {RUNS} runs", "all runs came back")
         self.assertTrue(self.browser.one("#race-example").get_property("value"), "the example is named")
         self.browser.push("#histories .history:last-child")
-        refused = self.browser.run("""return [...document.querySelectorAll('#history .hung')].filter((it) => it.querySelector('.refused'))
+        refused = self.browser.run(
+            """return [...document.querySelectorAll('#history .hung')].filter((it) => it.querySelector('.refused'))
             .map((it) => it.querySelector('.statement').textContent.split(' ')[0])""")
         entered = sum(" PUT " in line for line in self.browser.text("#race-printed").split("\n") if "0x726f77" in line)
         self.assertEqual(entered + refused.count("PUT"), 2, "a PUT that is missing was refused")
-        reads = self.browser.run("return [...document.querySelectorAll('#history .hung.s3')].map((it) => it.querySelector('.statement').textContent)")
+        reads = self.browser.run("return [...document.querySelectorAll('#history .hung.s3')].map((it) => "
+                                 "it.querySelector('.statement').textContent)")
         self.assertEqual(reads, ["GET 'row'"] * 2)
         self.browser.push("#open-order")
         self.until(lambda: self.given("sessions") == 12, "twelve statements in one order")
@@ -102,7 +110,8 @@ class Lesson(View):
         self.until(lambda: self.browser.texts("#stops optgroup option"), "the example is open")
         self.browser.choose("#stops", "17.0")
         self.until(lambda: self.calls() and self.calls()[-1].startswith("RECOVER"), "the stop's calls are open")
-        prepare = self.browser.run("return [...document.querySelectorAll('#sequence .call')].find((it) => it.textContent.includes('PREPARE 1')).dataset.line")
+        prepare = self.browser.run("return [...document.querySelectorAll('#sequence .call')].find((it) => "
+                                   "it.textContent.includes('PREPARE 1')).dataset.line")
         self.run_to("commit", int(prepare))
         self.assertEqual(len(self.browser.all("#sequence .doubt")), 3)
         self.browser.chord(Keys.ALT, Keys.END)
@@ -132,7 +141,8 @@ class Lesson(View):
         self.until(lambda: self.given("commit") == 7, "it is carried out again")
         self.assertTrue(self.replies()[-1].startswith("UNFINISHED 1"))
         self.assertEqual(self.browser.texts("#doubt .card"), ["transaction 1, store 1"])
-        for call, answer in [("SHOW", "CLOSED"), ("STOP", "STOPPED"), ("RECOVER", "RECOVERED committed 1 rolled back 0 missing 0")]:
+        for call, answer in [("SHOW", "CLOSED"), ("STOP", "STOPPED"),
+                             ("RECOVER", "RECOVERED committed 1 rolled back 0 missing 0")]:
             before = self.given("commit")
             self.browser.push(f'#calls-form button[value="{call}"]')
             self.until(lambda before=before: self.given("commit") == before + 1, call)
@@ -150,7 +160,8 @@ class Lesson(View):
         self.browser.push('#judge-form button[type="submit"]')
         self.until(lambda: self.browser.text("#verdict").startswith("LEGAL"), "the verdict")
         self.browser.push("#play-order")
-        self.until(lambda: self.browser.texts("#given .reply") == ["OK", "OK", "OK", "NONE", "OK", "VALUE '9'"], "the order is played")
+        self.until(lambda: self.browser.texts("#given .reply") == ["OK", "OK", "OK", "NONE", "OK", "VALUE '9'"],
+                   "the order is played")
 
 
 if __name__ == "__main__":

@@ -26,7 +26,8 @@ class HowMuch(unittest.TestCase):
             whole = json.dumps({"script": " " * ((1 << 20) - frame)}).encode()
             self.assertEqual(len(whole), 1 << 20)
             self.assertEqual(send(served.server_port, "POST", "/api/race", whole, own(served.server_port))[0], 200)
-            self.assertEqual(send(served.server_port, "POST", "/api/race", whole + b" ", own(served.server_port))[0], 413)
+            self.assertEqual(send(served.server_port, "POST", "/api/race", whole + b" ", own(served.server_port))[0],
+                             413)
             claimed = [*own(served.server_port), ("Content-Length", "9" * 30)]
             self.assertEqual(send(served.server_port, "POST", "/api/race", headers=claimed)[0], 413)
             chunked = [*own(served.server_port), ("Transfer-Encoding", "chunked")]
@@ -35,11 +36,16 @@ class HowMuch(unittest.TestCase):
     def test_a_bad_question_starts_no_child(self):
         with room() as served:
             port = served.server_port
-            for job, question in [("talk", {}), ("talk", {"talk": "a", "job": "run", "lines": []}), ("talk", {"talk": "a", "job": "show", "lines": ["a\nb"]}),
-                                  ("talk", {"talk": "a", "job": "show", "lines": [1]}), ("talk", {"talk": "", "job": "show", "lines": []}),
-                                  ("talk", {"talk": "a", "job": "show", "lines": ["\u0100"]}), ("talk", {"talk": "a", "job": "show", "lines": [], "known": 1}),
-                                  ("race", {"script": 1}), ("race", {"script": "", "times": 201}), ("race", {"script": "", "capacity": True}),
-                                  ("race", {"script": "", "together": "--help"}), ("race", {"script": "", "seed": "1"}), ("judge", {"record": "", "limit": 0}),
+            for job, question in [("talk", {}), ("talk", {"talk": "a", "job": "run", "lines": []}),
+                                  ("talk", {"talk": "a", "job": "show", "lines": ["a\nb"]}),
+                                  ("talk", {"talk": "a", "job": "show", "lines": [1]}),
+                                  ("talk", {"talk": "", "job": "show", "lines": []}),
+                                  ("talk", {"talk": "a", "job": "show", "lines": ["\u0100"]}),
+                                  ("talk", {"talk": "a", "job": "show", "lines": [], "known": 1}),
+                                  ("race", {"script": 1}), ("race", {"script": "", "times": 201}),
+                                  ("race", {"script": "", "capacity": True}),
+                                  ("race", {"script": "", "together": "--help"}), ("race", {"script": "", "seed": "1"}),
+                                  ("judge", {"record": "", "limit": 0}),
                                   ("calls", {"lines": []}), ("calls", {"lines": ["BEGIN"], "stores": 17})]:
                 self.assertEqual(ask(port, job, question)[0], 400, (job, question))
             for body in (b"", b"{", b"[]", b"[" * 100_000, b"\xff", b"null"):
@@ -56,7 +62,8 @@ class HowMuch(unittest.TestCase):
                 most = max(most, served.pool.count())
             self.assertEqual(most, 32)
             status, got = show(served.server_port, "talk 0", PUT, "2 GET 'k'", known=1)
-            self.assertEqual((status, got["answers"][0][0].split("\n")[0]), (200, "2 VALUE 0x76"), "its child made room, and another went on")
+            self.assertEqual((status, got["answers"][0][0].split("\n")[0]), (200, "2 VALUE 0x76"),
+                             "its child made room, and another went on")
             self.assertIn("other talks", got["note"])
             self.assertEqual(len(self.started()), 32)
         self.assertEqual(self.started(), [], "all ended with the page")
@@ -85,7 +92,8 @@ class HowMuch(unittest.TestCase):
 
     def test_ten_minutes_are_the_limit(self):
         with room() as served:
-            self.assertEqual((served.limits.idle_seconds, served.limits.children, served.limits.request_bytes), (600, 32, 1 << 20))
+            self.assertEqual((served.limits.idle_seconds, served.limits.children, served.limits.request_bytes),
+                             (600, 32, 1 << 20))
 
     def test_all_children_end_with_the_page(self):
         for end in (signal.SIGTERM, signal.SIGINT, signal.SIGHUP, signal.SIGKILL):
@@ -110,7 +118,8 @@ class HowMuch(unittest.TestCase):
             self.assertEqual(served.pool.count(), 0)
 
     def test_the_memory_of_a_child_is_bounded(self):
-        with standing_in("exec /usr/bin/python3 -c 'bytearray(1 << 30)'") as program, room(program, memory_kib=256 << 10) as served:
+        with standing_in("exec /usr/bin/python3 -c 'bytearray(1 << 30)'") as program, room(
+                program, memory_kib=256 << 10) as served:
             status, got = ask(served.server_port, "race", {"script": ""})
             self.assertEqual((status, got["ran"][0]["status"]), (200, 1))
             self.assertIn("MemoryError", got["ran"][0]["error"])
@@ -138,7 +147,8 @@ class HowMuch(unittest.TestCase):
     def test_a_child_that_ends_with_a_status_is_said_so(self):
         with standing_in("echo 'xa_script: out of memory' >&2; exit 3") as program, room(program) as served:
             _, got = show(served.server_port, "a", PUT)
-            self.assertEqual(got, {"answers": [], "ended": {"status": 3, "error": "xa_script: out of memory"}, "note": None})
+            self.assertEqual(got,
+                             {"answers": [], "ended": {"status": 3, "error": "xa_script: out of memory"}, "note": None})
 
     def test_a_child_that_doesnt_answer_is_ended(self):
         with standing_in("exec sleep 30") as program, room(program, answer_seconds=0.5) as served:

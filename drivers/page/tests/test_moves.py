@@ -20,10 +20,12 @@ class Moves(View):
         return int(self.browser.run("return document.querySelector('#sequence').dataset.given ?? 0"))
 
     def test_start_and_another_story_scroll_to_the_step(self):
-        self.browser.driver.execute_cdp_cmd("Emulation.setDeviceMetricsOverride", {"width": 1100, "height": 640, "deviceScaleFactor": 1, "mobile": False})
+        self.browser.driver.execute_cdp_cmd("Emulation.setDeviceMetricsOverride",
+                                            {"width": 1100, "height": 640, "deviceScaleFactor": 1, "mobile": False})
         self.addCleanup(self.browser.driver.execute_cdp_cmd, "Emulation.clearDeviceMetricsOverride", {})
         self.open(script=STORY)
-        self.until(lambda: self.given() == len(STORY.splitlines()) and self.browser.run(DOWN, ".columns") > 0, "the end is in sight")
+        self.until(lambda: self.given() == len(STORY.splitlines()) and self.browser.run(DOWN, ".columns") > 0,
+                   "the end is in sight")
         self.browser.chord(Keys.ALT, Keys.HOME)
         self.until(lambda: self.browser.run(DOWN, ".columns") == 0, "the start is in sight")
         self.view = "commit"
@@ -48,7 +50,8 @@ class Moves(View):
         self.browser.push('nav [data-view="commit"]')
         self.until(lambda: self.browser.one("#commit").is_displayed(), "another view")
         self.browser.run("history.back()")
-        self.until(lambda: self.browser.one("#sessions").is_displayed() and self.given() == there, "back at the same step")
+        self.until(lambda: self.browser.one("#sessions").is_displayed() and self.given() == there,
+                   "back at the same step")
         self.browser.run("history.go(-1)")
         self.until(lambda: self.given() == 6, "back at the first story's step")
         self.browser.run("history.forward()")
@@ -70,7 +73,8 @@ class Moves(View):
         link = self.browser.one("#any-call").get_property("value")
         self.assertEqual(link, self.browser.run("return location.href"))
         self.browser.go(link)
-        self.until(lambda: "WORK 1 0 PUT 'alice','70'" in self.browser.text("#sequence"), "who gets the link sees the calls")
+        self.until(lambda: "WORK 1 0 PUT 'alice','70'" in self.browser.text("#sequence"),
+                   "who gets the link sees the calls")
 
     def test_the_focus_goes_to_step_once_a_story_is_chosen(self):
         self.open()
@@ -88,9 +92,11 @@ class Moves(View):
         self.view = "commit"
         self.addCleanup(setattr, self, "view", "sessions")
         self.open(calls=CALLS, at=5)
-        self.until(lambda: self.browser.text("#commit-said[aria-live=polite]") == "Line 5: PREPARE 1: READY. Branches in doubt: 2", "the answer, and what is in doubt")
+        self.until(lambda: self.browser.text("#commit-said[aria-live=polite]") == "Line 5: PREPARE 1: READY. Branches "
+                   "in doubt: 2", "the answer, and what is in doubt")
         self.browser.go(f"{self.page.address}#race?script=1+PUT+'k','v'%0a2+GET+'k'&hand=1")
-        self.until(lambda: self.browser.text("#hand-left[aria-live=polite]").startswith("Session 1: OK. "), "the answer of a race by hand")
+        self.until(lambda: self.browser.text("#hand-left[aria-live=polite]").startswith("Session 1: OK. "),
+                   "the answer of a race by hand")
         self.browser.go(f"{self.page.address}#judge?record=1+>+GET+'k'%0a1+<+VALUE+'v'&go=1")
         self.until(lambda: self.browser.text("#verdict[role=status]").startswith("ILLEGAL at line 2"), "the verdict")
 

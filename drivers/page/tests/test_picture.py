@@ -1,4 +1,5 @@
-"""The judge's picture: what is drawn for a record, that no byte of it is markup, the command that writes it, and how the page shows and saves it."""
+"""The judge's picture: what is drawn for a record, that no byte of it is markup, the command that writes it, and how
+the page shows and saves it."""
 import os
 import re
 import subprocess
@@ -14,7 +15,8 @@ from classroom.picture import picture
 
 SVG = "{http://www.w3.org/2000/svg}"
 DRAWN = {"svg", "title", "style", "rect", "g", "line", "path", "text", "tspan"}
-RECORDS = {path.stem: path.read_bytes() for folder in ("examples/records", "cases/judge", "drivers/page/records") for path in sorted((ROOT / folder).glob("*.record"))}
+RECORDS = {path.stem: path.read_bytes() for folder in ("examples/records", "cases/judge", "drivers/page/records")
+           for path in sorted((ROOT / folder).glob("*.record"))}
 DIRTY = RECORDS["dirty_read"]
 
 
@@ -41,7 +43,8 @@ class Drawn:
 
     def ticks(self):
         """For each effect its number, its call's line, and where it stands."""
-        return [(int(it.get("data-nth")), it.get("data-line"), float(it.find(f"{SVG}line").get("y1"))) for it in self.of("effect")]
+        return [(int(it.get("data-nth")), it.get("data-line"), float(it.find(f"{SVG}line").get("y1")))
+                for it in self.of("effect")]
 
 
 def events(record):
@@ -128,16 +131,18 @@ class Pictures(unittest.TestCase):
             self.assertEqual(Drawn(b"1 > GET 'k'\n1 < NONE\n", verdict=b"LEGAL\n" + order).ticks(), [])
 
     def test_no_byte_of_a_record_is_markup(self):
-        for text in (b"</text><script>alert(1)</script>", b"]]><!--", b"&lt;&amp;&#0;", b"'\" onload='x", b"\x00\x01\x7f\xff\xfe", "\u202e\ufeff\uffff\u0301é漢".encode(), b"\xed\xa0\x80"):
+        for text in (b"</text><script>alert(1)</script>", b"]]><!--", b"&lt;&amp;&#0;", b"'\" onload='x",
+                     b"\x00\x01\x7f\xff\xfe", "\u202e\ufeff\uffff\u0301é漢".encode(), b"\xed\xa0\x80"):
             with self.subTest(text=text):
-                drawn = Drawn(b"# " + text + b"\n1 > PUT " + text + b"\n1 < ERROR 1064 " + text + b"\n" + text + b" is no line\n",
-                              verdict=b"LINE 4: " + text + b"\n")
+                drawn = Drawn(b"# " + text + b"\n1 > PUT " + text + b"\n1 < ERROR 1064 " + text + b"\n" + text
+                              + b" is no line\n", verdict=b"LINE 4: " + text + b"\n")
                 self.assertLessEqual({it.tag.removeprefix(SVG) for it in drawn.root.iter()}, DRAWN)
                 self.assertFalse(any(name.startswith("on") for it in drawn.root.iter() for name in it.keys()))
                 self.assertEqual(drawn.texts("said")[0].replace("\\", ""), shown_bytes(text).replace("\\", ""))
 
     def test_long_texts_and_lists_are_cut(self):
-        drawn = Drawn(b"1 > PUT '" + b"k" * 60 + b"','v'\n1 < OK\n1 > XA RECOVER\n1 < ROWS 30\n" + b"".join(b"%d 1 0 0x61\n" % at for at in range(30)))
+        drawn = Drawn(b"1 > PUT '" + b"k" * 60 + b"','v'\n1 < OK\n1 > XA RECOVER\n1 < ROWS 30\n"
+                      + b"".join(b"%d 1 0 0x61\n" % at for at in range(30)))
         self.assertRegex(drawn.texts("statement")[0], "^PUT 'k+…$")
         self.assertIn("k" * 60, "".join(drawn.root.itertext()))
         self.assertIn("+ 22", drawn.texts("hint"))
@@ -168,13 +173,15 @@ class Pictures(unittest.TestCase):
 
 class Command(unittest.TestCase):
     def run_it(self, *words, program=PROGRAM):
-        return subprocess.run([PAGE / "picture", *words], capture_output=True, env={**os.environ, "NIGBARU_PROGRAM": str(program)}, timeout=60)
+        return subprocess.run([PAGE / "picture", *words], capture_output=True,
+                              env={**os.environ, "NIGBARU_PROGRAM": str(program)}, timeout=60)
 
     def test_it_writes_what_the_page_shows(self):
         with room() as served:
             for name in ("dirty_read", "lost_client", "faulty_lines"):
                 wanted = ask(served.server_port, "judge", {"record": RECORDS[name].decode()})[1]["picture"]
-                path = next(path for folder in ("examples", "drivers/page") if (path := ROOT / folder / "records" / f"{name}.record").exists())
+                path = next(path for folder in ("examples", "drivers/page")
+                            if (path := ROOT / folder / "records" / f"{name}.record").exists())
                 ran = self.run_it(path)
                 self.assertEqual((ran.returncode, ran.stderr, ran.stdout.decode()), (0, b"", wanted))
 
@@ -186,14 +193,17 @@ class Command(unittest.TestCase):
         with tempfile.TemporaryDirectory() as folder:
             record = Path(folder) / "a.record"
             record.write_bytes(DIRTY)
-            for words, status, cause in [([Path(folder) / "none"], 1, b"No such file"), ([], 2, b"RECORD"), (["--lines", "9-3", record], 2, b"not lines"),
+            for words, status, cause in [([Path(folder) / "none"], 1, b"No such file"), ([], 2, b"RECORD"),
+                                         (["--lines", "9-3", record], 2, b"not lines"),
                                          (["--lines", "400-410", record], 1, b"lines, and none from 400 on"),
-                                         (["--limit", "0", record], 2, b"from 1 to 1000000"), (["--limit", "1000001", record], 2, b"from 1 to 1000000"),
+                                         (["--limit", "0", record], 2, b"from 1 to 1000000"),
+                                         (["--limit", "1000001", record], 2, b"from 1 to 1000000"),
                                          (["--program", "/nowhere", record], 1, b"/nowhere")]:
                 ran = self.run_it(*words)
                 self.assertEqual((ran.returncode, ran.stdout), (status, b""))
                 self.assertIn(cause, ran.stderr)
-            for words, cause in [("echo 'xa_script: out of memory' >&2; exit 3", b"out of memory"), ("echo what", b"no verdict"), ("exit 3", b"status 3")]:
+            for words, cause in [("echo 'xa_script: out of memory' >&2; exit 3", b"out of memory"),
+                                 ("echo what", b"no verdict"), ("exit 3", b"status 3")]:
                 with standing_in(words) as program:
                     ran = self.run_it(record, program=program)
                     self.assertEqual((ran.returncode, ran.stdout), (1, b""))
@@ -214,7 +224,8 @@ class Shown(View):
         self.assertEqual(self.browser.texts("#picture .marked text"), ["ILLEGAL at line 7", "COULD BE NONE"])
         self.assertEqual(self.browser.run("return document.querySelectorAll('#picture style').length"), 0)
         with tempfile.TemporaryDirectory() as folder:
-            self.browser.driver.execute_cdp_cmd("Browser.setDownloadBehavior", {"behavior": "allow", "downloadPath": folder})
+            self.browser.driver.execute_cdp_cmd("Browser.setDownloadBehavior",
+                                                {"behavior": "allow", "downloadPath": folder})
             self.browser.push("#save-picture")
             saved = Path(folder) / "record.svg"
             self.until(saved.exists, "the file is saved")
@@ -227,7 +238,8 @@ class Shown(View):
 
         found = {}
         for scheme in ("light", "dark"):
-            self.browser.driver.execute_cdp_cmd("Emulation.setEmulatedMedia", {"features": [{"name": "prefers-color-scheme", "value": scheme}]})
+            self.browser.driver.execute_cdp_cmd("Emulation.setEmulatedMedia",
+                                                {"features": [{"name": "prefers-color-scheme", "value": scheme}]})
             self.look(DIRTY)
             found[scheme] = colours()
         self.browser.driver.execute_cdp_cmd("Emulation.setEmulatedMedia", {"features": []})
@@ -237,7 +249,8 @@ class Shown(View):
             self.assertNotEqual(light, dark)
 
     def test_the_mark_is_in_sight(self):
-        self.look(b"".join(b"1 > PUT 'k','%d'\n1 < OK\n" % at for at in range(300)) + b"16 > GET 'k'\n16 < VALUE 'other'\n")
+        self.look(b"".join(b"1 > PUT 'k','%d'\n1 < OK\n" % at for at in range(300))
+                  + b"16 > GET 'k'\n16 < VALUE 'other'\n")
         inside = """const at = document.querySelector("#picture .marked").getBoundingClientRect(), all = document.querySelector("#picture").getBoundingClientRect();
             return at.top >= all.top && at.bottom <= all.bottom && at.left >= all.left && at.right <= all.right"""
         self.assertTrue(self.browser.run(inside))

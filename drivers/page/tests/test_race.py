@@ -8,12 +8,14 @@ from support import ROOT, help_of, says
 from views import View, replies
 
 WRITERS = (ROOT / "drivers/page/races/two_writers.script").read_bytes()
-CAUSE = re.search(r"^\| 1399 \|.*\| ([^|]*?) \|$", (ROOT / "docs/STATEMENTS.md").read_text(encoding="utf-8"), re.MULTILINE)[1].replace("`", "")
+CAUSE = re.search(r"^\| 1399 \|.*\| ([^|]*?) \|$", (ROOT / "docs/STATEMENTS.md").read_text(encoding="utf-8"),
+                  re.MULTILINE)[1].replace("`", "")
 HUNG = """return [...document.querySelectorAll('#history .hung')].map((it) => [Number(it.dataset.session), Number(it.dataset.place),
     it.querySelector('.statement').textContent, it.querySelector('.reply').dataset.printed ?? it.querySelector('.reply').textContent])"""
 PLAYED = """return [...document.querySelectorAll('#given .cell')].map((it) =>
     [Number(it.style.getPropertyValue('--column')), it.querySelector('.statement').textContent, it.querySelector('.reply').dataset.printed ?? it.querySelector('.reply').textContent])"""
-ENTRIES = "return [...document.querySelectorAll('#history tr.entry')].map((it) => [Number(it.dataset.place), it.querySelector('.canonical').title])"
+ENTRIES = ("return [...document.querySelectorAll('#history tr.entry')].map((it) => [Number(it.dataset.place), "
+           "it.querySelector('.canonical').title])")
 
 
 class Race(View):
@@ -25,7 +27,8 @@ class Race(View):
         self.until(lambda: self.browser.text("#race-progress") == f"{times} of {times} runs", "all runs came back")
 
     def bars(self):
-        return [int(count) for count in self.browser.run("return [...document.querySelectorAll('#histories .history')].map((it) => it.dataset.count)")]
+        return [int(count) for count in self.browser.run(
+            "return [...document.querySelectorAll('#histories .history')].map((it) => it.dataset.count)")]
 
     def opened(self):
         """The lines of the script that the address has in Sessions, or None elsewhere."""
@@ -33,7 +36,8 @@ class Race(View):
         return unquote_plus(found[1]).splitlines() if found else None
 
     def assert_drawn(self):
-        """What is drawn is what the program printed: each entry at its place, each answer at its own, in its session's column."""
+        """What is drawn is what the program printed: each entry at its place, each answer at its own, in its session's
+        column."""
         text = self.browser.text("#race-printed")
         head, *lines = text.splitlines()
         count = int(head.removeprefix("HISTORY "))
@@ -47,7 +51,8 @@ class Race(View):
     def test_histories_are_counted(self):
         self.open()
         self.browser.choose("#race-example", "first come")
-        self.until(lambda: self.browser.one("#race-script").get_property("value").startswith("1 XA START 'a'"), "the script")
+        self.until(lambda: self.browser.one("#race-script").get_property("value").startswith("1 XA START 'a'"),
+                   "the script")
         self.race(30)
         bars = self.bars()
         self.assertEqual(sum(bars), 30)
@@ -62,12 +67,14 @@ class Race(View):
         self.pictures(height=1800)
         for at in range(min(3, len(self.bars()))):
             self.browser.push(f"#histories .history:nth-child({at + 1})")
-            self.until(lambda at=at: self.browser.all(f"#histories .history:nth-child({at + 1})[aria-pressed=true]"), "it is picked")
+            self.until(lambda at=at: self.browser.all(f"#histories .history:nth-child({at + 1})[aria-pressed=true]"),
+                       "it is picked")
             self.assert_drawn()
             raced = sorted((session, statement, reply) for session, _, statement, reply in self.browser.run(HUNG))
             address = self.browser.run("return location.href")
             self.browser.push("#open-order")
-            self.until(lambda: [f"{session} {statement}" for session, statement, _ in self.browser.run(PLAYED)] == self.opened(), "the order is played")
+            self.until(lambda: [f"{session} {statement}" for session, statement, _ in self.browser.run(PLAYED)]
+                       == self.opened(), "the order is played")
             played = self.browser.run(PLAYED)
             self.assertEqual(sorted(map(tuple, played)), raced, "each statement is answered as in the race")
             order = "".join(f"{session} {statement}\n" for session, statement, _ in played).encode()
@@ -87,8 +94,8 @@ class Race(View):
 
     def test_one_session_has_one_history(self):
         """What enters nothing hangs before the entry at its place, and so it is played."""
-        script = ["XA END 'a'", "XA START 'a'", "GET 'k'", "GET 'k'", "PUT 'k','v'", "XA PREPARE 'a'", "XA END 'a'", "XA RECOVER", "XA PREPARE 'a'",
-                  "XA RECOVER CONVERT XID", "XA COMMIT 'a'", "GET 'k'"]
+        script = ["XA END 'a'", "XA START 'a'", "GET 'k'", "GET 'k'", "PUT 'k','v'", "XA PREPARE 'a'", "XA END 'a'",
+                  "XA RECOVER", "XA PREPARE 'a'", "XA RECOVER CONVERT XID", "XA COMMIT 'a'", "GET 'k'"]
         enter = [False, True, True, False, True, False, True, False, True, False, True, False]
         self.open(script="\n".join(f"1 {statement}" for statement in script), runs=3, go=1)
         self.until(lambda: self.bars() == [3], "the same history three times")
@@ -129,7 +136,8 @@ class Race(View):
         self.open()
         self.browser.type("#race-script", "1 GET 'k'")
         self.browser.focus("#runs")
-        self.assertEqual(self.browser.run("return location.hash"), "#race?script=1+GET+'k'&seed=1&runs=50&capacity=1024")
+        self.assertEqual(self.browser.run("return location.hash"),
+                         "#race?script=1+GET+'k'&seed=1&runs=50&capacity=1024")
         self.reopen()
         self.assertEqual(self.browser.one("#race-script").get_property("value"), "1 GET 'k'")
         self.assertEqual(self.bars(), [])
@@ -153,7 +161,8 @@ class Race(View):
         self.open(script=script, go=1)
         self.until(lambda: self.browser.all("#race-faults li"), "the faulty lines")
         wanted = [f"{fault}: {line}" for fault, line in zip(says("race", script)[0].decode().splitlines(),
-                                                            ["what <script>window.hacked=1</script>", "2 XA COMIT 'a'", "1 PUT 'ff'"])]
+                                                            ["what <script>window.hacked=1</script>", "2 XA COMIT 'a'",
+                                                             "1 PUT 'ff'"])]
         self.assertEqual(self.browser.texts("#race-faults li"), wanted)
         self.assertEqual(self.bars(), [])
 
@@ -184,15 +193,19 @@ class Race(View):
         """Remarks are left out, and a script in parts is raced by its outcomes, each shown with its statements."""
         script = "# Both write.\n1 PUT 'k','1'\n\nBESIDE\n1 GET 'k'\n2 PUT 'k','2'\nAFTER\n3 GET 'k'"
         self.open(script=script, runs=20, go=1)
-        self.until(lambda: self.browser.text("#race-progress") == "20 of 20 runs" and self.browser.all("#possible li.came"), "all runs came back")
-        came = [int(count) for count in self.browser.run("return [...document.querySelectorAll('#possible li.came')].map((it) => it.dataset.came)")]
+        self.until(lambda: self.browser.text("#race-progress") == "20 of 20 runs"
+                   and self.browser.all("#possible li.came"), "all runs came back")
+        came = [int(count) for count in self.browser.run(
+            "return [...document.querySelectorAll('#possible li.came')].map((it) => it.dataset.came)")]
         self.assertEqual(sum(came), 20)
         form, outcomes = self.browser.run("""const box = (css) => document.querySelector(css).getBoundingClientRect();
             return [box('#race-form').right, box('#all-outcomes').left]""")
         self.assertLessEqual(form, outcomes + 1, "the outcomes stand beside the form")
-        listed = self.browser.run("return [...document.querySelectorAll('#possible > li')].map((it) => [...it.querySelectorAll('.answered li')].map((line) => line.textContent))")
+        listed = self.browser.run("return [...document.querySelectorAll('#possible > li')].map((it) => "
+                                  "[...it.querySelectorAll('.answered li')].map((line) => line.textContent))")
         explored = says("explore", script.encode(), "--text")[0].decode()
-        self.assertEqual(["\n".join(f"{line.split(' ')[0]} {line.rsplit(' ', 2 if 'VALUE' in line else 1)[1]}" for line in lines).split("\n")[0] for lines in listed], ["1 OK"] * len(listed))
+        self.assertEqual(["\n".join(f"{line.split(' ')[0]} {line.rsplit(' ', 2 if 'VALUE' in line else 1)[1]}"
+                                    for line in lines).split("\n")[0] for lines in listed], ["1 OK"] * len(listed))
         self.assertEqual(explored.count("\nOUTCOME "), len(listed))
         self.assertIn("1 GET 'k' VALUE '1'", [line for lines in listed for line in lines])
         self.assertIn("BESIDE or AFTER parts this script", self.browser.text("#race-parts"))
@@ -251,7 +264,8 @@ class Race(View):
     def test_remarks_of_a_story_are_left_out(self):
         self.open()
         self.browser.choose("#race-example", "own writes")
-        self.until(lambda: self.browser.one("#race-script").get_property("value").startswith("1 PUT 'k','old'"), "the script without its remark")
+        self.until(lambda: self.browser.one("#race-script").get_property("value").startswith("1 PUT 'k','old'"),
+                   "the script without its remark")
         self.race(1)
         self.assert_drawn()
 

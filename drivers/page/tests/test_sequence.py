@@ -1,4 +1,5 @@
-"""The sequence diagram: what it says of each scenario, and that nothing lies over anything else, as a file and in the page."""
+"""The sequence diagram: what it says of each scenario, and that nothing lies over anything else, as a file and in the
+page."""
 import base64
 import os
 import re
@@ -73,7 +74,8 @@ class Files(unittest.TestCase):
         self.assertIn("which counts as no", said(call(svg, line_of(path, "PREPARE 1"))))
         decide = said(call(svg, line_of(path, "DECIDE 1")))
         self.assertIn("WRONG STAGE 1", decide)
-        reason = re.search(r"transaction 1 .*", subprocess.run([PROGRAM, "coordinate", "--verbose"], input=path.read_bytes(), capture_output=True).stderr.decode())
+        reason = re.search(r"transaction 1 .*", subprocess.run(
+            [PROGRAM, "coordinate", "--verbose"], input=path.read_bytes(), capture_output=True).stderr.decode())
         self.assertIn(reason[0].split()[-1], decide)
         self.assertIn("transaction 1 has voted NO", decide)
 
@@ -83,7 +85,8 @@ class Files(unittest.TestCase):
         crosses = [it for it in svg.iter(f"{SVG}path") if it.get("class") == "cross crash"]
         self.assertEqual(len(crosses), 1)
         lines = [it for it in svg.iter(f"{SVG}line") if it.get("class") == "lifeline"]
-        coordinator = sorted(float(it.get("y1")) for it in lines if [it.get("x1")] == [sorted({one.get("x1") for one in lines}, key=float)[1]])
+        coordinator = sorted(float(it.get("y1")) for it in lines
+                             if [it.get("x1")] == [sorted({one.get("x1") for one in lines}, key=float)[1]])
         self.assertEqual(len(coordinator), 2, "before the crash, and from the recovery on")
         self.assertGreater(coordinator[1], float(crosses[0].get("d").split()[1].split("l")[0]))
         recover = said(call(svg, line_of(path, "RECOVER")))
@@ -125,7 +128,8 @@ class Files(unittest.TestCase):
             self.assertGreater(len(picture), 30_000, "it isn't blank")
             os.symlink(sys.executable, Path(folder) / "python3")
             without = subprocess.run(command, capture_output=True, text=True, timeout=240, env={"PATH": folder})
-            advice = "sequence: there is no rsvg-convert: install librsvg2-bin, or leave out --png and save PNG in the page\n"
+            advice = ("sequence: there is no rsvg-convert: install librsvg2-bin, or leave out --png and save PNG in "
+                      "the page\n")
             self.assertEqual((without.returncode, without.stderr), (1, advice))
 
     def test_a_page_that_has_little_time_asks_again(self):
@@ -136,7 +140,8 @@ class Files(unittest.TestCase):
         with room() as served:
             status, got = ask(served.server_port, "sequence", {"lines": lines})
             self.assertEqual((status, got["whole"]), (200, True))
-            for bad in ({"lines": lines, "at": 99}, {"lines": lines, "width": 1}, {"lines": lines, "size": True}, {"lines": lines, "file": 1}, {"lines": "BEGIN"}):
+            for bad in ({"lines": lines, "at": 99}, {"lines": lines, "width": 1}, {"lines": lines, "size": True},
+                        {"lines": lines, "file": 1}, {"lines": "BEGIN"}):
                 self.assertEqual(ask(served.server_port, "sequence", bad)[0], 400)
 
     def test_refusals_of_many_lines_dont_hold_the_program_up(self):
@@ -152,7 +157,8 @@ class Drawn(View):
         return int(self.browser.run("return document.querySelector('#sequence').dataset.given ?? 0"))
 
     def sized(self, width, height):
-        self.browser.driver.execute_cdp_cmd("Emulation.setDeviceMetricsOverride", {"width": width, "height": height, "deviceScaleFactor": 1, "mobile": False})
+        self.browser.driver.execute_cdp_cmd("Emulation.setDeviceMetricsOverride",
+                                            {"width": width, "height": height, "deviceScaleFactor": 1, "mobile": False})
         self.addCleanup(self.browser.driver.execute_cdp_cmd, "Emulation.clearDeviceMetricsOverride", {})
 
     def assert_apart(self, where):
@@ -167,7 +173,8 @@ class Drawn(View):
                 across = min(x + wide, other[0] + other[2]) - max(x, other[0])
                 down = min(y + high, other[1] + other[3]) - max(y, other[1])
                 self.assertFalse(across > 0.5 and down > high * 0.3, (where, text, other[4]))
-        self.assertEqual(self.browser.run("const room = document.querySelector('.lanes-room'); return room.scrollWidth - room.clientWidth"), 0, where)
+        self.assertEqual(self.browser.run(
+            "const room = document.querySelector('.lanes-room'); return room.scrollWidth - room.clientWidth"), 0, where)
         self.assertEqual(self.browser.run("return document.documentElement.scrollWidth > innerWidth"), False, where)
 
     def test_no_label_lies_over_another(self):

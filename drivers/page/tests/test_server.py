@@ -17,9 +17,12 @@ sys.path.append(str(ROOT / "server/tests"))
 from wire import Client  # noqa: E402
 
 SERVER = Path(os.environ.get("NIGBARU_SERVER", ROOT / "server/target/release/nigbaru-server"))
-STORE = {"name": "store 1", "out": False, "connections": 2, "strangers": 0, "lent": 1, "waiting": 0, "entries": 7, "statements": {"XA START": 2, "GET": 0}, "refusals": {"3572": 4},
-         "branches": [{"xid": "0x61,0x62,7", "state": "PREPARED", "connection": 1, "session": None, "age": 61.25, "rows": {"0x6b": "HOLDS"}},
-                      {"xid": "0x63,X'',1", "state": "ACTIVE", "connection": 2, "session": 3, "age": 1.0, "rows": {"0x6c": "SHARES"}}]}
+STORE = {"name": "store 1", "out": False, "connections": 2, "strangers": 0, "lent": 1, "waiting": 0, "entries": 7,
+         "statements": {"XA START": 2, "GET": 0}, "refusals": {"3572": 4},
+         "branches": [{"xid": "0x61,0x62,7", "state": "PREPARED", "connection": 1, "session": None, "age": 61.25,
+                       "rows": {"0x6b": "HOLDS"}},
+                      {"xid": "0x63,X'',1", "state": "ACTIVE", "connection": 2, "session": 3, "age": 1.0,
+                       "rows": {"0x6c": "SHARES"}}]}
 
 
 class Asked(unittest.TestCase):
@@ -50,7 +53,8 @@ class Asked(unittest.TestCase):
 
     def test_what_is_no_status(self):
         self.assertIn("can't be read: No such file", self.asked()["fault"])
-        for text in ("", "[]", "{}", '{"stores":[{}]}', "[" * 100_000, json.dumps({"stores": [{**STORE, "branches": 1}]}), "\xff"):
+        for text in ("", "[]", "{}", '{"stores":[{}]}', "[" * 100_000,
+                     json.dumps({"stores": [{**STORE, "branches": 1}]}), "\xff"):
             self.file.write_text(text)
             self.assertIn("isn't what nigbaru-server writes", self.asked()["fault"], text[:50])
         self.file.write_text(" " * 5000)
@@ -58,7 +62,8 @@ class Asked(unittest.TestCase):
 
     def test_texts_are_texts(self):
         """Whatever stands in the file is sent as texts and numbers."""
-        self.file.write_text(json.dumps({"stores": [{**STORE, "name": "<img src=x onerror='window.hacked = 1'>", "refusals": {"<b>": 1}}]}))
+        self.file.write_text(json.dumps(
+            {"stores": [{**STORE, "name": "<img src=x onerror='window.hacked = 1'>", "refusals": {"<b>": 1}}]}))
         self.assertEqual(self.asked()["stores"][0]["refusals"], {"<b>": 1})
 
 
@@ -81,7 +86,8 @@ class Watched(View):
         next_one.rename(self.file)
 
     def texts(self, css):
-        return self.browser.run("return [...document.querySelectorAll(arguments[0])].map((it) => it.innerText.replace(/\\s+/g, ' ').trim())", css)
+        return self.browser.run("return [...document.querySelectorAll(arguments[0])].map((it) => "
+                                "it.innerText.replace(/\\s+/g, ' ').trim())", css)
 
     def test_it_follows_the_file(self):
         self.write(STORE)

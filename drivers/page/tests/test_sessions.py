@@ -55,9 +55,11 @@ class Sessions(View):
     def assert_store(self, block):
         """The cards and rows are those that the program lists behind its answer."""
         listed = re.findall(r"^  BRANCH (\S+) (\w+)(?: SESSION (\d+))?$", block, re.MULTILINE)
-        self.assertEqual([card[:3] for card in self.cards()], [[xid, phase, f"session {owner}" if owner else "no owner"] for xid, phase, owner in listed])
+        self.assertEqual([card[:3] for card in self.cards()],
+                         [[xid, phase, f"session {owner}" if owner else "no owner"] for xid, phase, owner in listed])
         for key, value in re.findall(r"^  ROW (\S+) (?:VALUE (\S+)|NONE)$", block, re.MULTILINE):
-            cells = self.browser.run("return [...document.querySelector(`#rows tr[data-key=\"${arguments[0]}\"]`).cells].map((it) => it.textContent)", key)
+            cells = self.browser.run("return [...document.querySelector(`#rows "
+                                     "tr[data-key=\"${arguments[0]}\"]`).cells].map((it) => it.textContent)", key)
             wanted = "none" if value == "" else "X''" if value == "X''" else f"'{bytes.fromhex(value[2:]).decode()}'"
             self.assertEqual(cells[1], wanted)
 
@@ -84,7 +86,8 @@ class Sessions(View):
         self.open()
         self.assertEqual(len(self.browser.all("#first-stories button")), 3)
         self.browser.push("#sample")
-        self.assertEqual(self.browser.run("return [document.activeElement.name, document.activeElement.value]"), ["1", self.browser.text("#sample")])
+        self.assertEqual(self.browser.run("return [document.activeElement.name, document.activeElement.value]"),
+                         ["1", self.browser.text("#sample")])
         self.browser.press(Keys.ENTER)
         self.until(lambda: self.answers() == ["OK"], "the sample is answered")
         self.assertFalse(self.browser.one("#welcome").is_displayed())
@@ -125,7 +128,8 @@ class Sessions(View):
     def test_a_story_opens_with_its_first_line_in_view(self):
         self.open(script=STORY, at=0)
         self.until(lambda: self.browser.all("#pending > li"), "the story waits")
-        edges = "return [document.querySelector('#entry').getBoundingClientRect().bottom, document.querySelector('#pending').getBoundingClientRect().top]"
+        edges = ("return [document.querySelector('#entry').getBoundingClientRect().bottom, "
+                 "document.querySelector('#pending').getBoundingClientRect().top]")
         box, first = self.browser.run(edges)
         self.assertLessEqual(box, first, "the boxes hide nothing")
 
@@ -136,7 +140,8 @@ class Sessions(View):
             self.browser.push(f'#sessions li[data-line="{line}"] .here')
             self.until(lambda line=line: self.given() == line, f"line {line}")
             self.assertEqual(self.printed(), wanted[line - 1].decode())
-            self.assertEqual(self.browser.run("return document.activeElement.getAttribute('aria-label')"), f"Run to here: line {line}")
+            self.assertEqual(self.browser.run("return document.activeElement.getAttribute('aria-label')"),
+                             f"Run to here: line {line}")
         self.browser.chord(Keys.ALT, Keys.END)
         self.until(lambda: self.given() == len(wanted), "the end")
         self.browser.chord(Keys.ALT, Keys.ARROW_LEFT)
@@ -149,8 +154,9 @@ class Sessions(View):
 
     def test_statements_are_typed_and_answered(self):
         self.open()
-        lines = ["1 XA START 'transfer','debit',7", "1 PUT 'alice','90'", "2 GET 'alice'", "2 PUT 'alice','0'", "2 XA COMIT 'x'", "1 XA END 'transfer','debit',7",
-                 "1 XA PREPARE 'transfer','debit',7", "2 XA RECOVER CONVERT XID", "2 XA COMMIT 'transfer','debit',7", "2 GET 'alice'"]
+        lines = ["1 XA START 'transfer','debit',7", "1 PUT 'alice','90'", "2 GET 'alice'", "2 PUT 'alice','0'",
+                 "2 XA COMIT 'x'", "1 XA END 'transfer','debit',7", "1 XA PREPARE 'transfer','debit',7",
+                 "2 XA RECOVER CONVERT XID", "2 XA COMMIT 'transfer','debit',7", "2 GET 'alice'"]
         for line in lines:
             self.say(*line.split(" ", 1))
             if "CONVERT" in line:
@@ -158,7 +164,8 @@ class Sessions(View):
         script = "\n".join(lines).encode() + b"\n"
         self.assertEqual("\n".join(f"{reply}" for reply in self.answers()),
                          "\n".join(reply.split("\n")[0] for reply in replies(says("serve", script)[0].decode())))
-        self.assertEqual(self.browser.text("#given pre.rows"), replies(says("serve", script)[0].decode())[7].split("\n", 1)[1])
+        self.assertEqual(self.browser.text("#given pre.rows"),
+                         replies(says("serve", script)[0].decode())[7].split("\n", 1)[1])
         self.assertEqual(self.browser.text("#given mark.fault"), "C")
 
     def test_a_refusal_says_its_rule_in_the_words_of_the_table(self):
@@ -167,19 +174,23 @@ class Sessions(View):
         wrong_state = "the session isn't in a state that allows this statement; the message names the state"
         wanted = [
             ("1 XA COMMIT 'a'", unknown, "XA COMMIT, Free: 1397 if the branch isn't PREPARED, else OK"),
-            ("1 xa commit 'a' one phase;", unknown, "XA COMMIT .. ONE PHASE, Free: 1397 if the branch isn't PREPARED, else 1399 PREPARED"),
+            ("1 xa commit 'a' one phase;", unknown,
+             "XA COMMIT .. ONE PHASE, Free: 1397 if the branch isn't PREPARED, else 1399 PREPARED"),
             ("1 XA END 'a'", wrong_state, "XA END, Free: 1399 NON-EXISTING"),
             ("1 XA BEGIN 'a'", None, None),
-            ("2 XA BEGIN 'a'", "a branch has the identifier already", "XA START, Free: 1440 if a branch has the identifier, else OK"),
+            ("2 XA BEGIN 'a'", "a branch has the identifier already",
+             "XA START, Free: 1440 if a branch has the identifier, else OK"),
             ("1 XA PREPARE'a'", wrong_state, "XA PREPARE, ACTIVE: 1399 ACTIVE"),
             ("1 XA END 'b'", unknown, "XA END, ACTIVE: 1397 if not own, else OK"),
             ("1 XA END 'a'", None, None),
             ("1 GET 'k'", wrong_state, "GET, IDLE: 1399 IDLE"),
             ("1 XA ROLLBACK 'b'", wrong_state, "XA ROLLBACK, IDLE: 1399 IDLE if not own, else OK"),
-            ("1 XA START 'a' JOIN", "the statement has a clause that isn't supported", "JOIN, RESUME, SUSPEND, IDLE: 1398"),
+            ("1 XA START 'a' JOIN", "the statement has a clause that isn't supported",
+             "JOIN, RESUME, SUSPEND, IDLE: 1398"),
             ("3 XA START 'c'", None, None),
             ("3 PUT 'k','v'", None, None),
-            ("2 DEL 'k'", "another branch has an exclusive lock on the row, or for PUT and DEL any lock", "PUT, DEL, Free: 3572 if held, else OK"),
+            ("2 DEL 'k'", "another branch has an exclusive lock on the row, or for PUT and DEL any lock",
+             "PUT, DEL, Free: 3572 if held, else OK"),
             ("4 what", "the text isn't a statement", None),
         ]
         self.open(script="\n".join(line for line, _, _ in wanted))
@@ -203,10 +214,12 @@ class Sessions(View):
         self.assertEqual((self.answers(), self.printed(), self.cards(), len(self.browser.all("#pending > li"))), seen)
 
     def test_bytes_of_any_kind_are_shown_as_text(self):
-        hostile = [b"<script>window.hacked=1</script>", b"<img src=x onerror=window.hacked=1>", b"\xff\xfe\xc3\x28", b"line\nfeed", bytes(range(0, 64)),
-                   bytes(range(192, 256)), b"'; quotes \\ and \"", "\u202eturned\u200b".encode(), "é ü 日本".encode(), b"&amp;&lt;", b"${window.hacked=1}", b"\0"]
+        hostile = [b"<script>window.hacked=1</script>", b"<img src=x onerror=window.hacked=1>", b"\xff\xfe\xc3\x28",
+                   b"line\nfeed", bytes(range(0, 64)), bytes(range(192, 256)), b"'; quotes \\ and \"",
+                   "\u202eturned\u200b".encode(), "é ü 日本".encode(), b"&amp;&lt;", b"${window.hacked=1}", b"\0"]
         literals = [f"X'{text.hex()}'" for text in hostile]
-        lines = [line for it in literals for line in (f"1 XA START {it},{it}", f"1 PUT {it},{it}", f"1 XA END {it},{it}", f"1 XA PREPARE {it},{it}")]
+        lines = [line for it in literals for line in (f"1 XA START {it},{it}", f"1 PUT {it},{it}",
+                                                      f"1 XA END {it},{it}", f"1 XA PREPARE {it},{it}")]
         prepared = len(lines) + 1
         lines += ["2 XA RECOVER", *[f"2 XA COMMIT {it},{it}" for it in literals], *[f"2 GET {it}" for it in literals]]
         self.open(script="\n".join(lines), at=prepared)
@@ -215,7 +228,8 @@ class Sessions(View):
         cards = self.browser.run("""return [...document.querySelectorAll('#branches .card')].map((it) =>
             ['.xid', '.literal'].map((part) => [...it.querySelectorAll(part)].map((text) => text.textContent)))""")
         self.assertEqual(sorted(cards), sorted([[f"{it},{it},1"], [it, it]] for it in readable.values()))
-        head, _, rest = says("serve", "\n".join(lines[:prepared]).encode())[0].removeprefix(b"1 OK\n" * (prepared - 1)).partition(b"\n")
+        head, _, rest = says("serve", "\n".join(lines[:prepared]).encode())[0].removeprefix(
+            b"1 OK\n" * (prepared - 1)).partition(b"\n")
         self.assertEqual(head, b"2 ROWS %d" % len(hostile))
         self.assertEqual(self.browser.text("#given pre.rows"), shown_bytes(rest.removesuffix(b"\n")))
         self.browser.chord(Keys.ALT, Keys.END)
@@ -225,10 +239,13 @@ class Sessions(View):
         self.assertEqual(self.browser.text("#branches"), "There is no branch.")
 
     def test_lines_of_any_bytes_are_shown_as_text(self):
-        script = b"1 PUT '\xff\xfe<b>','\x01'\n1 GET '\xff\xfe<b>'\n\xc3\x28 <script>window.hacked=1</script>\n#\xff<i>\n17 GET 'k'"
+        script = (b"1 PUT '\xff\xfe<b>','\x01'\n1 GET '\xff\xfe<b>'\n\xc3\x28 <script>window.hacked=1</script>\n"
+                  b"#\xff<i>\n17 GET 'k'")
         self.open(script=script)
         self.until(lambda: self.given() == 5, "all is answered")
-        self.assertEqual(self.browser.texts("#given .statement"), ["PUT 'fffe<b>','01'", "GET 'fffe<b>'", "c3( <script>window.hacked=1</script>", "ff<i>", "17 GET 'k'"])
+        self.assertEqual(self.browser.texts("#given .statement"),
+                         ["PUT 'fffe<b>','01'", "GET 'fffe<b>'", "c3( <script>window.hacked=1</script>", "ff<i>",
+                          "17 GET 'k'"])
         self.assertEqual(self.answers(), replies(says("show", script)[0].decode("latin-1")))
         self.reopen()
         self.until(lambda: self.given() == 5, "the address has every byte")
@@ -279,11 +296,13 @@ class Sessions(View):
         self.open()
         for at in range(20):
             self.say(1 + at % 2, f"PUT 'k{at}','v'")
-        self.until(lambda: self.browser.run("return performance.getEntriesByName('answer shown').length") >= 20, "all were measured")
+        self.until(lambda: self.browser.run("return performance.getEntriesByName('answer shown').length") >= 20,
+                   "all were measured")
         for name, since in [("question answered", "the question"), ("answer shown", "the answer had returned")]:
-            took = sorted(self.browser.run("return performance.getEntriesByName(arguments[0]).map((it) => it.duration / 1000)", name))
-            print(f"an answer was on the screen {took[len(took) // 2]:.3f} s after {since}, {took[-1]:.3f} s at most of {len(took)}"
-                  f"{'' if took[-1] <= TENTH else ': longer than a tenth of a second'}")
+            took = sorted(self.browser.run(
+                "return performance.getEntriesByName(arguments[0]).map((it) => it.duration / 1000)", name))
+            print(f"an answer was on the screen {took[len(took) // 2]:.3f} s after {since}, {took[-1]:.3f} s at most "
+                  f"of {len(took)}{'' if took[-1] <= TENTH else ': longer than a tenth of a second'}")
 
 
 if __name__ == "__main__":

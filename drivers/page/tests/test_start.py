@@ -33,7 +33,8 @@ class Started(unittest.TestCase):
 
     def test_a_port_in_use(self):
         with Page() as page:
-            self.assert_advice(["--program", PROGRAM, "--port", str(page.port)], f"port {page.port} is in use", f"--port {page.port + 1}")
+            self.assert_advice(["--program", PROGRAM, "--port", str(page.port)], f"port {page.port} is in use",
+                               f"--port {page.port + 1}")
 
     def test_a_wrong_program(self):
         self.assert_advice(["--program", "/nothing/here"], "/nothing/here isn't there", "--program")
@@ -41,7 +42,8 @@ class Started(unittest.TestCase):
         self.assert_advice(["--program", PAGE / "README.md"], "isn't executable")
 
     def test_another_machines_address(self):
-        self.assert_advice(["--program", PROGRAM, "--port", "0", "--host", "203.0.113.9"], "203.0.113.9 is no IPv4 address of this machine")
+        self.assert_advice(["--program", PROGRAM, "--port", "0", "--host", "203.0.113.9"],
+                           "203.0.113.9 is no IPv4 address of this machine")
 
     def test_words_that_arent_read(self):
         for words in (["--port", "99999"], ["--port", "x"], ["--nothing"]):
@@ -52,7 +54,8 @@ class Opened(unittest.TestCase):
     """A page for students on other machines. A name of another machine is still none that is served."""
 
     def setUp(self):
-        self.process = subprocess.Popen([*SERVE, "--program", PROGRAM, "--port", "0", "--host", "0.0.0.0"], stdout=subprocess.PIPE, stderr=subprocess.PIPE, text=True)
+        self.process = subprocess.Popen([*SERVE, "--program", PROGRAM, "--port", "0", "--host", "0.0.0.0"],
+                                        stdout=subprocess.PIPE, stderr=subprocess.PIPE, text=True)
         self.addCleanup(self.process.stderr.close)
         self.addCleanup(self.process.stdout.close)
         self.addCleanup(self.process.wait, 20)
@@ -90,7 +93,8 @@ class Opened(unittest.TestCase):
         browser.until(lambda: browser.text("#copy-link") == "Copied", "the link is copied")
         browser.focus('#entry input[name="1"]')
         browser.chord(Keys.CONTROL, "v")
-        self.assertEqual(browser.one('#entry input[name="1"]').get_property("value"), browser.run("return location.href"))
+        self.assertEqual(browser.one('#entry input[name="1"]').get_property("value"),
+                         browser.run("return location.href"))
 
 
 if __name__ == "__main__":

@@ -30,7 +30,8 @@ class View(unittest.TestCase):
         self.assertEqual(len(self.browser.all("script")), 1)
 
     def open(self, **state):
-        parts = "&".join(f"{name}={in_address(value if isinstance(value, bytes) else str(value).encode())}" for name, value in state.items())
+        parts = "&".join(f"{name}={in_address(value if isinstance(value, bytes) else str(value).encode())}"
+                         for name, value in state.items())
         self.browser.go(f"{self.page.address}#{self.view}?{parts}" if parts else f"{self.page.address}#{self.view}")
 
     def reopen(self):
@@ -51,11 +52,13 @@ class View(unittest.TestCase):
             self.browser.picture(PICTURES / f"{self.view}-{name}.png", size)
 
 
-PRINTED = "(it) => it.dataset.printed ?? it.textContent"  # what the program printed for an element, which may be shown otherwise
+# what the program printed for an element, which may be shown otherwise
+PRINTED = "(it) => it.dataset.printed ?? it.textContent"
 
 
 def shown_bytes(text):
-    """How the page shows bytes as text: what can be seen as it is, each other byte as a backslash of the style sheet and two digits."""
+    """How the page shows bytes as text: what can be seen as it is, each other byte as a backslash of the style sheet
+    and two digits."""
     found = ""
     for char in text.decode("utf-8", "surrogateescape"):
         if "\udc80" <= char <= "\udcff":

@@ -3,9 +3,10 @@
 
     drivers/python/examples/stock.py [--program PATH] [--clerks N] [--sales N]
 
-A row that another transaction holds is refused at once, with 3572, and nobody waits for it. So a clerk who is refused rolls back, which frees what
-the transaction held, steps aside for a moment, and begins anew with what is then in the stock. No sale is lost, and none is counted twice.
-It needs the package `nigbaru`: `pip install drivers/python`, or PYTHONPATH=drivers/python.
+A row that another transaction holds is refused at once, with 3572, and nobody waits for it. So a clerk who is refused
+rolls back, which frees what the transaction held, steps aside for a moment, and begins anew with what is then in the
+stock. No sale is lost, and none is counted twice. It needs the package `nigbaru`: `pip install drivers/python`, or
+PYTHONPATH=drivers/python.
 """
 from __future__ import annotations
 
@@ -56,7 +57,8 @@ def main() -> None:
     with nigbaru.Server(program=given.program, timeout=60) as server, server.connect() as owner:
         owner.put("stock", str(given.clerks * given.sales))
         refusals = [0] * given.clerks
-        clerks = [threading.Thread(target=work, args=(server, clerk, given.sales, refusals)) for clerk in range(given.clerks)]
+        clerks = [threading.Thread(target=work, args=(server, clerk, given.sales, refusals))
+                  for clerk in range(given.clerks)]
         for clerk in clerks:
             clerk.start()
         for clerk in clerks:

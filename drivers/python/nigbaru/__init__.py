@@ -1,4 +1,5 @@
-"""PEP 249's two-phase calls over `xa_script serve`, or over a server of MySQL's protocol. It needs nothing but the standard library."""
+"""PEP 249's two-phase calls over `xa_script serve`, or over a server of MySQL's protocol. It needs nothing but the
+standard library."""
 from __future__ import annotations
 
 from typing import Optional, Sequence
@@ -19,8 +20,10 @@ paramstyle = "qmark"
 Binary = bytes
 
 
-def connect(command: Optional[Sequence[Word]] = None, *, program: Optional[Word] = None, timeout: Optional[float] = None) -> Connection:
-    """A connection to a store of its own, which ends with it: see Server, also for what is passed, and for several connections."""
+def connect(command: Optional[Sequence[Word]] = None, *, program: Optional[Word] = None,
+            timeout: Optional[float] = None) -> Connection:
+    """A connection to a store of its own, which ends with it: see Server, also for what is passed, and for several
+    connections."""
     return _Alone(Server(command, program=program, timeout=timeout))
 
 
@@ -39,6 +42,7 @@ class _Alone(Connection):
                 self._server.close()
 
 
-__all__ = ["BINARY", "Binary", "Branch", "Connection", "Cursor", "DATETIME", "DataError", "DatabaseError", "Error", "IntegrityError",
-           "InterfaceError", "InternalError", "NUMBER", "NotSupportedError", "OperationalError", "ProgrammingError", "ROWID", "Remote", "STRING",
-           "Server", "Warning", "Xid", "__version__", "apilevel", "connect", "paramstyle", "threadsafety"]
+__all__ = ["BINARY", "Binary", "Branch", "Connection", "Cursor", "DATETIME", "DataError", "DatabaseError", "Error",
+           "IntegrityError", "InterfaceError", "InternalError", "NUMBER", "NotSupportedError", "OperationalError",
+           "ProgrammingError", "ROWID", "Remote", "STRING", "Server", "Warning", "Xid", "__version__", "apilevel",
+           "connect", "paramstyle", "threadsafety"]

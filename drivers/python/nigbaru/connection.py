@@ -13,7 +13,8 @@ if TYPE_CHECKING:
     from .network import Line
     from .server import Server
 
-# Where a transaction stands. IDLE: its work has ended, and it isn't prepared, since a call between failed. BY_TEXT: XA START was a cursor's statement.
+# Where a transaction stands. IDLE: its work has ended, and it isn't prepared, since a call between failed. BY_TEXT: XA
+# START was a cursor's statement.
 NONE, ACTIVE, IDLE, PREPARED, BY_TEXT = "none", "active", "idle", "prepared", "by text"
 # Statements that begin or end a session's branch.
 BEGINS = ("XA START", "XA BEGIN")
@@ -69,14 +70,16 @@ class Connection:
         return Cursor(self)
 
     def ask(self, statement: str) -> List[str]:
-        """The answer to a statement's text, its lines in a list, as cursors ask for it. XA RECOVER is given with CONVERT XID.
+        """The answer to a statement's text, its lines in a list, as cursors ask for it. XA RECOVER is given with
+        CONVERT XID.
 
-        A text may begin a transaction, where none is open, and then texts end it. Within one of `tpc_begin` ProgrammingError is
-        raised for such a text, and after `tpc_prepare` for any.
+        A text may begin a transaction, where none is open, and then texts end it. Within one of `tpc_begin`
+        ProgrammingError is raised for such a text, and after `tpc_prepare` for any.
         """
         verb = verb_of(statement)
         if self._stage in (ACTIVE, IDLE) and verb in (*BEGINS, "XA END", *ENDS):
-            raise ProgrammingError(f"{verb} within a transaction of tpc_begin: tpc_prepare, tpc_commit and tpc_rollback end it")
+            raise ProgrammingError(
+                f"{verb} within a transaction of tpc_begin: tpc_prepare, tpc_commit and tpc_rollback end it")
         answer = self._ask_row(CONVERTED_LIST if is_list(statement) else statement)
         if verb in BEGINS:
             self._stage = BY_TEXT
@@ -132,7 +135,8 @@ class Connection:
         self._xid, self._stage = begun, ACTIVE
 
     def tpc_prepare(self) -> None:
-        """The first phase: the transaction is kept for `tpc_commit` or `tpc_rollback`, and nothing is executed until then."""
+        """The first phase: the transaction is kept for `tpc_commit` or `tpc_rollback`, and nothing is executed until
+        then."""
         self._need_own()
         if self._stage == PREPARED:
             raise ProgrammingError("the transaction is prepared already")
@@ -162,7 +166,8 @@ class Connection:
 
     def tpc_recover(self) -> List[Xid]:
         """The identifiers of the prepared transactions, ascending."""
-        return [Xid(format_id, data[:length], data[length:]) for format_id, length, _, data in rows_of(self._ask(CONVERTED_LIST))]
+        return [Xid(format_id, data[:length], data[length:])
+                for format_id, length, _, data in rows_of(self._ask(CONVERTED_LIST))]
 
     def _need_none(self, call: str) -> None:
         self._number()
@@ -180,7 +185,8 @@ class Connection:
             raise ProgrammingError("the transaction was begun by a statement, and is ended by one")
 
     def _ask_own(self, verb: str, clause: str = "") -> None:
-        """Asks about this connection's transaction. Where the server has it no more, since another client finished it, it is over here too."""
+        """Asks about this connection's transaction. Where the server has it no more, since another client finished it,
+        it is over here too."""
         assert self._xid is not None
         try:
             self._ask(f"XA {verb} {self._xid.literal()}{clause}")
@@ -211,4 +217,5 @@ class Connection:
         if self._server.is_gone:
             return f"<nigbaru.Connection, session {self._session}: its store is gone>"
         named = {NONE: "no transaction", BY_TEXT: "a transaction that was begun by a statement"}
-        return f"<nigbaru.Connection, session {self._session}: {named.get(self._stage) or f'{self._stage} {self._xid!r}'}>"
+        return (f"<nigbaru.Connection, session {self._session}: "
+                f"{named.get(self._stage) or f'{self._stage} {self._xid!r}'}>")

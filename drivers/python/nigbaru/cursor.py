@@ -21,11 +21,13 @@ def column(name: str, kind: str, size: Optional[int] = None) -> Column:
 
 
 VALUE = (column("value", BINARY, 64),)
-LISTED = (column("formatID", NUMBER), column("gtrid_length", NUMBER), column("bqual_length", NUMBER), column("data", BINARY, 128))
+LISTED = (column("formatID", NUMBER), column("gtrid_length", NUMBER), column("bqual_length", NUMBER),
+          column("data", BINARY, 128))
 
 
 class Cursor:
-    """Statements of one connection. GET gives a row where there is a value, XA RECOVER a row for each prepared transaction, others none."""
+    """Statements of one connection. GET gives a row where there is a value, XA RECOVER a row for each prepared
+    transaction, others none."""
 
     arraysize = 1
 
@@ -61,8 +63,8 @@ class Cursor:
     def execute(self, operation: str, parameters: Sequence[Any] = ()) -> "Cursor":
         """Gives a statement, with a parameter for each question mark outside of quotes; a refusal is raised.
 
-        A parameter is a key, a value or a part of an identifier (bytes, bytearray or str), a format id (int), or a whole identifier (Xid).
-        The data of XA RECOVER are bytes, whether CONVERT XID is written or not.
+        A parameter is a key, a value or a part of an identifier (bytes, bytearray or str), a format id (int), or a
+        whole identifier (Xid). The data of XA RECOVER are bytes, whether CONVERT XID is written or not.
         """
         connection = self.connection
         self._begin(None, None)
@@ -133,4 +135,5 @@ class Cursor:
     def __repr__(self) -> str:
         if self._connection is None:
             return "<nigbaru.Cursor: closed>"
-        return f"<nigbaru.Cursor of {self._connection!r}: {'no rows' if self._rows is None else f'{self._at} of {len(self._rows)} rows fetched'}>"
+        return (f"<nigbaru.Cursor of {self._connection!r}: "
+                f"{'no rows' if self._rows is None else f'{self._at} of {len(self._rows)} rows fetched'}>")

@@ -30,7 +30,8 @@ class DataError(DatabaseError):
 
 
 class OperationalError(DatabaseError):
-    """A store that is gone, doesn't answer in time or isn't there; a locked row; memory that ran out; 16 sessions that are open."""
+    """A store that is gone, doesn't answer in time or isn't there; a locked row; memory that ran out; 16 sessions that
+    are open."""
 
 
 class IntegrityError(DatabaseError):

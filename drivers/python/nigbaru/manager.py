@@ -20,7 +20,8 @@ class Branch:
     def __init__(self, manager: Any, connection: Connection, global_id: Text, name: str, format_id: int = 1) -> None:
         """`manager` is a TransactionManager; `name` tells the stores of one transaction apart, and orders their votes.
 
-        Where the transaction can't be joined, the connection has no transaction afterwards, and the manager's error is raised.
+        Where the transaction can't be joined, the connection has no transaction afterwards, and the manager's error is
+        raised.
         """
         self.transaction_manager = manager
         self.connection, self.name = connection, name
@@ -51,10 +52,11 @@ class Branch:
         self.connection.tpc_prepare()
 
     def tpc_finish(self, transaction: Any) -> None:
-        """The second phase. It raises no Error: `transaction` would then roll back the other branches, of which some may have committed.
+        """The second phase. It raises no Error: `transaction` would then roll back the other branches, of which some
+        may have committed.
 
-        A commit that fails is tried again, over another connection if this one is gone. If it still fails, `unfinished` has the error,
-        which is logged as critical, and the branch is left to recovery.
+        A commit that fails is tried again, over another connection if this one is gone. If it still fails, `unfinished`
+        has the error, which is logged as critical, and the branch is left to recovery.
         """
         self.open = False  # it is decided: what aborts from now on may not roll back
         self.unfinished = self._commit()
@@ -64,8 +66,8 @@ class Branch:
             time.sleep(pause)
             self.unfinished = self._commit()
         if self.unfinished is not None:
-            LOG.critical("%r isn't known to be committed, though that is decided: recovery has to commit it, if it is still prepared",
-                         self.xid, exc_info=self.unfinished)
+            LOG.critical("%r isn't known to be committed, though that is decided: recovery has to commit it, if it is "
+                         "still prepared", self.xid, exc_info=self.unfinished)
 
     def _commit(self) -> Optional[Error]:
         """Asks for the commit; the error of a try that isn't known to have committed."""

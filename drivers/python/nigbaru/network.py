@@ -20,8 +20,10 @@ ONLY = 1  # the session's number in a Line, which has no other
 class Remote:
     """Where a store listens. It outlives its clients, so that prepared branches can be recovered by another process."""
 
-    def __init__(self, port: int = 3306, host: str = "127.0.0.1", *, user: str = "root", password: str = "", timeout: Optional[float] = None) -> None:
-        """`timeout` is how many seconds the connection and each answer may take. After that the connection is gone, by OperationalError."""
+    def __init__(self, port: int = 3306, host: str = "127.0.0.1", *, user: str = "root", password: str = "",
+                 timeout: Optional[float] = None) -> None:
+        """`timeout` is how many seconds the connection and each answer may take. After that the connection is gone, by
+        OperationalError."""
         self.host, self.port, self.user, self.password = host, port, user, password
         self._timeout = checked_timeout(timeout)
 
@@ -115,7 +117,8 @@ class Line:
         greeting, _ = self._packet()
         end = greeting.index(b"\0", 1)
         proof = proof_of(password, greeting[end + 5:end + 13] + greeting[end + 32:end + 44])
-        self._send(struct.pack("<IIB23x", CAN, 1 << 24, 45) + user + b"\0" + bytes((len(proof),)) + proof + PLUGIN + b"\0", 1)
+        self._send(
+            struct.pack("<IIB23x", CAN, 1 << 24, 45) + user + b"\0" + bytes((len(proof),)) + proof + PLUGIN + b"\0", 1)
         packet, number = self._packet()
         if packet[:1] == b"\xfe":  # another plugin is asked for first
             self._send(proof_of(password, packet[packet.index(b"\0", 1) + 1:][:20]), number + 1)

@@ -23,12 +23,15 @@ class Server:
 
     child: "Optional[subprocess.Popen[bytes]]"
 
-    def __init__(self, command: Optional[Sequence[Word]] = None, *, program: Optional[Word] = None, timeout: Optional[float] = None) -> None:
+    def __init__(self, command: Optional[Sequence[Word]] = None, *, program: Optional[Word] = None,
+                 timeout: Optional[float] = None) -> None:
         """Starts a store that ends when this is closed.
 
-        `command` is a list of words, as ["ssh", "HOST", "xa_script", "serve"]. Without it, `program serve` is started; without `program`,
-        that of the variable NIGBARU_PROGRAM, or else `xa_script` on PATH. OperationalError where it can't be started.
-        `timeout` is how many seconds an answer may take. After that the store is gone for each of its connections, by OperationalError.
+        `command` is a list of words, as ["ssh", "HOST", "xa_script", "serve"]. Without it, `program serve` is started;
+        without `program`, that of the variable NIGBARU_PROGRAM, or else `xa_script` on PATH. OperationalError where it
+        can't be started.
+        `timeout` is how many seconds an answer may take. After that the store is gone for each of its connections, by
+        OperationalError.
         """
         seconds = checked_timeout(timeout)
         words = words_of(command, program)
@@ -41,7 +44,8 @@ class Server:
 
     @classmethod
     def over(cls, reader: int, writer: int, *, timeout: Optional[float] = None) -> "Server":
-        """A store at the ends of a pipe (file descriptors) that somebody else had: its sessions are disconnected first."""
+        """A store at the ends of a pipe (file descriptors) that somebody else had: its sessions are disconnected
+        first."""
         seconds = checked_timeout(timeout)
         self = cls.__new__(cls)
         self.child = None
@@ -166,7 +170,8 @@ def line_of(session: int, statement: str) -> bytes:
 
 def checked_timeout(timeout: Optional[float]) -> Optional[float]:
     """The time-out as it was given, where it is one."""
-    if timeout is not None and (isinstance(timeout, bool) or not isinstance(timeout, (int, float)) or not 0 < timeout < float("inf")):
+    if (timeout is not None
+        and (isinstance(timeout, bool) or not isinstance(timeout, (int, float)) or not 0 < timeout < float("inf"))):
         raise ProgrammingError(f"timeout is a number of seconds above 0, or None, and not {timeout!r:.40}")
     return timeout
 
@@ -178,7 +183,8 @@ def words_of(command: Optional[Sequence[Word]], program: Optional[Word]) -> List
     if program is not None:
         raise ProgrammingError("a command has its own program: pass command or program, and not both")
     if isinstance(command, (str, bytes, os.PathLike)):
-        raise ProgrammingError(f'a command is a list of words, as ["xa_script", "serve"], and not {command!r:.60}; for a program at a path pass program=PATH')
+        raise ProgrammingError(f'a command is a list of words, as ["xa_script", "serve"], and not {command!r:.60}; for '
+                               'a program at a path pass program=PATH')
     words = list(command)
     if not words or not all(isinstance(word, (str, bytes, os.PathLike)) for word in words):
         raise ProgrammingError(f'a command is a list of words, as ["xa_script", "serve"], and not {command!r:.60}')

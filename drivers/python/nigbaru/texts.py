@@ -56,7 +56,8 @@ def bound(operation: str, parameters: Sequence[Any]) -> str:
         if piece == "\n":
             return " "
         if "\n" in piece:
-            raise ProgrammingError("a line feed in a quoted text: write a question mark, and give the text as a parameter")
+            raise ProgrammingError(
+                "a line feed in a quoted text: write a question mark, and give the text as a parameter")
         return piece
 
     text = PIECE.sub(replaced, operation)

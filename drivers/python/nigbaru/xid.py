@@ -50,5 +50,6 @@ def xid_of(format_id: int, global_transaction_id: Text, branch_qualifier: Text) 
 def xid_from(given: Any, call: str) -> Xid:
     """The identifier that a call was given: an Xid, or its three parts in a tuple or a list."""
     if not isinstance(given, (tuple, list)) or len(given) != 3:
-        raise ProgrammingError(f"{call} takes what xid(format_id, global_transaction_id, branch_qualifier) gives, and not {given!r:.60}")
+        raise ProgrammingError(
+            f"{call} takes what xid(format_id, global_transaction_id, branch_qualifier) gives, and not {given!r:.60}")
     return xid_of(*given)

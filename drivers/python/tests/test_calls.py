@@ -103,7 +103,8 @@ class Calls(unittest.TestCase):
         cursor = self.one.cursor()
         self.one.tpc_begin(self.one.xid(1, "g", "b"))
         self.one.tpc_prepare()
-        for call in (lambda: cursor.execute("PUT 'k','v'"), lambda: cursor.execute("XA COMMIT 'g','b'"), lambda: self.one.ask("GET 'k'")):
+        for call in (lambda: cursor.execute("PUT 'k','v'"), lambda: cursor.execute("XA COMMIT 'g','b'"),
+                     lambda: self.one.ask("GET 'k'")):
             self.refused(nigbaru.ProgrammingError, None, None, None, call)
         self.one.tpc_commit()
         self.assertEqual(cursor.execute("GET 'k'").fetchall(), [])
@@ -149,7 +150,8 @@ class Calls(unittest.TestCase):
     def test_what_is_no_identifier_is_told(self):
         for given in ("x", "abc", b"abc", 5, (1, "g"), [1, "g", "b", "more"], {1: 2}, object()):
             for call in (self.one.tpc_begin, self.one.tpc_commit, self.one.tpc_rollback):
-                with self.assertRaisesRegex(nigbaru.ProgrammingError, r"takes what xid\(format_id, global_transaction_id, branch_qualifier\) gives"):
+                with self.assertRaisesRegex(nigbaru.ProgrammingError, r"takes what xid\(format_id, "
+                                            r"global_transaction_id, branch_qualifier\) gives"):
                     call(given)
         self.assertRaises(nigbaru.ProgrammingError, self.one.tpc_begin, None)
         for given in ((1, "g", b"b"), [1, b"g", "b"], self.one.xid(1, "g", "b"), nigbaru.Xid(1, "g", "b")):
@@ -224,7 +226,8 @@ class Calls(unittest.TestCase):
 
     def test_a_command_that_answers_nothing_is_told_what_serves(self):
         for command in (["true"], ["false"]):
-            with nigbaru.Server(command) as server, self.assertRaisesRegex(nigbaru.OperationalError, "status [01]; a command is wanted that serves"):
+            with nigbaru.Server(command) as server, self.assertRaisesRegex(
+                    nigbaru.OperationalError, "status [01]; a command is wanted that serves"):
                 server.connect().get("k")
 
     def test_a_closed_store_has_no_connections(self):
@@ -253,13 +256,15 @@ class Calls(unittest.TestCase):
         def looks(name, found):
             self.assertTrue(inspect.getdoc(found), f"{name} has a text")
             signature = inspect.signature(found)
-            hinted = [it.annotation for it in signature.parameters.values() if it.name not in ("self", "_")] + [signature.return_annotation]
+            hinted = [it.annotation for it in signature.parameters.values()
+                      if it.name not in ("self", "_")] + [signature.return_annotation]
             self.assertNotIn(inspect.Signature.empty, hinted, name)
         looks("connect", nigbaru.connect)
         for kind in (nigbaru.Branch, nigbaru.Connection, nigbaru.Cursor, nigbaru.Server, nigbaru.Xid):
             self.assertTrue(kind.__doc__, kind)
             for name, found in vars(kind).items():
-                if not name.startswith("_") and (inspect.isfunction(found) or isinstance(found, (classmethod, property))):
+                if (not name.startswith("_")
+                    and (inspect.isfunction(found) or isinstance(found, (classmethod, property)))):
                     looks(f"{kind.__name__}.{name}", found.fget if isinstance(found, property) else getattr(kind, name))
         for kind in (getattr(nigbaru, name) for name in nigbaru.__all__):
             if isinstance(kind, type) and issubclass(kind, Exception):
@@ -269,7 +274,8 @@ class Calls(unittest.TestCase):
         self.assertEqual((nigbaru.apilevel, nigbaru.threadsafety, nigbaru.paramstyle), ("2.0", 1, "qmark"))
         self.assertRegex(nigbaru.__version__, r"^\d+\.\d+\.\d+$")
         below = {nigbaru.Error: [nigbaru.InterfaceError, nigbaru.DatabaseError],
-                 nigbaru.DatabaseError: [nigbaru.DataError, nigbaru.OperationalError, nigbaru.IntegrityError, nigbaru.InternalError,
+                 nigbaru.DatabaseError: [nigbaru.DataError, nigbaru.OperationalError, nigbaru.IntegrityError,
+                                         nigbaru.InternalError,
                                          nigbaru.ProgrammingError, nigbaru.NotSupportedError]}
         for kind, kinds in below.items():
             for found in kinds:
@@ -280,7 +286,8 @@ class Calls(unittest.TestCase):
     def test_each_says_what_it_is(self):
         self.assertEqual(repr(self.one), "<nigbaru.Connection, session 1: no transaction>")
         self.one.tpc_begin(self.one.xid(1, "g", "b"))
-        self.assertEqual(repr(self.one), "<nigbaru.Connection, session 1: active Xid(format_id=1, gtrid=b'g', bqual=b'b')>")
+        self.assertEqual(repr(self.one),
+                         "<nigbaru.Connection, session 1: active Xid(format_id=1, gtrid=b'g', bqual=b'b')>")
         self.one.tpc_prepare()
         self.assertIn("prepared", repr(self.one))
         self.assertIn("2 of 16 sessions are open", repr(self.server))

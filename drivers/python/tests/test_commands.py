@@ -52,7 +52,8 @@ class Commands(unittest.TestCase):
         text = pathlib.Path(self.folder, "text")
         text.write_text("no program")
         for program in ("/nowhere/xa_script", self.folder, text):
-            self.assertRaisesRegex(OperationalError, f"no program at {program}.*pass program=PATH", Server, program=program)
+            self.assertRaisesRegex(OperationalError, f"no program at {program}.*pass program=PATH", Server,
+                                   program=program)
             self.assertRaisesRegex(OperationalError, "can't be started", Server, [program, "serve"])
         text.chmod(0o755)
         self.assertRaisesRegex(OperationalError, "can't be started", Server, program=text)
@@ -77,7 +78,8 @@ class Installed(unittest.TestCase):
             clean = {name: value for name, value in os.environ.items() if not name.startswith(("PIP_", "PYTHON"))}
 
             def run(*words, **named):
-                ran = subprocess.run(words, cwd=folder, env={**clean, **named}, stdout=subprocess.PIPE, stderr=subprocess.STDOUT, text=True)
+                ran = subprocess.run(words, cwd=folder, env={**clean, **named}, stdout=subprocess.PIPE,
+                                     stderr=subprocess.STDOUT, text=True)
                 self.assertEqual(ran.returncode, 0, ran.stdout)
                 return ran.stdout
 
@@ -91,7 +93,8 @@ class Installed(unittest.TestCase):
                     "with nigbaru.connect() as one: one.put('k', 'v'); print(one.get('k'))\n"
                     "print(nigbaru.__version__ == it.version('nigbaru'), it.requires('nigbaru'), nigbaru.__file__)")
             said = run("here/bin/python", "-c", text, NIGBARU_PROGRAM=PROGRAM)
-            self.assertRegex(said, rf"^b'v'\nTrue None {re.escape(folder)}/here/lib/.*/site-packages/nigbaru/__init__.py\n$")
+            self.assertRegex(said,
+                             rf"^b'v'\nTrue None {re.escape(folder)}/here/lib/.*/site-packages/nigbaru/__init__.py\n$")
             self.assertIn("No broken requirements", run("here/bin/python", "-m", "pip", "check"))
 
     def test_the_versions_agree(self):
@@ -102,9 +105,10 @@ class Installed(unittest.TestCase):
 
 class Example(unittest.TestCase):
     def test_no_sale_is_lost(self):
-        ran = subprocess.run([sys.executable, DRIVER / "examples/stock.py", "--program", PROGRAM, "--clerks", "6", "--sales", "50"],
-                             stdout=subprocess.PIPE, text=True, timeout=300, check=True)
-        self.assertRegex(ran.stdout, r"^300 were to be sold; 0 are left\na row was locked \d+ times, and the sale was tried again\n$")
+        ran = subprocess.run([sys.executable, DRIVER / "examples/stock.py", "--program", PROGRAM, "--clerks", "6",
+                              "--sales", "50"], stdout=subprocess.PIPE, text=True, timeout=300, check=True)
+        self.assertRegex(ran.stdout, r"^300 were to be sold; 0 are left\na row was locked \d+ times, and the sale was "
+                         r"tried again\n$")
 
 
 if __name__ == "__main__":

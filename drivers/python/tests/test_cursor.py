@@ -91,7 +91,8 @@ class Cursors(unittest.TestCase):
     def test_a_transaction_of_texts_is_ended_by_texts(self):
         calls = (self.one.tpc_prepare, self.one.tpc_commit, self.one.tpc_rollback, self.one.commit, self.one.rollback,
                  lambda: self.one.tpc_begin((1, "h", "")))
-        for begin, ends in (("XA START 'g'", ["XA END 'g'", "XA PREPARE 'g'"]), ("xa  begin'g'", ["XA END 'g'", "XA COMMIT 'g' ONE PHASE"]),
+        for begin, ends in (("XA START 'g'", ["XA END 'g'", "XA PREPARE 'g'"]),
+                            ("xa  begin'g'", ["XA END 'g'", "XA COMMIT 'g' ONE PHASE"]),
                             ("XA START X'67'", ["XA END 'g'", "XA ROLLBACK 'g'"]), ("XA START 0x67", ["DISCONNECT"])):
             self.cursor.execute(begin)
             self.cursor.execute("PUT 'k',?", (begin[:9],))
@@ -110,7 +111,8 @@ class Cursors(unittest.TestCase):
 
     def test_texts_end_no_transaction_of_calls(self):
         self.one.tpc_begin(self.one.xid(1, "g", ""))
-        for text in ("XA END 'g'", "XA PREPARE 'g'", "XA COMMIT 'g' ONE PHASE", "xa rollback'g'", "XA START 'h'", "Disconnect", "XA BEGIN 'h'"):
+        for text in ("XA END 'g'", "XA PREPARE 'g'", "XA COMMIT 'g' ONE PHASE", "xa rollback'g'", "XA START 'h'",
+                     "Disconnect", "XA BEGIN 'h'"):
             with self.assertRaisesRegex(nigbaru.ProgrammingError, "tpc_prepare, tpc_commit and tpc_rollback end it"):
                 self.cursor.execute(text)
         self.cursor.execute("PUT 'k','v'")
@@ -128,7 +130,8 @@ class Cursors(unittest.TestCase):
             self.assertRaises(nigbaru.InterfaceError, call)
         self.assertEqual(repr(cursor), "<nigbaru.Cursor: closed>")
         self.one.close()
-        for call in (self.one.cursor, self.one.commit, self.one.rollback, self.one.tpc_recover, lambda: self.cursor.execute("GET 'k'")):
+        for call in (self.one.cursor, self.one.commit, self.one.rollback, self.one.tpc_recover,
+                     lambda: self.cursor.execute("GET 'k'")):
             self.assertRaises(nigbaru.InterfaceError, call)
 
 

@@ -51,7 +51,8 @@ class Finish(unittest.TestCase):
 
     def join(self, connections):
         self.manager = transaction.TransactionManager()
-        self.branches = [Branch(self.manager, connection, "g", f"store {number}") for number, connection in zip(STORES, connections)]
+        self.branches = [Branch(self.manager, connection, "g", f"store {number}")
+                         for number, connection in zip(STORES, connections)]
         for connection in connections:
             connection.put("row", "90")
 
@@ -62,7 +63,8 @@ class Finish(unittest.TestCase):
 
     def stands(self):
         """Of each store the row, and how many branches are prepared."""
-        return [(connection.get("row"), len(connection.tpc_recover())) for connection in map(self.connect, self.remotes)]
+        return [(connection.get("row"), len(connection.tpc_recover()))
+                for connection in map(self.connect, self.remotes)]
 
     def test_a_commit_that_fails_once(self):
         """In either store: lost on its way, its answer lost, the store away for a moment, refused."""
@@ -116,7 +118,8 @@ class Finish(unittest.TestCase):
         self.assertEqual(self.stands(), [(b"90", 0), (b"90", 0)])
         self.start()
         other = self.connect(self.remotes[0])
-        self.manager.get().join(Before(lambda: (self.branches[0].connection.close(), other.tpc_rollback(self.branches[0].xid))))
+        self.manager.get().join(
+            Before(lambda: (self.branches[0].connection.close(), other.tpc_rollback(self.branches[0].xid))))
         with self.assertLogs("nigbaru", "CRITICAL"):
             self.manager.commit()
         self.assertEqual(self.branches[0].unfinished.number, 1397)

@@ -1,4 +1,5 @@
-"""Connections over a server of MySQL's protocol: the same calls, and what a cut connection leaves to another process."""
+"""Connections over a server of MySQL's protocol: the same calls, and what a cut connection leaves to another
+process."""
 import os
 import subprocess
 import tempfile
@@ -15,7 +16,8 @@ class Network(unittest.TestCase):
         folder = tempfile.TemporaryDirectory()
         self.addCleanup(folder.cleanup)
         (Path(folder.name) / "faults").write_text(faults)
-        process = subprocess.Popen([SERVER, "--port", "0", "--fault", f"{folder.name}/faults", *words], stderr=subprocess.PIPE, text=True)
+        process = subprocess.Popen([SERVER, "--port", "0", "--fault", f"{folder.name}/faults", *words],
+                                   stderr=subprocess.PIPE, text=True)
         self.addCleanup(process.stderr.close)
         self.addCleanup(process.wait)
         self.addCleanup(process.terminate)

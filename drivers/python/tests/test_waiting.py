@@ -17,7 +17,8 @@ class TimeOuts(unittest.TestCase):
     def gone(self, call, *words):
         """The call ends in time, and says why."""
         begun, threads = time.monotonic(), threading.active_count()
-        with self.assertRaisesRegex(OperationalError, "no answer came within 0.2 seconds, and the connection is broken"):
+        with self.assertRaisesRegex(OperationalError,
+                                    "no answer came within 0.2 seconds, and the connection is broken"):
             call(*words)
         self.assertTrue(SHORT * 0.9 <= time.monotonic() - begun < PATIENCE)
         self.assertEqual(threading.active_count(), threads)
@@ -42,7 +43,8 @@ class TimeOuts(unittest.TestCase):
         self.assertEqual(server.child.returncode, -signal.SIGKILL)
 
     def test_a_part_of_an_answer_is_none(self):
-        for script in ("read line; printf '1 O'; exec sleep 60", "read line; printf '1 ROWS 2\\n1 0 0 0x\\n'; exec sleep 60",
+        for script in ("read line; printf '1 O'; exec sleep 60",
+                       "read line; printf '1 ROWS 2\\n1 0 0 0x\\n'; exec sleep 60",
                        "read line; while printf x; do sleep 0.05; done"):
             server = self.silent(script)
             self.gone(server.connect().tpc_recover)
@@ -82,7 +84,8 @@ class TimeOuts(unittest.TestCase):
 
     def test_what_is_no_time_is_told(self):
         for timeout in (0, -1, "1", True, float("nan"), float("inf")):
-            self.assertRaisesRegex(nigbaru.ProgrammingError, "a number of seconds above 0", Server, PROGRAM, timeout=timeout)
+            self.assertRaisesRegex(nigbaru.ProgrammingError, "a number of seconds above 0", Server, PROGRAM,
+                                   timeout=timeout)
 
 
 if __name__ == "__main__":

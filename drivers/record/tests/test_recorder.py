@@ -1,4 +1,5 @@
-"""What the recorder writes for answers, refusals, closed connections and late answers, by a driver that stands in for PyMySQL. It needs no server."""
+"""What the recorder writes for answers, refusals, closed connections and late answers, by a driver that stands in for
+PyMySQL. It needs no server."""
 import sys
 import time
 import types
