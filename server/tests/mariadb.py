@@ -21,12 +21,14 @@ def mariadb():
     """Starts a server, with the account root, which has no password; gives its port."""
     with tempfile.TemporaryDirectory() as folder:
         user = f"--user={getpass.getuser()}"
-        subprocess.run(["mariadb-install-db", "--no-defaults", user, f"--datadir={folder}/data", "--auth-root-authentication-method=normal", "--skip-test-db"],
-                       check=True, stdout=subprocess.DEVNULL, stderr=subprocess.DEVNULL)
+        subprocess.run(["mariadb-install-db", "--no-defaults", user, f"--datadir={folder}/data",
+                        "--auth-root-authentication-method=normal", "--skip-test-db"], check=True,
+                       stdout=subprocess.DEVNULL, stderr=subprocess.DEVNULL)
         port = free_port()
         with open(Path(folder) / "log", "wb") as log:
-            process = subprocess.Popen(["mariadbd", "--no-defaults", user, f"--datadir={folder}/data", f"--socket={folder}/socket", f"--pid-file={folder}/pid", f"--port={port}", "--bind-address=127.0.0.1"],
-                                       stdout=log, stderr=log)
+            process = subprocess.Popen(["mariadbd", "--no-defaults", user, f"--datadir={folder}/data",
+                                        f"--socket={folder}/socket", f"--pid-file={folder}/pid", f"--port={port}",
+                                        "--bind-address=127.0.0.1"], stdout=log, stderr=log)
         try:
             wait_until_it_listens(port)
             yield port

@@ -16,7 +16,8 @@ from pathlib import Path
 
 HERE = Path(__file__).resolve().parent
 # Those that take longest begin first.
-FIRST = ["test_manager_that_is_killed", "mutated", "killed_at_a_fault", "faults_at_the", "test_go", "ten_thousand", "thousand", "silence", "reads_nothing", "Bitronix", "Java"]
+FIRST = ["test_manager_that_is_killed", "mutated", "killed_at_a_fault", "faults_at_the", "test_go", "ten_thousand",
+         "thousand", "silence", "reads_nothing", "Bitronix", "Java"]
 PATIENCE = 1800  # seconds for one test
 
 
@@ -36,7 +37,9 @@ def ran(name):
     """Runs a test; its name, seconds, whether it passed or was left out, and what it printed."""
     began = time.monotonic()
     try:
-        done = subprocess.run([sys.executable, "-W", "error::ResourceWarning", "-m", "unittest", name], cwd=HERE, stdin=subprocess.DEVNULL, stdout=subprocess.PIPE, stderr=subprocess.STDOUT, timeout=PATIENCE)
+        done = subprocess.run([sys.executable, "-W", "error::ResourceWarning", "-m", "unittest", name], cwd=HERE,
+                              stdin=subprocess.DEVNULL, stdout=subprocess.PIPE, stderr=subprocess.STDOUT,
+                              timeout=PATIENCE)
         said, passed = done.stdout.decode(errors="replace"), done.returncode == 0
     except subprocess.TimeoutExpired as fault:
         said, passed = (fault.output or b"").decode(errors="replace") + f"\nno end after {PATIENCE} seconds\n", False
@@ -57,8 +60,10 @@ def main(words):
             took.append((seconds, name))
             (left_out if skipped else [] if passed else failed).append(name)
             printed = re.sub(r"^(\.|s)?$|^-+$|^Ran 1 test in .*|^OK.*", "", said, flags=re.MULTILINE).strip()
-            print(f"{'left out' if skipped else 'ok' if passed else 'FAILED':8} {seconds:6.1f} s  {name}" + (f"\n{said if not passed else printed}" if printed else ""), flush=True)
-    print(f"{len(took)} tests in {time.monotonic() - began:.0f} s, {len(left_out)} of them left out, {len(failed)} failed; the longest:")
+            print(f"{'left out' if skipped else 'ok' if passed else 'FAILED':8} {seconds:6.1f} s  {name}"
+                  + (f"\n{said if not passed else printed}" if printed else ""), flush=True)
+    print(f"{len(took)} tests in {time.monotonic() - began:.0f} s, {len(left_out)} of them left out, {len(failed)} "
+          "failed; the longest:")
     for seconds, name in sorted(took, reverse=True)[:12]:
         print(f"{seconds:6.1f} s  {name}")
     for name in failed:

@@ -1,4 +1,5 @@
-"""What the tests share: the server that NIGBARU_SERVER names, in a process of its own, and the program xa_script, for verdicts."""
+"""What the tests share: the server that NIGBARU_SERVER names, in a process of its own, and the program xa_script, for
+verdicts."""
 import contextlib
 import os
 import re
@@ -60,7 +61,8 @@ class Server:
         return Client(self.ports[store])
 
     def records(self):
-        return [self.record] if self.stores == 1 else [Path(f"{self.record}.{number + 1}") for number in range(self.stores)]
+        return ([self.record] if self.stores == 1
+                else [Path(f"{self.record}.{number + 1}") for number in range(self.stores)])
 
     def verdicts(self):
         """What `judge` says first of each store's record."""

@@ -1,4 +1,5 @@
-"""MySQL's clients, as Debian packages them: each goes through a whole cycle, with binary values, errors, and prepared statements where it has them, and a pool of thirty."""
+"""MySQL's clients, as Debian packages them: each goes through a whole cycle, with binary values, errors, and prepared
+statements where it has them, and a pool of thirty."""
 import os
 import shutil
 import subprocess
@@ -10,8 +11,9 @@ import pymysql
 from support import PYTHON, Case, wait_for
 
 HERE = Path(__file__).resolve().parent
-# What each program prints for a cycle: XA RECOVER's first row, the value's bytes, the refusals' numbers, the value of a local transaction, that of a prepared statement, and of thirty connections how
-# many branches XA RECOVER lists, which all of them have prepared and none has committed.
+# What each program prints for a cycle: XA RECOVER's first row, the value's bytes, the refusals' numbers, the value of a
+# local transaction, that of a prepared statement, and of thirty connections how many branches XA RECOVER lists, which
+# all of them have prepared and none has committed.
 CYCLE = """\
 listed 7 2 1 670062
 value 000a27ff5c
@@ -31,7 +33,8 @@ class Clients(Case):
         self.folder = Path(self.ends.enter_context(tempfile.TemporaryDirectory()))
 
     def cycle(self, *words, expected=CYCLE, env=None):
-        ran = subprocess.run([*map(str, words), str(self.server.port)], stdout=subprocess.PIPE, stderr=subprocess.STDOUT, text=True, timeout=180, cwd=self.folder, env=env)
+        ran = subprocess.run([*map(str, words), str(self.server.port)], stdout=subprocess.PIPE,
+                             stderr=subprocess.STDOUT, text=True, timeout=180, cwd=self.folder, env=env)
         self.assertEqual((ran.stdout, ran.returncode), (expected, 0), "\n".join(self.server.log))
         self.assertEqual(self.server.verdicts(), ["LEGAL"])
 
@@ -41,8 +44,10 @@ class Clients(Case):
 
     def test_c(self):
         """MariaDB's library itself."""
-        flags = subprocess.run(["mariadb_config", "--cflags", "--libs"], stdout=subprocess.PIPE, text=True, check=True).stdout.split()
-        subprocess.run(["gcc", "-Wall", "-Werror", "-o", self.folder / "cycle", HERE / "clients" / "cycle.c", *flags], check=True)
+        flags = subprocess.run(["mariadb_config", "--cflags", "--libs"], stdout=subprocess.PIPE, text=True,
+                               check=True).stdout.split()
+        subprocess.run(["gcc", "-Wall", "-Werror", "-o", self.folder / "cycle", HERE / "clients" / "cycle.c", *flags],
+                       check=True)
         self.cycle(self.folder / "cycle")
 
     def test_dbd_mysql(self):
@@ -59,7 +64,9 @@ class Clients(Case):
 
     def test_node_mysql(self):
         """It has no prepared statements; the thirty connections are its pool's."""
-        self.cycle("node", HERE / "clients" / "cycle.js", env={**os.environ, "NODE_PATH": "/usr/share/nodejs:/usr/lib/nodejs"}, expected=UNPREPARED.replace("thirty", "pool"))
+        self.cycle("node", HERE / "clients" / "cycle.js",
+                   env={**os.environ, "NODE_PATH": "/usr/share/nodejs:/usr/lib/nodejs"},
+                   expected=UNPREPARED.replace("thirty", "pool"))
 
     def test_ruby_mysql2(self):
         self.cycle("ruby", HERE / "clients" / "cycle.rb")
@@ -67,7 +74,8 @@ class Clients(Case):
     def test_go(self):
         """Also transactions with each level; the thirty connections are its pool's."""
         shutil.copy(HERE / "clients" / "cycle.go", self.folder)
-        env = {**os.environ, "GOPATH": "/usr/share/gocode", "GO111MODULE": "off", "GOCACHE": str(self.folder / "cache"), "GOFLAGS": "-p=1"}
+        env = {**os.environ, "GOPATH": "/usr/share/gocode", "GO111MODULE": "off", "GOCACHE": str(self.folder / "cache"),
+               "GOFLAGS": "-p=1"}
         subprocess.run(["go", "build", "-o", "cycle", "cycle.go"], cwd=self.folder, env=env, check=True, timeout=600)
         self.cycle(self.folder / "cycle", expected=CYCLE.replace("thirty 30", "levels 4\npool 30"))
 
@@ -76,7 +84,8 @@ class Clients(Case):
         self.cycle(PYTHON, HERE / "clients" / "odbc.py", expected=CYCLE.partition("\n")[2])
 
     def test_r(self):
-        """RMySQL, since Debian 12 has no RMariaDB. It has no prepared statements, and its texts can't hold a zero byte or one that is no UTF-8."""
+        """RMySQL, since Debian 12 has no RMariaDB. It has no prepared statements, and its texts can't hold a zero byte
+        or one that is no UTF-8."""
         expected = UNPREPARED.replace("7 2 1 670062", "7 1 1 6762").replace("000a27ff5c", "0a275c")
         self.cycle("Rscript", HERE / "clients" / "cycle.R", expected=expected)
 
@@ -112,10 +121,13 @@ class Java(Case):
 
     def says(self, name, *words):
         folder = self.ends.enter_context(tempfile.TemporaryDirectory())
-        jars = ["mariadb-java-client", "HikariCP", "btm", "geronimo-jta-1.2-spec", "geronimo-jms_1.1_spec", "slf4j-api", "slf4j-nop"]
+        jars = ["mariadb-java-client", "HikariCP", "btm", "geronimo-jta-1.2-spec", "geronimo-jms_1.1_spec", "slf4j-api",
+                "slf4j-nop"]
         classes = ":".join(f"/usr/share/java/{jar}.jar" for jar in jars)
-        ran = subprocess.run(["java", "-Xshare:auto", "-XX:TieredStopAtLevel=1", "-cp", classes, HERE / "clients" / f"{name}.java", *[folder if word is None else str(word) for word in words]],
-                             stdout=subprocess.PIPE, stderr=subprocess.STDOUT, text=True, timeout=180)
+        ran = subprocess.run(["java", "-Xshare:auto", "-XX:TieredStopAtLevel=1", "-cp", classes,
+                              HERE / "clients" / f"{name}.java",
+                              *[folder if word is None else str(word) for word in words]], stdout=subprocess.PIPE,
+                             stderr=subprocess.STDOUT, text=True, timeout=180)
         self.assertEqual(ran.returncode, 0, ran.stdout)
         return ran.stdout
 
@@ -136,7 +148,9 @@ class Java(Case):
 
     def test_connections_that_were_closed_while_they_idled(self):
         """What docs/CLIENTS.md says of pools: which of them find out before a statement fails."""
-        server = self.serve("--idle", "3")  # (a pool that is begun on a busy machine takes a second or two to its first statement)
+        # (a pool that is begun on a busy machine takes a second or two to its first statement)
+        server = self.serve("--idle", "3")
         said = self.says("Idle", None, server.port, 6_000)
-        self.assertEqual(said, "hikari: ok\nhikari with a query: ok\nmariadb: ok\nbitronix: refused\nbitronix with a query: ok\n")
+        self.assertEqual(
+            said, "hikari: ok\nhikari with a query: ok\nmariadb: ok\nbitronix: refused\nbitronix with a query: ok\n")
         wait_for(lambda: server.logged("no command for 3 seconds"), "it is told why")

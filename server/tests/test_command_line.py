@@ -15,14 +15,16 @@ class CommandLine(Case):
         """`command_line.sql`, and beside it what it prints."""
         server = self.serve()
         script = (HERE / "command_line.sql").read_text()
-        ran = subprocess.run(self.command(server, "--force", "--table", "--unbuffered"), input=script, stdout=subprocess.PIPE, stderr=subprocess.STDOUT, text=True, timeout=60)
+        ran = subprocess.run(self.command(server, "--force", "--table", "--unbuffered"), input=script,
+                             stdout=subprocess.PIPE, stderr=subprocess.STDOUT, text=True, timeout=60)
         self.assertEqual(ran.stdout, (HERE / "command_line.transcript").read_text())
         self.assertEqual(server.verdicts(), ["LEGAL"])
 
     def test_thirty_at_once(self):
         """Thirty processes, each with a branch that it has prepared before any of them commits."""
         server = self.serve("--wait", "60")
-        processes = [subprocess.Popen(self.command(server), stdin=subprocess.PIPE, stdout=subprocess.DEVNULL) for _ in range(30)]
+        processes = [subprocess.Popen(self.command(server), stdin=subprocess.PIPE, stdout=subprocess.DEVNULL)
+                     for _ in range(30)]
         for number, process in enumerate(processes):
             process.stdin.write(b"XA START '%d'; PUT 'row %d','v'; XA END '%d'; XA PREPARE '%d';\n" % ((number,) * 4))
             process.stdin.flush()
@@ -44,7 +46,9 @@ class CommandLine(Case):
             os.execvp("mariadb", self.command(server, "db"))
         said = b""
         try:
-            for line, answer in ((b"", b"db]> "), (b"status\r", b"db]> "), (b"PUT 'k','v';\r", b"Query OK"), (b"GET 'k';\r", b"1 row in set"), (b"XA START;\r", b"syntax fault at byte 8"), (b"exit\r", b"Bye")):
+            for line, answer in ((b"", b"db]> "), (b"status\r", b"db]> "), (b"PUT 'k','v';\r", b"Query OK"),
+                                 (b"GET 'k';\r", b"1 row in set"), (b"XA START;\r", b"syntax fault at byte 8"),
+                                 (b"exit\r", b"Bye")):
                 os.write(end, line)
                 said = self.read_until(end, answer)
                 if line.startswith(b"status"):

@@ -1,4 +1,5 @@
-"""10,000 two-phase cycles of 16 clients at once, some of which are cut; and what a few clients saw themselves, as a record of theirs."""
+"""10,000 two-phase cycles of 16 clients at once, some of which are cut; and what a few clients saw themselves, as a
+record of theirs."""
 import itertools
 import random
 import threading
@@ -12,7 +13,8 @@ WITNESSES, ASKED = 3, 250
 
 
 class Worker(threading.Thread):
-    """A client that goes through cycles: reads and writes rows which others want too, and prepares and ends the branch."""
+    """A client that goes through cycles: reads and writes rows which others want too, and prepares and ends the
+    branch."""
 
     def __init__(self, server, number):
         super().__init__()
@@ -66,7 +68,8 @@ class Worker(threading.Thread):
 
 class Cycles(Case):
     def test_ten_thousand(self):
-        cuts = [f"{kind} {number * 40 + 7} {what}" for number in range(5) for kind in ("XA PREPARE", "XA COMMIT", "XA ROLLBACK") for what in ("close-before", "close-after")][::2]
+        cuts = [f"{kind} {number * 40 + 7} {what}" for number in range(5)
+                for kind in ("XA PREPARE", "XA COMMIT", "XA ROLLBACK") for what in ("close-before", "close-after")][::2]
         cuts += [f"XA COMMIT {number * 40 + 9} close-after" for number in range(5)]
         server = self.serve(faults=cuts)
         workers = [Worker(server, number) for number in range(CLIENTS)]
@@ -82,11 +85,13 @@ class Cycles(Case):
 
 
 class Witness(threading.Thread):
-    """A client that writes down when it calls and what it is answered, in a list that all share; where it is cut, it is lost, and comes as another one."""
+    """A client that writes down when it calls and what it is answered, in a list that all share; where it is cut, it is
+    lost, and comes as another one."""
 
     def __init__(self, server, numbers, record, lock, seed):
         super().__init__()
-        self.server, self.numbers, self.record, self.lock, self.draw = server, numbers, record, lock, random.Random(seed)
+        self.server, self.numbers, self.record, self.lock, self.draw = (server, numbers, record, lock,
+                                                                        random.Random(seed))
         self.fault, self.plan = None, []
 
     def note(self, *lines):
@@ -113,10 +118,13 @@ class Witness(threading.Thread):
         """Half of them are a cycle's next, the others any."""
         key, xid = self.draw.randrange(3), f"'{self.draw.randrange(4)}'"
         if self.draw.random() < 0.5:
-            self.plan = self.plan or [f"XA START {xid}", f"PUT '{key}','{self.number}'", f"XA END {xid}", f"XA PREPARE {xid}", f"XA COMMIT {xid}"]
+            self.plan = self.plan or [f"XA START {xid}", f"PUT '{key}','{self.number}'", f"XA END {xid}",
+                                      f"XA PREPARE {xid}", f"XA COMMIT {xid}"]
             return self.plan.pop(0)
-        return self.draw.choice([f"GET '{key}'", f"GET '{key}'", f"PUT '{key}','{self.draw.randrange(100)}'", f"DEL '{key}'", f"XA START {xid}", f"XA END {xid}", f"XA PREPARE {xid}", f"XA COMMIT {xid}",
-                                 f"XA COMMIT {xid} ONE PHASE", f"XA ROLLBACK {xid}", "XA RECOVER CONVERT XID", f"XA START {xid} JOIN"])
+        return self.draw.choice([f"GET '{key}'", f"GET '{key}'", f"PUT '{key}','{self.draw.randrange(100)}'",
+                                 f"DEL '{key}'", f"XA START {xid}", f"XA END {xid}", f"XA PREPARE {xid}",
+                                 f"XA COMMIT {xid}", f"XA COMMIT {xid} ONE PHASE", f"XA ROLLBACK {xid}",
+                                 "XA RECOVER CONVERT XID", f"XA START {xid} JOIN"])
 
     def ask(self, client, text):
         self.note(f"{self.number} > {text}")

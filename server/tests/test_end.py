@@ -12,7 +12,8 @@ from wire import Closed
 
 class End(Case):
     def test_a_signal_amid_work(self):
-        """Statements that were called are answered or not, the record is whole and LEGAL, the history is written, and the status is 0."""
+        """Statements that were called are answered or not, the record is whole and LEGAL, the history is written, and
+        the status is 0."""
         for number in (signal.SIGTERM, signal.SIGINT):
             folder = Path(self.ends.enter_context(tempfile.TemporaryDirectory()))
             server = self.serve("--history", folder / "history", stores=2)
@@ -94,9 +95,11 @@ class Status(Case):
         self.assertEqual(rows["connections", "logged in"], "2")
         self.assertEqual((rows["sessions", "lent"], rows["sessions", "waited for"]), ("1", "0"))
         self.assertEqual(rows["history", "entries"], "7")  # four of the branch that is prepared, three of the other
-        self.assertEqual((rows["statements", "XA START"], rows["statements", "PUT"], rows["refusals", "3572"]), ("2", "3", "1"))
+        self.assertEqual((rows["statements", "XA START"], rows["statements", "PUT"], rows["refusals", "3572"]),
+                         ("2", "3", "1"))
         self.assertRegex(rows["branch", "0x61,0x62,7"], r"\APREPARED, connection 1, [0-9.]+ s, holds 0x6b\Z")
-        self.assertRegex(rows["branch", "0x63,X'',1"], r"\AACTIVE, connection 1 from 127.0.0.1:\d+, session \d+, [0-9.]+ s, shares 0x6c, holds 0x6d\Z")
+        self.assertRegex(rows["branch", "0x63,X'',1"], r"\AACTIVE, connection 1 from 127.0.0.1:\d+, session \d+, "
+                         r"[0-9.]+ s, shares 0x6c, holds 0x6d\Z")
         self.ok(one, "XA END 'c'", "XA ROLLBACK 'c'", "XA ROLLBACK 'a','b',7")
         self.assertEqual([row for row in self.seen(two) if row[0] == b"branch"], [])
         self.ok(one, "BEGIN", "PUT 'k','v'")
@@ -115,9 +118,11 @@ class Status(Case):
         client = self.client(server, 1)
         self.ok(client, "XA START 'a'", "PUT 'k','v'")
         wait_for((folder / "status").exists, "it is written")
-        wait_for(lambda: self.branches(folder) == [[], [("0x61,X'',1", "ACTIVE", {"0x6b": "HOLDS"})]], "the branch is there")
+        wait_for(lambda: self.branches(folder) == [[], [("0x61,X'',1", "ACTIVE", {"0x6b": "HOLDS"})]],
+                 "the branch is there")
         self.ok(client, "XA END 'a'", "XA PREPARE 'a'")
-        wait_for(lambda: self.branches(folder) == [[], [("0x61,X'',1", "PREPARED", {"0x6b": "HOLDS"})]], "it is prepared")
+        wait_for(lambda: self.branches(folder) == [[], [("0x61,X'',1", "PREPARED", {"0x6b": "HOLDS"})]],
+                 "it is prepared")
 
     @staticmethod
     def branches(folder):

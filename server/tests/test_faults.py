@@ -1,4 +1,5 @@
-"""Faults on purpose: what each does to the client and to the store, and that the record is LEGAL whatever was injected but an error."""
+"""Faults on purpose: what each does to the client and to the store, and that the record is LEGAL whatever was injected
+but an error."""
 import time
 
 from support import Case, wait_for
@@ -52,7 +53,8 @@ class Faults(Case):
     def test_held(self):
         server, client = self.start("XA PREPARE 1 stall 2", "XA COMMIT 1 stall-after 2")
         other = self.client(server)
-        for verb, has_effect in (("PREPARE", lambda: other.ask("XA RECOVER").rows), ("COMMIT", lambda: self.value(other, "k"))):
+        for verb, has_effect in (("PREPARE", lambda: other.ask("XA RECOVER").rows),
+                                 ("COMMIT", lambda: self.value(other, "k"))):
             began = time.monotonic()
             client.send(f"\x03XA {verb} {XID}".encode())
             wait_for(lambda: server.logged("held before it" if verb == "PREPARE" else "held after it"), "it's held")
@@ -73,7 +75,8 @@ class Faults(Case):
         self.ends_legal(server, "held before it")
 
     def test_an_outage(self):
-        """All connections are cut and new ones refused for a while; what is prepared is kept, and the rest rolled back."""
+        """All connections are cut and new ones refused for a while; what is prepared is kept, and the rest rolled
+        back."""
         server, client = self.start("XA PREPARE 2 outage 1")
         self.ok(client, f"XA PREPARE {XID}")
         one, two = self.client(server), self.client(server)

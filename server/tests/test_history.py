@@ -13,7 +13,8 @@ from test_lending import Worker
 
 class Histories(Case):
     def histories(self, server):
-        paths = [server.folder / "history"] if server.stores == 1 else [server.folder / f"history.{number + 1}" for number in range(server.stores)]
+        paths = ([server.folder / "history"] if server.stores == 1
+                 else [server.folder / f"history.{number + 1}" for number in range(server.stores)])
         return [path.read_text().splitlines() for path in paths]
 
     def history_of(self, *steps):
@@ -39,16 +40,21 @@ class Histories(Case):
     def test_what_is_logged(self):
         a = "0x61,X'',1"
         self.assertEqual(self.history_of(
-            (0, "GET 'k'"), (0, "PUT 'free','1'"), (0, "XA START 'a'"), (0, "XA START 'b'"), (0, "GET 'k'"), (0, "GET 'k'"), (1, "PUT 'k','held'"), (0, "PUT 'k','v'"), (0, "GET 'k'"), (0, "no statement"),
-            (0, "XA END 'a'"), (0, "XA RECOVER"), (0, "XA PREPARE 'a'"), (1, "XA RECOVER"), (1, "XA COMMIT 'a'"), (1, "XA COMMIT 'a'"), (1, "DEL 'k'")),
-            ["PUT 0x66726565,0x31", f"XA START {a}", "GET 0x6b", "PUT 0x6b,0x76", f"XA END {a}", f"XA PREPARE {a}", f"XA COMMIT {a}", "DEL 0x6b"])
+            (0, "GET 'k'"), (0, "PUT 'free','1'"), (0, "XA START 'a'"), (0, "XA START 'b'"), (0, "GET 'k'"),
+            (0, "GET 'k'"), (1, "PUT 'k','held'"), (0, "PUT 'k','v'"), (0, "GET 'k'"), (0, "no statement"),
+            (0, "XA END 'a'"), (0, "XA RECOVER"), (0, "XA PREPARE 'a'"), (1, "XA RECOVER"), (1, "XA COMMIT 'a'"),
+            (1, "XA COMMIT 'a'"), (1, "DEL 'k'")),
+            ["PUT 0x66726565,0x31", f"XA START {a}", "GET 0x6b", "PUT 0x6b,0x76", f"XA END {a}", f"XA PREPARE {a}",
+             f"XA COMMIT {a}", "DEL 0x6b"])
 
     def test_a_session_that_leaves(self):
         """Its branch is rolled back, which is logged; a session without a branch leaves no trace."""
-        self.assertEqual(self.history_of((0, "XA START 'a'"), (0, "PUT 'k','v'"), (1, "GET 'k'")), ["XA START 0x61,X'',1", "PUT 0x6b,0x76", "DISCONNECT"])
+        self.assertEqual(self.history_of((0, "XA START 'a'"), (0, "PUT 'k','v'"), (1, "GET 'k'")),
+                         ["XA START 0x61,X'',1", "PUT 0x6b,0x76", "DISCONNECT"])
 
     def test_a_file_that_is_slow(self):
-        """A store that keeps 64 entries, ten connections, and a pipe that is read slowly: statements wait for it, and no entry is lost."""
+        """A store that keeps 64 entries, ten connections, and a pipe that is read slowly: statements wait for it, and
+        no entry is lost."""
         folder = Path(self.ends.enter_context(tempfile.TemporaryDirectory()))
         pipe, said = folder / "history", []
         os.mkfifo(pipe)
@@ -88,4 +94,5 @@ class Histories(Case):
         for store, value in ((0, "1"), (1, "2")):
             self.ok(self.client(server, store), f"PUT 'k','{value}'")
         server.end()
-        self.assertEqual([[line.partition(" ")[2] for line in lines] for lines in self.histories(server)], [["PUT 0x6b,0x31"], ["PUT 0x6b,0x32"]])
+        self.assertEqual([[line.partition(" ")[2] for line in lines] for lines in self.histories(server)],
+                         [["PUT 0x6b,0x31"], ["PUT 0x6b,0x32"]])

@@ -20,17 +20,22 @@ class Injection(Case):
         self.assertRegex(record, rb"\A(?:[0-9]+ [<>] [ -~]*\n|[0-9]+ [0-9]+ [0-9]+ 0x[0-9a-f]*\n|#[ -~]*\n)*\Z")
 
     def test_line_feeds(self):
-        for text in ("GET 'x'\n2 XA ROLLBACK 'victim'", "GET 'x'\r\n2 XA ROLLBACK 'victim'", "GET 'x';\n2 XA ROLLBACK 'victim'", "\n2 XA ROLLBACK 'victim'"):
+        for text in ("GET 'x'\n2 XA ROLLBACK 'victim'", "GET 'x'\r\n2 XA ROLLBACK 'victim'",
+                     "GET 'x';\n2 XA ROLLBACK 'victim'", "\n2 XA ROLLBACK 'victim'"):
             self.refused(self.one, text, 1064, "42000")
-        for text in ("GET 'x\n2 XA ROLLBACK ''victim'''", "GET \"x\n2 XA ROLLBACK 'victim'\"", "GET -- '\n'x'", "GET\n/* \n2 XA ROLLBACK 'victim'\n */'x'"):
+        for text in ("GET 'x\n2 XA ROLLBACK ''victim'''", "GET \"x\n2 XA ROLLBACK 'victim'\"", "GET -- '\n'x'",
+                     "GET\n/* \n2 XA ROLLBACK 'victim'\n */'x'"):
             self.assertEqual(self.one.ask(text).rows, [], text)
-        self.ok(self.one, "PUT 'lines','a\n2 XA ROLLBACK'", "XA START 'g\n2','b\r\n'", "XA END 'g\n2','b\r\n'", "XA PREPARE 'g\n2','b\r\n'")
+        self.ok(self.one, "PUT 'lines','a\n2 XA ROLLBACK'", "XA START 'g\n2','b\r\n'", "XA END 'g\n2','b\r\n'",
+                "XA PREPARE 'g\n2','b\r\n'")
         self.assertEqual(self.one.ask("XA RECOVER").rows, [(b"1", b"3", b"3", b"g\n2b\r\n")])
         self.assertEqual(self.value(self.one, "lines"), b"a\n2 XA ROLLBACK")
 
     def test_quotes_and_comments(self):
-        for text in ("GET 'x' -- '\n;XA ROLLBACK 'victim'", "GET 'x';XA ROLLBACK 'victim'", "GET 'x\\';XA ROLLBACK 'victim'", "/*!XA ROLLBACK 'victim'*/", "GET 'x' /*! ; XA ROLLBACK 'victim' */",
-                     "GET 'x'#\nXA ROLLBACK 'victim'", "GET 'x", "GET \"x'", "GET 'x'\0"):
+        for text in ("GET 'x' -- '\n;XA ROLLBACK 'victim'", "GET 'x';XA ROLLBACK 'victim'",
+                     "GET 'x\\';XA ROLLBACK 'victim'", "/*!XA ROLLBACK 'victim'*/",
+                     "GET 'x' /*! ; XA ROLLBACK 'victim' */", "GET 'x'#\nXA ROLLBACK 'victim'", "GET 'x", "GET \"x'",
+                     "GET 'x'\0"):
             self.refused(self.one, text, 1064, "42000")
         self.assertEqual(self.one.ask("GET 'x' /* ; XA ROLLBACK 'victim' */").rows, [])
         self.assertEqual(self.one.ask("GET 'x' # ; XA ROLLBACK 'victim'").rows, [])
@@ -41,7 +46,8 @@ class Injection(Case):
         """Every byte, as PyMySQL writes texts and bytes, comes back."""
         connection = pymysql.connect(host="127.0.0.1", port=self.server.port, user="u", autocommit=True)
         with connection, connection.cursor() as cursor:
-            for value in [bytes((byte,)) * 2 for byte in range(256)] + [b"'\n2 XA ROLLBACK 'victim'", b"\\';--\n", bytes(range(64))]:
+            for value in [bytes((byte,)) * 2 for byte in range(256)] + [b"'\n2 XA ROLLBACK 'victim'", b"\\';--\n",
+                                                                        bytes(range(64))]:
                 cursor.execute("PUT %s,%s", (b"row", value))
                 cursor.execute("GET %s", ("row",))
                 self.assertEqual(cursor.fetchall(), ((value,),))

@@ -69,8 +69,9 @@ class Java(Case):
     """Runs the programs."""
 
     def java(self, *words):
-        process = subprocess.Popen(["java", "-Xshare:auto", "-XX:TieredStopAtLevel=1", "-Dfile.encoding=UTF-8", "-cp", f"{CLASSPATH}:{compiled()}", *map(str, words)],
-                                   stdout=subprocess.PIPE, text=True, encoding="utf-8")
+        process = subprocess.Popen(["java", "-Xshare:auto", "-XX:TieredStopAtLevel=1", "-Dfile.encoding=UTF-8", "-cp",
+                                    f"{CLASSPATH}:{compiled()}", *map(str, words)], stdout=subprocess.PIPE, text=True,
+                                   encoding="utf-8")
         self.ends.callback(process.stdout.close)
         self.ends.callback(process.wait)
         self.ends.callback(process.kill)
@@ -136,7 +137,8 @@ class Bitronix(Java):
         process.wait(30)
 
     def killed_at(self, statement, prepared):
-        """Kills the process while a store holds its statement, with so many branches prepared in each store; what a further process then makes of it."""
+        """Kills the process while a store holds its statement, with so many branches prepared in each store; what a
+        further process then makes of it."""
         server = self.serve(stores=2, faults=[f"{statement} stall 600"])
         self.crash(server, "held before it")
         wait_for(lambda: server.logged("while its statement was held"), "the server sees it")
@@ -166,7 +168,8 @@ class Bitronix(Java):
         self.assertIsNone(self.outcome(empty))
 
     def recovered(self, *faults):
-        """Two processes that recover after a crash before the second commit, the first of them with faults: what each found, and both stores' rows."""
+        """Two processes that recover after a crash before the second commit, the first of them with faults: what each
+        found, and both stores' rows."""
         server = self.serve(stores=2, faults=["STORE 1 XA COMMIT 1 stall 600", *faults])
         self.crash(server, "held before it")
         found = [self.transfer(server, "recover").strip() for _ in range(2)]
@@ -179,11 +182,14 @@ class Bitronix(Java):
         self.assertEqual(rows, [b"new", b"new"], found)
 
     def test_an_answer_that_is_cut_in_recovery(self):
-        self.assertEqual(self.recovered("STORE 1 XA COMMIT 2 close-after"), (["FOUND 1 0", "FOUND 0 0"], [b"new", b"new"]))
+        self.assertEqual(self.recovered("STORE 1 XA COMMIT 2 close-after"),
+                         (["FOUND 1 0", "FOUND 0 0"], [b"new", b"new"]))
 
     def test_a_commit_that_is_cut_in_recovery(self):
-        """Bitronix 2.1.4 counts it as done, and the next process rolls the branch back: the stores differ, and each record is LEGAL."""
-        self.assertEqual(self.recovered("STORE 1 XA COMMIT 2 close-before"), (["FOUND 1 0", "FOUND 0 1"], [None, b"new"]))
+        """Bitronix 2.1.4 counts it as done, and the next process rolls the branch back: the stores differ, and each
+        record is LEGAL."""
+        self.assertEqual(self.recovered("STORE 1 XA COMMIT 2 close-before"),
+                         (["FOUND 1 0", "FOUND 0 1"], [None, b"new"]))
 
     def disturbed(self, fault):
         """A transaction with a fault: what Bitronix says of it, and the row that both stores have in the end."""
@@ -197,11 +203,13 @@ class Bitronix(Java):
         return said, row
 
     def test_faults_at_the_prepares(self):
-        """A connection that is cut or refuses before its vote is counted rolls back, whether the vote took effect or not; one that is slow commits."""
+        """A connection that is cut or refuses before its vote is counted rolls back, whether the vote took effect or
+        not; one that is slow commits."""
         for store in (1, 2):
             for what in ("close-before", "close-after", "error 1399", "error 1402"):
                 with self.subTest(store=store, what=what):
-                    self.assertEqual(self.disturbed(f"STORE {store} XA PREPARE 1 {what}"), ("REFUSED BitronixRollbackException", None))
+                    self.assertEqual(self.disturbed(f"STORE {store} XA PREPARE 1 {what}"),
+                                     ("REFUSED BitronixRollbackException", None))
             for what in ("stall 1", "stall-after 1"):
                 with self.subTest(store=store, what=what):
                     self.assertEqual(self.disturbed(f"STORE {store} XA PREPARE 1 {what}"), ("COMMITTED", b"new"))
@@ -214,8 +222,11 @@ class Bitronix(Java):
                     self.assertEqual(self.disturbed(f"STORE {store} XA COMMIT 1 {what}"), ("COMMITTED", b"new"))
 
     def test_killed_at_a_fault(self):
-        """A fault, and then the process is killed at once: wherever that meets it, both stores agree once a further process has recovered."""
-        for fault in [f"STORE {store} XA {verb} 1 {what}" for store, verb in ((1, "PREPARE"), (2, "PREPARE"), (1, "COMMIT"), (2, "COMMIT")) for what in ("close-before", "close-after", "stall-after 9", "error 1399")]:
+        """A fault, and then the process is killed at once: wherever that meets it, both stores agree once a further
+        process has recovered."""
+        for fault in [f"STORE {store} XA {verb} 1 {what}"
+                      for store, verb in ((1, "PREPARE"), (2, "PREPARE"), (1, "COMMIT"), (2, "COMMIT"))
+                      for what in ("close-before", "close-after", "stall-after 9", "error 1399")]:
             with self.subTest(fault):
                 server = self.serve(stores=2, faults=[fault])
                 self.crash(server, "the fault")

@@ -114,7 +114,8 @@ class Lending(Case):
             began = time.monotonic()
             for text in ("XA START 'late'", "GET 'k'"):
                 answer = self.refused(clients[16], text, 1040, "08004")
-                self.assertEqual(answer.text, HELD + (" (--wait 0)" if seconds == "0" else ", and none was free for 0.2 s (--wait)"))
+                self.assertEqual(answer.text,
+                                 HELD + (" (--wait 0)" if seconds == "0" else ", and none was free for 0.2 s (--wait)"))
             self.assertGreaterEqual(time.monotonic() - began, 2 * float(seconds))
             self.ok(clients[0], "XA END '0'", "XA ROLLBACK '0'")
             self.ok(clients[16], "XA START 'late'")
@@ -132,7 +133,8 @@ class Lending(Case):
             for client in clients:
                 client.close()
             with server.client() as other:
-                wait_for(lambda: all(other.ask(f"PUT '{number}','w'").kind == "ok" for number in range(16)), "the rows are free")
+                wait_for(lambda: all(other.ask(f"PUT '{number}','w'").kind == "ok" for number in range(16)),
+                         "the rows are free")
         self.assertEqual(server.verdicts(), ["LEGAL"])
 
     def test_more_connections_than_are_let_in(self):
@@ -187,7 +189,8 @@ class Lending(Case):
 
 class History(Case):
     def test_a_history_is_a_script(self):
-        """`run` carries out each of its lines, and gives the rows that the store has, also those of branches that were cut off."""
+        """`run` carries out each of its lines, and gives the rows that the store has, also those of branches that were
+        cut off."""
         for rows in ("64", "4096"):
             server = self.serve("--history", self.folder_of() / "history", "--rows", rows, "--wait", "60")
             workers = [Worker(server, number, 20) for number in range(20)]

@@ -77,9 +77,11 @@ class Limits(Case):
                 self.ok(client, "PUT 'k','v'")
 
     def test_silence(self):
-        """A client that says nothing at its login, one that stops in its login, and one that stops in a packet are each waited for ten seconds."""
+        """A client that says nothing at its login, one that stops in its login, and one that stops in a packet are each
+        waited for ten seconds."""
         server = self.serve()
-        silent, halting, half = Client(server.port, log_in=False), Client(server.port, log_in=False), self.client(server)
+        silent, halting, half = Client(server.port, log_in=False), Client(server.port,
+                                                                          log_in=False), self.client(server)
         began = time.monotonic()
         halting.greeted()
         halting.socket.sendall(b"\x40\0\0\x01abc")
@@ -89,7 +91,8 @@ class Limits(Case):
             self.assertTrue(client.is_closed())
             client.close()
         self.assertTrue(9 < time.monotonic() - began < 50)
-        wait_for(lambda: sum("silent for 10 seconds" in line for line in server.log) == 2, "two silent clients are logged")
+        wait_for(lambda: sum("silent for 10 seconds" in line for line in server.log) == 2,
+                 "two silent clients are logged")
         wait_for(lambda: server.logged("half a packet"), "half a packet is logged")
         self.ok(idle, "PUT 'k','v'")
 

@@ -1,4 +1,5 @@
-"""Where a store and a MariaDB should agree both are asked: numbers, SQLSTATEs, columns, flags. And how many round trips each makes in a second."""
+"""Where a store and a MariaDB should agree both are asked: numbers, SQLSTATEs, columns, flags. And how many round trips
+each makes in a second."""
 import re
 import subprocess
 import tempfile
@@ -11,24 +12,39 @@ from wire import Client
 
 STAYS = "a prepared branch is listed"  # MariaDB's stays with its session, whose flag says so until the end
 TOO_LONG = "'" + "x" * 65 + "'"
-# Each case: who says what. Rules in which the two differ are in docs/HISTORIES.md#records-of-mariadb; none of these meets one.
+# Each case: who says what. Rules in which the two differ are in docs/HISTORIES.md#records-of-mariadb; none of these
+# meets one.
 CASES = {
     "a branch in one phase": ["1 XA START 'a'", "1 XA END 'a'", "1 XA COMMIT 'a' ONE PHASE", "1 XA RECOVER"],
     "a branch that is rolled back": ["1 XA BEGIN 'a','b',7", "1 XA END 'a','b',7", "1 XA ROLLBACK 'a','b',7"],
-    STAYS: ["1 XA START 'a','b',7", "1 WRITE", "1 XA END 'a','b',7", "1 XA PREPARE 'a','b',7", "1 XA RECOVER", "2 XA RECOVER", "1 XA COMMIT 'a','b',7", "2 XA RECOVER"],
+    STAYS: ["1 XA START 'a','b',7", "1 WRITE", "1 XA END 'a','b',7", "1 XA PREPARE 'a','b',7", "1 XA RECOVER",
+            "2 XA RECOVER", "1 XA COMMIT 'a','b',7", "2 XA RECOVER"],
     "wrong states of none": ["1 XA END 'a'", "1 XA PREPARE 'a'", "1 XA COMMIT 'a'", "1 XA ROLLBACK 'a'"],
-    "wrong states of an active one": ["1 XA START 'a'", "1 XA START 'b'", "1 XA PREPARE 'a'", "1 XA COMMIT 'a'", "1 XA COMMIT 'a' ONE PHASE", "1 XA ROLLBACK 'a'", "1 XA END 'b'", "1 COMMIT", "1 ROLLBACK", "1 BEGIN",
+    "wrong states of an active one": ["1 XA START 'a'", "1 XA START 'b'", "1 XA PREPARE 'a'", "1 XA COMMIT 'a'",
+                                      "1 XA COMMIT 'a' ONE PHASE", "1 XA ROLLBACK 'a'", "1 XA END 'b'", "1 COMMIT",
+                                      "1 ROLLBACK", "1 BEGIN",
                                       "1 START TRANSACTION", "1 XA END 'a'", "1 XA ROLLBACK 'a'"],
-    "wrong states of an idle one": ["1 XA START 'a'", "1 XA END 'a'", "1 XA START 'b'", "1 XA END 'a'", "1 XA COMMIT 'a'", "1 COMMIT", "1 WRITE", "1 XA PREPARE 'b'", "1 XA ROLLBACK 'a'"],
-    "one identifier twice": ["1 XA START 'a'", "2 XA START 'a'", "1 XA END 'a'", "2 XA START 'a'", "1 XA ROLLBACK 'a'", "2 XA START 'a'", "2 XA END 'a'", "2 XA ROLLBACK 'a'"],
-    "clauses that aren't supported": ["1 XA START 'a' JOIN", "1 XA START 'a'", "1 XA END 'a' SUSPEND", "1 XA END 'a' SUSPEND FOR MIGRATE", "1 XA END 'a'", "1 XA ROLLBACK 'a'"],
-    "what is no statement": [f"1 {text}" for text in (f"XA START {TOO_LONG}", "XA START 'a','b',2147483648", "XA START", "XA", "XA START 'a' ONE PHASE", "XA COMMIT 'a' ONE", "XA START 'a',", "XA RECOVER now",
+    "wrong states of an idle one": ["1 XA START 'a'", "1 XA END 'a'", "1 XA START 'b'", "1 XA END 'a'",
+                                    "1 XA COMMIT 'a'", "1 COMMIT", "1 WRITE", "1 XA PREPARE 'b'", "1 XA ROLLBACK 'a'"],
+    "one identifier twice": ["1 XA START 'a'", "2 XA START 'a'", "1 XA END 'a'", "2 XA START 'a'", "1 XA ROLLBACK 'a'",
+                             "2 XA START 'a'", "2 XA END 'a'", "2 XA ROLLBACK 'a'"],
+    "clauses that aren't supported": ["1 XA START 'a' JOIN", "1 XA START 'a'", "1 XA END 'a' SUSPEND",
+                                      "1 XA END 'a' SUSPEND FOR MIGRATE", "1 XA END 'a'", "1 XA ROLLBACK 'a'"],
+    "what is no statement": [f"1 {text}" for text in (f"XA START {TOO_LONG}", "XA START 'a','b',2147483648", "XA START",
+                                                      "XA", "XA START 'a' ONE PHASE", "XA COMMIT 'a' ONE",
+                                                      "XA START 'a',", "XA RECOVER now",
                                                       "NONSENSE", "XA START 'a','b','c'", "XA START a")],
-    "spellings": [f"1 XA {verb} {xid}" for xid in (r"'it''s\n'", r'"say ""so"""', "X'4142'", "0x4142", "'a',''", "'a',X'',2147483647", "0x414") for verb in ("START", "END", "ROLLBACK")],
-    "a transaction of statements": ["1 START TRANSACTION", "1 WRITE", "1 XA START 'a'", "1 XA END 'a'", "1 XA PREPARE 'a'", "1 XA COMMIT 'a'", "1 XA ROLLBACK 'a'", "1 COMMIT", "1 BEGIN", "1 WRITE", "1 ROLLBACK"],
-    "autocommit": ["1 SET autocommit=0", "1 WRITE", "1 XA START 'a'", "1 COMMIT", "1 XA START 'a'", "1 WRITE", "1 SET autocommit=0", "1 XA END 'a'", "1 XA ROLLBACK 'a'", "1 SET autocommit=1", "1 XA START 'a'",
+    "spellings": [f"1 XA {verb} {xid}" for xid in (r"'it''s\n'", r'"say ""so"""', "X'4142'", "0x4142", "'a',''",
+                                                   "'a',X'',2147483647", "0x414")
+                  for verb in ("START", "END", "ROLLBACK")],
+    "a transaction of statements": ["1 START TRANSACTION", "1 WRITE", "1 XA START 'a'", "1 XA END 'a'",
+                                    "1 XA PREPARE 'a'", "1 XA COMMIT 'a'", "1 XA ROLLBACK 'a'", "1 COMMIT", "1 BEGIN",
+                                    "1 WRITE", "1 ROLLBACK"],
+    "autocommit": ["1 SET autocommit=0", "1 WRITE", "1 XA START 'a'", "1 COMMIT", "1 XA START 'a'", "1 WRITE",
+                   "1 SET autocommit=0", "1 XA END 'a'", "1 XA ROLLBACK 'a'", "1 SET autocommit=1", "1 XA START 'a'",
                    "1 SET autocommit=1", "1 XA END 'a'", "1 XA ROLLBACK 'a'"],
-    "a client that leaves": ["1 XA START 'a'", "1 WRITE", "1 LEAVE", "2 XA START 'a'", "2 WRITE", "2 XA END 'a'", "2 XA ROLLBACK 'a'", "2 XA RECOVER"],
+    "a client that leaves": ["1 XA START 'a'", "1 WRITE", "1 LEAVE", "2 XA START 'a'", "2 WRITE", "2 XA END 'a'",
+                             "2 XA ROLLBACK 'a'", "2 XA RECOVER"],
     "texts of clients": ["1 SELECT 1", "1 SET NAMES utf8mb4", "1 SHOW WARNINGS"],
 }
 WRITES = {"nigbaru": "PUT 'k','v'", "mariadb": "REPLACE INTO db.t VALUES ('k','v')"}
@@ -46,11 +62,14 @@ class Agreement(Case):
         server = self.serve()
         with mariadb() as port:
             with Client(port) as client:
-                self.ok(client, "CREATE DATABASE db", "CREATE TABLE db.t (k VARBINARY(64) PRIMARY KEY, v VARBINARY(64)) ENGINE=InnoDB", "INSERT INTO db.t VALUES ('k','')")
+                self.ok(client, "CREATE DATABASE db",
+                        "CREATE TABLE db.t (k VARBINARY(64) PRIMARY KEY, v VARBINARY(64)) ENGINE=InnoDB",
+                        "INSERT INTO db.t VALUES ('k','')")
             for name, steps in CASES.items():
                 with self.subTest(name):
                     flags = 2 if name == STAYS else 3
-                    self.assertEqual(self.said("nigbaru", server.port, steps, flags), self.said("mariadb", port, steps, flags))
+                    self.assertEqual(self.said("nigbaru", server.port, steps, flags),
+                                     self.said("mariadb", port, steps, flags))
             with server.client() as ours, Client(port) as theirs:
                 self.assertEqual(ours.ask("XA RECOVER").columns, theirs.ask("XA RECOVER").columns)
 
@@ -113,20 +132,24 @@ class Speed(Case):
             (folder / f"{name}.lua").write_text(CYCLE.replace("STATEMENT", statement))
         with mariadb() as port:
             with Client(port) as client:
-                self.ok(client, "CREATE DATABASE db", "CREATE TABLE db.t (k VARBINARY(64) PRIMARY KEY, v VARBINARY(64)) ENGINE=InnoDB")
+                self.ok(client, "CREATE DATABASE db",
+                        "CREATE TABLE db.t (k VARBINARY(64) PRIMARY KEY, v VARBINARY(64)) ENGINE=InnoDB")
             servers = [(folder / "nigbaru.lua", server.port), (folder / "mariadb.lua", port)]
             for server in servers:
                 self.trips(*server, 4, seconds=1)  # nobody begins cold
             print("\nround trips a second:")
             for connections in (1, 4, 16):
                 ours, theirs = [self.trips(*server, connections) for server in servers]
-                print(f"  {connections:2} connections: {ours:8.0f} beside {theirs:8.0f} of MariaDB, {ours / theirs:.2f}")
+                print(
+                    f"  {connections:2} connections: {ours:8.0f} beside {theirs:8.0f} of MariaDB, {ours / theirs:.2f}")
                 self.assertGreater(ours, 100)
 
     def trips(self, script, port, connections, seconds=SECONDS):
         """Round trips a second, five to a cycle, as sysbench counts cycles."""
-        ran = subprocess.run(["sysbench", script, "--db-driver=mysql", "--mysql-host=127.0.0.1", f"--mysql-port={port}", "--mysql-user=root", "--mysql-db=db", "--db-ps-mode=disable", f"--threads={connections}",
-                              f"--time={seconds}", "--report-interval=0", "run"], stdout=subprocess.PIPE, stderr=subprocess.STDOUT, text=True, timeout=120)
+        ran = subprocess.run(["sysbench", script, "--db-driver=mysql", "--mysql-host=127.0.0.1", f"--mysql-port={port}",
+                              "--mysql-user=root", "--mysql-db=db", "--db-ps-mode=disable", f"--threads={connections}",
+                              f"--time={seconds}", "--report-interval=0", "run"], stdout=subprocess.PIPE,
+                             stderr=subprocess.STDOUT, text=True, timeout=120)
         found = re.search(r"total number of events: *(\d+)", ran.stdout)
         self.assertTrue(found and ran.returncode == 0, ran.stdout)
         return int(found[1]) * 5 / seconds

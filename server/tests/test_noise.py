@@ -1,4 +1,5 @@
-"""Bytes that no client sends, drawn from a seed: the server answers others after each, and a good client goes through its cycles undisturbed all the time."""
+"""Bytes that no client sends, drawn from a seed: the server answers others after each, and a good client goes through
+its cycles undisturbed all the time."""
 import random
 import struct
 import threading
@@ -13,11 +14,18 @@ STREAMS = 20_000 if LONG else 2_000
 LOGIN = Client.login_packet(b"root", b"", b"mysql_native_password")
 BEGIN = b"\x17\x01\0\0\0\0\x01\0\0\0"
 # Commands of each kind.
-COMMANDS = [b"\x03XA START 'a','b',7", b"\x03PUT 'k','v'", b"\x03GET X'6b'", b"\x03XA RECOVER", b"\x03SET autocommit=0", b"\x03COMMIT", b"\x03XA END 'a','b',7", b"\x03XA PREPARE 'a','b',7",
-            b"\x03XA ROLLBACK 'a','b',7", b"\x03SELECT @@version, 'x' AS `y` LIMIT 1", b"\x03SHOW VARIABLES LIKE 'c%'", b"\x03SHOW NIGBARU STATUS", b"\x03SET NAMES utf8", b"\x03DO 1",
-            b"\x03SET SESSION TRANSACTION ISOLATION LEVEL READ COMMITTED, READ ONLY", b"\x03BEGIN", b"\x16PUT ?,?", b"\x16XA COMMIT ?,?,? ONE PHASE", BEGIN + b"\0\x01\xfd\0\xfd\0\x01k\x01v",
-            BEGIN + b"\x02\x01\x08\0\x06\0" + bytes(8), b"\x18\x01\0\0\0\x01\0abc", b"\x19\x01\0\0\0", b"\x1a\x01\0\0\0", b"\x0e", b"\x09", b"\x1b\0\0", b"\x1f", b"\x02db", b"\x04t\0", b"\x0d", b"\x11root\0\0db\0"]
-LOGINS = [LOGIN, LOGIN, struct.pack("<IIB23x", CAN | 0x300008, 1 << 24, 45) + b"root\0\x14" + b"p" * 20 + b"db\0mysql_native_password\0\x10\x03abc\x03def\x03ghi\x03jkl", Client.login_packet(b"root", b"?", b"dialog")]
+COMMANDS = [b"\x03XA START 'a','b',7", b"\x03PUT 'k','v'", b"\x03GET X'6b'", b"\x03XA RECOVER", b"\x03SET autocommit=0",
+            b"\x03COMMIT", b"\x03XA END 'a','b',7", b"\x03XA PREPARE 'a','b',7", b"\x03XA ROLLBACK 'a','b',7",
+            b"\x03SELECT @@version, 'x' AS `y` LIMIT 1", b"\x03SHOW VARIABLES LIKE 'c%'", b"\x03SHOW NIGBARU STATUS",
+            b"\x03SET NAMES utf8", b"\x03DO 1",
+            b"\x03SET SESSION TRANSACTION ISOLATION LEVEL READ COMMITTED, READ ONLY", b"\x03BEGIN", b"\x16PUT ?,?",
+            b"\x16XA COMMIT ?,?,? ONE PHASE", BEGIN + b"\0\x01\xfd\0\xfd\0\x01k\x01v",
+            BEGIN + b"\x02\x01\x08\0\x06\0" + bytes(8), b"\x18\x01\0\0\0\x01\0abc", b"\x19\x01\0\0\0",
+            b"\x1a\x01\0\0\0", b"\x0e", b"\x09", b"\x1b\0\0", b"\x1f", b"\x02db", b"\x04t\0", b"\x0d",
+            b"\x11root\0\0db\0"]
+LOGINS = [LOGIN, LOGIN, struct.pack("<IIB23x", CAN | 0x300008, 1 << 24, 45) + b"root\0\x14" + b"p" * 20
+          + b"db\0mysql_native_password\0\x10\x03abc\x03def\x03ghi\x03jkl",
+          Client.login_packet(b"root", b"?", b"dialog")]
 SLOWEST = 10  # seconds, for an answer to the good client, on a machine that does much else
 
 
@@ -26,17 +34,20 @@ def framed(payload, number=0):
 
 
 def mutated(draw, payload, number=0):
-    """A packet with one to three bytes changed, left out or put in; one in ten keeps a header that is wrong then, or has it changed too."""
+    """A packet with one to three bytes changed, left out or put in; one in ten keeps a header that is wrong then, or
+    has it changed too."""
     packet = bytearray(payload)
     for _ in range(draw.randint(1, 3)):
         place = draw.randrange(len(packet) + 1)
         packet[place:place + draw.randrange(2)] = draw.randbytes(draw.randrange(2))
-    length = len(packet) if draw.random() < 0.9 else draw.choice([len(payload), draw.randrange(100), draw.randrange(1 << 24)])
+    length = (len(packet) if draw.random() < 0.9
+              else draw.choice([len(payload), draw.randrange(100), draw.randrange(1 << 24)]))
     return length.to_bytes(3, "little") + bytes((draw.choice([number, number, draw.randrange(256)]),)) + bytes(packet)
 
 
 def stream(draw):
-    """All that a client says: a login and commands, some of them mutated, left out, doubled or in another order, and maybe cut off anywhere."""
+    """All that a client says: a login and commands, some of them mutated, left out, doubled or in another order, and
+    maybe cut off anywhere."""
     packets = [framed(draw.choice(LOGINS), 1)] + [framed(draw.choice(COMMANDS)) for _ in range(draw.randint(1, 8))]
     for _ in range(draw.randint(1, 3)):
         place = draw.randrange(len(packets))
@@ -75,7 +86,8 @@ class Good(threading.Thread):
         return answer
 
     def cycle(self, xid, value):
-        for text in (f"XA START {xid}", f"PUT 'good','{value}'", f"XA END {xid}", f"XA PREPARE {xid}", f"XA COMMIT {xid}"):
+        for text in (f"XA START {xid}", f"PUT 'good','{value}'", f"XA END {xid}", f"XA PREPARE {xid}",
+                     f"XA COMMIT {xid}"):
             answer = self.ask(text)
             assert answer.kind == "ok", (text, answer)
         rows = self.ask("GET 'good'").rows
@@ -98,14 +110,16 @@ class Noise(Case):
         self.addCleanup(self.good.end)
 
     def undisturbed(self):
-        """The good client was answered rightly all the time, the server has nothing of the noise left, and had no fault of its own."""
+        """The good client was answered rightly all the time, the server has nothing of the noise left, and had no fault
+        of its own."""
         self.good.end()
         self.assertIsNone(self.good.fault)
         self.assertLess(self.good.slowest, SLOWEST)
         self.assertEqual([line for line in self.server.log if "panicked" in line], [])
         self.assertLess(memory(self.server) - self.before, 50_000)
         self.assertEqual(self.server.end(), 0)
-        print(f"\n{self.good.cycles} cycles of a good client, {self.good.slowest * 1000:.0f} ms at most for an answer", flush=True)
+        print(f"\n{self.good.cycles} cycles of a good client, {self.good.slowest * 1000:.0f} ms at most for an answer",
+              flush=True)
 
     def alive(self):
         self.assertEqual(self.witness.command(b"\x0e").kind, "ok")
@@ -158,7 +172,8 @@ class Noise(Case):
         self.undisturbed()
 
     def test_mutated_streams(self):
-        """Whole streams, in one piece or in several, whose client then reads all, reads nothing, shuts its side, or resets the connection."""
+        """Whole streams, in one piece or in several, whose client then reads all, reads nothing, shuts its side, or
+        resets the connection."""
         draw = random.Random(SEED)
         for _ in range(STREAMS):
             said = stream(draw)

@@ -1,4 +1,5 @@
-"""Logins with bytes changed, left out and put in: each is let in, refused or closed, and others are answered after each."""
+"""Logins with bytes changed, left out and put in: each is let in, refused or closed, and others are answered after
+each."""
 import random
 import struct
 import tempfile
@@ -14,7 +15,8 @@ LOGINS = [
     Client.login_packet(b"root", b"p" * 20, b"mysql_native_password"),
     Client.login_packet(b"root", b"p" * 32, b"caching_sha2_password"),
     Client.login_packet(b"root", b"?", b"dialog"),
-    struct.pack("<IIB23x", CAN | 0x300008, 1 << 24, 45) + b"root\0\x14" + b"p" * 20 + b"db\0mysql_native_password\0\x10\x03abc\x03def\x03ghi\x03jkl",
+    struct.pack("<IIB23x", CAN | 0x300008, 1 << 24, 45) + b"root\0\x14" + b"p" * 20
+    + b"db\0mysql_native_password\0\x10\x03abc\x03def\x03ghi\x03jkl",
     struct.pack("<IIB23x", CAN & ~0x88000, 1 << 24, 45) + b"root\0\0",
     REQUEST,
 ]

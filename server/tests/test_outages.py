@@ -1,4 +1,5 @@
-"""Further faults: connects and logins, local transactions, one phase, every nth, chances, outages, and a file that is read again."""
+"""Further faults: connects and logins, local transactions, one phase, every nth, chances, outages, and a file that is
+read again."""
 import os
 import random
 import threading
@@ -37,7 +38,8 @@ class Faults(Case):
         self.legal(server, "the fault ONE PHASE 1 close-after")
 
     def test_local_transactions(self):
-        server = self.serve(faults=["BEGIN 2 close-before", "COMMIT 1 close-after", "COMMIT 2 close-before", "ROLLBACK 1 error 1213"])
+        server = self.serve(faults=["BEGIN 2 close-before", "COMMIT 1 close-after", "COMMIT 2 close-before",
+                                    "ROLLBACK 1 error 1213"])
         client = self.client(server)
         self.ok(client, "BEGIN", "PUT 'k','v'")
         self.cut(client.ask, "COMMIT")
@@ -55,7 +57,9 @@ class Faults(Case):
         self.legal(server, "the fault COMMIT 2 close-before, at COMMIT: cut before it")
 
     def test_connects_and_logins(self):
-        server = self.serve(faults=["CONNECT 1 close-before", "CONNECT 2 error 1040", "CONNECT 3 close-after", "LOGIN 1 close-before", "LOGIN 2 close-after", "LOGIN 3 error 1045", "LOGIN 4 stall-after 0.3"])
+        server = self.serve(faults=["CONNECT 1 close-before", "CONNECT 2 error 1040", "CONNECT 3 close-after",
+                                    "LOGIN 1 close-before", "LOGIN 2 close-after", "LOGIN 3 error 1045",
+                                    "LOGIN 4 stall-after 0.3"])
         self.cut_off(server)
         with Client(server.port, log_in=False) as client:
             self.assertEqual(client.read(client.packet()).number, 1040)
@@ -83,7 +87,8 @@ class Faults(Case):
     def test_an_outage(self):
         """Whoever is there is cut, nobody comes in, and afterwards what was prepared is there, and nothing else."""
         server = self.serve(faults=["STORE 1 GET 2 outage 1"], stores=2)
-        prepared, active, cut, other = self.client(server), self.client(server), self.client(server), self.client(server, 1)
+        prepared, active, cut, other = (self.client(server), self.client(server), self.client(server),
+                                        self.client(server, 1))
         self.prepare(prepared, XID, "k", "v")
         self.ok(active, "XA START 'active'", "PUT 'l','v'")
         self.assertIsNone(self.value(cut, "k"))
@@ -215,9 +220,12 @@ class Worker(threading.Thread):
 
 class Storm(Case):
     def test_faults_at_random(self):
-        """Thirty clients, cut at any place and shut out again and again: each is served in the end, nothing is left, and the record is LEGAL."""
+        """Thirty clients, cut at any place and shut out again and again: each is served in the end, nothing is left,
+        and the record is LEGAL."""
         points = ["XA START", "XA END", "XA PREPARE", "XA COMMIT", "XA ROLLBACK", "PUT", "GET", "LOGIN", "CONNECT"]
-        lines = [f"{point} chance 0.02 seed {seed} {what}" for seed, (point, what) in enumerate((point, what) for point in points for what in ("close-before", "close-after", "stall 0.01", "stall-after 0.01"))]
+        lines = [f"{point} chance 0.02 seed {seed} {what}" for seed, (point, what) in enumerate(
+            (point, what) for point in points
+            for what in ("close-before", "close-after", "stall 0.01", "stall-after 0.01"))]
         server = self.serve("--wait", "60", faults=[*lines, "XA PREPARE every 300 outage 0.2"])
         workers = [Worker(server, number, 40) for number in range(30)]
         for worker in workers:

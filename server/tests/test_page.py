@@ -34,7 +34,8 @@ class Page(Case):
         (self.folder / name).write_text(text)
 
     def run_here(self, *words, text=None, **more):
-        ran = subprocess.run(words, cwd=self.folder, input=text, stdout=subprocess.PIPE, stderr=subprocess.STDOUT, text=True, timeout=120, env={**os.environ, **more})
+        ran = subprocess.run(words, cwd=self.folder, input=text, stdout=subprocess.PIPE, stderr=subprocess.STDOUT,
+                             text=True, timeout=120, env={**os.environ, **more})
         self.assertEqual(ran.returncode, 0, ran.stdout)
         return ran.stdout
 
@@ -70,7 +71,8 @@ class Page(Case):
 
     def test_driver_in_python(self):
         self.write("two_stores.py")
-        said = self.run_here(PYTHON, "two_stores.py", PYTHONPATH=str(ROOT / "drivers/python"), NIGBARU_PROGRAM=str(Path(PROGRAM).resolve()))
+        said = self.run_here(PYTHON, "two_stores.py", PYTHONPATH=str(ROOT / "drivers/python"),
+                             NIGBARU_PROGRAM=str(Path(PROGRAM).resolve()))
         self.assertEqual(said, "b'90' b'10'\n")
         self.assertIn("It prints `b'90' b'10'`", PAGE)
 
@@ -80,13 +82,15 @@ class Page(Case):
         for name in ("Transfer.java", "run.sh"):
             self.write(name, server)
         self.assertEqual(self.run_here("sh", "run.sh", "90"), "recovered: 0 committed, 0 rolled back\ncommitted\n")
-        process = subprocess.Popen(["sh", "run.sh", "80"], cwd=self.folder, stdout=subprocess.PIPE, start_new_session=True)
+        process = subprocess.Popen(["sh", "run.sh", "80"], cwd=self.folder, stdout=subprocess.PIPE,
+                                   start_new_session=True)
         self.ends.callback(process.stdout.close)
         wait_for(lambda: server.logged("held before it"), "the commit is held", 60)
         os.killpg(process.pid, signal.SIGKILL)
         process.wait(30)
         one, two = self.client(server, 0), self.client(server, 1)
-        self.assertEqual((len(one.ask("XA RECOVER").rows), self.value(one, "alice"), self.value(two, "bob")), (1, b"90", b"80"))
+        self.assertEqual((len(one.ask("XA RECOVER").rows), self.value(one, "alice"), self.value(two, "bob")),
+                         (1, b"90", b"80"))
         self.assertEqual(self.run_here("sh", "run.sh"), "recovered: 1 committed, 0 rolled back\n")
         self.assertEqual((self.value(one, "alice"), self.value(two, "bob")), (b"80", b"80"))
         self.assertEqual(one.ask("XA RECOVER").rows, [])
@@ -94,7 +98,8 @@ class Page(Case):
     def test_crash_points(self):
         """Each line of the page that names a fault is one that the server takes, and each kind of fault has one."""
         part = PAGE.partition("\n## Crash points\n")[2].partition("\n## ")[0]
-        lines = [it for row in part.split("\n") if row.startswith("| ") for it in re.findall(r"`([A-Z][A-Z0-9 ]* [0-9]+ [a-z][^`]*)`", row)]
+        lines = [it for row in part.split("\n") if row.startswith("| ")
+                 for it in re.findall(r"`([A-Z][A-Z0-9 ]* [0-9]+ [a-z][^`]*)`", row)]
         self.assertGreater(len(lines), 15)
         self.client(self.serve(faults=lines, stores=2))
         self.assertEqual({re.search(r"[0-9] ([a-z-]+)", line)[1] for line in lines}, FAULTS)
@@ -102,10 +107,18 @@ class Page(Case):
     def test_the_table_of_clients(self):
         """Each of Debian's packages that it names has the version that is installed."""
         part = PAGE.partition("\n## Which clients work\n")[2].partition("\n## ")[0]
-        for words, package in (("`mariadb` {}", "mariadb-client"), ("PyMySQL {}", "python3-pymysql"), ("mysqlclient {}", "python3-mysqldb"), ("MariaDB's library for C {}", "libmariadb3"), ("Connector/J {}", "libmariadb-java"),
-                               ("HikariCP {}", "libhikaricp-java"), ("Bitronix {}", "libbtm-java"), ("ODBC {}", "odbc-mariadb"), ("DBD::mysql {}", "libdbd-mysql-perl"), ("DBD::MariaDB {}", "libdbd-mariadb-perl"),
-                               ("PHP {}", "php8.2-mysql"), ("go-sql-driver {}", "golang-github-go-sql-driver-mysql-dev"), ("mysql {} (Node.js)", "node-mysql"), ("mysql2 {} (Ruby)", "ruby-mysql2"), ("RMySQL {}", "r-cran-rmysql")):
+        for words, package in (("`mariadb` {}", "mariadb-client"), ("PyMySQL {}", "python3-pymysql"),
+                               ("mysqlclient {}", "python3-mysqldb"), ("MariaDB's library for C {}", "libmariadb3"),
+                               ("Connector/J {}", "libmariadb-java"), ("HikariCP {}", "libhikaricp-java"),
+                               ("Bitronix {}", "libbtm-java"), ("ODBC {}", "odbc-mariadb"),
+                               ("DBD::mysql {}", "libdbd-mysql-perl"),
+                               ("DBD::MariaDB {}", "libdbd-mariadb-perl"), ("PHP {}", "php8.2-mysql"),
+                               ("go-sql-driver {}", "golang-github-go-sql-driver-mysql-dev"),
+                               ("mysql {} (Node.js)", "node-mysql"), ("mysql2 {} (Ruby)", "ruby-mysql2"),
+                               ("RMySQL {}", "r-cran-rmysql")):
             named = re.search(re.escape(words).replace(r"\{\}", r"([0-9.]+)"), part)
             self.assertIsNotNone(named, words)
-            installed = subprocess.run(["dpkg-query", "-W", "-f", "${Version}", package], stdout=subprocess.PIPE, text=True, check=True).stdout
-            self.assertTrue(re.sub(r"^\d+:", "", installed).startswith(named[1].rstrip(".")), (words, named[1], installed))
+            installed = subprocess.run(["dpkg-query", "-W", "-f", "${Version}", package], stdout=subprocess.PIPE,
+                                       text=True, check=True).stdout
+            self.assertTrue(re.sub(r"^\d+:", "", installed).startswith(named[1].rstrip(".")),
+                            (words, named[1], installed))

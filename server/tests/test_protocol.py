@@ -28,18 +28,22 @@ class Protocol(Case):
         return packet[1]
 
     def test_update_counts(self):
-        for text, count in (("PUT 'k','v'", 1), ("DEL 'k'", 1), ("DEL 'none'", 1), ("XA START 'a'", 0), ("SET NAMES utf8", 0)):
+        for text, count in (("PUT 'k','v'", 1), ("DEL 'k'", 1), ("DEL 'none'", 1), ("XA START 'a'", 0),
+                            ("SET NAMES utf8", 0)):
             self.assertEqual(self.affected(text), count, text)
 
     def test_a_fault_quotes(self):
-        for text, said in (("SELECT * FROM accounts", "syntax fault at byte 0 near 'SELECT * FROM accounts'"), ("XA START", "syntax fault at byte 8, where the text ends"), ("GET 'k' now", "near 'now'")):
+        for text, said in (("SELECT * FROM accounts", "syntax fault at byte 0 near 'SELECT * FROM accounts'"),
+                           ("XA START", "syntax fault at byte 8, where the text ends"), ("GET 'k' now", "near 'now'")):
             self.assertIn(said, self.refused(self.one, text, 1064, "42000").text)
         for text, shown in (("x" * 60, "x" * 60), ("x" * 61, "x" * 60 + ".."), ("x" * 60_000, "x" * 60 + "..")):
             self.assertEqual(self.refused(self.one, text, 1064, "42000").text, f"syntax fault at byte 0 near '{shown}'")
 
     def test_settings(self):
-        for text in ("SET NAMES 'latin1'", "SET NAMES utf8 COLLATE utf8_general_ci", "SET CHARACTER SET 'any'", "SET SESSION TRANSACTION READ ONLY", "SET TRANSACTION ISOLATION LEVEL READ COMMITTED", "DO 1", "USE db",
-                     "SET sql_mode='ANSI', @x = (1, 2)", "START TRANSACTION READ WRITE", "START TRANSACTION WITH CONSISTENT SNAPSHOT", "COMMIT"):
+        for text in ("SET NAMES 'latin1'", "SET NAMES utf8 COLLATE utf8_general_ci", "SET CHARACTER SET 'any'",
+                     "SET SESSION TRANSACTION READ ONLY", "SET TRANSACTION ISOLATION LEVEL READ COMMITTED", "DO 1",
+                     "USE db", "SET sql_mode='ANSI', @x = (1, 2)", "START TRANSACTION READ WRITE",
+                     "START TRANSACTION WITH CONSISTENT SNAPSHOT", "COMMIT"):
             self.ok(self.one, text)
         self.assertEqual(self.one.ask("SELECT CONNECTION_ID()").rows, [(b"1",)])
         self.assertEqual(self.client(self.server).ask("SELECT CONNECTION_ID() AS id").names, ["id"])
@@ -49,7 +53,8 @@ class Protocol(Case):
     def test_forms_of_settings(self):
         """Each form of SET that docs or drivers have is taken, with any name of a character set, quoted or not."""
         for name in ("utf8mb4", "'utf8mb4'", '"latin1"', "`koi8r`", "binary", "DEFAULT", "'any name'", "nobody_knows"):
-            for text in ("SET NAMES {}", "set names {};", "SET NAMES {} COLLATE utf8_bin", "SET NAMES {} COLLATE 'x'", "SET CHARACTER SET {}", "SET CHARSET {}", "/* c */ SET  NAMES\n{} -- x", "SET CHAR SET {}",
+            for text in ("SET NAMES {}", "set names {};", "SET NAMES {} COLLATE utf8_bin", "SET NAMES {} COLLATE 'x'",
+                         "SET CHARACTER SET {}", "SET CHARSET {}", "/* c */ SET  NAMES\n{} -- x", "SET CHAR SET {}",
                          "SET NAMES {}, time_zone = '+00:00'", "SET sql_mode = '', NAMES {}, SESSION wait_timeout = 1"):
                 self.ok(self.one, text.format(name))
         levels = ("READ UNCOMMITTED", "READ COMMITTED", "REPEATABLE READ", "SERIALIZABLE")
@@ -58,19 +63,27 @@ class Protocol(Case):
                 for access in ("", ", READ WRITE"):
                     self.ok(self.one, f"SET {scope}TRANSACTION ISOLATION LEVEL {level}{access}")
             self.ok(self.one, f"SET {scope}TRANSACTION READ WRITE, ISOLATION LEVEL {levels[0]}")
-        for text in ("START TRANSACTION", "START TRANSACTION READ ONLY", "START TRANSACTION READ WRITE", "START TRANSACTION WITH CONSISTENT SNAPSHOT", "START TRANSACTION WITH CONSISTENT SNAPSHOT, READ ONLY"):
+        for text in ("START TRANSACTION", "START TRANSACTION READ ONLY", "START TRANSACTION READ WRITE",
+                     "START TRANSACTION WITH CONSISTENT SNAPSHOT",
+                     "START TRANSACTION WITH CONSISTENT SNAPSHOT, READ ONLY"):
             self.ok(self.one, text, "ROLLBACK")
-        for text in ("DO 1", "DO SLEEP(0)", "USE db", "SET @@session.autocommit = ON", "SET autocommit=1", "SET LOCAL autocommit = TRUE", "SET @a := 1", "SET sql_mode = DEFAULT, @@session.time_zone = '+00:00'"):
+        for text in ("DO 1", "DO SLEEP(0)", "USE db", "SET @@session.autocommit = ON", "SET autocommit=1",
+                     "SET LOCAL autocommit = TRUE", "SET @a := 1",
+                     "SET sql_mode = DEFAULT, @@session.time_zone = '+00:00'"):
             self.ok(self.one, text)
-        for text in ("SET", "SET NAMES", "SET CHARACTER SET", "SET TRANSACTION", "SET TRANSACTION ISOLATION LEVEL", "SET TRANSACTION ISOLATION LEVEL ANY", "SET autocommit", "DO", "START TRANSACTION READ", "START TRANSACTION READ ONLY,", "START TRANSACTION READ ONLY, READ WRITE",
-                     "SET NAMES utf8,", "SET nothing_known = 1"):
+        for text in ("SET", "SET NAMES", "SET CHARACTER SET", "SET TRANSACTION", "SET TRANSACTION ISOLATION LEVEL",
+                     "SET TRANSACTION ISOLATION LEVEL ANY", "SET autocommit", "DO", "START TRANSACTION READ",
+                     "START TRANSACTION READ ONLY,", "START TRANSACTION READ ONLY, READ WRITE", "SET NAMES utf8,",
+                     "SET nothing_known = 1"):
             self.refused(self.one, text, 1064, "42000")
 
     def test_what_can_be_bound(self):
         """As docs/CLIENTS.md has it: types of parameters, and their bytes, of a statement that the server prepares."""
         put, _, _ = self.one.prepare("PUT 'k',?")
-        for kind, data, value in ((253, b"\x02ab", b"ab"), (252, b"\0", b""), (8, struct.pack("<q", -7), b"-7"), (3, struct.pack("<i", 7), b"7"), (1, b"\x07", b"7"),
-                                  (6, b"", 1064), (5, struct.pack("<d", 7.5), 1210), (4, struct.pack("<f", 7.5), 1210), (246, b"\x037.5", 1210), (12, b"\x04\xea\x07\x0b\x1b", 1210)):
+        for kind, data, value in ((253, b"\x02ab", b"ab"), (252, b"\0", b""), (8, struct.pack("<q", -7), b"-7"),
+                                  (3, struct.pack("<i", 7), b"7"), (1, b"\x07", b"7"), (6, b"", 1064),
+                                  (5, struct.pack("<d", 7.5), 1210), (4, struct.pack("<f", 7.5), 1210),
+                                  (246, b"\x037.5", 1210), (12, b"\x04\xea\x07\x0b\x1b", 1210)):
             self.one.send(b"\x17" + struct.pack("<IBI", put, 0, 1) + b"\0\x01" + bytes((kind, 0)) + data)
             answer = self.one.read(self.one.packet(), is_binary=True)
             if isinstance(value, int):
@@ -93,7 +106,8 @@ class Protocol(Case):
         self.assertEqual(self.server.verdicts(), ["LEGAL"])
 
     def test_sessions_that_only_read(self):
-        """SET SESSION is for each transaction from then on, of each kind; SET for the next one alone, which is refused within one."""
+        """SET SESSION is for each transaction from then on, of each kind; SET for the next one alone, which is refused
+        within one."""
         self.ok(self.one, "PUT 'k','v'", "SET SESSION TRANSACTION READ ONLY")
         self.assertEqual(self.one.ask("SELECT @@transaction_read_only").rows, [(b"1",)])
         self.refused(self.one, "DEL 'k'", 1792, "25006")
@@ -119,7 +133,8 @@ class Protocol(Case):
         self.assertEqual(self.server.verdicts(), ["LEGAL"])
 
     def test_prepared_texts_of_clients(self):
-        for text, columns in (("SELECT 1", 1), ("SELECT @@version, CONNECTION_ID()", 2), ("BEGIN", 0), ("SET NAMES utf8", 0)):
+        for text, columns in (("SELECT 1", 1), ("SELECT @@version, CONNECTION_ID()", 2), ("BEGIN", 0),
+                              ("SET NAMES utf8", 0)):
             number, parameters, count = self.one.prepare(text)
             self.assertEqual((parameters, count), (0, columns), text)
             answer = self.one.execute(number)
@@ -137,7 +152,8 @@ class Protocol(Case):
             self.assertEqual(self.one.command(command).number, 1047)
 
     def test_the_same_reading_as_the_program(self):
-        """30,000 texts, each in a connection without a branch: the faults and their places are the program's, and what the store is asked is answered by the program as the text itself."""
+        """30,000 texts, each in a connection without a branch: the faults and their places are the program's, and what
+        the store is asked is answered by the program as the text itself."""
         draw = random.Random(62)
         texts = [any_text(draw) for _ in range(30_000)]
         raw = self.program_answers(texts)
@@ -147,7 +163,9 @@ class Protocol(Case):
             fault = re.fullmatch(rb"1 ERROR 1064 \(42000\): (syntax fault at byte \d+)", said)
             self.assertEqual(answer.number == 1064, fault is not None, (text, answer, said))
             if fault:
-                self.assertTrue(answer.text.startswith(fault[1].decode() + ("," if len(text) == int(fault[1].split()[-1]) else " near ")), (text, answer, said))
+                self.assertTrue(answer.text.startswith(fault[1].decode()
+                                                       + ("," if len(text) == int(fault[1].split()[-1]) else " near ")),
+                                (text, answer, said))
                 continue
             expected.append(said)
             if said == b"1 OK" and answer.kind == "ok" and re.match(rb"(?i)xa\s*(start|begin)", text):
@@ -162,9 +180,11 @@ class Protocol(Case):
 
     @staticmethod
     def program_answers(texts):
-        """The program's answer to each text, of a session that is free, in a store to which nothing is added but what single rows are."""
+        """The program's answer to each text, of a session that is free, in a store to which nothing is added but what
+        single rows are."""
         asked = b"".join(b"1 %s\n1 DISCONNECT\n" % text for text in texts)
-        return subprocess.run([PROGRAM, "serve"], input=asked, stdout=subprocess.PIPE, timeout=300).stdout.split(b"\n")[:-1:2]
+        return subprocess.run([PROGRAM, "serve"], input=asked, stdout=subprocess.PIPE,
+                              timeout=300).stdout.split(b"\n")[:-1:2]
 
     def test_change_user(self):
         self.ok(self.one, "SET autocommit=0", "XA START 'a'", "PUT 'k','v'")
@@ -202,22 +222,27 @@ class Passwords(Case):
                         self.assertEqual(client.read(packet).number, 1045)
 
     def test_clients_of_each_plugin(self):
-        """The greeting names one plugin, and the client may use the other: with an account the right password alone lets it in, and without one any."""
+        """The greeting names one plugin, and the client may use the other: with an account the right password alone
+        lets it in, and without one any."""
         for account in ([], ["--user", "judy", "--password-file", self.secret]):
             for auth in ("mysql_native_password", "caching_sha2_password"):
                 server = self.serve(*account, "--auth", auth)
                 for plugin in ("mysql_native_password", "caching_sha2_password"):
                     for password in ("right", "wrong", ""):
-                        words = ["mariadb", "--no-defaults", "--host=127.0.0.1", f"--port={server.port}", "--user=judy", f"--password={password}", f"--default-auth={plugin}", "-Ne", "SELECT 1"]
-                        ran = subprocess.run(words, stdout=subprocess.PIPE, stderr=subprocess.STDOUT, text=True, timeout=60)
-                        self.assertEqual(ran.stdout, "ERROR 1045 (28000): Access denied\n" if account and password != "right" else "1\n", words)
+                        words = ["mariadb", "--no-defaults", "--host=127.0.0.1", f"--port={server.port}", "--user=judy",
+                                 f"--password={password}", f"--default-auth={plugin}", "-Ne", "SELECT 1"]
+                        ran = subprocess.run(words, stdout=subprocess.PIPE, stderr=subprocess.STDOUT, text=True,
+                                             timeout=60)
+                        self.assertEqual(ran.stdout, "ERROR 1045 (28000): Access denied\n"
+                                         if account and password != "right" else "1\n", words)
 
     def test_another_user(self):
         server = self.serve("--user", "judy", "--password-file", self.secret)
         for password, number in ((b"right", None), (b"wrong", 1045)):
             with Client(server.port, b"judy", b"right") as client:
                 proof = proof_of(password, client.scramble)
-                answer = client.command(b"\x11judy\0" + bytes((len(proof),)) + proof + b"db\0\x2d\0mysql_native_password\0")
+                answer = client.command(b"\x11judy\0" + bytes((len(proof),)) + proof
+                                        + b"db\0\x2d\0mysql_native_password\0")
                 self.assertEqual(answer.number, number)
                 if number:
                     self.assertTrue(client.is_closed())
@@ -229,28 +254,34 @@ class Passwords(Case):
         server = self.serve("--user", "judy", "--password-file", self.secret)
         with Client(server.port, log_in=False) as client:
             proof = proof_of(b"right", client.greeted())
-            client.send(struct.pack("<IIB23x", CAN & ~0x80000, 1 << 24, 45) + b"judy\0" + bytes((len(proof),)) + proof, 1)
+            client.send(struct.pack("<IIB23x", CAN & ~0x80000, 1 << 24, 45) + b"judy\0" + bytes((len(proof),)) + proof,
+                        1)
             self.assertEqual(client.read(client.packet()).kind, "ok")
 
 
 class Patience(Case):
     def test_time_limits(self):
-        """A client that is idle, one that stops in a packet, and one that doesn't log in are closed when their time is over; the one that asks goes on."""
+        """A client that is idle, one that stops in a packet, and one that doesn't log in are closed when their time is
+        over; the one that asks goes on."""
         server = self.serve("--idle", "1", "--patience", "0.5")
-        asks, idle, half, silent = self.client(server), self.client(server), self.client(server), self.ends.enter_context(Client(server.port, log_in=False))
+        asks, idle, half, silent = (self.client(server), self.client(server), self.client(server),
+                                    self.ends.enter_context(Client(server.port, log_in=False)))
         self.ok(idle, "XA START 'a'", "PUT 'k','v'")
         half.socket.sendall(b"\x10\0\0\0\x03XA")
         for _ in range(20):
             self.ok(asks, "DO 1")
             time.sleep(0.1)
-        for client, words in ((idle, "no command for 1 seconds"), (half, "half a packet, and nothing more for 0.5 seconds"), (silent, "silent for 0.5 seconds")):
+        for client, words in ((idle, "no command for 1 seconds"),
+                              (half, "half a packet, and nothing more for 0.5 seconds"),
+                              (silent, "silent for 0.5 seconds")):
             self.assertTrue(client.is_closed())
             wait_for(lambda: server.logged(words), words)
         self.ok(asks, "PUT 'k','w'")
         self.assertEqual(server.verdicts(), ["LEGAL"])
 
     def test_a_client_that_drips(self):
-        """One that sends a byte now and then is closed when the time for its packet is over, however little it was silent."""
+        """One that sends a byte now and then is closed when the time for its packet is over, however little it was
+        silent."""
         server = self.serve("--patience", "1")
         for log_in in (True, False):
             with Client(server.port, log_in=log_in) as client:
@@ -264,7 +295,8 @@ class Patience(Case):
                         time.sleep(0.1)
                     client.socket.sendall(b" " * 10)
                 self.assertLess(time.monotonic() - began, 5)
-        wait_for(lambda: server.logged("half a packet, and nothing more for 1 seconds") and server.logged("silent for 1 seconds"), "both are logged")
+        wait_for(lambda: server.logged("half a packet, and nothing more for 1 seconds")
+                 and server.logged("silent for 1 seconds"), "both are logged")
         self.ok(self.client(server), "PUT 'k','v'")
 
     def test_a_client_whose_machine_may_be_gone_is_asked(self):
@@ -274,7 +306,8 @@ class Patience(Case):
         ends = ["%08X:%04X" % (0x0100007F, port) for port in (server.port, client.socket.getsockname()[1])]
 
         def timers():
-            return [line.split()[5].split(":")[0] for line in Path("/proc/net/tcp").read_text().splitlines()[1:] if line.split()[1:3] == ends]
+            return [line.split()[5].split(":")[0]
+                    for line in Path("/proc/net/tcp").read_text().splitlines()[1:] if line.split()[1:3] == ends]
 
         wait_for(lambda: timers() == ["02"], "the timer is that of keepalive")
 
@@ -296,8 +329,14 @@ class CommandLine(Case):
         folder = Path(self.ends.enter_context(tempfile.TemporaryDirectory()))
         (folder / "empty").write_text("\n")
         (folder / "faults").write_text("XA PREPARE 1 explode\n")
-        for words, said in ((["--host", "0.0.0.0"], "needs --user"), (["--user", "u"], "go together"), (["--user", "u", "--password-file", folder / "empty"], "no password"), (["--fault", folder / "faults"], "line 1"),
-                            (["--fault", folder / "none"], "No such file"), (["--user", "u", "--password-file", folder / "none"], "--password-file /"), (["--socket="], "--socket takes a value"), (["--record", "r", "--history", "./r"], "same file"), (["--record", b"\xff"], "isn't UTF-8"), (["--stores", "0"], "1 to 64"), (["--port", "65535", "--stores", "2"], "no ports"), (["--nothing"], "isn't an option")):
+        for words, said in ((["--host", "0.0.0.0"], "needs --user"), (["--user", "u"], "go together"),
+                            (["--user", "u", "--password-file", folder / "empty"], "no password"),
+                            (["--fault", folder / "faults"], "line 1"), (["--fault", folder / "none"], "No such file"),
+                            (["--user", "u", "--password-file", folder / "none"], "--password-file /"),
+                            (["--socket="], "--socket takes a value"),
+                            (["--record", "r", "--history", "./r"], "same file"),
+                            (["--record", b"\xff"], "isn't UTF-8"), (["--stores", "0"], "1 to 64"),
+                            (["--port", "65535", "--stores", "2"], "no ports"), (["--nothing"], "isn't an option")):
             status, text = self.said(*words)
             self.assertEqual(status, 2, text)
             self.assertIn(said, text)
@@ -320,7 +359,8 @@ class CommandLine(Case):
         folder = Path(self.ends.enter_context(tempfile.TemporaryDirectory()))
         server = self.serve("--socket", folder / "socket")
         for _ in range(2):
-            ran = subprocess.run(["mariadb", "--no-defaults", f"--socket={folder / 'socket'}", "--user=root"], input="PUT 'k','v';\nGET 'k';\n", stdout=subprocess.PIPE, text=True, timeout=60)
+            ran = subprocess.run(["mariadb", "--no-defaults", f"--socket={folder / 'socket'}", "--user=root"],
+                                 input="PUT 'k','v';\nGET 'k';\n", stdout=subprocess.PIPE, text=True, timeout=60)
             self.assertEqual(ran.stdout, "value\nv\n")
         self.assertEqual(self.value(self.client(server), "k"), b"v")
         server.process.kill()

@@ -35,7 +35,8 @@ class PyMySQL(Case):
     def test_columns(self):
         with self.connect() as connection, connection.cursor(pymysql.cursors.DictCursor) as cursor:
             cursor.execute("XA RECOVER")
-            self.assertEqual([name for name, *_ in cursor.description], ["formatID", "gtrid_length", "bqual_length", "data"])
+            self.assertEqual([name for name, *_ in cursor.description],
+                             ["formatID", "gtrid_length", "bqual_length", "data"])
             cursor.execute("PUT 'k','v'")
             cursor.execute("GET 'k'")
             self.assertEqual(cursor.fetchall(), [{"value": b"v"}])
@@ -44,7 +45,9 @@ class PyMySQL(Case):
         one, two = self.connect(autocommit=True), self.connect(autocommit=True)
         self.rows(one, "XA START 'a'")
         self.rows(one, "PUT 'k','v'")
-        for connection, text, number in ((two, "XA START 'a'", 1440), (one, "XA START 'b'", 1399), (two, "XA COMMIT 'b'", 1397), (two, "PUT 'k','w'", 3572), (two, "SELECT * FROM t", 1064)):
+        for connection, text, number in ((two, "XA START 'a'", 1440), (one, "XA START 'b'", 1399),
+                                         (two, "XA COMMIT 'b'", 1397), (two, "PUT 'k','w'", 3572),
+                                         (two, "SELECT * FROM t", 1064)):
             with self.assertRaises(pymysql.MySQLError) as caught:
                 self.rows(connection, text)
             self.assertEqual(caught.exception.args[0], number, text)

@@ -23,7 +23,8 @@ class Pieces(Case):
             self.ok(client, "PUT 'fill','x'")
 
     def test_the_state(self):
-        """Branches in each phase, shared rows, deletions, empty values, in the order of the rules: what was done stands in the state as `show` would list it."""
+        """Branches in each phase, shared rows, deletions, empty values, in the order of the rules: what was done stands
+        in the state as `show` would list it."""
         server = self.piecewise()
         one, two, three = (self.client(server) for _ in range(3))
         self.ok(one, "PUT 'a','1'", "PUT 'b',X''", "PUT 'gone','x'", "DEL 'gone'", "PUT 'c','1'")
@@ -57,7 +58,8 @@ class Pieces(Case):
         self.ok(three, "XA END 'h'", "XA PREPARE 'h'", "XA COMMIT 'h'", "XA ROLLBACK 'p','q',3")
         self.assertEqual([self.value(one, key) for key in "abcd"], [b"1", b"", None, b""])
         self.fill(one, server.record)
-        self.assertEqual(Path(f"{server.record}.2.state").read_text(), "  ROW 0x61 VALUE 0x31\n  ROW 0x62 VALUE X''\n  ROW 0x64 VALUE X''\n  ROW 0x66696c6c VALUE 0x78\n")
+        self.assertEqual(Path(f"{server.record}.2.state").read_text(), "  ROW 0x61 VALUE 0x31\n  ROW 0x62 VALUE X''\n"
+                         "  ROW 0x64 VALUE X''\n  ROW 0x66696c6c VALUE 0x78\n")
         self.assertEqual(verdicts(server.record), ["LEGAL"] * 3)
 
     def test_pieces_of_many_connections(self):
@@ -94,11 +96,13 @@ class Pieces(Case):
         state = Path(f"{piece}.state")
         right = state.read_text()
         self.assertEqual(verdict_of(piece), "LEGAL")
-        for wrong in (right.replace("ROW 0x6b VALUE 0x31", "ROW 0x6b VALUE 0x32"), re.sub(r"(?m)^  BRANCH.*\n    .*\n", "", right), ""):
+        for wrong in (right.replace("ROW 0x6b VALUE 0x31", "ROW 0x6b VALUE 0x32"),
+                      re.sub(r"(?m)^  BRANCH.*\n    .*\n", "", right), ""):
             self.assertNotEqual(wrong, right)
             state.write_text(wrong)
             self.assertRegex(verdict_of(piece), "ILLEGAL")
-        for no_state in (right.replace("  ROW", " ROW"), right.replace("  ROW", "  BRANCH 0x6d,X'',1 PREPARED\n  ROW", 1)):
+        for no_state in (right.replace("  ROW", " ROW"),
+                         right.replace("  ROW", "  BRANCH 0x6d,X'',1 PREPARED\n  ROW", 1)):
             state.write_text(no_state)
             self.assertEqual(verdict_of(piece), "")
 
@@ -113,7 +117,8 @@ class Pieces(Case):
             self.assertEqual(verdicts(record), ["LEGAL"] * 4)
         self.assertEqual(server.end(), 0)
         for store, record in enumerate(server.records()):
-            ran = subprocess.run([PROGRAM, "run"], input=(folder / f"history.{store + 1}").read_bytes(), stdout=subprocess.PIPE)
+            ran = subprocess.run([PROGRAM, "run"], input=(folder / f"history.{store + 1}").read_bytes(),
+                                 stdout=subprocess.PIPE)
             calls = sum(path.read_text().count(" < OK") for path in [record, *pieces_of(record)])
             self.assertEqual(ran.stdout.count(b"OK\n"), calls)
 
@@ -128,12 +133,14 @@ class Pieces(Case):
         for text in texts:
             lines = [line for line in text.splitlines() if not line.startswith("#")]
             self.assertEqual([line.split()[1] for line in lines], [">", "<"] * (len(lines) // 2))
-        self.assertEqual(sum(text.count("< ERROR 1205") for text in texts), sum(text.count("# connection 1: ") for text in texts))
+        self.assertEqual(sum(text.count("< ERROR 1205") for text in texts),
+                         sum(text.count("# connection 1: ") for text in texts))
 
     def test_pieces_that_are_there_are_kept(self):
         folder = Path(self.ends.enter_context(tempfile.TemporaryDirectory()))
         (folder / "r.1").write_text("mine")
-        ran = subprocess.run([SERVER, "--port", "0", "--record", folder / "r", "--record-size", "5000"], stderr=subprocess.PIPE, text=True, timeout=30)
+        ran = subprocess.run([SERVER, "--port", "0", "--record", folder / "r", "--record-size", "5000"],
+                             stderr=subprocess.PIPE, text=True, timeout=30)
         self.assertEqual(ran.returncode, 1)
         self.assertIn("is there already", ran.stderr)
         self.assertEqual((folder / "r.1").read_text(), "mine")

@@ -157,10 +157,12 @@ class Sessions(Case):
 
     def test_chatter(self):
         self.verdict = "EMPTY"  # the server answers all of this itself, and asks no store
-        for text in ("/* hello */ SELECT 1", "select @@max_allowed_packet, @@session.autocommit AS c limit 1", "show databases;", "SHOW WARNINGS"):
+        for text in ("/* hello */ SELECT 1", "select @@max_allowed_packet, @@session.autocommit AS c limit 1",
+                     "show databases;", "SHOW WARNINGS"):
             self.assertEqual(self.one.ask(text).kind, TABLE, text)
         self.assertEqual(self.one.ask("select @@max_allowed_packet, @@autocommit AS c").rows, [(b"65536", b"1")])
-        self.assertEqual(self.one.ask("select @@max_allowed_packet, @@autocommit AS c").names, ["@@max_allowed_packet", "c"])
+        self.assertEqual(self.one.ask("select @@max_allowed_packet, @@autocommit AS c").names,
+                         ["@@max_allowed_packet", "c"])
         for text in ("select @@nothing", "SET autocommit=2", "SELECT 1 FROM t", "", ";", "SET autocommit=0; BEGIN"):
             self.assertEqual(self.one.ask(text).number, 1064, text)
         self.assertEqual(self.one.command(b"\x0e").kind, "ok")

@@ -1,4 +1,5 @@
-"""A transaction manager that is killed over and over amid its work over two stores: nothing is lost or done twice, and what the stores did is LEGAL, piece by piece."""
+"""A transaction manager that is killed over and over amid its work over two stores: nothing is lost or done twice, and
+what the stores did is LEGAL, piece by piece."""
 import random
 import subprocess
 import tempfile
@@ -10,7 +11,8 @@ from test_clients import HERE
 
 SIZE = 50_000
 KILLS, SECONDS = (10, 22) if LONG else (3, 1)
-JARS = ":".join(f"/usr/share/java/{jar}.jar" for jar in ["mariadb-java-client", "btm", "geronimo-jta-1.2-spec", "geronimo-jms_1.1_spec", "slf4j-api", "slf4j-nop"])
+JARS = ":".join(f"/usr/share/java/{jar}.jar" for jar in ["mariadb-java-client", "btm", "geronimo-jta-1.2-spec",
+                                                         "geronimo-jms_1.1_spec", "slf4j-api", "slf4j-nop"])
 
 
 class Soak(Case):
@@ -21,7 +23,8 @@ class Soak(Case):
         subprocess.run(["javac", "-d", self.classes, "-cp", JARS, HERE / "clients" / "Soak.java"], check=True)
 
     def java(self, server, what):
-        words = ["java", "-Xshare:auto", "-XX:TieredStopAtLevel=1", "-cp", f"{JARS}:{self.classes}", "Soak", self.journal, *map(str, server.ports), what]
+        words = ["java", "-Xshare:auto", "-XX:TieredStopAtLevel=1", "-cp", f"{JARS}:{self.classes}", "Soak",
+                 self.journal, *map(str, server.ports), what]
         return subprocess.Popen(words, stderr=subprocess.DEVNULL)
 
     def test_a_manager_that_is_killed(self):

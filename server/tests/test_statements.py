@@ -1,4 +1,5 @@
-"""The server's reading of a statement is the program's: the same texts, the same faults at the same bytes, and canonical texts that mean the same."""
+"""The server's reading of a statement is the program's: the same texts, the same faults at the same bytes, and
+canonical texts that mean the same."""
 import random
 import re
 import subprocess
@@ -6,10 +7,12 @@ import subprocess
 from support import PROGRAM, Case
 
 COUNT = 30_000
-WORDS = ["XA", "xa", "START", "begin", "END", "Prepare", "COMMIT", "rollback", "RECOVER", "CONVERT", "XID", "ONE", "PHASE", "JOIN", "RESUME", "SUSPEND", "FOR", "MIGRATE",
-         "GET", "put", "DEL", "DISCONNECTED", "_binari", "$"]
-LITERALS = ["'a'", '"b"', "''", '""', "'it''s'", '"say ""so"""', r"'\0\b\t\n\r\Z\%\_\N\''", "X''", "x'41'", "X'4'", "X'4g'", "X'41", "0x41", "0x414", "0xfg", "0X41", "'\xff\xfe'", "'open",
-            "'" + "v" * 64 + "'", "'" + "v" * 65 + "'", "X'" + "41" * 64 + "'", "X'" + "41" * 65 + "'", "0x" + "4" * 128, "0x" + "0" * 129, "'\\", "'\\'", "'''", "''''", "'\"'", "\"'\""]
+WORDS = ["XA", "xa", "START", "begin", "END", "Prepare", "COMMIT", "rollback", "RECOVER", "CONVERT", "XID", "ONE",
+         "PHASE", "JOIN", "RESUME", "SUSPEND", "FOR", "MIGRATE", "GET", "put", "DEL", "DISCONNECTED", "_binari", "$"]
+LITERALS = ["'a'", '"b"', "''", '""', "'it''s'", '"say ""so"""', r"'\0\b\t\n\r\Z\%\_\N\''", "X''", "x'41'", "X'4'",
+            "X'4g'", "X'41", "0x41", "0x414", "0xfg", "0X41", "'\xff\xfe'", "'open", "'" + "v" * 64 + "'",
+            "'" + "v" * 65 + "'", "X'" + "41" * 64 + "'", "X'" + "41" * 65 + "'", "0x" + "4" * 128, "0x" + "0" * 129,
+            "'\\", "'\\'", "'''", "''''", "'\"'", "\"'\""]
 NUMBERS = ["0", "1", "7", "007", "2147483647", "0x7fffffff", "0" * 30, "1x"]
 SIGNS = [",", ",", ",", ";", "@", "?", "+", "\x00"]
 BLANKS = ["", " ", "\t", "\r", "  "]
@@ -27,7 +30,8 @@ def any_statement(draw):
         if draw.random() < 0.6:
             parts += [",", draw.choice(NUMBERS)]
     parts += draw.choice([[], [], ["ONE", "PHASE"], ["JOIN"], ["RESUME"], ["SUSPEND"], ["SUSPEND", "FOR", "MIGRATE"]])
-    return draw.choice([parts, parts, ["GET", literal()], ["PUT", literal(), ",", literal()], ["DEL", literal()], ["XA", "RECOVER"], ["XA", "RECOVER", "CONVERT", "XID"]]) + draw.choice([[], [";"]])
+    return draw.choice([parts, parts, ["GET", literal()], ["PUT", literal(), ",", literal()], ["DEL", literal()],
+                        ["XA", "RECOVER"], ["XA", "RECOVER", "CONVERT", "XID"]]) + draw.choice([[], [";"]])
 
 
 def any_text(draw):
@@ -49,7 +53,8 @@ FAULT = re.compile(r"syntax fault at byte (\d+)(?:, where the text ends| near '.
 
 class Statements(Case):
     def test_agrees_with_the_program(self):
-        """The program reads each text, and then what the server made of it for its store, each as a free session's first."""
+        """The program reads each text, and then what the server made of it for its store, each as a free session's
+        first."""
         draw = random.Random(41)
         texts = [any_text(draw) for _ in range(COUNT)]
         server = self.serve()
@@ -59,7 +64,8 @@ class Statements(Case):
         written = iter([call for call in calls if call != b"DISCONNECT"])
         readings = [b"" if place is not None else next(written) for place in places]
         self.assertEqual(list(written), [])
-        answers = self.answers_to(b"".join(b"1 %s\n1 DISCONNECT\n1 %s\n1 DISCONNECT\n" % pair for pair in zip(texts, readings)))
+        answers = self.answers_to(
+            b"".join(b"1 %s\n1 DISCONNECT\n1 %s\n1 DISCONNECT\n" % pair for pair in zip(texts, readings)))
         for text, place, reading, raw, again in zip(texts, places, readings, answers[::4], answers[2::4]):
             if place is not None:
                 self.assertEqual(raw, b"1 ERROR 1064 (42000): syntax fault at byte %d" % place, text)

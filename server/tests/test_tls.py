@@ -1,4 +1,5 @@
-"""TLS: clients that ask for it have it, those that don't go on without, and what isn't TLS ends its own connection alone."""
+"""TLS: clients that ask for it have it, those that don't go on without, and what isn't TLS ends its own connection
+alone."""
 import random
 import ssl
 import struct
@@ -20,8 +21,9 @@ def certificate(folder, kind="rsa"):
     """A certificate for 127.0.0.1, signed by itself, and its key."""
     cert, key = folder / f"{kind}.pem", folder / f"{kind}.key"
     form = ["-newkey", "rsa:2048"] if kind == "rsa" else ["-newkey", "ec", "-pkeyopt", "ec_paramgen_curve:prime256v1"]
-    subprocess.run(["openssl", "req", "-x509", *form, "-nodes", "-days", "2", "-subj", "/CN=nigbaru", "-addext", "subjectAltName=IP:127.0.0.1", "-addext", "basicConstraints=critical,CA:false",
-                    "-keyout", key, "-out", cert], check=True, stderr=subprocess.DEVNULL)
+    subprocess.run(["openssl", "req", "-x509", *form, "-nodes", "-days", "2", "-subj", "/CN=nigbaru", "-addext",
+                    "subjectAltName=IP:127.0.0.1", "-addext", "basicConstraints=critical,CA:false", "-keyout", key,
+                    "-out", cert], check=True, stderr=subprocess.DEVNULL)
     return cert, key
 
 
@@ -39,14 +41,17 @@ class Tls(Case):
         self.server = self.serve("--tls-cert", self.cert, "--tls-key", key)
 
     def asked(self, *words, text="SHOW STATUS LIKE 'Ssl_version'; SELECT @@have_ssl"):
-        ran = subprocess.run(["mariadb", "--no-defaults", "--host=127.0.0.1", f"--port={self.server.port}", "--user=root", "--skip-column-names", *words, "-e", text],
-                             stdout=subprocess.PIPE, stderr=subprocess.STDOUT, encoding="utf-8", errors="surrogateescape", timeout=60)
+        ran = subprocess.run(["mariadb", "--no-defaults", "--host=127.0.0.1", f"--port={self.server.port}",
+                              "--user=root", "--skip-column-names", *words, "-e", text], stdout=subprocess.PIPE,
+                             stderr=subprocess.STDOUT, encoding="utf-8", errors="surrogateescape", timeout=60)
         return ran.returncode, ran.stdout
 
     def test_the_command_line(self):
-        """A whole cycle, with the certificate verified, by either version; without --ssl the connection is in the clear."""
+        """A whole cycle, with the certificate verified, by either version; without --ssl the connection is in the
+        clear."""
         for version in ("TLSv1.2", "TLSv1.3"):
-            self.assertEqual(self.asked("--ssl", f"--ssl-ca={self.cert}", "--ssl-verify-server-cert", f"--tls-version={version}"), (0, f"Ssl_version\t{version}\nYES\n"))
+            self.assertEqual(self.asked("--ssl", f"--ssl-ca={self.cert}", "--ssl-verify-server-cert",
+                                        f"--tls-version={version}"), (0, f"Ssl_version\t{version}\nYES\n"))
         cycle = "XA START 'a'; PUT 'k',X'000a27ff5c'; XA END 'a'; XA PREPARE 'a'; XA RECOVER; XA COMMIT 'a'; GET 'k'"
         self.assertEqual(self.asked("--ssl", text=cycle), (0, "1\t1\t0\ta\n\\0\\n'\udcff\\\\\n"))
         self.assertEqual(self.asked("--skip-ssl"), (0, "Ssl_version\t\nYES\n"))
@@ -56,7 +61,8 @@ class Tls(Case):
         return pymysql.connect(host="127.0.0.1", port=self.server.port, user="root", autocommit=True, **words)
 
     def test_pymysql(self):
-        with self.connect(ssl={"ca": str(self.cert), "check_hostname": True}) as connection, connection.cursor() as cursor:
+        with self.connect(
+                ssl={"ca": str(self.cert), "check_hostname": True}) as connection, connection.cursor() as cursor:
             for text in ("XA START 'a'", "PUT 'k',X'000a27ff5c'", "XA END 'a'", "XA PREPARE 'a'"):
                 cursor.execute(text)
             cursor.execute("XA RECOVER")
@@ -93,9 +99,11 @@ class Tls(Case):
         secret = self.folder / "secret"
         secret.write_text("right\n")
         for auth in ("mysql_native_password", "caching_sha2_password"):
-            server = self.serve("--tls-cert", self.cert, "--tls-key", self.folder / "rsa.key", "--user", "judy", "--password-file", secret, "--auth", auth)
+            server = self.serve("--tls-cert", self.cert, "--tls-key", self.folder / "rsa.key", "--user", "judy",
+                                "--password-file", secret, "--auth", auth)
             for password, is_right in (("right", True), ("wrong", False)):
-                words = {"host": "127.0.0.1", "port": server.port, "user": "judy", "password": password, "ssl": {"ca": str(self.cert)}}
+                words = {"host": "127.0.0.1", "port": server.port, "user": "judy", "password": password,
+                         "ssl": {"ca": str(self.cert)}}
                 if is_right:
                     pymysql.connect(**words).close()
                 else:
@@ -104,7 +112,8 @@ class Tls(Case):
 
     @unittest.skipUnless(LONG, "server/test has it with --long")
     def test_a_thousand_that_idle(self):
-        server = self.serve("--tls-cert", self.cert, "--tls-key", self.folder / "rsa.key", "--max-connections", "1100", record=False)
+        server = self.serve("--tls-cert", self.cert, "--tls-key", self.folder / "rsa.key", "--max-connections", "1100",
+                            record=False)
         before = memory(server)
         context = ssl.create_default_context(cafile=str(self.cert))
         idle = [pymysql.connect(host="127.0.0.1", port=server.port, user="root", ssl=context) for _ in range(1000)]
@@ -117,17 +126,20 @@ class Tls(Case):
     def test_connector_j(self):
         """With the certificate verified; its XAResource goes through a cycle."""
         jar = "/usr/share/java/mariadb-java-client.jar"
-        ran = subprocess.run(["java", "-Xshare:auto", "-XX:TieredStopAtLevel=1", "-cp", jar, HERE / "clients" / "Secure.java", str(self.server.port), self.cert],
+        ran = subprocess.run(["java", "-Xshare:auto", "-XX:TieredStopAtLevel=1", "-cp", jar,
+                              HERE / "clients" / "Secure.java", str(self.server.port), self.cert],
                              stdout=subprocess.PIPE, stderr=subprocess.STDOUT, text=True, timeout=120)
         self.assertRegex(ran.stdout, r"\ATLSv1\.[23]\nlisted 1\nvalue 000a27ff5c\n\Z")
         self.assertEqual(self.server.verdicts(), ["LEGAL"])
 
     def test_a_login_in_the_clear_behind_the_request(self):
-        """What is sent in the clear behind the request is no login, even in the same piece, so nobody between can put in a word."""
+        """What is sent in the clear behind the request is no login, even in the same piece, so nobody between can put
+        in a word."""
         with Client(self.server.port, log_in=False) as client:
             client.greeted()
             login = client.login_packet(b"root", b"", b"mysql_native_password")
-            client.socket.sendall(len(REQUEST).to_bytes(3, "little") + b"\1" + REQUEST + len(login).to_bytes(3, "little") + b"\2" + login)
+            client.socket.sendall(len(REQUEST).to_bytes(3, "little") + b"\1" + REQUEST
+                                  + len(login).to_bytes(3, "little") + b"\2" + login)
             self.assertTrue(client.is_closed())
         wait_for(lambda: self.server.logged("no TLS: "), "it is told why")
 
@@ -152,8 +164,10 @@ class Tls(Case):
             self.assertTrue(client.is_closed())
 
     def test_files(self):
-        for words, said in ((["--tls-cert", self.cert], "go together"), (["--tls-cert", "/none", "--tls-key", self.folder / "rsa.key"], "/none"), (["--tls-cert", self.folder / "rsa.key", "--tls-key", self.folder / "rsa.key"], "no certificate"),
-                            (["--tls-cert", self.cert, "--tls-key", self.cert], "no private key")):
+        for words, said in ((["--tls-cert", self.cert], "go together"),
+                            (["--tls-cert", "/none", "--tls-key", self.folder / "rsa.key"], "/none"),
+                            (["--tls-cert", self.folder / "rsa.key", "--tls-key", self.folder / "rsa.key"],
+                             "no certificate"), (["--tls-cert", self.cert, "--tls-key", self.cert], "no private key")):
             ran = subprocess.run([SERVER, *words], stderr=subprocess.PIPE, text=True, timeout=30)
             self.assertEqual(ran.returncode, 2, ran.stderr)
             self.assertIn(said, ran.stderr)

@@ -1,4 +1,5 @@
-"""A client of MySQL's protocol for tests, so small that each byte it sends is known, and independent of what the server reads with."""
+"""A client of MySQL's protocol for tests, so small that each byte it sends is known, and independent of what the server
+reads with."""
 import hashlib
 import select
 import socket
@@ -24,7 +25,8 @@ class Answer:
         return [name for name, _, _ in self.columns]
 
     def __repr__(self):
-        return {OK: "OK", ERROR: f"ERROR {self.number} ({self.sqlstate}): {self.text}", TABLE: f"TABLE {self.rows}"}[self.kind]
+        return {OK: "OK", ERROR: f"ERROR {self.number} ({self.sqlstate}): {self.text}",
+                TABLE: f"TABLE {self.rows}"}[self.kind]
 
 
 def proof_of(password, scramble):
@@ -46,7 +48,8 @@ def text_at(packet, place):
 
 
 class Client:
-    def __init__(self, port, user=b"root", password=b"", log_in=True, plugin=b"mysql_native_password", host="127.0.0.1"):
+    def __init__(self, port, user=b"root", password=b"", log_in=True, plugin=b"mysql_native_password",
+                 host="127.0.0.1"):
         self.socket = socket.create_connection((host, port), timeout=60)
         self.socket.setsockopt(socket.IPPROTO_TCP, socket.TCP_NODELAY, 1)
         self.held, self.sequence = b"", 0
@@ -113,7 +116,8 @@ class Client:
         if packet[0] == 0:
             return Answer(OK, status=int.from_bytes(packet[3:5], "little"))
         if packet[0] == 0xFF:
-            return Answer(ERROR, number=int.from_bytes(packet[1:3], "little"), sqlstate=packet[4:9].decode(), text=packet[9:].decode())
+            return Answer(ERROR, number=int.from_bytes(packet[1:3], "little"), sqlstate=packet[4:9].decode(),
+                          text=packet[9:].decode())
         columns = [self.column(self.packet()) for _ in range(packet[0])]
         self.packet()
         rows = []
@@ -175,8 +179,10 @@ class Client:
         if values:
             nulls = sum(1 << index for index, value in enumerate(values) if value is None)
             packet += nulls.to_bytes((len(values) + 7) // 8, "little") + b"\x01"
-            packet += b"".join(b"\x08\x00" if isinstance(value, int) else b"\x06\x00" if value is None else b"\xfd\x00" for value in values)
-            packet += b"".join(struct.pack("<q", value) if isinstance(value, int) else bytes((len(value),)) + value for value in values if value is not None)
+            packet += b"".join(b"\x08\x00" if isinstance(value, int) else b"\x06\x00" if value is None else b"\xfd\x00"
+                               for value in values)
+            packet += b"".join(struct.pack("<q", value) if isinstance(value, int) else bytes((len(value),)) + value
+                               for value in values if value is not None)
         self.send(packet)
         return self.read(self.packet(), is_binary=True)
 

@@ -7,7 +7,8 @@ connection = MySQLdb.connect(host="127.0.0.1", port=int(sys.argv[1]), user="root
 connection.autocommit(True)
 cursor = connection.cursor()
 xid = (b"g\0", b"b", 7)
-for text, values in (("XA START %s,%s,%s", xid), ("PUT %s,%s", (b"k", b"\0\n'\xff\\")), ("XA END %s,%s,%s", xid), ("XA PREPARE %s,%s,%s", xid)):
+for text, values in (("XA START %s,%s,%s", xid), ("PUT %s,%s", (b"k", b"\0\n'\xff\\")), ("XA END %s,%s,%s", xid),
+                     ("XA PREPARE %s,%s,%s", xid)):
     cursor.execute(text, values)
 cursor.execute("XA RECOVER")
 number, gtrid, bqual, data = cursor.fetchone()
@@ -29,7 +30,8 @@ connection.rollback()
 
 pool = [MySQLdb.connect(host="127.0.0.1", port=int(sys.argv[1]), user="root", autocommit=True) for _ in range(30)]
 for number, each in enumerate(pool):
-    for text in (f"XA START 'p{number}'", f"PUT 'row {number}','{number}'", f"XA END 'p{number}'", f"XA PREPARE 'p{number}'"):
+    for text in (f"XA START 'p{number}'", f"PUT 'row {number}','{number}'", f"XA END 'p{number}'",
+                 f"XA PREPARE 'p{number}'"):
         each.cursor().execute(text)
 listed = pool[0].cursor()
 print("thirty", listed.execute("XA RECOVER"))
