@@ -1,10 +1,11 @@
-//! Loads a server that speaks MySQL's protocol, and counts what it answers; or is an echo, which answers each packet with an OK.
+//! Loads a server that speaks MySQL's protocol, and counts what it answers; or is an echo, which answers each packet
+//! with an OK.
 //!
 //!     load cycles|puts|gets|selects CONNECTIONS SECONDS PORT
 //!     load echo PORT
 //!
-//! A cycle is five statements: XA START, a write, XA END, XA PREPARE, XA COMMIT. `selects` and a trailing word `sql` use a table db.t of a SQL database. Prints how many there were in a
-//! second.
+//! A cycle is five statements: XA START, a write, XA END, XA PREPARE, XA COMMIT. `selects` and a trailing word `sql`
+//! use a table db.t of a SQL database. Prints how many there were in a second.
 use std::io::{Read, Write};
 use std::net::{TcpListener, TcpStream};
 use std::sync::atomic::{AtomicBool, AtomicU64, Ordering};
@@ -44,7 +45,10 @@ impl Client {
     fn packet(&mut self) -> Vec<u8> {
         loop {
             if self.held.len() >= 4 {
-                let length = 4 + usize::from(self.held[0]) + (usize::from(self.held[1]) << 8) + (usize::from(self.held[2]) << 16);
+                let length = 4
+                    + usize::from(self.held[0])
+                    + (usize::from(self.held[1]) << 8)
+                    + (usize::from(self.held[2]) << 16);
                 if self.held.len() >= length {
                     return self.held.drain(..length).skip(4).collect();
                 }
@@ -81,11 +85,21 @@ fn must(client: &mut Client, text: &str) {
 }
 
 fn turn(client: &mut Client, what: &str, is_sql: bool, number: usize, turn: u64) {
-    let write = if is_sql { format!("REPLACE INTO db.t VALUES ('row {}','{}')", number, turn) } else { format!("PUT 'row {}','{}'", number, turn) };
+    let write = if is_sql {
+        format!("REPLACE INTO db.t VALUES ('row {}','{}')", number, turn)
+    } else {
+        format!("PUT 'row {}','{}'", number, turn)
+    };
     match what {
         "cycles" => {
             let xid = format!("'{} {}'", number, turn);
-            for text in [&format!("XA START {}", xid), &write, &format!("XA END {}", xid), &format!("XA PREPARE {}", xid), &format!("XA COMMIT {}", xid)] {
+            for text in [
+                &format!("XA START {}", xid),
+                &write,
+                &format!("XA END {}", xid),
+                &format!("XA PREPARE {}", xid),
+                &format!("XA COMMIT {}", xid),
+            ] {
                 must(client, text);
             }
         }
@@ -120,13 +134,16 @@ fn main() {
     if words[0] == "echo" {
         return echo(words[1].parse().unwrap());
     }
-    let (connections, seconds, port): (usize, u64, u16) = (words[1].parse().unwrap(), words[2].parse().unwrap(), words[3].parse().unwrap());
+    let (connections, seconds, port): (usize, u64, u16) =
+        (words[1].parse().unwrap(), words[2].parse().unwrap(), words[3].parse().unwrap());
     let is_sql = words.get(4).map_or(false, |it| it == "sql");
-    let (done, is_over, start) = (Arc::new(AtomicU64::new(0)), Arc::new(AtomicBool::new(false)), Arc::new(Barrier::new(connections + 1)));
+    let (done, is_over, start) =
+        (Arc::new(AtomicU64::new(0)), Arc::new(AtomicBool::new(false)), Arc::new(Barrier::new(connections + 1)));
     let run = std::process::id();
     let threads: Vec<_> = (0..connections)
         .map(|number| {
-            let (done, is_over, start, what) = (Arc::clone(&done), Arc::clone(&is_over), Arc::clone(&start), words[0].clone());
+            let (done, is_over, start, what) =
+                (Arc::clone(&done), Arc::clone(&is_over), Arc::clone(&start), words[0].clone());
             std::thread::spawn(move || {
                 let mut client = Client::connect(port);
                 start.wait();

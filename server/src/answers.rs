@@ -111,7 +111,12 @@ pub fn value_columns() -> Vec<Column> {
 }
 
 pub fn branch_columns() -> Vec<Column> {
-    vec![Column::number("formatID"), Column::number("gtrid_length"), Column::number("bqual_length"), Column::text("data", MOST)]
+    vec![
+        Column::number("formatID"),
+        Column::number("gtrid_length"),
+        Column::number("bqual_length"),
+        Column::text("data", MOST),
+    ]
 }
 
 /// A row's value as a table; none where there is no such row.
@@ -124,7 +129,12 @@ pub fn branches(xids: &[Xid], converts: bool) -> Answer {
     let row = |xid: &Xid| {
         let joined = [&xid.gtrid[..], &xid.bqual[..]].concat();
         let data = if converts { digits(&joined) } else { joined };
-        vec![Value::Number(xid.format_id), Value::Number(xid.gtrid.len() as i64), Value::Number(xid.bqual.len() as i64), Value::Text(data)]
+        vec![
+            Value::Number(xid.format_id),
+            Value::Number(xid.gtrid.len() as i64),
+            Value::Number(xid.bqual.len() as i64),
+            Value::Text(data),
+        ]
     };
     Answer::Table(Table { columns: branch_columns(), rows: xids.iter().map(row).collect() })
 }

@@ -1,4 +1,5 @@
-//! A client's connection: whole packets in, packets out. What comes in is bounded, and half a packet is waited for only so long.
+//! A client's connection: whole packets in, packets out. What comes in is bounded, and half a packet is waited for only
+//! so long.
 use crate::packets::{length_in, Malformed, Out, HEADER};
 use crate::system;
 use crate::tls::{Keys, Tls};
@@ -128,7 +129,17 @@ enum Came {
 impl Channel {
     pub fn new(stream: Arc<Stream>, limits: Limits) -> Channel {
         let login = Some(Instant::now() + limits.patience);
-        Channel { stream, tls: None, limits, held: Vec::new(), taken: 0, piece: vec![0; PIECE], waits: None, login, out: Out::new() }
+        Channel {
+            stream,
+            tls: None,
+            limits,
+            held: Vec::new(),
+            taken: 0,
+            piece: vec![0; PIECE],
+            waits: None,
+            login,
+            out: Out::new(),
+        }
     }
 
     /// From now on the client has all the time it wants for its next command.
@@ -232,8 +243,14 @@ impl Channel {
                     self.held.extend(&self.piece[..length]);
                     return Ok(Came::Bytes);
                 }
-                Err(fault) if matches!(fault.kind(), ErrorKind::WouldBlock | ErrorKind::TimedOut | ErrorKind::Interrupted) => (),
-                Err(fault) if fault.kind() == ErrorKind::InvalidData => return Err(End::Wrong(format!("no TLS: {}", fault))),
+                Err(fault)
+                    if matches!(fault.kind(), ErrorKind::WouldBlock | ErrorKind::TimedOut | ErrorKind::Interrupted) =>
+                {
+                    ()
+                }
+                Err(fault) if fault.kind() == ErrorKind::InvalidData => {
+                    return Err(End::Wrong(format!("no TLS: {}", fault)))
+                }
                 Err(_) => return Err(self.left()),
             }
         }
@@ -248,9 +265,9 @@ impl Channel {
         self.out.clear();
         match sent {
             Ok(()) => Ok(()),
-            Err(fault) if matches!(fault.kind(), ErrorKind::WouldBlock | ErrorKind::TimedOut) => {
-                Err(End::Wrong(format!("answers that it didn't take for {} seconds", self.limits.patience.as_secs_f64())))
-            }
+            Err(fault) if matches!(fault.kind(), ErrorKind::WouldBlock | ErrorKind::TimedOut) => Err(End::Wrong(
+                format!("answers that it didn't take for {} seconds", self.limits.patience.as_secs_f64()),
+            )),
             Err(_) => Err(End::Left("before it had its answer")),
         }
     }

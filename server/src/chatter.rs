@@ -1,7 +1,9 @@
-//! What clients say beside statements of the store: of themselves, of their settings, and of transactions that aren't XA.
+//! What clients say beside statements of the store: of themselves, of their settings, and of transactions that aren't
+//! XA.
 //!
-//! Settings are answered OK without effect, except autocommit and READ ONLY: whatever character set is named the bytes stay as they are, and whatever level
-//! is asked for is had, since every transaction is as isolated as SERIALIZABLE asks. A name that isn't known is no statement, so that a client learns of it.
+//! Settings are answered OK without effect, except autocommit and READ ONLY: whatever character set is named the bytes
+//! stay as they are, and whatever level is asked for is had, since every transaction is as isolated as SERIALIZABLE
+//! asks. A name that isn't known is no statement, so that a client learns of it.
 use crate::answers::{Table, MOST};
 use crate::packets::{Column, Value, VERSION};
 use crate::tokens::{words, Placed, Word};
@@ -424,7 +426,9 @@ impl<'a> Words<'a> {
             "engines" => &["Engine", "Support", "Comment"],
             "collation" => &["Collation", "Charset", "Id", "Default"],
             "status" => {
-                let agreed = |of: fn(&(String, String)) -> &String| facts.agreed.as_ref().map_or(Value::from(""), |it| Value::from(of(it).as_str()));
+                let agreed = |of: fn(&(String, String)) -> &String| {
+                    facts.agreed.as_ref().map_or(Value::from(""), |it| Value::from(of(it).as_str()))
+                };
                 return self.listed(&[("Ssl_cipher", agreed(|it| &it.1)), ("Ssl_version", agreed(|it| &it.0))]);
             }
             "variables" => return self.variables(facts),
@@ -446,12 +450,21 @@ impl<'a> Words<'a> {
 
     /// Names and values, or those like a pattern. With WHERE all are shown that it names in quotes.
     fn listed(&mut self, all: &[(&str, Value)]) -> Option<Other> {
-        let patterns: Vec<&[u8]> = self.words.iter().filter_map(|it| if let Word::Quoted(data) = &it.word { Some(&data[..]) } else { None }).collect();
+        let patterns: Vec<&[u8]> = self
+            .words
+            .iter()
+            .filter_map(|it| if let Word::Quoted(data) = &it.word { Some(&data[..]) } else { None })
+            .collect();
         let is_shown = |name: &str| {
             let name = name.to_ascii_lowercase();
-            patterns.is_empty() || patterns.iter().any(|pattern| is_like(name.as_bytes(), &pattern.to_ascii_lowercase()))
+            patterns.is_empty()
+                || patterns.iter().any(|pattern| is_like(name.as_bytes(), &pattern.to_ascii_lowercase()))
         };
-        let rows = all.iter().filter(|(name, _)| is_shown(name)).map(|(name, value)| vec![Value::from(*name), value.clone()]).collect();
+        let rows = all
+            .iter()
+            .filter(|(name, _)| is_shown(name))
+            .map(|(name, value)| vec![Value::from(*name), value.clone()])
+            .collect();
         let columns = vec![Column::text("Variable_name", MOST), Column::text("Value", MOST)];
         Some(self.rest(Other::Table(Table { columns, rows })))
     }
@@ -461,7 +474,9 @@ fn function(name: &str, has_brackets: bool, facts: &Facts) -> Option<(Value, boo
     match (name, has_brackets) {
         ("connection_id", true) => Some((Value::Number(facts.connection as i64), true)),
         ("database" | "schema", true) => Some((Value::Null, false)),
-        ("user" | "current_user" | "session_user" | "system_user", true) | ("current_user", false) => Some((Value::from("nigbaru"), false)),
+        ("user" | "current_user" | "session_user" | "system_user", true) | ("current_user", false) => {
+            Some((Value::from("nigbaru"), false))
+        }
         ("version", true) => Some((Value::from(VERSION), false)),
         ("last_insert_id", true) => Some((Value::Number(0), true)),
         ("true", false) => Some((Value::Number(1), true)),
@@ -515,7 +530,8 @@ fn is_like(name: &[u8], pattern: &[u8]) -> bool {
 mod tests {
     use super::*;
 
-    const FACTS: Facts = Facts { connection: 7, autocommit: true, is_read_only: false, longest: 65_536, has_tls: false, agreed: None };
+    const FACTS: Facts =
+        Facts { connection: 7, autocommit: true, is_read_only: false, longest: 65_536, has_tls: false, agreed: None };
     const NOTHING: Settings = Settings { autocommit: None, usual: None, next: None };
 
     fn said(text: &str) -> Option<Other> {
@@ -524,7 +540,12 @@ mod tests {
 
     fn row(text: &str) -> Vec<(String, Value)> {
         match said(text) {
-            Some(Other::Table(table)) => table.columns.iter().map(|it| String::from_utf8(it.name.clone()).unwrap()).zip(table.rows[0].clone()).collect(),
+            Some(Other::Table(table)) => table
+                .columns
+                .iter()
+                .map(|it| String::from_utf8(it.name.clone()).unwrap())
+                .zip(table.rows[0].clone())
+                .collect(),
             other => panic!("{}: {:?}", text, other),
         }
     }
@@ -572,14 +593,27 @@ mod tests {
         ] {
             assert_eq!(said(text), Some(Other::Set(Settings { usual, next, ..NOTHING })), "{}", text);
         }
-        for text in ["SET TRANSACTION READ", "SET tx_read_only = 2", "SET GLOBAL TRANSACTION READ ONLY", "SET SESSION TRANSACTION READ ONLY,"] {
+        for text in [
+            "SET TRANSACTION READ",
+            "SET tx_read_only = 2",
+            "SET GLOBAL TRANSACTION READ ONLY",
+            "SET SESSION TRANSACTION READ ONLY,",
+        ] {
             assert_eq!(said(text), None, "{}", text);
         }
     }
 
     #[test]
     fn autocommit_in_every_form() {
-        for (word, value) in [("1", true), ("ON", true), ("true", true), ("default", true), ("0", false), ("off", false), ("FALSE", false)] {
+        for (word, value) in [
+            ("1", true),
+            ("ON", true),
+            ("true", true),
+            ("default", true),
+            ("0", false),
+            ("off", false),
+            ("FALSE", false),
+        ] {
             for form in [
                 "SET autocommit={}",
                 "set SESSION autocommit = {}",
@@ -648,14 +682,21 @@ mod tests {
         assert_eq!(row("SELECT 1"), [("1".to_string(), Value::Number(1))]);
         assert_eq!(row("/* ping */ SELECT 1 FROM DUAL LIMIT 1"), [("1".to_string(), Value::Number(1))]);
         assert_eq!(row("select CONNECTION_ID()"), [("CONNECTION_ID()".to_string(), Value::Number(7))]);
-        assert_eq!(row("select DATABASE(), USER() limit 1"), [("DATABASE()".to_string(), Value::Null), ("USER()".to_string(), Value::from("nigbaru"))]);
+        assert_eq!(
+            row("select DATABASE(), USER() limit 1"),
+            [("DATABASE()".to_string(), Value::Null), ("USER()".to_string(), Value::from("nigbaru"))]
+        );
         assert_eq!(
             row("select @@max_allowed_packet, @@session.autocommit AS c limit 1"),
             [("@@max_allowed_packet".to_string(), Value::Number(65_536)), ("c".to_string(), Value::Number(1))]
         );
         assert_eq!(
             row("SELECT 'a' AS `B`, -5 x, @y"),
-            [("B".to_string(), Value::from("a")), ("x".to_string(), Value::Number(-5)), ("@y".to_string(), Value::Null)]
+            [
+                ("B".to_string(), Value::from("a")),
+                ("x".to_string(), Value::Number(-5)),
+                ("@y".to_string(), Value::Null)
+            ]
         );
         for text in [
             "select @@nothing",
@@ -690,7 +731,16 @@ mod tests {
         ] {
             assert!(is_like(name.as_bytes(), pattern.as_bytes()), "{} {}", name, pattern);
         }
-        for (name, pattern) in [("a", ""), ("a", "b"), ("abc", "a\\_c"), ("abc", "a%d"), ("", "_"), ("ab", "a"), ("abc", "%b"), ("abc", "a\\%")] {
+        for (name, pattern) in [
+            ("a", ""),
+            ("a", "b"),
+            ("abc", "a\\_c"),
+            ("abc", "a%d"),
+            ("", "_"),
+            ("ab", "a"),
+            ("abc", "%b"),
+            ("abc", "a\\%"),
+        ] {
             assert!(!is_like(name.as_bytes(), pattern.as_bytes()), "{} {}", name, pattern);
         }
         assert!(!is_like(&[b'a'; 1_000], "%a".repeat(30_000).as_bytes()));
@@ -713,7 +763,9 @@ mod tests {
             assert!(matches!(said(text), Some(Other::Table(_))), "{}", text);
         }
         match said("SHOW VARIABLES LIKE 'lower%'") {
-            Some(Other::Table(table)) => assert_eq!(table.rows, [[Value::from("lower_case_table_names"), Value::from("0")]]),
+            Some(Other::Table(table)) => {
+                assert_eq!(table.rows, [[Value::from("lower_case_table_names"), Value::from("0")]])
+            }
             other => panic!("{:?}", other),
         }
     }

@@ -77,7 +77,12 @@ fn columns_of(kind: Kind) -> Vec<Column> {
 }
 
 impl Conversation {
-    pub fn new(store: Arc<Store>, connection: Arc<Connection>, channel: Channel, options: &Options) -> Result<Conversation, End> {
+    pub fn new(
+        store: Arc<Store>,
+        connection: Arc<Connection>,
+        channel: Channel,
+        options: &Options,
+    ) -> Result<Conversation, End> {
         let scramble = login::scramble().map_err(|fault| End::Wrong(format!("no scramble: {}", fault)))?;
         Ok(Conversation {
             channel,
@@ -202,7 +207,8 @@ impl Conversation {
 
     fn statistics(&mut self) -> Result<(), End> {
         let connections = self.store.logged_in.load(Ordering::Relaxed);
-        let text = format!("Store: {}  Connection: {}  Connections: {}", self.store.name, self.connection.number, connections);
+        let text =
+            format!("Store: {}  Connection: {}  Connections: {}", self.store.name, self.connection.number, connections);
         self.channel.out.packet(|it| it.extend(text.as_bytes()));
         self.channel.send()
     }
@@ -350,12 +356,15 @@ impl Conversation {
         };
         let held: usize = self.prepared.values().map(|it| it.text.len()).sum();
         if self.prepared.len() >= PREPARED || text.len() > LONGEST_PREPARED || held + text.len() > ALL_PREPARED {
-            let why =
-                format!("more than {} prepared statements, or one of more than {} bytes, or all of more than {}", PREPARED, LONGEST_PREPARED, ALL_PREPARED);
+            let why = format!(
+                "more than {} prepared statements, or one of more than {} bytes, or all of more than {}",
+                PREPARED, LONGEST_PREPARED, ALL_PREPARED
+            );
             return self.answer(&refusal_with(1295, why).into(), false);
         }
         self.last = self.last.wrapping_add(1);
-        let it = Prepared { text: text.to_vec(), parameters, is_statement, kinds: Vec::new(), long: vec![None; parameters] };
+        let it =
+            Prepared { text: text.to_vec(), parameters, is_statement, kinds: Vec::new(), long: vec![None; parameters] };
         self.prepared.insert(self.last, it);
         self.channel.out.prepared(self.last, &columns, parameters as u16, self.guest.status());
         self.channel.send()
@@ -396,7 +405,8 @@ impl Conversation {
         }
     }
 
-    /// Keeps a piece of a parameter; nothing is answered. No more is kept than a literal may have, and a byte, so that it is refused.
+    /// Keeps a piece of a parameter; nothing is answered. No more is kept than a literal may have, and a byte, so that
+    /// it is refused.
     fn keep_long_data(&mut self, packet: &[u8]) -> Result<(), End> {
         let number = packets::statement_number(packet)?;
         let (parameter, piece) = packets::read_long_data(packet)?;

@@ -1,4 +1,5 @@
-//! Faults on purpose, for who tests a transaction manager: which statement of a store is disturbed, and how. README.md, 'Faults on purpose', has the lines.
+//! Faults on purpose, for who tests a transaction manager: which statement of a store is disturbed, and how. README.md,
+//! 'Faults on purpose', has the lines.
 use std::fmt;
 
 /// What can be disturbed.
@@ -186,7 +187,8 @@ enum Said {
     Now(f64),
 }
 
-const FORM: &str = "not as in `XA PREPARE 3 close-before`, `GET every 10 stall 0.5`, `XA COMMIT chance 0.01 seed 7 close-after` or `NOW outage 5`";
+const FORM: &str = "not as in `XA PREPARE 3 close-before`, `GET every 10 stall 0.5`, \
+                    `XA COMMIT chance 0.01 seed 7 close-after` or `NOW outage 5`";
 
 fn read_line(line: &str) -> Result<(Option<usize>, Said), String> {
     let mut words: Vec<&str> = line.split(' ').collect();
@@ -225,14 +227,17 @@ const LONGEST: f64 = 1e6;
 
 /// Digits, maybe with a point between.
 fn decimal(word: &str) -> Option<f64> {
-    let is_plain = word.bytes().all(|byte| byte.is_ascii_digit() || byte == b'.') && word.starts_with(|it: char| it.is_ascii_digit());
+    let is_plain = word.bytes().all(|byte| byte.is_ascii_digit() || byte == b'.')
+        && word.starts_with(|it: char| it.is_ascii_digit());
     word.parse().ok().filter(|_| is_plain && !word.ends_with('.'))
 }
 
 fn read_when(words: &[&str]) -> Option<(When, usize)> {
     match words {
         ["every", n, ..] => Some((When::Every(positive(n)?), 2)),
-        ["chance", of_one, "seed", seed, ..] => Some((When::Chance { of_one: chance(of_one)?, seed: seed.parse().ok()? }, 4)),
+        ["chance", of_one, "seed", seed, ..] => {
+            Some((When::Chance { of_one: chance(of_one)?, seed: seed.parse().ok()? }, 4))
+        }
         ["chance", of_one, ..] => Some((When::Chance { of_one: chance(of_one)?, seed: 1 }, 2)),
         [nth, ..] => Some((When::Nth(positive(nth)?), 1)),
         [] => None,
@@ -244,14 +249,21 @@ fn chance(word: &str) -> Option<f64> {
 }
 
 fn read_what(words: &[&str]) -> Result<What, String> {
-    let seconds = |word: &str| decimal(word).filter(|it| *it <= LONGEST).ok_or_else(|| format!("{} isn't a number of seconds", word));
+    let seconds = |word: &str| {
+        decimal(word).filter(|it| *it <= LONGEST).ok_or_else(|| format!("{} isn't a number of seconds", word))
+    };
     match words {
         ["close-before"] => Ok(What::CloseBefore),
         ["close-after"] => Ok(What::CloseAfter),
         ["stall", it] => Ok(What::Stall(seconds(it)?)),
         ["stall-after", it] => Ok(What::StallAfter(seconds(it)?)),
         ["outage", it] => Ok(What::Outage(seconds(it)?)),
-        ["error", it] => it.parse().ok().filter(|number| *number > 0).map(What::Error).ok_or_else(|| "an error is a number up to 65535".to_string()),
+        ["error", it] => it
+            .parse()
+            .ok()
+            .filter(|number| *number > 0)
+            .map(What::Error)
+            .ok_or_else(|| "an error is a number up to 65535".to_string()),
         [it @ ("close-before" | "close-after"), ..] => Err(format!("{} takes no number", it)),
         [it @ ("stall" | "stall-after" | "outage" | "error"), ..] => Err(format!("{} takes a number", it)),
         _ => Err(FORM.to_string()),
@@ -268,9 +280,19 @@ mod tests {
 
     #[test]
     fn what_is_read() {
-        let text = "# a comment\n\nXA PREPARE 3 close-before\nSTORE 2 XA COMMIT 2 stall 0.5\nGET 1 error 3572\nSTORE 1 ONE PHASE every 4 outage 2\nSTORE 1 BEGIN chance 0.25 seed 9 close-after\nSTORE 2 NOW outage 5\n";
+        let text = "# a comment\n\nXA PREPARE 3 close-before\nSTORE 2 XA COMMIT 2 stall 0.5\nGET 1 error 3572\n\
+                    STORE 1 ONE PHASE every 4 outage 2\nSTORE 1 BEGIN chance 0.25 seed 9 close-after\n\
+                    STORE 2 NOW outage 5\n";
         let plans = read(text, 2).unwrap();
-        assert_eq!(lines(&plans[0]), ["XA PREPARE 3 close-before", "GET 1 error 3572", "ONE PHASE every 4 outage 2", "BEGIN chance 0.25 seed 9 close-after"]);
+        assert_eq!(
+            lines(&plans[0]),
+            [
+                "XA PREPARE 3 close-before",
+                "GET 1 error 3572",
+                "ONE PHASE every 4 outage 2",
+                "BEGIN chance 0.25 seed 9 close-after"
+            ]
+        );
         assert_eq!(lines(&plans[1]), ["XA PREPARE 3 close-before", "XA COMMIT 2 stall 0.5", "GET 1 error 3572"]);
         assert_eq!((plans[0].outage, plans[1].outage), (None, Some(5.0)));
     }
@@ -315,7 +337,8 @@ mod tests {
 
     #[test]
     fn which_fires() {
-        let mut faults = Faults::new(&read("GET 2 close-before\nGET every 3 stall 1\nPUT 1 close-after", 1).unwrap()[0]);
+        let mut faults =
+            Faults::new(&read("GET 2 close-before\nGET every 3 stall 1\nPUT 1 close-after", 1).unwrap()[0]);
         let fired: Vec<_> = (0..6).map(|_| faults.next(Point::Get).map(|it| it.what)).collect();
         assert_eq!(fired, [None, Some(What::CloseBefore), Some(What::Stall(1.0)), None, None, Some(What::Stall(1.0))]);
         assert!(faults.next(Point::Put).is_some());

@@ -1,13 +1,16 @@
-//! Hands out what a store has logged, entry by entry and in order, to the history's file and to the state of a record's pieces.
+//! Hands out what a store has logged, entry by entry and in order, to the history's file and to the state of a record's
+//! pieces.
 //!
-//! A store keeps only the last entries, as many as its ring has rows. So that none is lost, a statement that may be logged waits while too many were called that
-//! aren't handed out yet: where the files are slow, the server is as slow as they are.
+//! A store keeps only the last entries, as many as its ring has rows. So that none is lost, a statement that may be
+//! logged waits while too many were called that aren't handed out yet: where the files are slow, the server is as slow
+//! as they are.
 use crate::pool::Shared;
 use nigbaru::Next;
 use std::sync::atomic::{AtomicU64, Ordering};
 use std::sync::{Mutex, MutexGuard};
 
-/// Who is given each entry once, in the history's order: the session's number, and the statement's text in canonical form.
+/// Who is given each entry once, in the history's order: the session's number, and the statement's text in canonical
+/// form.
 pub type Keeper = Box<dyn FnMut(u64, &[u8]) + Send>;
 
 /// How many entries are taken from the store at once, so that the session's connection waits for no more than these.
@@ -18,7 +21,8 @@ const BATCH: usize = 64;
 pub struct Lost(pub u64);
 
 pub struct Follower {
-    /// The session by which the history is followed. It is lent last, and used for this between two statements of the connection that has it.
+    /// The session by which the history is followed. It is lent last, and used for this between two statements of the
+    /// connection that has it.
     session: Shared,
     keepers: Mutex<Vec<Keeper>>,
     /// How many statements were called that may be logged.
@@ -30,10 +34,17 @@ pub struct Follower {
 }
 
 impl Follower {
-    /// Follows a store whose ring has so many rows. A quarter of them may be called ahead: with a statement of each session that is counted and not logged yet,
-    /// or logged and counted as handed out, that is less than a store of 64 rows keeps.
+    /// Follows a store whose ring has so many rows. A quarter of them may be called ahead: with a statement of each
+    /// session that is counted and not logged yet, or logged and counted as handed out, that is less than a store of 64
+    /// rows keeps.
     pub fn new(session: Shared, keepers: Vec<Keeper>, rows: u64) -> Follower {
-        Follower { session, keepers: Mutex::new(keepers), called: AtomicU64::new(0), handed: AtomicU64::new(0), most: rows / 4 }
+        Follower {
+            session,
+            keepers: Mutex::new(keepers),
+            called: AtomicU64::new(0),
+            handed: AtomicU64::new(0),
+            most: rows / 4,
+        }
     }
 
     fn is_due(&self) -> bool {
@@ -107,7 +118,9 @@ mod tests {
         let pool = Pool::new(Store::open(rows, 16).unwrap(), 16);
         let said = Said::default();
         let kept = Arc::clone(&said);
-        let keeper: Keeper = Box::new(move |session, text| kept.lock().unwrap().push(format!("{} {}", session, String::from_utf8_lossy(text))));
+        let keeper: Keeper = Box::new(move |session, text| {
+            kept.lock().unwrap().push(format!("{} {}", session, String::from_utf8_lossy(text)))
+        });
         let follower = Follower::new(pool.session(15).unwrap(), vec![keeper], rows);
         (pool, Arc::new(follower), said)
     }
@@ -138,7 +151,9 @@ mod tests {
         let threads: Vec<_> = (0..16)
             .map(|number| {
                 let (pool, follower) = (pool.clone(), Arc::clone(&follower));
-                thread::spawn(move || (0..100).for_each(|turn| put(&pool, &follower, number, &format!("PUT '{}','{}'", number, turn))))
+                thread::spawn(move || {
+                    (0..100).for_each(|turn| put(&pool, &follower, number, &format!("PUT '{}','{}'", number, turn)))
+                })
             })
             .collect();
         threads.into_iter().for_each(|it| it.join().unwrap());

@@ -1,6 +1,7 @@
 //! A store as one client sees it: the client's branch and its state, status flags, and local transactions.
 //!
-//! A local transaction is a branch of the server's own, which begins with its first row statement and is committed in one phase.
+//! A local transaction is a branch of the server's own, which begins with its first row statement and is committed in
+//! one phase.
 use crate::answers::{self, refusal, refusal_with, wrong_state, Answer, Refusal, OK};
 use crate::channel::End;
 use crate::chatter::{Other, Settings};
@@ -114,12 +115,20 @@ impl Guest {
 
     fn crowded(&self) -> Refusal {
         let size = self.store.pool.size();
-        let busy = format!("Too many connections: each of the store's {} sessions has a branch that isn't prepared, or answers a statement", size);
+        let busy = format!(
+            "Too many connections: each of the store's {} sessions has a branch that isn't prepared, \
+             or answers a statement",
+            size
+        );
         // (--wait 0 says that nothing waits)
         let wait = self.store.wait;
         refusal_with(
             1040,
-            if wait.is_zero() { format!("{} (--wait 0)", busy) } else { format!("{}, and none was free for {} s (--wait)", busy, wait.as_secs_f64()) },
+            if wait.is_zero() {
+                format!("{} (--wait 0)", busy)
+            } else {
+                format!("{}, and none was free for {} s (--wait)", busy, wait.as_secs_f64())
+            },
         )
     }
 
@@ -130,7 +139,8 @@ impl Guest {
             Ok(lent) => lent,
             Err(refused) => return Ok(refused.into()),
         };
-        let state = if kind == Some(Kind::OnePhase) && self.state == State::Free { "PREPARED" } else { self.state.name() };
+        let state =
+            if kind == Some(Kind::OnePhase) && self.state == State::Free { "PREPARED" } else { self.state.name() };
         let reply = match self.hold_history(kind) {
             Err(fault) => Err(fault),
             Ok(()) => match &self.store.record {
@@ -157,7 +167,13 @@ impl Guest {
         })
     }
 
-    fn answer(&self, reply: Result<Reply, Error>, kind: Option<Kind>, converts: bool, state: &str) -> Result<Answer, End> {
+    fn answer(
+        &self,
+        reply: Result<Reply, Error>,
+        kind: Option<Kind>,
+        converts: bool,
+        state: &str,
+    ) -> Result<Answer, End> {
         let is_change = matches!(kind, Some(Kind::Put | Kind::Del));
         match reply {
             Ok(Reply::Ok) => Ok(Answer::Ok(u64::from(is_change))),
@@ -171,8 +187,8 @@ impl Guest {
         }
     }
 
-    /// Rolls back what is open in the session. Without memory the branch would stay, and whoever has the session next would be in it, so that is tried again, and
-    /// a session that can't be cleared is never lent again.
+    /// Rolls back what is open in the session. Without memory the branch would stay, and whoever has the session next
+    /// would be in it, so that is tried again, and a session that can't be cleared is never lent again.
     fn disconnect(&mut self) -> Result<Answer, End> {
         let mut answer = self.ask(b"DISCONNECT", None, false)?;
         for _ in 0..TRIES {
@@ -260,7 +276,8 @@ impl Guest {
         Ok(answer)
     }
 
-    /// Tells who watches of the branch before it is prepared, since from then on any connection may end it, and then takes it off the list.
+    /// Tells who watches of the branch before it is prepared, since from then on any connection may end it, and then
+    /// takes it off the list.
     fn tell_prepared(&self, it: &Statement) {
         let look = lock(&self.connection.look);
         if look.branch.as_ref().map_or(false, |(xid, _)| xid == it.subject()) {
@@ -296,7 +313,8 @@ impl Guest {
 
     // local transactions
 
-    /// Starts the local transaction's branch where the next row statement belongs to one. The store's refusal, if it gives one.
+    /// Starts the local transaction's branch where the next row statement belongs to one. The store's refusal, if it
+    /// gives one.
     fn begin_own(&mut self) -> Result<Option<Answer>, End> {
         if self.state != State::Free || self.own.is_some() || self.autocommit && !self.has_begun {
             return Ok(None);

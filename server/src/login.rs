@@ -50,15 +50,23 @@ fn is_equal(one: &[u8], other: &[u8]) -> bool {
     one.len() == other.len() && one.iter().zip(other).fold(0, |found, (one, other)| found | (one ^ other)) == 0
 }
 
-/// Whether the client may come in, whom the greeting named a plugin. It may be asked for another proof, which is heard here.
-pub fn is_right(channel: &mut Channel, login: &Login, account: Option<&Account>, greeted: &str, scramble: &[u8; 20]) -> Result<bool, End> {
+/// Whether the client may come in, whom the greeting named a plugin. It may be asked for another proof, which is heard
+/// here.
+pub fn is_right(
+    channel: &mut Channel,
+    login: &Login,
+    account: Option<&Account>,
+    greeted: &str,
+    scramble: &[u8; 20],
+) -> Result<bool, End> {
     let fits = |proof: &[u8], right: fn(&[u8], &[u8; 20]) -> Vec<u8>| {
         account.map_or(true, |it| is_equal(&login.user, &it.user) && is_equal(proof, &right(&it.password, scramble)))
     };
     if login.plugin == SHA2.as_bytes() && login.proof.len() == 32 {
         let is_right = fits(&login.proof, sha2_proof);
         if is_right {
-            // The fast path: the server needs no more, and says so before its OK. Clients wait for that, also where anybody may come in.
+            // The fast path: the server needs no more, and says so before its OK. Clients wait for that, also where
+            // anybody may come in.
             channel.out.packet(|it| it.extend([1, 3]));
         }
         return Ok(is_right);
@@ -72,8 +80,8 @@ pub fn is_right(channel: &mut Channel, login: &Login, account: Option<&Account>,
     Ok(fits(&proof, native_proof))
 }
 
-/// Whether a client is asked for a native proof. One that uses another plugin than the greeting named sends nothing at first, and waits for a scramble; no
-/// account has an empty password, so nothing is never a proof.
+/// Whether a client is asked for a native proof. One that uses another plugin than the greeting named sends nothing at
+/// first, and waits for a scramble; no account has an empty password, so nothing is never a proof.
 fn needs_other(login: &Login, has_account: bool, greeted: &str) -> bool {
     let is_native = login.plugin == NATIVE.as_bytes();
     let waits = login.proof.is_empty() && (has_account || login.plugin != greeted.as_bytes());
@@ -92,11 +100,13 @@ mod tests {
         let stored = sha1(&sha1(b"secret"));
         for password in [&b"secret"[..], b"Secret"] {
             let mask = sha1(&[&scramble[..], &stored].concat());
-            let once: Vec<u8> = native_proof(password, &scramble).iter().zip(mask).map(|(one, other)| one ^ other).collect();
+            let once: Vec<u8> =
+                native_proof(password, &scramble).iter().zip(mask).map(|(one, other)| one ^ other).collect();
             assert_eq!(sha1(&once) == stored, password == b"secret");
             let stored = sha256(&sha256(b"secret"));
             let mask = sha256(&[&stored[..], &scramble].concat());
-            let once: Vec<u8> = sha2_proof(password, &scramble).iter().zip(mask).map(|(one, other)| one ^ other).collect();
+            let once: Vec<u8> =
+                sha2_proof(password, &scramble).iter().zip(mask).map(|(one, other)| one ^ other).collect();
             assert_eq!(sha256(&once) == stored, password == b"secret");
         }
         assert!(native_proof(b"", &scramble).is_empty() && sha2_proof(b"", &scramble).is_empty());

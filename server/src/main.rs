@@ -76,7 +76,8 @@ fn main() -> ExitCode {
 
 /// The words of the command line.
 fn words() -> Result<Vec<String>, String> {
-    let text = |word: std::ffi::OsString| word.into_string().map_err(|word| format!("{} isn't UTF-8", word.to_string_lossy()));
+    let text =
+        |word: std::ffi::OsString| word.into_string().map_err(|word| format!("{} isn't UTF-8", word.to_string_lossy()));
     std::env::args_os().skip(1).map(text).collect()
 }
 
@@ -85,7 +86,8 @@ fn give_up(status: u8, why: &str) -> ExitCode {
     ExitCode::from(status)
 }
 
-/// When a file was changed, how long it is, and which it is: two that were written in the same moment differ in that alone.
+/// When a file was changed, how long it is, and which it is: two that were written in the same moment differ in that
+/// alone.
 type Looks = (SystemTime, u64, u64);
 
 /// The file of faults, and what it was like when it was read.
@@ -157,7 +159,8 @@ impl<'a> Server<'a> {
             found.extend(port::open(&store, number, options)?);
             stores.push(store);
         }
-        let mut server = Server { options: Arc::clone(options), stop, stores, ports: Vec::new(), threads: Vec::new(), watch };
+        let mut server =
+            Server { options: Arc::clone(options), stop, stores, ports: Vec::new(), threads: Vec::new(), watch };
         server.write_status().map_err(|fault| format!("--status {}", fault))?;
         server.set_faults(&server.watch.plans.clone());
         for (port, listener) in found {
@@ -211,7 +214,9 @@ impl<'a> Server<'a> {
         let mut next = path.clone().into_os_string();
         next.push(".next");
         let text = format!("{{\"stores\":[{}]}}\n", stores.join(","));
-        fs::write(&next, text).and_then(|()| fs::rename(&next, path)).map_err(|fault| format!("{}: {}", path.display(), fault))
+        fs::write(&next, text)
+            .and_then(|()| fs::rename(&next, path))
+            .map_err(|fault| format!("{}: {}", path.display(), fault))
     }
 
     /// Accepts nobody further, lets statements end, and writes what is to be written.
@@ -224,7 +229,8 @@ impl<'a> Server<'a> {
             self.ports.iter().for_each(|port| port.wake());
             thread::sleep(TICK / 10);
         }
-        while self.stores.iter().any(|store| !lock(&store.connections).is_empty()) && began.elapsed() < LAST + LAST / 10 {
+        while self.stores.iter().any(|store| !lock(&store.connections).is_empty()) && began.elapsed() < LAST + LAST / 10
+        {
             let how = if began.elapsed() < LAST { Shutdown::Read } else { Shutdown::Both };
             self.stores.iter().for_each(|store| store.shut_all(how));
             thread::sleep(TICK / 10);

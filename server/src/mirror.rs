@@ -1,12 +1,13 @@
-//! What a store holds, as its history says: kept beside a record that goes on in pieces, so that each piece can begin with a state.
+//! What a store holds, as its history says: kept beside a record that goes on in pieces, so that each piece can begin
+//! with a state.
 //!
-//! The store has no list of its rows. Its history is the list of all statements that changed it, in one order, and none of them is refused; so carrying them
-//! out needs no rule of who may do what.
+//! The store has no list of its rows. Its history is the list of all statements that changed it, in one order, and none
+//! of them is refused; so carrying them out needs no rule of who may do what.
 use crate::statements::{self, Kind};
 use std::collections::BTreeMap;
 
-/// An identifier, by which branches are ordered: formatID, gtrid and bqual, these as canonical literals. An empty literal is the empty text here, since
-/// `X''` stands behind `0x..`.
+/// An identifier, by which branches are ordered: formatID, gtrid and bqual, these as canonical literals. An empty
+/// literal is the empty text here, since `X''` stands behind `0x..`.
 type Id = (u64, Vec<u8>, Vec<u8>);
 
 /// How a branch holds a row.
@@ -117,7 +118,16 @@ impl Mirror {
                 Some((session, false)) => format!("ACTIVE SESSION {}", session),
                 Some((session, true)) => format!("IDLE SESSION {}", session),
             };
-            text.extend([&b"  BRANCH "[..], &literal(gtrid), b",", &literal(bqual), format!(",{} {}\n", number, phase).as_bytes()].concat());
+            text.extend(
+                [
+                    &b"  BRANCH "[..],
+                    &literal(gtrid),
+                    b",",
+                    &literal(bqual),
+                    format!(",{} {}\n", number, phase).as_bytes(),
+                ]
+                .concat(),
+            );
             for (key, hold) in &branch.rows {
                 text.extend(match hold {
                     Hold::Shares => [&b"    SHARES "[..], key, b"\n"].concat(),
@@ -168,16 +178,23 @@ mod tests {
             (1, "PUT 0x7a,X''"),
             (6, "XA END 0x61,0x61,2"),
         ];
-        let expected =
-            "  BRANCH 0x6161,X'',1 ACTIVE SESSION 5\n  BRANCH 0x62,X'',1 PREPARED\n    SHARES 0x6b\n    HOLDS 0x6b6b WRITES X''\n    HOLDS 0x6c DELETES\n  \
-                        BRANCH X'',0x71,2 ACTIVE SESSION 3\n  BRANCH 0x61,0x61,2 IDLE SESSION 6\n  BRANCH 0x61,0x7a,2 ACTIVE SESSION 2\n  \
+        let expected = "  BRANCH 0x6161,X'',1 ACTIVE SESSION 5\n  BRANCH 0x62,X'',1 PREPARED\n    SHARES 0x6b\n    \
+                        HOLDS 0x6b6b WRITES X''\n    HOLDS 0x6c DELETES\n  BRANCH X'',0x71,2 ACTIVE SESSION 3\n  \
+                        BRANCH 0x61,0x61,2 IDLE SESSION 6\n  BRANCH 0x61,0x7a,2 ACTIVE SESSION 2\n  \
                         BRANCH 0x61,X'',10 ACTIVE SESSION 4\n  ROW 0x6c VALUE 0x31\n  ROW 0x7a VALUE X''\n";
         assert_eq!(state(&entries), expected);
     }
 
     #[test]
     fn how_branches_end() {
-        let begun = [(1, "PUT 0x6b,0x31"), (1, "PUT 0x6c,0x31"), (1, "XA START 0x61,X'',1"), (1, "PUT 0x6b,0x32"), (1, "DEL 0x6c"), (1, "PUT 0x6d,0x33")];
+        let begun = [
+            (1, "PUT 0x6b,0x31"),
+            (1, "PUT 0x6c,0x31"),
+            (1, "XA START 0x61,X'',1"),
+            (1, "PUT 0x6b,0x32"),
+            (1, "DEL 0x6c"),
+            (1, "PUT 0x6d,0x33"),
+        ];
         let ended = |entries: &[(u64, &'static str)]| state(&[&begun[..], entries].concat());
         let prepared = [(1, "XA END 0x61,X'',1"), (1, "XA PREPARE 0x61,X'',1")];
         let before = "  ROW 0x6b VALUE 0x31\n  ROW 0x6c VALUE 0x31\n";
@@ -188,9 +205,10 @@ mod tests {
         assert_eq!(ended(&[&prepared[..], &[(1, "DISCONNECT"), (2, "XA COMMIT 0x61,X'',1")]].concat()), after);
         assert_eq!(ended(&[&prepared[..], &[(2, "XA ROLLBACK 0x61,X'',1")]].concat()), before);
         // A session's next branch is its own, and its rows are its own outside of one.
-        let next = [(1, "XA START 0x62,X'',1"), (1, "DEL 0x6c"), (2, "PUT 0x6e,0x34"), (1, "DISCONNECT"), (1, "DEL 0x6b")];
-        let expected = "  BRANCH 0x61,X'',1 PREPARED\n    HOLDS 0x6b WRITES 0x32\n    HOLDS 0x6c DELETES\n    HOLDS 0x6d WRITES 0x33\n  \
-                        ROW 0x6c VALUE 0x31\n  ROW 0x6e VALUE 0x34\n";
+        let next =
+            [(1, "XA START 0x62,X'',1"), (1, "DEL 0x6c"), (2, "PUT 0x6e,0x34"), (1, "DISCONNECT"), (1, "DEL 0x6b")];
+        let expected = "  BRANCH 0x61,X'',1 PREPARED\n    HOLDS 0x6b WRITES 0x32\n    HOLDS 0x6c DELETES\n    \
+                        HOLDS 0x6d WRITES 0x33\n  ROW 0x6c VALUE 0x31\n  ROW 0x6e VALUE 0x34\n";
         assert_eq!(ended(&[&prepared[..], &next].concat()), expected);
     }
 }

@@ -12,7 +12,9 @@ pub struct Keys {
 
 impl Keys {
     pub fn read(_: &Path, _: &Path) -> Result<Keys, String> {
-        Err("this program is built without TLS: install Debian's librust-rustls-dev and librust-rustls-pemfile-dev, and build it by server/build".to_string())
+        Err("this program is built without TLS: install Debian's librust-rustls-dev and \
+             librust-rustls-pemfile-dev, and build it by server/build"
+            .to_string())
     }
 }
 

@@ -95,7 +95,10 @@ impl Words {
     fn read(words: impl Iterator<Item = String>) -> Result<Words, String> {
         let (mut given, mut words) = (Vec::new(), words);
         while let Some(word) = words.next() {
-            let name = word.strip_prefix("--").filter(|it| !it.is_empty()).ok_or_else(|| format!("{} isn't an option", word))?;
+            let name = word
+                .strip_prefix("--")
+                .filter(|it| !it.is_empty())
+                .ok_or_else(|| format!("{} isn't an option", word))?;
             let (name, value) = match name.split_once('=') {
                 Some((name, value)) => (name.to_string(), Some(value.to_string())),
                 None => (name.to_string(), None),
@@ -121,8 +124,10 @@ impl Words {
     /// No file is named twice, since one would be written over the other.
     fn hold_files_apart(&self) -> Result<(), String> {
         let names = ["fault", "record", "history", "status", "socket", "password-file"];
-        let plain = |path: &str| Path::new(path).components().filter(|it| *it != Component::CurDir).collect::<PathBuf>();
-        let given: Vec<(&str, PathBuf)> = names.iter().filter_map(|name| Some((*name, plain(self.text(name)?)))).collect();
+        let plain =
+            |path: &str| Path::new(path).components().filter(|it| *it != Component::CurDir).collect::<PathBuf>();
+        let given: Vec<(&str, PathBuf)> =
+            names.iter().filter_map(|name| Some((*name, plain(self.text(name)?)))).collect();
         for (index, (name, path)) in given.iter().enumerate() {
             if let Some((other, _)) = given[..index].iter().find(|(_, it)| it == path) {
                 return Err(format!("--{} and --{} name the same file", other, name));
@@ -152,7 +157,9 @@ impl Words {
             Some(word) => word,
         };
         let seconds = word.parse().ok().filter(|it: &f64| (least..=86_400.0).contains(it));
-        seconds.map(Duration::from_secs_f64).ok_or_else(|| format!("--{} takes seconds from {} to 86400, not {}", name, least, word))
+        seconds
+            .map(Duration::from_secs_f64)
+            .ok_or_else(|| format!("--{} takes seconds from {} to 86400, not {}", name, least, word))
     }
 }
 
@@ -204,7 +211,10 @@ fn limits_of(words: &Words) -> Result<Limits, String> {
 fn auth_of(words: &Words) -> Result<&'static str, String> {
     match words.text("auth") {
         None => Ok(NATIVE),
-        Some(name) => [NATIVE, SHA2].into_iter().find(|it| *it == name).ok_or_else(|| format!("--auth takes {} or {}", NATIVE, SHA2)),
+        Some(name) => [NATIVE, SHA2]
+            .into_iter()
+            .find(|it| *it == name)
+            .ok_or_else(|| format!("--auth takes {} or {}", NATIVE, SHA2)),
     }
 }
 
@@ -234,7 +244,12 @@ fn account_of(words: &Words, host: &str) -> Result<Option<Account>, String> {
     let (user, file) = match (words.text("user"), words.path("password-file")) {
         (Some(user), Some(file)) => (user, file),
         (None, None) if is_loopback(host) => return Ok(None),
-        (None, None) => return Err(format!("--host {} can be reached from other machines, so it needs --user and --password-file", host)),
+        (None, None) => {
+            return Err(format!(
+                "--host {} can be reached from other machines, so it needs --user and --password-file",
+                host
+            ))
+        }
         _ => return Err("--user and --password-file go together".to_string()),
     };
     let text = std::fs::read(&file).map_err(|fault| format!("--password-file {}: {}", file.display(), fault))?;
@@ -270,8 +285,14 @@ mod tests {
     #[test]
     fn what_is_usual() {
         let it = options("").unwrap();
-        assert_eq!((it.stores, it.port, it.host.as_str(), it.connections, it.logins), (1, 3306, "127.0.0.1", 1_000, 1_000));
-        assert_eq!((it.wait, it.limits.patience, it.limits.idle, it.limits.longest), (Duration::from_secs(5), Duration::from_secs(10), Duration::ZERO, 65_536));
+        assert_eq!(
+            (it.stores, it.port, it.host.as_str(), it.connections, it.logins),
+            (1, 3306, "127.0.0.1", 1_000, 1_000)
+        );
+        assert_eq!(
+            (it.wait, it.limits.patience, it.limits.idle, it.limits.longest),
+            (Duration::from_secs(5), Duration::from_secs(10), Duration::ZERO, 65_536)
+        );
         let it = options("--stores=2 --wait 0 --max-connections 30 --auth caching_sha2_password").unwrap();
         assert_eq!((it.stores, it.wait, it.connections, it.logins, it.auth), (2, Duration::ZERO, 30, 30, SHA2));
     }

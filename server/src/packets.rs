@@ -22,8 +22,16 @@ pub mod can {
     pub const PLUGIN_AUTH: u32 = 0x8_0000;
     pub const CONNECT_ATTRS: u32 = 0x10_0000;
     pub const PLUGIN_AUTH_LENENC: u32 = 0x20_0000;
-    /// Also a long password, found rows, long flags and transactions: 1, 2, 4 and 0x2000, of which nothing depends here.
-    pub const ALL: u32 = 7 | CONNECT_WITH_DB | PROTOCOL_41 | 0x2000 | SECURE_CONNECTION | PLUGIN_AUTH | CONNECT_ATTRS | PLUGIN_AUTH_LENENC;
+    /// Also a long password, found rows, long flags and transactions: 1, 2, 4 and 0x2000, of which nothing depends
+    /// here.
+    pub const ALL: u32 = 7
+        | CONNECT_WITH_DB
+        | PROTOCOL_41
+        | 0x2000
+        | SECURE_CONNECTION
+        | PLUGIN_AUTH
+        | CONNECT_ATTRS
+        | PLUGIN_AUTH_LENENC;
 }
 
 pub mod command {
@@ -435,7 +443,12 @@ pub type Kind = (u8, bool);
 pub type Parameter = Option<Vec<u8>>;
 
 /// The values of `count` parameters. Their kinds are those of the time before where the client leaves them out.
-pub fn read_execution(packet: &[u8], count: usize, kinds: &mut Vec<Kind>, long: &mut [Option<Vec<u8>>]) -> Result<Vec<Parameter>, Malformed> {
+pub fn read_execution(
+    packet: &[u8],
+    count: usize,
+    kinds: &mut Vec<Kind>,
+    long: &mut [Option<Vec<u8>>],
+) -> Result<Vec<Parameter>, Malformed> {
     let mut it = Bytes::new(packet);
     it.take(5 + 1 + 4)?; // no cursors; once
     if count == 0 {
@@ -527,7 +540,8 @@ mod tests {
 
     #[test]
     fn a_login_with_a_database_and_attributes() {
-        let wants = can::PROTOCOL_41 | can::PLUGIN_AUTH_LENENC | can::CONNECT_WITH_DB | can::PLUGIN_AUTH | can::CONNECT_ATTRS;
+        let wants =
+            can::PROTOCOL_41 | can::PLUGIN_AUTH_LENENC | can::CONNECT_WITH_DB | can::PLUGIN_AUTH | can::CONNECT_ATTRS;
         let mut packet = wants.to_le_bytes().to_vec();
         packet.extend([0; 28]);
         packet.extend(b"u\0\x02pqbase\0other\0\x04\x01a\x01b");
@@ -544,8 +558,13 @@ mod tests {
         packet.extend(b"\x02ab");
         let mut kinds = Vec::new();
         let read = read_execution(&packet, 6, &mut kinds, &mut []).unwrap();
-        let texts: Vec<_> = read.iter().map(|it| it.as_ref().map(|text| String::from_utf8(text.clone()).unwrap())).collect();
-        assert_eq!(texts, [Some("-1"), Some("255"), Some("-7"), Some("18446744073709551615"), None, Some("ab")].map(|it| it.map(str::to_string)));
+        let texts: Vec<_> =
+            read.iter().map(|it| it.as_ref().map(|text| String::from_utf8(text.clone()).unwrap())).collect();
+        assert_eq!(
+            texts,
+            [Some("-1"), Some("255"), Some("-7"), Some("18446744073709551615"), None, Some("ab")]
+                .map(|it| it.map(str::to_string))
+        );
         assert_eq!(kinds[1], (kind::TINY, true));
         assert!(read_execution(&[0x17; 12], 1, &mut Vec::new(), &mut []).is_err());
     }

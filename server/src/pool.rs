@@ -1,12 +1,13 @@
 //! The sessions of a store, lent to connections.
 //!
-//! A connection needs a session while it has a branch that isn't prepared, and otherwise for one statement, since every free session gives the same answers.
-//! Between statements a session lies in its place, and whoever had it last finds it there again by an operation on a word of its own: no thread is woken,
-//! and the copy of the store that the session keeps is still in that processor's memory. Others look from the first place on, so that few sessions are used
-//! where few are needed.
+//! A connection needs a session while it has a branch that isn't prepared, and otherwise for one statement, since every
+//! free session gives the same answers. Between statements a session lies in its place, and whoever had it last finds
+//! it there again by an operation on a word of its own: no thread is woken, and the copy of the store that the session
+//! keeps is still in that processor's memory. Others look from the first place on, so that few sessions are used where
+//! few are needed.
 //!
-//! A session that is lent lies behind a lock of its own, which its connection takes for each statement. So others can use it between two statements for what
-//! changes nothing: to see how the history goes on.
+//! A session that is lent lies behind a lock of its own, which its connection takes for each statement. So others can
+//! use it between two statements for what changes nothing: to see how the history goes on.
 use nigbaru::{Error, Reply, Session, Store};
 use std::collections::VecDeque;
 use std::sync::atomic::{fence, AtomicBool, AtomicUsize, Ordering};
@@ -55,8 +56,9 @@ struct Waiter {
 /// How many statements at most come before a branch that waits to begin.
 const BEFORE_A_BRANCH: usize = 16;
 
-/// Who waits, each in the order of coming: first those who need a session for a statement, since they give it back at once, and a statement that ends a branch
-/// isn't to wait behind all that begin one. But after so many of them one of the others has its turn.
+/// Who waits, each in the order of coming: first those who need a session for a statement, since they give it back at
+/// once, and a statement that ends a branch isn't to wait behind all that begin one. But after so many of them one of
+/// the others has its turn.
 #[derive(Default)]
 struct Queue {
     short: VecDeque<Arc<Waiter>>,
@@ -143,8 +145,8 @@ impl Pool {
         Ok(None)
     }
 
-    /// Waits in a queue. Whoever gives a session back wakes who is next. Until that thread runs anybody may take the session: where many threads share few
-    /// processors, it would idle otherwise.
+    /// Waits in a queue. Whoever gives a session back wakes who is next. Until that thread runs anybody may take the
+    /// session: where many threads share few processors, it would idle otherwise.
     fn wait(&self, place: usize, patience: Duration, need: Need) -> Result<Option<Lent>, Error> {
         let deadline = Instant::now() + patience;
         let waiter = Arc::new(Waiter { thread: thread::current(), need });

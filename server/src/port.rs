@@ -182,7 +182,8 @@ impl Port {
         let place = match Count::of(&self.store, |it| &it.strangers, self.options.logins) {
             Some(place) => place,
             None => {
-                let _ = refuse(&mut channel, refusal_with(1040, "Too many connections that haven't logged in".to_string()));
+                let _ =
+                    refuse(&mut channel, refusal_with(1040, "Too many connections that haven't logged in".to_string()));
                 self.store.log(connection.number, "refused: too many that haven't logged in");
                 return self.store.forget(&connection);
             }
@@ -202,10 +203,11 @@ impl Port {
     /// A client from its coming to its going. Whatever it does wrong is its own end alone.
     fn serve(&self, channel: Channel, connection: &Arc<Connection>, place: Count) {
         let log = |text: String| self.store.log(connection.number, &text);
-        let mut conversation = match Conversation::new(Arc::clone(&self.store), Arc::clone(connection), channel, &self.options) {
-            Ok(conversation) => conversation,
-            Err(_) => return log("closed: no random numbers".to_string()),
-        };
+        let mut conversation =
+            match Conversation::new(Arc::clone(&self.store), Arc::clone(connection), channel, &self.options) {
+                Ok(conversation) => conversation,
+                Err(_) => return log("closed: no random numbers".to_string()),
+            };
         let end = self.meet(&mut conversation, connection, place);
         // The client's branch is rolled back before the connection's end is seen or told.
         conversation.leave();
@@ -257,7 +259,8 @@ impl Count {
         Some(Count { store: Arc::clone(store), of })
     }
 
-    /// The same, and waits a little: a client that has closed one connection and opens the next may be heard before the first one's end.
+    /// The same, and waits a little: a client that has closed one connection and opens the next may be heard before the
+    /// first one's end.
     fn soon(store: &Arc<Store>, of: fn(&Store) -> &AtomicUsize, most: usize) -> Option<Count> {
         let deadline = Instant::now() + GRACE;
         loop {
@@ -279,14 +282,23 @@ impl Drop for Count {
 /// Opens a store's ports, and says where they are.
 pub fn open(store: &Arc<Store>, number: usize, options: &Arc<Options>) -> Result<Vec<(Arc<Port>, Listener)>, String> {
     let port = if options.port == 0 { 0 } else { options.port + number as u16 - 1 };
-    let mut found = vec![Listener::tcp(&options.host, port).map_err(|fault| format!("{}:{}: {}", options.host, port, fault))?];
+    let mut found =
+        vec![Listener::tcp(&options.host, port).map_err(|fault| format!("{}:{}: {}", options.host, port, fault))?];
     if let Some(path) = &options.socket {
         let path = crate::options::path_of(path, number, options.stores);
         found.push(Listener::unix(path.clone()).map_err(|fault| format!("{}: {}", path.display(), fault))?);
     }
     let port = |(listener, address): (Listener, Address)| {
         say(&format!("{} listens on {}", store.name, address));
-        (Arc::new(Port { store: Arc::clone(store), options: Arc::clone(options), address, is_open: AtomicBool::new(true) }), listener)
+        (
+            Arc::new(Port {
+                store: Arc::clone(store),
+                options: Arc::clone(options),
+                address,
+                is_open: AtomicBool::new(true),
+            }),
+            listener,
+        )
     };
     Ok(found.into_iter().map(port).collect())
 }

@@ -26,8 +26,9 @@ struct Piece {
     length: u64,
 }
 
-/// Calls and returns in the order in which they happened: each is written under the lock, a call before the store is asked, a return after it has answered.
-/// So two calls overlap in the record if and only if they did, as the threads saw it.
+/// Calls and returns in the order in which they happened: each is written under the lock, a call before the store is
+/// asked, a return after it has answered. So two calls overlap in the record if and only if they did, as the threads
+/// saw it.
 pub struct Record {
     path: PathBuf,
     piece: Mutex<Piece>,
@@ -51,7 +52,8 @@ fn locked<T>(mutex: &Mutex<T>) -> MutexGuard<'_, T> {
 }
 
 impl Record {
-    /// Begins a record. With a size it goes on in pieces; those of an earlier record aren't written over, since the last ones would be left among the new.
+    /// Begins a record. With a size it goes on in pieces; those of an earlier record aren't written over, since the
+    /// last ones would be left among the new.
     pub fn create(path: &Path, size: Option<u64>, store: usize, stop: Arc<Stop>) -> io::Result<Record> {
         let first = behind(path, ".1");
         if size.is_some() && first.exists() {
@@ -76,7 +78,13 @@ impl Record {
     }
 
     /// Asks the store, and writes call and return.
-    pub fn ask(&self, session: &mut Lent, follower: Option<&Follower>, text: &[u8], state: &str) -> Result<Reply, Error> {
+    pub fn ask(
+        &self,
+        session: &mut Lent,
+        follower: Option<&Follower>,
+        text: &[u8],
+        state: &str,
+    ) -> Result<Reply, Error> {
         if self.is_full.load(Ordering::Relaxed) {
             self.go_on(follower);
         }
@@ -165,7 +173,9 @@ fn write_reply(to: &mut Vec<u8>, reply: &Result<Reply, Error>, state: &str) {
                 to.extend(digits(&[&xid.gtrid[..], &xid.bqual[..]].concat()));
             }
         }
-        Err(Error::Refused(1399)) => to.extend(format!(" < ERROR 1399 (XAE07): XAER_RMFAIL state {}", state).as_bytes()),
+        Err(Error::Refused(1399)) => {
+            to.extend(format!(" < ERROR 1399 (XAE07): XAER_RMFAIL state {}", state).as_bytes())
+        }
         Err(Error::Refused(number)) => to.extend(format!(" < ERROR {}", number).as_bytes()),
         // Nothing of the statement is in the store then, and no refusal of the rules says so.
         Err(other) => to.extend(format!(" ? ERROR {}", other).as_bytes()),
@@ -189,7 +199,9 @@ impl History {
     /// Who is given the store's entries.
     pub fn keeper(&self) -> Keeper {
         let history = self.clone();
-        Box::new(move |session, text| history.with(|file| file.write_all(&[session.to_string().as_bytes(), b" ", text, b"\n"].concat())))
+        Box::new(move |session, text| {
+            history.with(|file| file.write_all(&[session.to_string().as_bytes(), b" ", text, b"\n"].concat()))
+        })
     }
 
     pub fn flush(&self) {
@@ -220,7 +232,10 @@ mod tests {
         assert_eq!(line(Ok(Reply::NoRow)), "3 < NONE\n");
         assert_eq!(line(Ok(Reply::Value(vec![]))), "3 < VALUE X''\n");
         assert_eq!(line(Ok(Reply::Value(b"v".to_vec()))), "3 < VALUE 0x76\n");
-        let xids = vec![Xid { format_id: 7, gtrid: b"a\n".to_vec(), bqual: b"b".to_vec() }, Xid { format_id: 1, gtrid: vec![], bqual: vec![] }];
+        let xids = vec![
+            Xid { format_id: 7, gtrid: b"a\n".to_vec(), bqual: b"b".to_vec() },
+            Xid { format_id: 1, gtrid: vec![], bqual: vec![] },
+        ];
         assert_eq!(line(Ok(Reply::List(xids))), "3 < ROWS 2\n7 2 1 0x610a62\n1 0 0 0x\n");
         assert_eq!(line(Err(Error::Refused(1399))), "3 < ERROR 1399 (XAE07): XAER_RMFAIL state IDLE\n");
         assert_eq!(line(Err(Error::NoMemory)), "3 ? ERROR out of memory\n");

@@ -1,14 +1,16 @@
-//! Reads statements by docs/STATEMENTS.md, and writes each anew in its canonical form: nothing but that ever reaches a store.
+//! Reads statements by docs/STATEMENTS.md, and writes each anew in its canonical form: nothing but that ever reaches a
+//! store.
 //!
-//! Besides what that page says, clients may write comments where blanks stand, `_binary` in front of a literal, `0x` for an empty bqual, and `?` for a
-//! literal or a formatID of a prepared statement. A formatID is at most 2^31-1, since Connector/J can list no greater one.
+//! Besides what that page says, clients may write comments where blanks stand, `_binary` in front of a literal, `0x`
+//! for an empty bqual, and `?` for a literal or a formatID of a prepared statement. A formatID is at most 2^31-1, since
+//! Connector/J can list no greater one.
 use crate::packets::Parameter;
 use crate::tokens::{after_blanks, is_word_byte, quoted_at, run_at, LONGEST};
 
 const GREATEST: u64 = (1 << 31) - 1; // formatID
 const WORDS: [&str; 20] = [
-    "XA", "START", "BEGIN", "JOIN", "RESUME", "END", "SUSPEND", "FOR", "MIGRATE", "PREPARE", "COMMIT", "ONE", "PHASE", "ROLLBACK", "RECOVER", "CONVERT", "XID",
-    "GET", "PUT", "DEL",
+    "XA", "START", "BEGIN", "JOIN", "RESUME", "END", "SUSPEND", "FOR", "MIGRATE", "PREPARE", "COMMIT", "ONE", "PHASE",
+    "ROLLBACK", "RECOVER", "CONVERT", "XID", "GET", "PUT", "DEL",
 ];
 const INTRODUCER: &[u8] = b"_binary";
 
@@ -67,8 +69,8 @@ impl Statement {
 
 // tokens
 
-/// A token: what it is where it is a word or a sign, what it stands for where it is a literal, a number, or both. All are empty at the text's end, and
-/// of what fits nowhere.
+/// A token: what it is where it is a word or a sign, what it stands for where it is a literal, a number, or both. All
+/// are empty at the text's end, and of what fits nowhere.
 #[derive(Default)]
 struct Token {
     place: usize,
@@ -245,8 +247,16 @@ impl<'a> Reader<'a> {
         };
         let value = given.get(self.parameters).cloned().unwrap_or_else(|| Some(b"0".to_vec()));
         self.parameters += 1;
-        let number = value.as_ref().filter(|it| !it.is_empty() && it.len() <= 20 && it.iter().all(u8::is_ascii_digit)).map(|it| number_of(it, 10));
-        self.token = Token { place: self.token.place, number, literal: value.filter(|it| it.len() <= LONGEST), ..Token::default() };
+        let number = value
+            .as_ref()
+            .filter(|it| !it.is_empty() && it.len() <= 20 && it.iter().all(u8::is_ascii_digit))
+            .map(|it| number_of(it, 10));
+        self.token = Token {
+            place: self.token.place,
+            number,
+            literal: value.filter(|it| it.len() <= LONGEST),
+            ..Token::default()
+        };
     }
 
     /// A literal of at least so many bytes, written in its canonical form.
@@ -470,7 +480,9 @@ mod tests {
         let (statement, count) = count_parameters(b"XA COMMIT ?,?,? ONE PHASE").unwrap();
         assert_eq!((&statement.text[..], count), (&b"XA COMMIT 0x30,0x30,0 ONE PHASE"[..], 3));
         assert_eq!(count_parameters(b"PUT '?',\"?\" -- ?").unwrap().1, 0);
-        let bound = |values: [Option<&str>; 3]| bind(b"XA START ?,?,?", &values.map(|it| it.map(|text| text.as_bytes().to_vec())));
+        let bound = |values: [Option<&str>; 3]| {
+            bind(b"XA START ?,?,?", &values.map(|it| it.map(|text| text.as_bytes().to_vec())))
+        };
         assert_eq!(bound([Some("a'"), Some(""), Some("7")]).unwrap().text, b"XA START 0x6127,X'',7");
         let long = "a".repeat(65);
         for values in [

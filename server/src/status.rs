@@ -48,7 +48,8 @@ fn text(bytes: &[u8]) -> String {
     String::from_utf8_lossy(bytes).into_owned()
 }
 
-/// Looks at a store. Prepared branches are those that it lists; if all sessions are lent, those that connections have prepared and nobody has ended.
+/// Looks at a store. Prepared branches are those that it lists; if all sessions are lent, those that connections have
+/// prepared and nobody has ended.
 pub fn look(store: &Store) -> Seen {
     let (lent, waiting) = store.pool.lent();
     let (mut statements, mut refusals) = ([0; KINDS.len()], BTreeMap::new());
@@ -101,7 +102,15 @@ fn prepared(store: &Store) -> Vec<Branch> {
         let it = known.get(&xid);
         let age = it.map(|it| now.saturating_duration_since(it.since));
         let rows = it.map_or_else(Rows::new, |it| it.rows.clone());
-        Branch { xid: text(&xid), state: "PREPARED", connection: it.map(|it| it.connection), peer: None, session: None, age, rows }
+        Branch {
+            xid: text(&xid),
+            state: "PREPARED",
+            connection: it.map(|it| it.connection),
+            peer: None,
+            session: None,
+            age,
+            rows,
+        }
     };
     xids.into_iter().map(branch).collect()
 }
@@ -135,7 +144,9 @@ impl Branch {
 pub fn table_of(store: &Store) -> Table {
     let seen = look(store);
     let mut rows = Vec::new();
-    let mut row = |name: &str, of: &str, value: String| rows.push(vec![Value::from(name), Value::from(of), Value::from(value.as_str())]);
+    let mut row = |name: &str, of: &str, value: String| {
+        rows.push(vec![Value::from(name), Value::from(of), Value::from(value.as_str())])
+    };
     row("connections", "logged in", seen.connections.to_string());
     row("connections", "not logged in", seen.strangers.to_string());
     row("sessions", "lent", seen.lent.to_string());
@@ -157,12 +168,19 @@ pub fn table_of(store: &Store) -> Table {
 pub fn json_of(store: &Store) -> String {
     let seen = look(store);
     let mut it = format!(
-        "{{\"name\":\"{}\",\"out\":{},\"connections\":{},\"strangers\":{},\"lent\":{},\"waiting\":{},\"entries\":{},\"statements\":{{",
+        "{{\"name\":\"{}\",\"out\":{},\"connections\":{},\"strangers\":{},\"lent\":{},\"waiting\":{},\
+         \"entries\":{},\"statements\":{{",
         store.name, seen.is_out, seen.connections, seen.strangers, seen.lent, seen.waiting, seen.entries
     );
-    it += &KINDS.iter().zip(seen.statements).map(|(kind, count)| format!("\"{}\":{}", kind, count)).collect::<Vec<_>>().join(",");
+    it += &KINDS
+        .iter()
+        .zip(seen.statements)
+        .map(|(kind, count)| format!("\"{}\":{}", kind, count))
+        .collect::<Vec<_>>()
+        .join(",");
     it += "},\"refusals\":{";
-    it += &seen.refusals.iter().map(|(number, count)| format!("\"{}\":{}", number, count)).collect::<Vec<_>>().join(",");
+    it +=
+        &seen.refusals.iter().map(|(number, count)| format!("\"{}\":{}", number, count)).collect::<Vec<_>>().join(",");
     it += "},\"branches\":[";
     it += &seen.branches.iter().map(branch_json).collect::<Vec<_>>().join(",");
     it += "]}";
@@ -172,8 +190,11 @@ pub fn json_of(store: &Store) -> String {
 fn branch_json(it: &Branch) -> String {
     let number = |number: Option<u64>| number.map_or("null".to_string(), |number| number.to_string());
     let age = it.age.map_or("null".to_string(), |age| format!("{:.3}", age.as_secs_f64()));
-    let rows: Vec<String> =
-        it.rows.iter().map(|(key, is_exclusive)| format!("\"{}\":\"{}\"", text(key), if *is_exclusive { "HOLDS" } else { "SHARES" })).collect();
+    let rows: Vec<String> = it
+        .rows
+        .iter()
+        .map(|(key, is_exclusive)| format!("\"{}\":\"{}\"", text(key), if *is_exclusive { "HOLDS" } else { "SHARES" }))
+        .collect();
     format!(
         "{{\"xid\":\"{}\",\"state\":\"{}\",\"connection\":{},\"session\":{},\"age\":{},\"rows\":{{{}}}}}",
         it.xid,

@@ -56,7 +56,19 @@ pub struct Counts {
     refusals: Mutex<BTreeMap<u16, u64>>,
 }
 
-pub const KINDS: [&str; 11] = ["XA START", "XA END", "XA PREPARE", "XA COMMIT", "ONE PHASE", "XA ROLLBACK", "XA RECOVER", "GET", "PUT", "DEL", "OTHER"];
+pub const KINDS: [&str; 11] = [
+    "XA START",
+    "XA END",
+    "XA PREPARE",
+    "XA COMMIT",
+    "ONE PHASE",
+    "XA ROLLBACK",
+    "XA RECOVER",
+    "GET",
+    "PUT",
+    "DEL",
+    "OTHER",
+];
 
 impl Counts {
     /// Counts a statement; none is one of the others.
@@ -124,7 +136,10 @@ impl Store {
         let path = |it: &std::path::PathBuf| path_of(it, number, options.stores);
         let told = |path: &std::path::Path, fault: std::io::Error| format!("{}: {}", path.display(), fault);
         let record = match options.record.as_ref().map(path) {
-            Some(path) => Some(Record::create(&path, options.record_size, number, Arc::clone(stop)).map_err(|fault| told(&path, fault))?),
+            Some(path) => Some(
+                Record::create(&path, options.record_size, number, Arc::clone(stop))
+                    .map_err(|fault| told(&path, fault))?,
+            ),
             None => None,
         };
         let history = match options.history.as_ref().map(path) {
@@ -133,7 +148,8 @@ impl Store {
         };
         let store = nigbaru::Store::open(options.rows, SESSIONS as u64).map_err(|fault| fault.to_string())?;
         let pool = Pool::new(store, SESSIONS);
-        let keepers: Vec<Keeper> = history.as_ref().map(History::keeper).into_iter().chain(record.as_ref().and_then(Record::keeper)).collect();
+        let keepers: Vec<Keeper> =
+            history.as_ref().map(History::keeper).into_iter().chain(record.as_ref().and_then(Record::keeper)).collect();
         let follower = if keepers.is_empty() {
             None
         } else {
@@ -247,7 +263,8 @@ impl Store {
 
     // history
 
-    /// Hands out what was logged to who keeps it. If something is lost, the server ends, since its files would be wrong.
+    /// Hands out what was logged to who keeps it. If something is lost, the server ends, since its files would be
+    /// wrong.
     pub fn hand_over(&self) {
         if let Some(Err(lost)) = self.follower.as_ref().map(Follower::hand_over) {
             self.fail(lost);

@@ -1,5 +1,6 @@
-//! What the standard library doesn't offer of the system: a signal that is noticed, as many open files as may be, a longer queue of those who come at the same
-//! moment, and connections whose other side is asked now and then whether it is there.
+//! What the standard library doesn't offer of the system: a signal that is noticed, as many open files as may be, a
+//! longer queue of those who come at the same moment, and connections whose other side is asked now and then whether it
+//! is there.
 //!
 //! Beside the store's binding this is the only module with `unsafe`.
 use std::net::TcpStream;
@@ -67,10 +68,14 @@ pub fn lengthen_queue(listener: &impl AsRawFd) {
     unsafe { listen(listener.as_raw_fd(), QUEUE) };
 }
 
-/// Has the system ask a client that is silent whether it is there. One whose machine is gone is noticed after a minute and a half, and its branch rolled back.
+/// Has the system ask a client that is silent whether it is there. One whose machine is gone is noticed after a minute
+/// and a half, and its branch rolled back.
 pub fn keep_alive(stream: &TcpStream) {
-    for (level, option, value) in [(SOCKETS, KEEP_ALIVE, 1)].into_iter().chain(ASKED.map(|(option, value)| (TCP, option, value))) {
-        // The value is a number of the size that is named, and isn't kept. Where it isn't taken, the client is waited for as long as the system says.
+    for (level, option, value) in
+        [(SOCKETS, KEEP_ALIVE, 1)].into_iter().chain(ASKED.map(|(option, value)| (TCP, option, value)))
+    {
+        // The value is a number of the size that is named, and isn't kept. Where it isn't taken, the client is waited
+        // for as long as the system says.
         unsafe { setsockopt(stream.as_raw_fd(), level, option, &value, std::mem::size_of::<i32>() as u32) };
     }
 }

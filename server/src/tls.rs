@@ -28,8 +28,10 @@ fn items(path: &Path) -> Result<Vec<Item>, String> {
 impl Keys {
     /// Reads both, in PEM. Behind the server's certificate may stand those that sign it.
     pub fn read(certificate: &Path, key: &Path) -> Result<Keys, String> {
-        let chain: Vec<Certificate> =
-            items(certificate)?.into_iter().filter_map(|it| if let Item::X509Certificate(der) = it { Some(Certificate(der)) } else { None }).collect();
+        let chain: Vec<Certificate> = items(certificate)?
+            .into_iter()
+            .filter_map(|it| if let Item::X509Certificate(der) = it { Some(Certificate(der)) } else { None })
+            .collect();
         if chain.is_empty() {
             return Err(format!("{} has no certificate in PEM", certificate.display()));
         }
@@ -37,10 +39,18 @@ impl Keys {
             Item::RSAKey(der) | Item::PKCS8Key(der) | Item::ECKey(der) => Some(PrivateKey(der)),
             _ => None,
         };
-        let found = items(key)?.into_iter().find_map(key_of).ok_or_else(|| format!("{} has no private key in PEM", key.display()))?;
+        let found = items(key)?
+            .into_iter()
+            .find_map(key_of)
+            .ok_or_else(|| format!("{} has no private key in PEM", key.display()))?;
         let config = ServerConfig::builder().with_safe_defaults().with_no_client_auth().with_single_cert(chain, found);
         let told = |fault| {
-            format!("{} and {} can't be used: {} (a key of another form is converted by openssl pkcs8 -topk8)", certificate.display(), key.display(), fault)
+            format!(
+                "{} and {} can't be used: {} (a key of another form is converted by openssl pkcs8 -topk8)",
+                certificate.display(),
+                key.display(),
+                fault
+            )
         };
         Ok(Keys { config: Arc::new(config.map_err(told)?) })
     }
@@ -81,13 +91,15 @@ pub struct Tls {
 }
 
 impl Tls {
-    /// The client has asked for it; what it sent behind its request belongs to the handshake, and is read by nobody else.
+    /// The client has asked for it; what it sent behind its request belongs to the handshake, and is read by nobody
+    /// else.
     pub fn new(keys: &Keys, early: Vec<u8>) -> Result<Tls, String> {
         let connection = ServerConnection::new(Arc::clone(&keys.config)).map_err(|fault| fault.to_string())?;
         Ok(Tls { connection, early })
     }
 
-    /// What the client says. If what has come holds no whole record, the fault is `Interrupted`, so that the caller looks at the clock.
+    /// What the client says. If what has come holds no whole record, the fault is `Interrupted`, so that the caller
+    /// looks at the clock.
     pub fn read(&mut self, stream: &Stream, to: &mut [u8]) -> io::Result<usize> {
         match self.connection.reader().read(to) {
             Err(fault) if fault.kind() == ErrorKind::WouldBlock => (),

@@ -150,7 +150,12 @@ mod tests {
 
     #[test]
     fn quoted_texts() {
-        for (text, data) in [(r"'it''s'", "it's"), (r#""say ""so""""#, "say \"so\""), (r"'\0\b\t\n\r\Z\%\_\N\''", "\0\x08\t\n\r\x1a\\%\\_N'"), ("''", "")] {
+        for (text, data) in [
+            (r"'it''s'", "it's"),
+            (r#""say ""so""""#, "say \"so\""),
+            (r"'\0\b\t\n\r\Z\%\_\N\''", "\0\x08\t\n\r\x1a\\%\\_N'"),
+            ("''", ""),
+        ] {
             assert_eq!(quoted_at(text.as_bytes(), 0), Some((data.as_bytes().to_vec(), text.len())), "{}", text);
         }
         for text in ["'", "'a", "'a\\'", "'''", "'a''", "'\\", "\"'"] {
@@ -163,7 +168,10 @@ mod tests {
         let spelled = |text: &str| words(text.as_bytes()).into_iter().map(|it| it.word).collect::<Vec<_>>();
         let run = |text: &str| Word::Run(text.to_string());
         assert_eq!(spelled("SELECT @@A -- x\n;;"), [run("select"), Word::Sign(b'@'), Word::Sign(b'@'), run("a")]);
-        assert_eq!(spelled("set `N`='Two  Words'"), [run("set"), run("n"), Word::Sign(b'='), Word::Quoted(b"Two  Words".to_vec())]);
+        assert_eq!(
+            spelled("set `N`='Two  Words'"),
+            [run("set"), run("n"), Word::Sign(b'='), Word::Quoted(b"Two  Words".to_vec())]
+        );
         assert_eq!(spelled("'"), [Word::Sign(b'\'')]);
     }
 }
