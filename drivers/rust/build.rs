@@ -1,4 +1,5 @@
-//! Says where the library is: NIGBARU_ARCHIVE, or crates/nigbaru_c/out/libnigbaru_c.a of this repository, and NIGBARU_LIBC, or the toolchain's liblibc_c.a, which `rt doc` finds.
+//! Says where the library is: NIGBARU_ARCHIVE, or crates/nigbaru_c/out/libnigbaru_c.a of this repository, and
+//! NIGBARU_LIBC, or the toolchain's liblibc_c.a, which `rt doc` finds.
 use std::env;
 use std::path::{Path, PathBuf};
 use std::process::Command;
@@ -11,7 +12,10 @@ fn link(archive: &Path) {
 }
 
 fn of_toolchain() -> PathBuf {
-    let said = Command::new("rt").arg("doc").output().expect("rt isn't on the path: set NIGBARU_LIBC to the toolchain's liblibc_c.a");
+    let said = Command::new("rt")
+        .arg("doc")
+        .output()
+        .expect("rt isn't on the path: set NIGBARU_LIBC to the toolchain's liblibc_c.a");
     Path::new(String::from_utf8(said.stdout).unwrap().trim()).parent().unwrap().join("c/liblibc_c.a")
 }
 
@@ -20,6 +24,10 @@ fn main() {
         println!("cargo:rerun-if-env-changed={}", name);
     }
     let here = PathBuf::from(env::var("CARGO_MANIFEST_DIR").unwrap());
-    link(&env::var("NIGBARU_ARCHIVE").map(PathBuf::from).unwrap_or_else(|_| here.join("../../crates/nigbaru_c/out/libnigbaru_c.a")));
+    link(
+        &env::var("NIGBARU_ARCHIVE")
+            .map(PathBuf::from)
+            .unwrap_or_else(|_| here.join("../../crates/nigbaru_c/out/libnigbaru_c.a")),
+    );
     link(&env::var("NIGBARU_LIBC").map(PathBuf::from).unwrap_or_else(|_| of_toolchain()));
 }

@@ -1,7 +1,8 @@
 //! A verified XA row store, called from plain Rust over its C interface (crates/nigbaru_c/include/nigbaru.h).
 //!
-//! A [`Store`] may be shared by threads; each [`Session`] is one thread's at a time, and may be sent to another. No call takes a lock or waits for
-//! another thread. What a statement is, and what it is answered: docs/STATEMENTS.md. The library is proved, this file is tested.
+//! A [`Store`] may be shared by threads; each [`Session`] is one thread's at a time, and may be sent to another. No
+//! call takes a lock or waits for another thread. What a statement is, and what it is answered: docs/STATEMENTS.md. The
+//! library is proved, this file is tested.
 use std::cell::UnsafeCell;
 use std::ffi::c_void;
 use std::fmt;
@@ -59,7 +60,14 @@ struct RawEntry {
 extern "C" {
     fn nigbaru_raw_open(rows: u64, sessions: u64, store: *mut Handle) -> u32;
     fn nigbaru_raw_take(store: *mut Handle, number: u64, session: *mut Handle) -> u32;
-    fn nigbaru_raw_attempt(session: *mut Handle, text: *const u8, length: usize, answer: *mut RawAnswer, xids: *mut RawXid, room: usize) -> u32;
+    fn nigbaru_raw_attempt(
+        session: *mut Handle,
+        text: *const u8,
+        length: usize,
+        answer: *mut RawAnswer,
+        xids: *mut RawXid,
+        room: usize,
+    ) -> u32;
     fn nigbaru_raw_follow(session: *mut Handle, entry: *mut RawEntry) -> u32;
     fn nigbaru_raw_leave(session: *mut Handle) -> u32;
     fn nigbaru_raw_close(store: *mut Handle) -> u32;
@@ -189,7 +197,8 @@ unsafe impl Sync for Place {}
 impl Place {
     /// Takes the place, if it is in one of the states, and returns which.
     fn take(&self, states: &[u8]) -> Option<u8> {
-        let taken = |state: &&u8| self.state.compare_exchange(**state, TAKEN, Ordering::AcqRel, Ordering::Relaxed).is_ok();
+        let taken =
+            |state: &&u8| self.state.compare_exchange(**state, TAKEN, Ordering::AcqRel, Ordering::Relaxed).is_ok();
         states.iter().find(taken).copied()
     }
 }
@@ -214,11 +223,13 @@ pub struct Store {
 }
 
 impl Store {
-    /// Opens a store without rows: its ring keeps the last `rows` entries of its history, 1 to 65536, and it has 1 to 16 sessions.
+    /// Opens a store without rows: its ring keeps the last `rows` entries of its history, 1 to 65536, and it has 1 to
+    /// 16 sessions.
     pub fn open(rows: u64, sessions: u64) -> Result<Store, Error> {
         let (mut store, mut shared) = (Handle::EMPTY, Shared { rows, places: Vec::new() });
         let mut status = unsafe { nigbaru_raw_open(rows, sessions, &mut store) };
-        // All sessions are taken at once, since a store's handle has one call at a time. They keep the store, so its own handle is closed.
+        // All sessions are taken at once, since a store's handle has one call at a time. They keep the store, so its
+        // own handle is closed.
         for number in 1..=sessions {
             if status != OK {
                 break;
@@ -305,8 +316,9 @@ impl Session {
         }
     }
 
-    /// Hands out the next entry of the history. Each session hands out each entry once, in order, from the store's first on, also after it was given
-    /// back and taken again. If it follows too slowly, entries are overwritten: it hands out the last three quarters of the ring then.
+    /// Hands out the next entry of the history. Each session hands out each entry once, in order, from the store's
+    /// first on, also after it was given back and taken again. If it follows too slowly, entries are overwritten: it
+    /// hands out the last three quarters of the ring then.
     pub fn follow(&mut self) -> Next {
         let mut entry = RawEntry { number: 0, length: 0, lost: 0, text: [0; LONGEST_TEXT] };
         match unsafe { nigbaru_raw_follow(self.handle(), &mut entry) } {
@@ -316,8 +328,8 @@ impl Session {
         }
     }
 
-    /// Gives a keeper each entry that the history has now and this session hasn't handed out: the number of its session, and its text. Returns how many entries
-    /// were lost.
+    /// Gives a keeper each entry that the history has now and this session hasn't handed out: the number of its
+    /// session, and its text. Returns how many entries were lost.
     pub fn hand_over(&mut self, keeper: &mut dyn FnMut(u64, &[u8])) -> u64 {
         let mut lost = 0;
         loop {
@@ -363,7 +375,16 @@ impl Session {
     fn answer(&mut self, text: &[u8], xids: &mut [RawXid], goes_on: bool) -> (u32, RawAnswer) {
         let mut answer = RawAnswer::NONE;
         loop {
-            let status = unsafe { nigbaru_raw_attempt(self.handle(), text.as_ptr(), text.len(), &mut answer, xids.as_mut_ptr(), xids.len()) };
+            let status = unsafe {
+                nigbaru_raw_attempt(
+                    self.handle(),
+                    text.as_ptr(),
+                    text.len(),
+                    &mut answer,
+                    xids.as_mut_ptr(),
+                    xids.len(),
+                )
+            };
             match status {
                 OVERTAKEN if goes_on => (),
                 BEHIND if goes_on => std::thread::yield_now(),

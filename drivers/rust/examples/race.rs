@@ -1,9 +1,11 @@
-//! Threads race, and what they were answered is written in the history's order: race THREADS ENTRIES ROWS SCRIPT ANSWERS
+//! Threads race, and what they were answered is written in the history's order: race THREADS ENTRIES ROWS SCRIPT
+//! ANSWERS
 //!
-//! Each thread adds about ENTRIES entries: branches that write a row of its own and, if nobody holds it, count in a row that all share, ended in three ways.
-//! The first also follows the history, and the others wait where it would lose an entry. Afterwards each row is what its thread knows. The history and the
-//! statements that didn't enter, each in front of the entry at its place, are written to SCRIPT, one `session statement` a line, and what was answered to
-//! ANSWERS; of a refusal only its number.
+//! Each thread adds about ENTRIES entries: branches that write a row of its own and, if nobody holds it, count in a row
+//! that all share, ended in three ways. The first also follows the history, and the others wait where it would lose an
+//! entry. Afterwards each row is what its thread knows. The history and the statements that didn't enter, each in front
+//! of the entry at its place, are written to SCRIPT, one `session statement` a line, and what was answered to ANSWERS;
+//! of a refusal only its number.
 use nigbaru::{Error, Reply, Session, Store};
 use std::collections::VecDeque;
 use std::fs::File;
@@ -59,7 +61,11 @@ impl Teller<'_> {
 
     fn follow(&mut self) {
         let history = &mut self.history;
-        assert_eq!(self.session.hand_over(&mut |session, text| history.push((session, String::from_utf8(text.to_vec()).unwrap()))), 0);
+        assert_eq!(
+            self.session
+                .hand_over(&mut |session, text| history.push((session, String::from_utf8(text.to_vec()).unwrap()))),
+            0
+        );
         self.followed.store(self.history.len() as u64, SeqCst);
     }
 
@@ -122,8 +128,14 @@ impl Teller<'_> {
     }
 }
 
-/// All answers in the history's order: at each place first those that didn't enter, and then the entry's, which is its session's last there.
-fn write_order(tellers: &mut [Teller], history: &[(u64, String)], script: &mut dyn Write, answers: &mut dyn Write) -> std::io::Result<()> {
+/// All answers in the history's order: at each place first those that didn't enter, and then the entry's, which is its
+/// session's last there.
+fn write_order(
+    tellers: &mut [Teller],
+    history: &[(u64, String)],
+    script: &mut dyn Write,
+    answers: &mut dyn Write,
+) -> std::io::Result<()> {
     let mut line = |session: u64, told: &Told| {
         writeln!(script, "{} {}", session, told.text)?;
         writeln!(answers, "{} {}", session, told.answer)
@@ -181,7 +193,8 @@ fn main() -> std::io::Result<()> {
         assert_eq!(tellers[0].number(&row), own);
     }
     let history = std::mem::take(&mut tellers[0].history);
-    let (mut script, mut answers) = (BufWriter::new(File::create(&words[3])?), BufWriter::new(File::create(&words[4])?));
+    let (mut script, mut answers) =
+        (BufWriter::new(File::create(&words[3])?), BufWriter::new(File::create(&words[4])?));
     write_order(&mut tellers, &history, &mut script, &mut answers)?;
     script.flush()?;
     answers.flush()?;

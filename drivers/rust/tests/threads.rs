@@ -98,7 +98,8 @@ fn threads_over_rings_of_each_size() {
         let store = Store::open(rows, threads).unwrap();
         let mut sessions: Vec<Session> = (0..threads).map(|_| store.session().unwrap()).collect();
         ok(&mut sessions[0], "PUT 'count','0'");
-        let running: Vec<_> = sessions.into_iter().map(|session| thread::spawn(move || count_up(session, 300))).collect();
+        let running: Vec<_> =
+            sessions.into_iter().map(|session| thread::spawn(move || count_up(session, 300))).collect();
         let counted: i64 = running.into_iter().map(|thread| thread.join().unwrap()).sum();
         assert!(counted > 0);
         assert_eq!(value(&mut store.session().unwrap(), "GET 'count'"), counted);
@@ -180,7 +181,10 @@ fn each_entry_is_handed_out_once_or_counted_as_lost() {
         let digits: String = turn.to_string().bytes().map(|digit| format!("{:02x}", digit)).collect();
         expected.extend([(1, format!("PUT 0x6b,0x{}", digits)), (2, "DEL 0x6c".to_string())]);
         if turn % 10 == 9 {
-            assert_eq!(three.hand_over(&mut |session, text| given.push((session, String::from_utf8(text.to_vec()).unwrap()))), 0);
+            assert_eq!(
+                three.hand_over(&mut |session, text| given.push((session, String::from_utf8(text.to_vec()).unwrap()))),
+                0
+            );
             assert_eq!(given, expected);
         }
     }
@@ -221,8 +225,8 @@ fn a_try_that_fails_adds_nothing() {
     assert_eq!(one.place() as usize, entries);
 }
 
-/// Threads count a row up while a session follows; the others wait where it would lose entries. What it handed out, carried out again in another store, leaves
-/// the same rows.
+/// Threads count a row up while a session follows; the others wait where it would lose entries. What it handed out,
+/// carried out again in another store, leaves the same rows.
 #[test]
 fn a_history_that_was_followed_leaves_the_same_rows() {
     const ROWS: u64 = 1024;
@@ -247,7 +251,10 @@ fn a_history_that_was_followed_leaves_the_same_rows() {
                 });
             }
             while running.load(Ordering::SeqCst) > 0 {
-                assert_eq!(follower.hand_over(&mut |_, text| history.push(String::from_utf8(text.to_vec()).unwrap())), 0);
+                assert_eq!(
+                    follower.hand_over(&mut |_, text| history.push(String::from_utf8(text.to_vec()).unwrap())),
+                    0
+                );
                 followed.store(history.len(), Ordering::SeqCst);
                 thread::yield_now();
             }
