@@ -65,7 +65,8 @@ struct Mix {
 
 impl Mix {
     fn new(thread: usize) -> Mix {
-        let row = |turn: usize| (Text::of(format!("k{thread}_{turn}").as_bytes()), Text::of(format!("v{turn}").as_bytes()));
+        let row =
+            |turn: usize| (Text::of(format!("k{thread}_{turn}").as_bytes()), Text::of(format!("v{turn}").as_bytes()));
         Mix { numbers: Numbers(88172645463325252 ^ (thread as u64 * 7919)), rows: (0..TURNS).map(row).collect() }
     }
 
@@ -100,7 +101,8 @@ fn behind_a_lock(threads: usize, seconds: f64, rows: usize, reads: bool) -> f64 
         while !stops.load(Relaxed) {
             let (values, texts) = &cycles[turn as usize % TURNS];
             for (value, text) in values.iter().zip(texts) {
-                let statement = if reads { Reader::read(black_box(text.as_bytes())).unwrap() } else { *black_box(value) };
+                let statement =
+                    if reads { Reader::read(black_box(text.as_bytes())).unwrap() } else { *black_box(value) };
                 server.lock().unwrap().apply(thread, &statement).expect();
             }
             turn += 1;
@@ -113,7 +115,9 @@ fn mixed_behind_a_lock(threads: usize, seconds: f64, rows: usize, reads: bool) -
     let (server, stops) = (filled(rows), AtomicBool::new(false));
     rate(threads, seconds, || stops.store(true, Relaxed), |thread| {
         let mut mix = Mix::new(thread);
-        let texts: Vec<_> = (0..TURNS).map(|turn| [format!("PUT 'k{thread}_{turn}','v{turn}'"), format!("GET 'k{thread}_{turn}'")]).collect();
+        let texts: Vec<_> = (0..TURNS)
+            .map(|turn| [format!("PUT 'k{thread}_{turn}','v{turn}'"), format!("GET 'k{thread}_{turn}'")])
+            .collect();
         let mut done = 0;
         while done % 64 != 0 || !stops.load(Relaxed) {
             let statement = if reads {
@@ -172,11 +176,18 @@ fn main() {
         ["echo"] => return trips::echo(),
         ["trips", seconds, ref program @ ..] => (1, trips::trips(seconds.parse().unwrap(), program)),
         ["times", threads, statements, ref rows @ ..] => {
-            return print_times(threads.parse().unwrap(), statements.parse().unwrap(), rows.first().map_or(0, |rows| rows.parse().unwrap()));
+            return print_times(
+                threads.parse().unwrap(),
+                statements.parse().unwrap(),
+                rows.first().map_or(0, |rows| rows.parse().unwrap()),
+            );
         }
         [mode, threads, seconds, ref rows @ ..] => {
             let threads = threads.parse().unwrap();
-            (threads, measured(mode, threads, seconds.parse().unwrap(), rows.first().map_or(0, |rows| rows.parse().unwrap())))
+            (
+                threads,
+                measured(mode, threads, seconds.parse().unwrap(), rows.first().map_or(0, |rows| rows.parse().unwrap())),
+            )
         }
         _ => panic!("yardstick MODE THREADS SECONDS [ROWS]"),
     };

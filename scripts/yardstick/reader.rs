@@ -1,4 +1,5 @@
-//! Reads a statement from its text, without allocation: the statements that are measured, literals quoted or in hexadecimal digits.
+//! Reads a statement from its text, without allocation: the statements that are measured, literals quoted or in
+//! hexadecimal digits.
 use crate::statement::Statement;
 use crate::text::{Text, Xid};
 

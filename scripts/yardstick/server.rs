@@ -1,5 +1,5 @@
-//! A server of plain Rust: branches in order, rows in a hash table, locks and writes as the rules of docs/STATEMENTS.md have them, but
-//! for shared locks: here a GET in a branch locks its row exclusively.
+//! A server of plain Rust: branches in order, rows in a hash table, locks and writes as the rules of docs/STATEMENTS.md
+//! have them, but for shared locks: here a GET in a branch locks its row exclusively.
 use crate::statement::Statement;
 use crate::text::{Text, Xid};
 use std::collections::{BTreeMap, HashMap};
@@ -94,7 +94,15 @@ impl Server {
     }
 
     /// Ends a branch: a PREPARED one in two phases, or a session's own, which is IDLE, in one.
-    fn finish(&mut self, session: usize, own: Option<Xid>, phase: Option<Phase>, xid: &Xid, commits: bool, one_phase: bool) -> Reply {
+    fn finish(
+        &mut self,
+        session: usize,
+        own: Option<Xid>,
+        phase: Option<Phase>,
+        xid: &Xid,
+        commits: bool,
+        one_phase: bool,
+    ) -> Reply {
         if own.is_some() {
             if phase == Some(Phase::Active) || own != Some(*xid) || !one_phase {
                 return Reply::Refused(1399);

@@ -19,7 +19,13 @@ pub fn cycle(thread: usize, turn: usize) -> [Statement; 5] {
     let xid = Xid { format: 1, global, branch: Text::of(b"b") };
     let key = Text::of(format!("k{thread}_{turn}").as_bytes());
     let value = Text::of(format!("v{turn}").as_bytes());
-    [Statement::Start(xid), Statement::Put(key, value), Statement::End(xid), Statement::Prepare(xid), Statement::Commit(xid, false)]
+    [
+        Statement::Start(xid),
+        Statement::Put(key, value),
+        Statement::End(xid),
+        Statement::Prepare(xid),
+        Statement::Commit(xid, false),
+    ]
 }
 
 /// The same statements as a client writes them.

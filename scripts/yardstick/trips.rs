@@ -14,9 +14,11 @@ pub fn echo() {
     }
 }
 
-/// The round trips a second of a client that gives cycles of session 1 line by line, each of which is answered by a line.
+/// The round trips a second of a client that gives cycles of session 1 line by line, each of which is answered by a
+/// line.
 pub fn trips(seconds: f64, program: &[&str]) -> f64 {
-    let mut child = Command::new(program[0]).args(&program[1..]).stdin(Stdio::piped()).stdout(Stdio::piped()).spawn().unwrap();
+    let mut child =
+        Command::new(program[0]).args(&program[1..]).stdin(Stdio::piped()).stdout(Stdio::piped()).spawn().unwrap();
     let mut input = child.stdin.take().unwrap();
     let mut output = BufReader::new(child.stdout.take().unwrap());
     let lines: Vec<String> = (0..100).flat_map(|turn| cycle_texts(0, turn)).map(|text| format!("1 {text}\n")).collect();
