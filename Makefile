@@ -1,4 +1,5 @@
-# Thin targets over the scripts of this repository. `make` lists them. docs/CONTRIBUTING.md#tests has what each test does.
+# Thin targets over the scripts of this repository. `make` lists them. docs/CONTRIBUTING.md#tests has what each test
+# does.
 PROGRAM := crates/xa_script/out/xa_script
 
 help: ## list the targets
@@ -24,6 +25,7 @@ $(PROGRAM):
 	@$(MAKE) --no-print-directory build
 
 rt:
-	@command -v rt > /dev/null || { echo "there is no rt on the path: README.md says in 'Quick start' where it comes from" >&2; exit 1; }
+	@command -v rt > /dev/null || \
+		{ echo "there is no rt on the path: README.md says in 'Quick start' where it comes from" >&2; exit 1; }
 
 .PHONY: help try build test server page rt
