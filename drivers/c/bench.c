@@ -2,16 +2,17 @@
 
        bench MODE THREADS SECONDS ROWS       writes MODE threads=T per_s=N, as scripts/yardstick does
        bench times THREADS STATEMENTS ROWS   writes times threads=T p999_ns=N longest_ns=N
-       bench memory THREADS ENTRIES ROWS     writes memory threads=T before_kb=N after_kb=N: what the process has before so many entries and afterwards,
-                                             with a session more that sleeps all the time
+       bench memory THREADS ENTRIES ROWS     writes memory threads=T before_kb=N after_kb=N: what the process has before
+                                             so many entries and afterwards, with a session more that sleeps all the
+                                             time
 
    cycle   threads commit branches of one row each in two phases, by texts; what is counted are branches
    get     threads read a hundred rows in turn, each outside a branch; what is counted are reads
    mix5    of a hundred statements outside branches five write, the others read; what is counted are statements
    times   so many statements of cycles: how long one takes at most, but for one of a thousand, and the longest
 
-   The store has ROWS rows more than those, which nobody touches meanwhile. Its ring has 16,384 rows, or as many as BENCH_RING says. With BENCH_BEHIND
-   set, a second line says how many tries were lost, and how many were behind. */
+   The store has ROWS rows more than those, which nobody touches meanwhile. Its ring has 16,384 rows, or as many as
+   BENCH_RING says. With BENCH_BEHIND set, a second line says how many tries were lost, and how many were behind. */
 #include "nigbaru.h"
 
 #include <pthread.h>
@@ -139,7 +140,8 @@ static void *timed(void *worker) {
   return NULL;
 }
 
-/* The session that the first worker has fills the store with rows that nobody touches, each in a statement of its own. */
+/* The session that the first worker has fills the store with rows that nobody touches, each in a statement of its
+   own. */
 static void fill(struct worker *it, long rows) {
   for (long row = 0; row < rows; row++) {
     char text[64];
@@ -231,7 +233,8 @@ static void print_times(int threads, unsigned long statements, long rows) {
   join(threads);
   closed(threads);
   qsort(times, count, sizeof *times, by_time);
-  printf("times threads=%d p999_ns=%lu longest_ns=%lu\n", threads, (unsigned long)times[count - 1 - count / 1000], (unsigned long)times[count - 1]);
+  printf("times threads=%d p999_ns=%lu longest_ns=%lu\n", threads, (unsigned long)times[count - 1 - count / 1000],
+         (unsigned long)times[count - 1]);
   free(times);
 }
 
@@ -264,14 +267,16 @@ static void print_memory(int threads, unsigned long entries, long rows) {
 }
 
 int main(int count, char **words) {
-  static const struct { const char *name; void *(*work)(void *); } modes[] = {{"cycle", cycle}, {"get", get}, {"mix5", mix5}, {"times", NULL}, {"memory", NULL}};
+  static const struct { const char *name; void *(*work)(void *); } modes[] = {
+      {"cycle", cycle}, {"get", get}, {"mix5", mix5}, {"times", NULL}, {"memory", NULL}};
   size_t mode = 0;
   while (count == 5 && mode < 5 && strcmp(words[1], modes[mode].name) != 0)
     mode++;
   int threads = count == 5 ? atoi(words[2]) : 0;
   double much = count == 5 ? atof(words[3]) : 0;
   if (count != 5 || mode == 5 || threads < 1 || threads > 16 || (mode == 4 && threads > 15) || much <= 0) {
-    fprintf(stderr, "bench cycle|get|mix5 THREADS SECONDS ROWS, bench times THREADS STATEMENTS ROWS, or bench memory THREADS ENTRIES ROWS\n");
+    fprintf(stderr, "bench cycle|get|mix5 THREADS SECONDS ROWS, bench times THREADS STATEMENTS ROWS, or bench memory "
+                    "THREADS ENTRIES ROWS\n");
     return 2;
   }
   if (mode == 4)

@@ -29,7 +29,8 @@ static uint64_t word_of(uint64_t turn, unsigned state) { return turn * STATES + 
 /* Steps from one word to another, if that is still the place's. */
 static int steps(struct place *place, uint64_t *from, uint64_t to) {
   uint_fast64_t found = *from;
-  int stepped = atomic_compare_exchange_strong_explicit(&place->word, &found, to, memory_order_acq_rel, memory_order_acquire);
+  int stepped =
+      atomic_compare_exchange_strong_explicit(&place->word, &found, to, memory_order_acq_rel, memory_order_acquire);
   *from = found;
   return stepped;
 }
@@ -143,7 +144,8 @@ static void end(const nigbaru_seat *seat, struct place *place, unsigned state) {
 
 /* Has a statement answered in as many tries as it takes. A session that is behind needs a checkpoint, which others
    make: it lets them go on. */
-static uint32_t run(nigbaru_session *session, const char *text, size_t length, nigbaru_answer *answer, nigbaru_xid *xids, size_t room) {
+static uint32_t run(nigbaru_session *session, const char *text, size_t length, nigbaru_answer *answer,
+                    nigbaru_xid *xids, size_t room) {
   for (;;) {
     uint32_t status = nigbaru_run(session, text, length, answer, xids, room, 1);
     if (status != NIGBARU_OVERTAKEN && status != NIGBARU_BEHIND)
@@ -153,7 +155,8 @@ static uint32_t run(nigbaru_session *session, const char *text, size_t length, n
   }
 }
 
-uint32_t nigbaru_seat_run(const nigbaru_seat *seat, const char *text, size_t length, nigbaru_answer *answer, nigbaru_xid *xids, size_t room) {
+uint32_t nigbaru_seat_run(const nigbaru_seat *seat, const char *text, size_t length, nigbaru_answer *answer,
+                          nigbaru_xid *xids, size_t room) {
   struct place *place;
   uint32_t status = begin(seat, &place);
   if (status != NIGBARU_OK)

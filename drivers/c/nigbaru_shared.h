@@ -36,12 +36,14 @@ uint32_t nigbaru_seat_take(nigbaru_shared *shared, uint64_t number, nigbaru_seat
 
 /* Has a statement answered, as nigbaru_run without a limit, and yields the processor now and then.
    NIGBARU_NO_HANDLE if the seat was given back, or is none; NIGBARU_BUSY if another thread has a call with it. */
-uint32_t nigbaru_seat_run(const nigbaru_seat *seat, const char *text, size_t length, nigbaru_answer *answer, nigbaru_xid *xids, size_t room);
+uint32_t nigbaru_seat_run(const nigbaru_seat *seat, const char *text, size_t length, nigbaru_answer *answer,
+                          nigbaru_xid *xids, size_t room);
 
 /* The seat's number, that of its session in the history; 0 where it is none. */
 uint64_t nigbaru_seat_number(const nigbaru_seat *seat);
 
-/* Hands out the next entry of the history, as nigbaru_follow. Each number hands out for itself, also where it was given back meanwhile.
+/* Hands out the next entry of the history, as nigbaru_follow. Each number hands out for itself, also where it was given
+   back meanwhile.
    NIGBARU_NO_HANDLE as above. */
 uint32_t nigbaru_seat_follow(const nigbaru_seat *seat, nigbaru_entry *entry);
 

@@ -16,8 +16,8 @@
 #define WORDS_OF_XID (sizeof(XID) / sizeof(unsigned long))
 _Static_assert(sizeof(XID) % sizeof(unsigned long) == 0, "an XID is a whole number of words");
 
-/* What a place's word has in its last bits; before them it counts how often the place got a branch. USED: in a call; UNCLEAN: free, but with a
-   branch that there was no memory to roll back when its thread ended. */
+/* What a place's word has in its last bits; before them it counts how often the place got a branch. USED: in a call;
+   UNCLEAN: free, but with a branch that there was no memory to roll back when its thread ended. */
 enum state { FREE, USED, ACTIVE, IDLE, UNCLEAN, STATES };
 
 /* A session. Only the thread that has brought the word to USED, or works in the branch that is ACTIVE, uses it. All
@@ -70,7 +70,8 @@ static uint64_t word_in(struct place *place) { return atomic_load_explicit(&plac
 /* Brings a place from a word to USED, if the word is still the place's. */
 static int is_used_now(struct place *place, uint64_t from) {
   uint_fast64_t found = from;
-  return atomic_compare_exchange_strong_explicit(&place->word, &found, word_of(from / STATES, USED), memory_order_acq_rel, memory_order_relaxed);
+  return atomic_compare_exchange_strong_explicit(&place->word, &found, word_of(from / STATES, USED),
+                                                 memory_order_acq_rel, memory_order_relaxed);
 }
 
 /* Ends the use of a place. */
@@ -98,7 +99,8 @@ static XID branch_of(struct place *place) {
 }
 
 static int is_same_branch(const XID *one, const XID *other) {
-  return one->formatID == other->formatID && one->gtrid_length == other->gtrid_length && one->bqual_length == other->bqual_length &&
+  return one->formatID == other->formatID && one->gtrid_length == other->gtrid_length &&
+         one->bqual_length == other->bqual_length &&
          memcmp(one->data, other->data, (size_t)(one->gtrid_length + one->bqual_length)) == 0;
 }
 
@@ -224,8 +226,8 @@ static struct text statement_of(const char *verb, const XID *xid, const char *cl
 }
 
 static int is_branch_id(const XID *xid) {
-  return xid != NULL && xid->formatID >= 0 && xid->gtrid_length >= 1 && xid->gtrid_length <= MAXGTRIDSIZE && xid->bqual_length >= 0 &&
-         xid->bqual_length <= MAXBQUALSIZE;
+  return xid != NULL && xid->formatID >= 0 && xid->gtrid_length >= 1 && xid->gtrid_length <= MAXGTRIDSIZE &&
+         xid->bqual_length >= 0 && xid->bqual_length <= MAXBQUALSIZE;
 }
 
 /* What a call returns for the store's answer. A statement that its state forbids is C193's XAER_PROTO. */
@@ -558,8 +560,9 @@ static int xa_end_here(XID *xid, int rmid, long flags) {
 
 /* ---- the end of a branch ---- */
 
-/* Has the session of an idle branch, whichever thread worked in it, answer a statement that ends or prepares it. XAER_NOTA where no branch is idle
-   or active under this identifier, XAER_PROTO where it is active, or another thread is in such a call. */
+/* Has the session of an idle branch, whichever thread worked in it, answer a statement that ends or prepares it.
+   XAER_NOTA where no branch is idle or active under this identifier, XAER_PROTO where it is active, or another thread
+   is in such a call. */
 static int finish(struct opening *it, const char *verb, const XID *xid, const char *clause, int without_memory) {
   uint64_t word;
   struct place *place = place_of(it->store, xid, &word);
@@ -671,7 +674,8 @@ struct xa_switch_t nigbaru_xa_switch = {
 /* ---- rows ---- */
 
 /* "VERB key[,value]", and what the application gets of the answer. */
-static int row(int rmid, const char *verb, const void *key, size_t key_length, const void *value, size_t length, nigbaru_answer *answer) {
+static int row(int rmid, const char *verb, const void *key, size_t key_length, const void *value, size_t length,
+               nigbaru_answer *answer) {
   if (key == NULL || (value == NULL && length != 0))
     return NIGBARU_NO_POINTER;
   if (key_length < 1 || key_length > 64 || length > 64)

@@ -1,5 +1,6 @@
-/* The names between a transaction manager and a resource manager, as X/Open C193 ('Distributed Transaction Processing: The XA Specification')
-   gives them. A monitor's own xa.h serves as well: where XA_H is defined already, this file is empty. */
+/* The names between a transaction manager and a resource manager, as X/Open C193 ('Distributed Transaction Processing:
+   The XA Specification') gives them. A monitor's own xa.h serves as well: where XA_H is defined already, this file is
+   empty. */
 #ifndef XA_H
 #define XA_H
 
@@ -7,7 +8,8 @@
 extern "C" {
 #endif
 
-/* An identifier of a transaction branch: in data, gtrid_length bytes of the global transaction and then bqual_length of the branch. */
+/* An identifier of a transaction branch: in data, gtrid_length bytes of the global transaction and then bqual_length of
+   the branch. */
 #define XIDDATASIZE 128
 #define MAXGTRIDSIZE 64
 #define MAXBQUALSIZE 64

@@ -1,5 +1,5 @@
-/* A session that sleeps for 200 rounds of the ring, with a branch open, one prepared by it before, and one idle in another session: all stands when
-   it wakes: asleep [ROUNDS] */
+/* A session that sleeps for 200 rounds of the ring, with a branch open, one prepared by it before, and one idle in
+   another session: all stands when it wakes: asleep [ROUNDS] */
 #include "nigbaru.h"
 
 #include "check.h"

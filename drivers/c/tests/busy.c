@@ -1,4 +1,5 @@
-/* Two threads on one session: a call that comes while another has the session does nothing but say so, and the others are answered. */
+/* Two threads on one session: a call that comes while another has the session does nothing but say so, and the others
+   are answered. */
 #include "nigbaru.h"
 
 #include "check.h"

@@ -1,6 +1,6 @@
-/* Run again and again with another growth of memory refused (scripts/refuse_growth.c): at most one call says so, the same call then goes through, and
-   nothing is lost: no row, no branch, no session. The ring goes round many times, so that a session that is behind goes on from a checkpoint, and
-   checkpoints follow. */
+/* Run again and again with another growth of memory refused (scripts/refuse_growth.c): at most one call says so, the
+   same call then goes through, and nothing is lost: no row, no branch, no session. The ring goes round many times, so
+   that a session that is behind goes on from a checkpoint, and checkpoints follow. */
 #include "nigbaru_shared.h"
 
 #include "check.h"

@@ -1,5 +1,5 @@
-/* As growth.c, for the switch: a call without memory returns XAER_RMERR, a commit XA_RETRY, the end of a branch in one phase or by rollback XAER_RMFAIL, and
-   given again it goes through. */
+/* As growth.c, for the switch: a call without memory returns XAER_RMERR, a commit XA_RETRY, the end of a branch in one
+   phase or by rollback XAER_RMFAIL, and given again it goes through. */
 #include "nigbaru.h"
 #include "nigbaru_xa.h"
 
@@ -54,7 +54,8 @@ static void in_a_thread(void) {
 }
 
 int main(void) {
-  XID a = {.formatID = 0, .gtrid_length = 1, .bqual_length = 1, .data = "ab"}, b = {.formatID = 0, .gtrid_length = 1, .bqual_length = 1, .data = "bb"}, listed[3];
+  XID a = {.formatID = 0, .gtrid_length = 1, .bqual_length = 1, .data = "ab"},
+      b = {.formatID = 0, .gtrid_length = 1, .bqual_length = 1, .data = "bb"}, listed[3];
   AGAIN(xa->xa_open_entry(info, RM, TMNOFLAGS), XAER_RMERR, XA_OK);
   start(&a);
   put("1");

@@ -26,8 +26,10 @@ int main(void) {
   nigbaru_session session = NIGBARU_EMPTY;
   SAME(nigbaru_close(&store), NIGBARU_NO_HANDLE);
   SAME(nigbaru_leave(&session), NIGBARU_NO_HANDLE);
-  static const uint32_t statuses[] = {NIGBARU_OK,        NIGBARU_VALUE,     NIGBARU_NONE,         NIGBARU_LIST,       NIGBARU_REFUSED, NIGBARU_OVERTAKEN, NIGBARU_NO_MEMORY, NIGBARU_SYNTAX,
-                                      NIGBARU_NO_HANDLE, NIGBARU_OUT_OF_RANGE, NIGBARU_NO_SESSION, NIGBARU_HELD,     NIGBARU_BUSY,      NIGBARU_NO_POINTER, NIGBARU_BEHIND};
+  static const uint32_t statuses[] = {NIGBARU_OK, NIGBARU_VALUE, NIGBARU_NONE, NIGBARU_LIST, NIGBARU_REFUSED,
+                                      NIGBARU_OVERTAKEN, NIGBARU_NO_MEMORY, NIGBARU_SYNTAX, NIGBARU_NO_HANDLE,
+                                      NIGBARU_OUT_OF_RANGE, NIGBARU_NO_SESSION, NIGBARU_HELD, NIGBARU_BUSY,
+                                      NIGBARU_NO_POINTER, NIGBARU_BEHIND};
   const size_t count = sizeof statuses / sizeof *statuses;
   uint32_t known = 0;
   for (size_t index = 0; index < count; index++) {

@@ -1,6 +1,7 @@
-/* A transaction monitor of a few lines, which knows nothing but an xa_switch_t and the rows: threads of control move one from an account in one store to one
-   in another, in two phases, and some stop between the votes or between the commits. Recovery commits what was decided and rolls the rest back, also what is
-   idle, and then nothing is lost and nothing made. */
+/* A transaction monitor of a few lines, which knows nothing but an xa_switch_t and the rows: threads of control move
+   one from an account in one store to one in another, in two phases, and some stop between the votes or between the
+   commits. Recovery commits what was decided and rolls the rest back, also what is idle, and then nothing is lost and
+   nothing made. */
 #include "nigbaru.h"
 #include "nigbaru_xa.h"
 
@@ -16,7 +17,8 @@
 enum stop { NEVER, AFTER_ONE_VOTE, AFTER_VOTES, AFTER_DECISION, AFTER_ONE_COMMIT, STOPS };
 
 static struct xa_switch_t *const xa = &nigbaru_xa_switch;
-static char *const infos[] = {NULL, (char[]){"store=north,rows=32,sessions=8"}, (char[]){"store=south,rows=9,sessions=8"}};
+static char *const infos[] = {NULL, (char[]){"store=north,rows=32,sessions=8"},
+                              (char[]){"store=south,rows=9,sessions=8"}};
 static pthread_mutex_t mutex = PTHREAD_MUTEX_INITIALIZER;
 static char decided[THREADS * TRANSFERS];
 static int counts[STOPS], ended;
@@ -127,14 +129,17 @@ static void recover(void) {
         char number[MAXGTRIDSIZE + 1] = "";
         memcpy(number, xids[index].data, (size_t)xids[index].gtrid_length);
         int is_decided = decided[atoi(number)];
-        SAME(is_decided ? xa->xa_commit_entry(&xids[index], rmid, TMNOFLAGS) : xa->xa_rollback_entry(&xids[index], rmid, TMNOFLAGS), XA_OK);
+        SAME(is_decided ? xa->xa_commit_entry(&xids[index], rmid, TMNOFLAGS)
+                        : xa->xa_rollback_entry(&xids[index], rmid, TMNOFLAGS),
+             XA_OK);
       }
     } while (got == 4);
     CHECK(got >= 0);
   }
 }
 
-/* Rolls back what a thread left idle that stopped after its first vote: no list has it, so the monitor has to know of it. */
+/* Rolls back what a thread left idle that stopped after its first vote: no list has it, so the monitor has to know of
+   it. */
 static int end_idle(int transfer) {
   XID xid = xid_of(transfer, 2);
   int code = decided[transfer] ? XAER_NOTA : xa->xa_rollback_entry(&xid, 2, TMNOFLAGS);

@@ -1,10 +1,11 @@
 /* Threads race cycles: race THREADS CYCLES ROWS [SCRIPT ANSWERS]
 
-   In a cycle a thread writes a row of its own in a branch, counts in a row that all share if nobody holds it, ends the branch in one of five ways, and
-   reads. Afterwards each row is what the thread knows that it committed. One thread hands out the history meanwhile. With two files no entry may be lost,
-   so the others wait for it: the history and the statements that didn't enter, each in front of the entry at its place, are written to SCRIPT, one
-   `session statement` a line, and what was answered to ANSWERS; of a refusal only its number. Without them each entry is handed out or counted as
-   lost. */
+   In a cycle a thread writes a row of its own in a branch, counts in a row that all share if nobody holds it, ends the
+   branch in one of five ways, and reads. Afterwards each row is what the thread knows that it committed. One thread
+   hands out the history meanwhile. With two files no entry may be lost, so the others wait for it: the history and the
+   statements that didn't enter, each in front of the entry at its place, are written to SCRIPT, one `session statement`
+   a line, and what was answered to ANSWERS; of a refusal only its number. Without them each entry is handed out or
+   counted as lost. */
 #include "nigbaru_shared.h"
 
 #include "check.h"
@@ -133,7 +134,8 @@ static const struct told *say(struct teller *it, const char *statement) {
 static void ok(struct teller *it, const char *statement) {
   const struct told *told = say(it, statement);
   if (told->status != NIGBARU_OK) {
-    fprintf(stderr, "%lu %s: %s (%u)\n", (unsigned long)it->number, statement, nigbaru_text(told->status), told->answer.error);
+    fprintf(stderr, "%lu %s: %s (%u)\n", (unsigned long)it->number, statement, nigbaru_text(told->status),
+            told->answer.error);
     exit(1);
   }
 }
@@ -259,7 +261,8 @@ static void print_told(FILE *script, FILE *answers, uint64_t session, const stru
   }
 }
 
-/* All answers in the order of the history: at each place first those that didn't enter, and then the entry's, which is its session's last there. */
+/* All answers in the order of the history: at each place first those that didn't enter, and then the entry's, which is
+   its session's last there. */
 static void write_order(FILE *script, FILE *answers) {
   size_t at[17] = {0};
   for (uint64_t place = 0; place <= entry_count; place++) {
@@ -330,7 +333,8 @@ int main(int count, char **words) {
     SAME(entry_count, tellers[threads].place);
     write_files(words[4], words[5]);
   }
-  printf("%lu entries, %lu rounds of the ring, %lu lost\n", (unsigned long)tellers[threads].place, (unsigned long)(tellers[threads].place / rows), (unsigned long)lost);
+  printf("%lu entries, %lu rounds of the ring, %lu lost\n", (unsigned long)tellers[threads].place,
+         (unsigned long)(tellers[threads].place / rows), (unsigned long)lost);
   for (int number = 1; number <= threads; number++)
     SAME(nigbaru_seat_leave(&tellers[number].seat), NIGBARU_OK);
   SAME(nigbaru_shared_close(shared), NIGBARU_OK);

@@ -1,4 +1,5 @@
-/* The table of docs/STATEMENTS.md#replies, cell by cell: what a session that is free, has an ACTIVE or an IDLE branch is answered. */
+/* The table of docs/STATEMENTS.md#replies, cell by cell: what a session that is free, has an ACTIVE or an IDLE branch
+   is answered. */
 #include "nigbaru.h"
 
 #include "check.h"
@@ -10,8 +11,10 @@ static nigbaru_session sessions[5];
 static nigbaru_answer ask(int session, const char *text, uint32_t status, uint32_t error) {
   nigbaru_answer answer;
   uint32_t got = nigbaru_run(&sessions[session], text, strlen(text), &answer, NULL, 0, 0);
-  if (got != status || (status == NIGBARU_REFUSED && answer.error != error) || (status != NIGBARU_REFUSED && status < 5 && answer.error != 0)) {
-    fprintf(stderr, "%d %s: %s (%u), and not %s (%u)\n", session, text, nigbaru_text(got), answer.error, nigbaru_text(status), error);
+  if (got != status || (status == NIGBARU_REFUSED && answer.error != error) ||
+      (status != NIGBARU_REFUSED && status < 5 && answer.error != 0)) {
+    fprintf(stderr, "%d %s: %s (%u), and not %s (%u)\n", session, text, nigbaru_text(got), answer.error,
+            nigbaru_text(status), error);
     exit(1);
   }
   return answer;
@@ -26,7 +29,8 @@ static void value(int session, const char *text, const char *wanted) {
   SAME(memcmp(answer.value, wanted, strlen(wanted)), 0);
 }
 
-/* Session 4 has a branch 'other' ACTIVE, which holds the row 'held' and shares 'shared'; 'ready' is PREPARED and holds 'kept'. */
+/* Session 4 has a branch 'other' ACTIVE, which holds the row 'held' and shares 'shared'; 'ready' is PREPARED and holds
+   'kept'. */
 static void begin(void) {
   const nigbaru_store closed = NIGBARU_EMPTY;
   const nigbaru_session left = NIGBARU_EMPTY;
@@ -56,7 +60,8 @@ static void end(void) {
 
 /* Statements whose answer is the same in each state. */
 static void always(int session) {
-  static const char *const unsupported[] = {"XA START 'x' JOIN", "XA START 'x' RESUME", "XA END 'x' SUSPEND", "XA END 'x' SUSPEND FOR MIGRATE"};
+  static const char *const unsupported[] = {"XA START 'x' JOIN", "XA START 'x' RESUME", "XA END 'x' SUSPEND",
+                                            "XA END 'x' SUSPEND FOR MIGRATE"};
   for (size_t index = 0; index < sizeof unsupported / sizeof *unsupported; index++)
     refused(session, unsupported[index], 1398);
   nigbaru_xid xid;

@@ -1,5 +1,5 @@
-/* Seats: taken and given back by many threads at once, each by one at a time; handles that are stale, copied, empty or another thread's; a store that is
-   closed while seats are taken: seats [TURNS] */
+/* Seats: taken and given back by many threads at once, each by one at a time; handles that are stale, copied, empty or
+   another thread's; a store that is closed while seats are taken: seats [TURNS] */
 #include "nigbaru_shared.h"
 
 #include "check.h"
@@ -141,7 +141,8 @@ static void many_threads(void) {
   SAME(nigbaru_shared_close(shared), NIGBARU_OK);
 }
 
-/* Copies of one handle in several threads: each call is answered, or refused with BUSY, until one of them gives it back. */
+/* Copies of one handle in several threads: each call is answered, or refused with BUSY, until one of them gives it
+   back. */
 static nigbaru_seat copied;
 static atomic_int answered;
 

@@ -1,5 +1,6 @@
-/* The switch: each call in each state of branch and thread, allowed or refused, and what follows it; flags, identifiers and strings that are wrong;
-   recovery by cursor; threads; rows. What is expected is README.md's table, 'A resource manager'. */
+/* The switch: each call in each state of branch and thread, allowed or refused, and what follows it; flags, identifiers
+   and strings that are wrong; recovery by cursor; threads; rows. What is expected is README.md's table, 'A resource
+   manager'. */
 #include "nigbaru.h"
 #include "nigbaru_xa.h"
 
@@ -24,11 +25,11 @@ static XID xid_of(const char *gtrid) {
 /* ---- states ---- */
 
 /* Of the thread and of the branch X that a call names. M is another branch, the thread's own. */
-enum state { CLOSED, NONE, ACTIVE, IDLE, PREPARED, ACTIVE_NONE, ACTIVE_IDLE, ACTIVE_PREPARED, IDLE_NONE, IDLE_PREPARED, ELSEWHERE, IDLE_ELSEWHERE,
-             IDLE_ACTIVE /* M idle, X active: what a call leads to */ };
+enum state { CLOSED, NONE, ACTIVE, IDLE, PREPARED, ACTIVE_NONE, ACTIVE_IDLE, ACTIVE_PREPARED, IDLE_NONE, IDLE_PREPARED,
+             ELSEWHERE, IDLE_ELSEWHERE, IDLE_ACTIVE /* M idle, X active: what a call leads to */ };
 static const char *const state_names[STATES] = {
-    "closed", "no branch", "active", "idle", "prepared", "M active, X none", "M active, X idle", "M active, X prepared", "M idle, X none", "M idle, X prepared",
-    "another thread's", "another thread's, which has closed, and idle"};
+    "closed", "no branch", "active", "idle", "prepared", "M active, X none", "M active, X idle", "M active, X prepared",
+    "M idle, X none", "M idle, X prepared", "another thread's", "another thread's, which has closed, and idle"};
 
 /* Another thread of control, which does one thing and waits for the next. */
 static struct {
@@ -109,7 +110,9 @@ static void bring(const char *gtrid, enum state to) {
     SAME(xa->xa_prepare_entry(&xid, RM, TMNOFLAGS), XA_OK);
 }
 
-static int is_m_active(enum state state) { return state == ACTIVE_NONE || state == ACTIVE_IDLE || state == ACTIVE_PREPARED; }
+static int is_m_active(enum state state) {
+  return state == ACTIVE_NONE || state == ACTIVE_IDLE || state == ACTIVE_PREPARED;
+}
 
 static int is_m_idle(enum state state) { return state == IDLE_NONE || state == IDLE_PREPARED || state == IDLE_ACTIVE; }
 
@@ -260,7 +263,8 @@ static void cell(size_t row, enum state state) {
   int got = called(table[row].call, table[row].flags);
   int code = wanted >= 1000 ? XA_OK : wanted;
   if (got != code) {
-    fprintf(stderr, "xa_%s with %lx, %s: %d, and not %d\n", table[row].call, (unsigned long)table[row].flags, state_names[state], got, code);
+    fprintf(stderr, "xa_%s with %lx, %s: %d, and not %d\n", table[row].call, (unsigned long)table[row].flags,
+            state_names[state], got, code);
     exit(1);
   }
   leave(wanted >= 1000 ? (enum state)(wanted - 1000) : state);
@@ -281,8 +285,10 @@ static void cells(void) {
 
 static void flags(void) {
   static const struct { const char *call; long known; int is_async; } calls[] = {
-      {"open", 0, 1}, {"close", 0, 1}, {"start", TMJOIN | TMRESUME | TMNOWAIT, 1}, {"end", TMSUSPEND | TMMIGRATE | TMSUCCESS | TMFAIL, 1}, {"prepare", 0, 1},
-      {"commit", TMONEPHASE | TMNOWAIT, 1}, {"rollback", 0, 1}, {"forget", 0, 1}, {"recover", TMSTARTRSCAN | TMENDRSCAN, 0}, {"complete", TMMULTIPLE | TMNOWAIT, 0},
+      {"open", 0, 1}, {"close", 0, 1}, {"start", TMJOIN | TMRESUME | TMNOWAIT, 1},
+      {"end", TMSUSPEND | TMMIGRATE | TMSUCCESS | TMFAIL, 1}, {"prepare", 0, 1},
+      {"commit", TMONEPHASE | TMNOWAIT, 1}, {"rollback", 0, 1}, {"forget", 0, 1},
+      {"recover", TMSTARTRSCAN | TMENDRSCAN, 0}, {"complete", TMMULTIPLE | TMNOWAIT, 0},
   };
   SAME(open_here(), XA_OK);
   for (size_t index = 0; index < sizeof calls / sizeof *calls; index++) {
@@ -292,7 +298,8 @@ static void flags(void) {
         SAME(called(calls[index].call, 1L << bit), XAER_INVAL);
   }
   SAME(called("start", TMJOIN | TMRESUME), XAER_INVAL);
-  static const long ends[] = {TMNOFLAGS, TMMIGRATE, TMSUCCESS | TMFAIL, TMSUCCESS | TMSUSPEND, TMFAIL | TMSUSPEND, TMSUCCESS | TMMIGRATE, TMSUCCESS | TMFAIL | TMSUSPEND};
+  static const long ends[] = {TMNOFLAGS, TMMIGRATE, TMSUCCESS | TMFAIL, TMSUCCESS | TMSUSPEND, TMFAIL | TMSUSPEND,
+                              TMSUCCESS | TMMIGRATE, TMSUCCESS | TMFAIL | TMSUSPEND};
   bring("X", ACTIVE);
   for (size_t index = 0; index < sizeof ends / sizeof *ends; index++)
     SAME(called("end", ends[index]), XAER_INVAL);
@@ -301,9 +308,11 @@ static void flags(void) {
 }
 
 static void identifiers(void) {
-  static int (*const *const entries[])(XID *, int, long) = {&nigbaru_xa_switch.xa_start_entry, &nigbaru_xa_switch.xa_prepare_entry,
-                                                            &nigbaru_xa_switch.xa_commit_entry, &nigbaru_xa_switch.xa_rollback_entry, &nigbaru_xa_switch.xa_forget_entry};
-  static const long bad[][3] = {{-1, 1, 1}, {-2, 1, 1}, {1, 0, 1}, {1, -1, 1}, {1, 65, 1}, {1, 1, -1}, {1, 1, 65}, {1, 64, 65}};
+  static int (*const *const entries[])(XID *, int, long) = {
+      &nigbaru_xa_switch.xa_start_entry, &nigbaru_xa_switch.xa_prepare_entry, &nigbaru_xa_switch.xa_commit_entry,
+      &nigbaru_xa_switch.xa_rollback_entry, &nigbaru_xa_switch.xa_forget_entry};
+  static const long bad[][3] = {{-1, 1, 1}, {-2, 1, 1}, {1, 0, 1}, {1, -1, 1}, {1, 65, 1}, {1, 1, -1},
+                                {1, 1, 65}, {1, 64, 65}};
   SAME(open_here(), XA_OK);
   for (size_t entry = 0; entry < sizeof entries / sizeof *entries; entry++) {
     SAME((*entries[entry])(NULL, RM, TMNOFLAGS), XAER_INVAL);
@@ -331,9 +340,11 @@ static void identifiers(void) {
 }
 
 static void strings(void) {
-  static const char *const bad[] = {"x", "store=", "store", "store=a,", ",store=a", "rows=0", "rows=65537", "rows=", "capacity=5", "sessions=17", "sessions=0", "sessions=-1",
-                                    "rows=1x", "rows=9999999", "store=a,,sessions=1", "store =a", " store=a", "Store=a"};
-  static const char *const good[] = {"", "store=a", "sessions=1", "rows=1,sessions=16,store=a=b", "sessions=2,sessions=3"};
+  static const char *const bad[] = {"x", "store=", "store", "store=a,", ",store=a", "rows=0", "rows=65537", "rows=",
+                                    "capacity=5", "sessions=17", "sessions=0", "sessions=-1", "rows=1x", "rows=9999999",
+                                    "store=a,,sessions=1", "store =a", " store=a", "Store=a"};
+  static const char *const good[] = {"", "store=a", "sessions=1", "rows=1,sessions=16,store=a=b",
+                                     "sessions=2,sessions=3"};
   static const char *const names[] = {"nigbaru", "a", "nigbaru", "a=b", "nigbaru"};
   char text[MAXINFOSIZE + 8];
   SAME(xa->xa_open_entry(NULL, RM, TMNOFLAGS), XAER_INVAL);
@@ -374,7 +385,8 @@ static void strings(void) {
 
 /* ---- sessions ---- */
 
-/* Each branch that isn't prepared has a session, and every other call needs one for a moment; stores of two names are two. */
+/* Each branch that isn't prepared has a session, and every other call needs one for a moment; stores of two names are
+   two. */
 static void sessions(void) {
   char one[] = "store=one,rows=16,sessions=2", two[] = "store=two,rows=16";
   XID x = xid_of("X"), y = xid_of("Y"), z = xid_of("Z");
@@ -436,7 +448,8 @@ static void *ends_within(void *task) {
   return NULL;
 }
 
-/* Threads that end without xa_close: an active branch is rolled back, an idle or a prepared one goes on, and the session of the first is free. */
+/* Threads that end without xa_close: an active branch is rolled back, an idle or a prepared one goes on, and the
+   session of the first is free. */
 static void threads_that_end(void) {
   pthread_t thread;
   int (*tasks[])(void) = {work_of_x, prepared_x, idle_x};
@@ -467,7 +480,9 @@ static void *finishes_x(void *unused) {
   SAME(open_here(), XA_OK);
   for (int turn = 0; turn < 200; turn++) {
     pthread_barrier_wait(&both.barrier);
-    int code = turn % 3 == 0 ? xa->xa_prepare_entry(&x, RM, TMNOFLAGS) : turn % 3 == 1 ? xa->xa_commit_entry(&x, RM, TMONEPHASE) : xa->xa_rollback_entry(&x, RM, TMNOFLAGS);
+    int code = turn % 3 == 0   ? xa->xa_prepare_entry(&x, RM, TMNOFLAGS)
+               : turn % 3 == 1 ? xa->xa_commit_entry(&x, RM, TMONEPHASE)
+                               : xa->xa_rollback_entry(&x, RM, TMNOFLAGS);
     CHECK(code == XA_OK || code == XAER_PROTO || code == XAER_NOTA);
     atomic_fetch_add(&both.done, code == XA_OK);
     pthread_barrier_wait(&both.barrier);
@@ -531,7 +546,9 @@ static void recovery(void) {
   SAME(open_here(), XA_OK);
   SAME(xa->xa_recover_entry(listed, 8, RM, TMSTARTRSCAN), 5);
   for (int index = 0; index < 5; index++)
-    SAME(index % 2 == 0 ? xa->xa_commit_entry(&listed[index], RM, TMNOFLAGS) : xa->xa_rollback_entry(&listed[index], RM, TMNOFLAGS), XA_OK);
+    SAME(index % 2 == 0 ? xa->xa_commit_entry(&listed[index], RM, TMNOFLAGS)
+                        : xa->xa_rollback_entry(&listed[index], RM, TMNOFLAGS),
+         XA_OK);
   SAME(xa->xa_recover_entry(listed, 8, RM, TMSTARTRSCAN), 0);
   SAME(close_here(), XA_OK);
   SAME(nigbaru_xa_drop("cells"), XA_OK);
@@ -651,7 +668,8 @@ static void races(void) {
     SAME(pthread_join(threads[index], NULL), 0);
   SAME(xa->xa_open_entry(racing_info, RM, TMNOFLAGS), XA_OK);
   for (int index = 0; index < 4; index++) {
-    int row_length = sprintf(row, "row%d", index), wanted_length = sprintf(wanted, "%d-%ld", index, committed[index] - 1);
+    int row_length = sprintf(row, "row%d", index),
+        wanted_length = sprintf(wanted, "%d-%ld", index, committed[index] - 1);
     int status = nigbaru_xa_get(RM, row, (size_t)row_length, value, &length);
     if (committed[index] == 0) {
       SAME(status, NIGBARU_NONE);

@@ -92,7 +92,8 @@ static void mixed_up(void) {
 /* Texts that spell no statement: each with the first byte that doesn't fit (docs/STATEMENTS.md#fault-places). */
 static void no_statements(void) {
   static const struct { const char *text; uint64_t place; } bad[] = {
-      {"", 0}, {"XA RECOVER now", 11}, {"XA START ", 9}, {"XA START 'a','',18446744073709551616", 16}, {"GET ''", 4}, {"PUT 'k' 'v'", 8}, {"SELECT 1", 0},
+      {"", 0}, {"XA RECOVER now", 11}, {"XA START ", 9}, {"XA START 'a','',18446744073709551616", 16},
+      {"GET ''", 4}, {"PUT 'k' 'v'", 8}, {"SELECT 1", 0},
   };
   nigbaru_store store = NIGBARU_EMPTY;
   nigbaru_session session = NIGBARU_EMPTY;
@@ -213,7 +214,8 @@ static void hands_out(nigbaru_session *session, uint64_t number, const char *tex
   SAME(entry.lost, 0);
 }
 
-/* The history: each entry once, in canonical form, with its session, to each session; the longest; what is lost where a session follows too slowly. */
+/* The history: each entry once, in canonical form, with its session, to each session; the longest; what is lost where a
+   session follows too slowly. */
 static void history(void) {
   nigbaru_store store = NIGBARU_EMPTY;
   nigbaru_session session = NIGBARU_EMPTY, other = NIGBARU_EMPTY;

@@ -23,7 +23,8 @@ static void drop(int rmid) {
   managers[rmid].link = NULL;
 }
 
-/* What a refusal means in X/Open's words. The client library's own errors, from 2000 on, say that the connection is lost. */
+/* What a refusal means in X/Open's words. The client library's own errors, from 2000 on, say that the connection is
+   lost. */
 static int meaning(int rmid, unsigned number) {
   if (number >= 2000 && number < 3000) {
     drop(rmid);
@@ -104,7 +105,8 @@ static int do_prepare(XID *xid, int rmid, long flags) {
 }
 
 static int do_commit(XID *xid, int rmid, long flags) {
-  return flags == TMNOFLAGS || flags == TMONEPHASE ? ask("COMMIT", xid, rmid, flags == TMONEPHASE ? " ONE PHASE" : "") : XAER_INVAL;
+  return flags == TMNOFLAGS || flags == TMONEPHASE ? ask("COMMIT", xid, rmid, flags == TMONEPHASE ? " ONE PHASE" : "")
+                                                   : XAER_INVAL;
 }
 
 static int start_scan(int rmid) {

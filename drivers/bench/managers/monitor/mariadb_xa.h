@@ -1,6 +1,8 @@
-/* A server of MySQL's protocol as a resource manager of X/Open C193, over MariaDB's client library. The string of xa_open is a port of 127.0.0.1.
+/* A server of MySQL's protocol as a resource manager of X/Open C193, over MariaDB's client library. The string of
+   xa_open is a port of 127.0.0.1.
 
-   One thread of control, and rmids from 1 to 64. A connection that is lost returns XAER_RMFAIL until xa_open makes another. */
+   One thread of control, and rmids from 1 to 64. A connection that is lost returns XAER_RMFAIL until xa_open makes
+   another. */
 #ifndef MARIADB_XA_H
 #define MARIADB_XA_H
 

@@ -2,8 +2,8 @@
 
        monitor run VALUE | recover
 
-   It writes a row into each store of 127.0.0.1 whose port is in $PORTS, in one transaction, and keeps its decisions in the current folder. Status 0: all
-   is committed, or recovered. */
+   It writes a row into each store of 127.0.0.1 whose port is in $PORTS, in one transaction, and keeps its decisions in
+   the current folder. Status 0: all is committed, or recovered. */
 #include "mariadb_xa.h"
 
 #include <stdio.h>
@@ -39,8 +39,9 @@ static XID xid_of(const char *gtrid, int rmid) {
 static int work(XID *xid, int rmid, const char *value) {
   char text[128];
   snprintf(text, sizeof text, "PUT 'row','%s'", value);
-  return xa->xa_open_entry(infos[rmid], rmid, TMNOFLAGS) == XA_OK && xa->xa_start_entry(xid, rmid, TMNOFLAGS) == XA_OK &&
-         mariadb_xa_query(rmid, text) == XA_OK && xa->xa_end_entry(xid, rmid, TMSUCCESS) == XA_OK;
+  return xa->xa_open_entry(infos[rmid], rmid, TMNOFLAGS) == XA_OK &&
+         xa->xa_start_entry(xid, rmid, TMNOFLAGS) == XA_OK && mariadb_xa_query(rmid, text) == XA_OK &&
+         xa->xa_end_entry(xid, rmid, TMSUCCESS) == XA_OK;
 }
 
 /* Keeps the decision to commit, whose file is on the disk before anything commits. No decision means to roll back. */
@@ -61,8 +62,9 @@ static int is_decided(const char *gtrid) {
   return found;
 }
 
-/* Commits or rolls back a prepared branch, with a few tries; whether it is known to have ended so. A branch that isn't there any more has been committed only
-   if an answer was lost before. Whatever isn't known is left to recovery, for as long as a store lists it. */
+/* Commits or rolls back a prepared branch, with a few tries; whether it is known to have ended so. A branch that isn't
+   there any more has been committed only if an answer was lost before. Whatever isn't known is left to recovery, for as
+   long as a store lists it. */
 static int finish(XID *xid, int rmid, int commits) {
   int is_lost = 0;
   for (int attempt = 0; attempt < TRIES; attempt++) {
