@@ -1,6 +1,6 @@
-/* Preloaded into a program, refuses one growth of memory: number REFUSE_GROWTH, counted from 1 over all threads. It then makes the file
-   that REFUSED names. Each later growth is granted. At the end of the process it writes into the file that KEPT names how many blocks were
-   never given back, once the C library has given back its own. */
+/* Preloaded into a program, refuses one growth of memory: number REFUSE_GROWTH, counted from 1 over all threads. It
+   then makes the file that REFUSED names. Each later growth is granted. At the end of the process it writes into the
+   file that KEPT names how many blocks were never given back, once the C library has given back its own. */
 extern void *__libc_malloc(unsigned long size);
 extern void *__libc_calloc(unsigned long count, unsigned long size);
 extern void *__libc_realloc(void *memory, unsigned long size);

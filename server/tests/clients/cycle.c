@@ -87,8 +87,9 @@ static void prepared(MYSQL *db)
     unsigned long length;
     MYSQL_BIND result = text_of(value, sizeof value);
     result.length = &length;
-    if (mysql_stmt_prepare(put, "PUT ?,?", 7) || mysql_stmt_bind_param(put, words) || mysql_stmt_execute(put) || mysql_stmt_prepare(get, "GET ?", 5)
-        || mysql_stmt_bind_param(get, words) || mysql_stmt_execute(get) || mysql_stmt_bind_result(get, &result) || mysql_stmt_fetch(get)) {
+    if (mysql_stmt_prepare(put, "PUT ?,?", 7) || mysql_stmt_bind_param(put, words) || mysql_stmt_execute(put)
+        || mysql_stmt_prepare(get, "GET ?", 5) || mysql_stmt_bind_param(get, words) || mysql_stmt_execute(get)
+        || mysql_stmt_bind_result(get, &result) || mysql_stmt_fetch(get)) {
         printf("not prepared: %s%s\n", mysql_stmt_error(put), mysql_stmt_error(get));
     }
     show("prepared", value, length);
