@@ -10,7 +10,8 @@ function encode(bytes) {
 }
 
 function decode(text) {
-  return text.replaceAll("+", " ").replace(/%([0-9A-Fa-f]{2})/g, (_, digits) => String.fromCharCode(parseInt(digits, 16)));
+  return text.replaceAll("+", " ")
+    .replace(/%([0-9A-Fa-f]{2})/g, (_, digits) => String.fromCharCode(parseInt(digits, 16)));
 }
 
 export function read(fragment) {
@@ -31,7 +32,8 @@ export function whole(value, least, most, otherwise) {
 
 // Values that are empty stand for themselves by being left out.
 export function write(view, state) {
-  const parts = Object.entries(state).filter(([, value]) => value !== "" && value !== null && value !== undefined && value !== false)
+  const parts = Object.entries(state)
+    .filter(([, value]) => value !== "" && value !== null && value !== undefined && value !== false)
     .map(([name, value]) => `${name}=${encode(String(value))}`);
   return parts.length ? `#${view}?${parts.join("&")}` : `#${view}`;
 }

@@ -26,7 +26,8 @@ export async function fetched(name) {
 }
 
 // This page's own name among those that talk with the server. (A page from another machine has no crypto.randomUUID.)
-export const NAME = Array.from(crypto.getRandomValues(new Uint8Array(16)), (byte) => byte.toString(16).padStart(2, "0")).join("");
+export const NAME = Array.from(crypto.getRandomValues(new Uint8Array(16)), (byte) => byte.toString(16).padStart(2, "0"))
+  .join("");
 
 addEventListener("pagehide", () => {
   navigator.sendBeacon("/api/end", new Blob([JSON.stringify({ talk: NAME })], { type: "application/json" }));

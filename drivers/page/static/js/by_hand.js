@@ -1,4 +1,5 @@
-// A race stepped by hand: whoever chooses says which session goes next, and sees what it is answered and which outcomes are left.
+// A race stepped by hand: whoever chooses says which session goes next, and sees what it is answered and which outcomes
+// are left.
 import { ask, Failure, NAME } from "./api.js";
 import { readableValue } from "./bytes.js";
 import { lineItem, widestSession } from "./columns.js";
@@ -15,7 +16,8 @@ const answerOf = ({ reply, rows }) => `${reply}\n${rows}`;
 export class ByHand {
   // `kept` is told the order in which the sessions have gone, as the address has it.
   constructor(app, kept) {
-    Object.assign(this, { app, kept, parts: null, order: [], possible: null, explored: null, asks: 0, lines: [], answers: [] });
+    Object.assign(this,
+      { app, kept, parts: null, order: [], possible: null, explored: null, asks: 0, lines: [], answers: [] });
     byId("hand-back").addEventListener("click", () => this.back());
     byId("hand-again").addEventListener("click", () => this.show([]));
     addEventListener("keydown", (event) => this.digit(event));
@@ -58,7 +60,8 @@ export class ByHand {
   next() {
     const { left } = placesIn(this.parts, this.order);
     const lines = left.map((place) => this.parts.lines[place]).filter(({ session }) => session !== null);
-    return lines.filter(({ session }, at) => lines.findIndex((other) => other.session === session) === at).sort((a, b) => a.session - b.session);
+    return lines.filter(({ session }, at) => lines.findIndex((other) => other.session === session) === at)
+      .sort((a, b) => a.session - b.session);
   }
 
   async show(order) {
@@ -79,7 +82,8 @@ export class ByHand {
     }
   }
 
-  // What answers these lines; those that were answered before aren't asked for again. One question waits for the one before it.
+  // What answers these lines; those that were answered before aren't asked for again. One question waits for the one
+  // before it.
   answered(lines) {
     const found = (this.turn ?? Promise.resolve()).catch(() => {}).then(async () => {
       const differs = lines.findIndex((line, at) => line !== this.lines[at]);
@@ -105,12 +109,15 @@ export class ByHand {
   draw(places, lines, answers, isDone) {
     const columns = Math.max(1, widestSession(this.parts.lines.map(({ line }) => line)));
     byId("by-hand").style.setProperty("--columns", columns);
-    fill(byId("hand-heads"), el("span.gutter"), Array.from({ length: columns }, (_, at) => el(`div.head.${sessionClass(at + 1)}`, {}, el("strong", {}, `Session ${at + 1}`))));
-    fill(byId("hand-lines"), lines.map((line, at) => lineItem(line, at, answers[at], (wanted) => this.show(this.order.slice(0, Math.max(0, wanted - this.parts.before.length))))));
+    fill(byId("hand-heads"), el("span.gutter"), Array.from({ length: columns },
+      (_, at) => el(`div.head.${sessionClass(at + 1)}`, {}, el("strong", {}, `Session ${at + 1}`))));
+    fill(byId("hand-lines"), lines.map((line, at) => lineItem(line, at, answers[at],
+      (wanted) => this.show(this.order.slice(0, Math.max(0, wanted - this.parts.before.length))))));
     byId("hand-lines").lastElementChild?.classList.add("current");
     const next = this.next();
     fill(byId("hand-next"), next.length ? el("span", {}, "Who goes next?") : null, next.map(({ session, statement }) =>
-      el(`button.go-next.${sessionClass(session)}`, { type: "button", "data-session": session, onclick: () => this.step(session) },
+      el(`button.go-next.${sessionClass(session)}`,
+        { type: "button", "data-session": session, onclick: () => this.step(session) },
         el("strong", {}, String(session)), " ", shown(statement, "bdi.statement"))));
     byId("hand-back").disabled = byId("hand-again").disabled = this.order.length === 0;
     fill(byId("hand-left"), this.says(places, answers, isDone));
@@ -121,7 +128,8 @@ export class ByHand {
 
   async step(session) {
     await this.show([...this.order, session]);
-    (byId("hand-next").querySelector(`[data-session="${session}"]`) ?? byId("hand-next").querySelector("button") ?? byId("hand-again")).focus();
+    (byId("hand-next").querySelector(`[data-session="${session}"]`) ?? byId("hand-next").querySelector("button")
+      ?? byId("hand-again")).focus();
   }
 
   // The last answer, and which outcomes it leaves.
@@ -130,9 +138,12 @@ export class ByHand {
     if (bad) return `${bad} of the lines ${bad === 1 ? "is" : "are"} of no session, and left out.`;
     if (!this.parts.lines.length) return "There is no line to step through: type a script, or choose an example.";
     const reply = answers.at(-1)?.reply ?? "";
-    const last = places.length ? [`Session ${this.parts.lines[places.at(-1)].session}: `, shown(readableValue(reply) ?? reply), ". "] : [];
+    const last = places.length
+      ? [`Session ${this.parts.lines[places.at(-1)].session}: `, shown(readableValue(reply) ?? reply), ". "] : [];
     if (!this.possible) return [...last, "The possible outcomes are too many to be listed."];
-    const left = this.possible.map((one, at) => [one, at + 1]).filter(([one]) => places.every((place, at) => answers[at] && answerOf(one.answers[place]) === answerOf(answers[at])));
+    const left = this.possible.map((one, at) => [one, at + 1])
+      .filter(([one]) => places.every(
+        (place, at) => answers[at] && answerOf(one.answers[place]) === answerOf(answers[at])));
     const numbers = left.slice(0, 12).map(([, number]) => number).join(", ");
     return [...last, isDone ? `This is outcome ${numbers} of ${this.possible.length}.`
       : `${left.length} of ${this.possible.length} possible outcomes agree with this so far${left.length && left.length < this.possible.length ? `: ${numbers}` : ""}.`];

@@ -3,7 +3,8 @@
 const encoder = new TextEncoder();
 const decoder = new TextDecoder("utf-8", { fatal: true, ignoreBOM: true });
 
-// What a reader can't see, or can't distinguish from something else: controls, marks of direction, unassigned ones, blanks other than a space.
+// What a reader can't see, or can't distinguish from something else: controls, marks of direction, unassigned ones,
+// blanks other than a space.
 const UNSEEN = /[\p{C}\p{Zl}\p{Zp}]|(?! )\p{Zs}/u;
 const MARK_FIRST = /^\p{M}/u;
 
@@ -34,7 +35,8 @@ export function ofCanonical(literal) {
   return (digits.match(/../g) ?? []).map((pair) => String.fromCharCode(parseInt(pair, 16))).join("");
 }
 
-// A literal that a statement may have for these bytes: in quotes where all of it can be seen, and else as it is printed.
+// A literal that a statement may have for these bytes: in quotes where all of it can be seen, and else as it is
+// printed.
 export function asLiteral(canonical) {
   const text = toText(ofCanonical(canonical));
   if (text === null || text === "" || UNSEEN.test(text) || MARK_FIRST.test(text)) return canonical;

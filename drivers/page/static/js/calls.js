@@ -3,7 +3,8 @@ import { isBlank } from "./bytes.js";
 
 const BLANKS = /[ \t\r]+/;
 
-// {kind, store, said}: `kind` is "remark", "blank", "stranger", "store", "crash" or "coordinator"; `said` what the arrow says.
+// {kind, store, said}: `kind` is "remark", "blank", "stranger", "store", "crash" or "coordinator"; `said` what the
+// arrow says.
 export function readCall(line) {
   const trimmed = line.replace(/^[ \t\r]+|[ \t\r]+$/g, "");
   if (isBlank(line)) return { kind: "blank", store: null, said: "" };

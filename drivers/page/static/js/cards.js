@@ -25,7 +25,8 @@ export function card(branch) {
 // The committed value of a row is the one that was listed last; who holds it is what is listed now.
 export function rowsOf(answers, branches) {
   const rows = new Map();
-  for (const { key, value } of answers.flatMap((it) => it.touched)) rows.set(key, { key, value, listed: true, holders: [] });
+  for (const { key, value } of answers.flatMap((it) => it.touched))
+    rows.set(key, { key, value, listed: true, holders: [] });
   for (const branch of branches) {
     for (const hold of branch.holds) {
       if (!rows.has(hold.key)) rows.set(hold.key, { key: hold.key, value: null, listed: false, holders: [] });
@@ -44,6 +45,7 @@ function holder({ branch, hold }) {
 export function rowLine(row) {
   return el("tr", { "data-key": row.key },
     el("th", { scope: "row" }, literalText(row.key)),
-    el("td", {}, !row.listed ? el("span.hint", {}, "not listed yet") : row.value === null ? "none" : literalText(row.value)),
+    el("td", {},
+      !row.listed ? el("span.hint", {}, "not listed yet") : row.value === null ? "none" : literalText(row.value)),
     el("td", {}, row.holders.length ? el("ul", {}, row.holders.map(holder)) : "nobody"));
 }

@@ -20,7 +20,8 @@ function statementText(statement, refusal) {
   if (!refusal || refusal.at === null) return shown(statement, "bdi.statement");
   const marked = statement.slice(refusal.at, refusal.at + 1);
   return el("bdi.statement", {}, shown(statement.slice(0, refusal.at)),
-    el("mark.fault", { title: `byte ${refusal.at}` }, marked === "" ? " " : shown(marked)), shown(statement.slice(refusal.at + 1)));
+    el("mark.fault", { title: `byte ${refusal.at}` }, marked === "" ? " " : shown(marked)),
+    shown(statement.slice(refusal.at + 1)));
 }
 
 // A table's text, of which what stands between backticks is code.
@@ -39,7 +40,8 @@ function ruleText(refusal, statement, state) {
 // A reply, of which a value is written as a statement would have it; what was printed is below the pointer.
 function replySpan(reply) {
   const read = readableValue(reply);
-  return read === null ? el("span.reply", {}, shown(reply)) : el("span.reply", { title: reply, "data-printed": reply }, el("bdi", {}, read));
+  return read === null ? el("span.reply", {}, shown(reply))
+    : el("span.reply", { title: reply, "data-printed": reply }, el("bdi", {}, read));
 }
 
 // The state of the session that was answered, as it is listed behind the answer.
@@ -82,8 +84,10 @@ export function lineItem(line, place, answer, goTo) {
   const { session, statement } = cut(line);
   const label = `Run to here: line ${place + 1}`;
   const item = el(`li.line.${session === null ? "bad" : "spoken"}`, { "data-line": place + 1 },
-    el("button.here", { type: "button", title: label, "aria-label": label, onclick: () => goTo(place + 1) }, String(place + 1)));
-  const cell = el("div.cell", {}, session !== null ? spoken(statement, answer, answer && stateOf(answer)) : spokenBadly(line, answer));
+    el("button.here", { type: "button", title: label, "aria-label": label, onclick: () => goTo(place + 1) },
+      String(place + 1)));
+  const cell = el("div.cell", {},
+    session !== null ? spoken(statement, answer, answer && stateOf(answer)) : spokenBadly(line, answer));
   if (session !== null) {
     cell.classList.add(sessionClass(session));
     cell.style.setProperty("--column", session);

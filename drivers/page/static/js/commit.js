@@ -41,7 +41,8 @@ export class Commit {
     }, () => this.showCursor());
     addEventListener("resize", () => this.draw());
     this.quiz = new Quiz(this.view, this.tape, (place) => this.answerAt(place), () => this.changed({}));
-    wire(this.view, this.tape, { story: (lines, at) => this.open(lines, at, this.stores), quiz: this.quiz, print: () => this.print() });
+    wire(this.view, this.tape,
+      { story: (lines, at) => this.open(lines, at, this.stores), quiz: this.quiz, print: () => this.print() });
     byId("calls-form").addEventListener("submit", (event) => this.submit(event));
     byId("any-call").addEventListener("keydown", (event) => this.enterKey(event));
     byId("stores").addEventListener("change", (event) => this.setStores(event.target));
@@ -55,10 +56,12 @@ export class Commit {
   offer({ scenarios, calls }) {
     this.examples = [...scenarios, ...calls];
     const listed = (all, from) => all.map((story, at) => [String(from + at), titleOf(story)]);
-    options(byId("calls-example"), [["Scenarios", listed(scenarios, 0)], ["Examples", listed(calls, scenarios.length)]]);
+    options(byId("calls-example"),
+      [["Scenarios", listed(scenarios, 0)], ["Examples", listed(calls, scenarios.length)]]);
     options(byId("stops"), []);
     const first = FIRST_SCENARIOS.map((name) => scenarios.find((story) => story.name === name)).filter(Boolean);
-    fill(byId("first-scenarios"), first.map((story) => el("button.story", { type: "button", onclick: () => this.openExample(story) },
+    fill(byId("first-scenarios"),
+      first.map((story) => el("button.story", { type: "button", onclick: () => this.openExample(story) },
       el("strong", {}, story.name.replaceAll("_", " ")), " ", story.title)));
     legend(byId("legend"), rules.words());
   }
@@ -71,7 +74,8 @@ export class Commit {
   setStores(input) {
     const wanted = Number(input.value);
     const stores = input.value === "" ? STORES : Math.max(1, Math.min(MOST_STORES, Math.round(wanted)));
-    if (stores !== wanted) this.tells = `There are 1 to ${MOST_STORES} stores. ${stores} ${stores === 1 ? "is" : "are"} taken.`;
+    if (stores !== wanted)
+      this.tells = `There are 1 to ${MOST_STORES} stores. ${stores} ${stores === 1 ? "is" : "are"} taken.`;
     this.open(this.tape.lines, this.tape.at, stores);
     input.value = stores;
   }
@@ -81,8 +85,9 @@ export class Commit {
     const text = (id) => fromText(byId(id).value);
     const number = (id) => Number(byId(id).value);
     const stores = Math.max(this.stores, number("from-store") + 1, number("to-store") + 1);
-    const calls = transferCalls({ fromName: text("from-name"), fromHas: number("from-has"), fromStore: number("from-store"),
-      toName: text("to-name"), toHas: number("to-has"), toStore: number("to-store"), amount: number("amount"), crash: byId("crash").value });
+    const calls = transferCalls({ fromName: text("from-name"), fromHas: number("from-has"),
+      fromStore: number("from-store"), toName: text("to-name"), toHas: number("to-has"), toStore: number("to-store"),
+      amount: number("amount"), crash: byId("crash").value });
     this.open(calls, 0, stores);
   }
 
@@ -104,10 +109,12 @@ export class Commit {
     if (!stop) return;
     this.wantedStop = stop;
     const lines = this.wholeLines();
-    const counts = stop.line === null ? [] : await this.callsOf({ lines: lines.slice(0, stop.line), stores: this.stores });
+    const counts = stop.line === null ? []
+      : await this.callsOf({ lines: lines.slice(0, stop.line), stores: this.stores });
     if (this.wantedStop !== stop) return; // another was chosen meanwhile
     const calls = linesUntil(lines, stop, counts).join("\n");
-    this.app.visit("commit", { calls, at: 0, stores: this.stores === STORES ? "" : this.stores, whole: lines.join("\n") });
+    this.app.visit("commit",
+      { calls, at: 0, stores: this.stores === STORES ? "" : this.stores, whole: lines.join("\n") });
   }
 
   // Asks for the stops of the lines, where they are others than before.
@@ -119,7 +126,8 @@ export class Commit {
     const found = await this.stopsOf({ lines, stores: this.stores });
     if (this.stopped !== wanted) return;
     this.stops = found;
-    options(byId("stops"), [["Line, and calls of sessions in it", found.map((stop, at) => [String(at), nameOfStop(stop, lines)])]]);
+    options(byId("stops"),
+      [["Line, and calls of sessions in it", found.map((stop, at) => [String(at), nameOfStop(stop, lines)])]]);
   }
 
   async stopsOf(asked) {
@@ -139,19 +147,22 @@ export class Commit {
     const at = whole(state.at, 0, lines.length, lines.length);
     const stores = whole(state.stores, 1, MOST_STORES, STORES);
     byId("stores").value = stores;
-    if (stores === this.stores && lines.join("\n") === this.tape.lines.join("\n") && at === this.tape.at) return this.changed({});
+    if (stores === this.stores && lines.join("\n") === this.tape.lines.join("\n") && at === this.tape.at)
+      return this.changed({});
     this.stores = stores;
     this.tape.question = { job: "coordinate", stores };
     return this.tape.open(lines, at);
   }
 
   open(lines, at, stores) {
-    this.app.visit("commit", { calls: lines.join("\n"), at: lines.length && at !== lines.length ? at : "", stores: stores === STORES ? "" : stores });
+    this.app.visit("commit", { calls: lines.join("\n"), at: lines.length && at !== lines.length ? at : "",
+      stores: stores === STORES ? "" : stores });
   }
 
   state() {
     const { lines, at } = this.tape;
-    return { calls: lines.join("\n"), at: at !== lines.length ? at : "", stores: this.stores === STORES ? "" : this.stores, whole: this.whole?.join("\n") };
+    return { calls: lines.join("\n"), at: at !== lines.length ? at : "",
+      stores: this.stores === STORES ? "" : this.stores, whole: this.whole?.join("\n") };
   }
 
   // A button's call, with the numbers and the statement of the form.
@@ -172,7 +183,8 @@ export class Commit {
   lacksStore(form) {
     const k = byId("k").value;
     if (!/\bk\b/.test(form) || (/^\d+$/.test(k) && Number(k) < this.stores)) return false;
-    const all = this.stores === 1 ? "There is one store, 0." : `There are ${this.stores} stores, 0 to ${this.stores - 1}.`;
+    const all = this.stores === 1 ? "There is one store, 0."
+      : `There are ${this.stores} stores, 0 to ${this.stores - 1}.`;
     this.app.notify({ fault: `${all} There is no store ${k || "without a number"}: choose another, or raise Stores.` });
     byId("k").focus();
     return true;
@@ -194,7 +206,8 @@ export class Commit {
     this.app.notify({ ...news, fault: news.fault ?? this.tells });
     this.tells = null;
     const answers = this.tape.answers;
-    this.read = answers.map(([answer, text], at) => (this.read[at]?.text === text ? this.read[at] : { text, ...readStores(text) }));
+    this.read = answers.map(
+      ([answer, text], at) => (this.read[at]?.text === text ? this.read[at] : { text, ...readStores(text) }));
     this.quiz.follow();
     this.announce();
     byId("commit-welcome").hidden = this.tape.lines.length > 0;
@@ -202,7 +215,8 @@ export class Commit {
     this.draw();
     const behind = this.read[this.tape.at - 1];
     doubtList(byId("doubt"), behind);
-    fill(byId("decisions"), NUMBERS.flatMap((name) => [el("dt", {}, name), el("dd", {}, behind?.[name].join(" ") || "none")]));
+    fill(byId("decisions"),
+      NUMBERS.flatMap((name) => [el("dt", {}, name), el("dd", {}, behind?.[name].join(" ") || "none")]));
     const last = answers[this.tape.at - 1];
     printedInto(byId("calls-printed"), last ? last.join("") : "");
     const isOpen = (example) => linesOf(example.text).join("\n") === this.tape.lines.join("\n");
@@ -247,7 +261,9 @@ export class Commit {
     const place = this.tape.lines.slice(0, this.tape.at).findLastIndex((line) => !isCaption(line));
     const answer = this.answerAt(place);
     const doubt = (this.read[this.tape.at - 1]?.stores ?? []).reduce((sum, { prepared }) => sum + prepared.length, 0);
-    fill(byId("commit-said"), answer ? [`Line ${place + 1}: `, shown(this.tape.lines[place].trim()), ": ", shown(answer.read), `. Branches in doubt: ${doubt}`] : null);
+    fill(byId("commit-said"), answer
+      ? [`Line ${place + 1}: `, shown(this.tape.lines[place].trim()), ": ", shown(answer.read),
+        `. Branches in doubt: ${doubt}`] : null);
   }
 
   // Prints the whole diagram in pages, and comes back to the call that was shown.

@@ -1,4 +1,5 @@
-// The buttons over a tape, and their keys. For the projector the arrows do without Alt, and a clicker's keys step always.
+// The buttons over a tape, and their keys. For the projector the arrows do without Alt, and a clicker's keys step
+// always.
 import { clicked, isProjected, isTyping } from "./projector.js";
 
 const KEYS = { ArrowRight: "step", End: "end", ArrowLeft: "back", Home: "start" };
@@ -35,7 +36,8 @@ export function wire(view, tape, { story, quiz, print }) {
 export function enable(view, tape) {
   const waits = tape.at < tape.lines.length;
   const some = tape.lines.length > 0;
-  const able = { start: tape.at > 0, step: waits, end: waits, back: tape.at > 0, drop: waits, clear: some, quiz: true, print: some };
+  const able = { start: tape.at > 0, step: waits, end: waits, back: tape.at > 0, drop: waits, clear: some, quiz: true,
+    print: some };
   for (const button of view.querySelectorAll("[data-do]")) button.disabled = !able[button.dataset.do];
   if (view.dataset.wants !== "step" || !waits) return;
   delete view.dataset.wants;

@@ -49,7 +49,8 @@ export function options(select, groups) {
     el("optgroup", { label: name }, entries.map(([value, text]) => el("option", { value }, text)))));
 }
 
-// Moves a room so that an element's bottom is seen, and so much below it; where the room doesn't move by itself, the page does.
+// Moves a room so that an element's bottom is seen, and so much below it; where the room doesn't move by itself, the
+// page does.
 export function bringIntoView(room, element, below) {
   if (room.scrollHeight > room.clientHeight && getComputedStyle(room).overflowY !== "visible") {
     room.scrollTop += element.getBoundingClientRect().bottom - room.getBoundingClientRect().bottom + below;

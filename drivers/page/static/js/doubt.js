@@ -3,7 +3,8 @@ import { el, fill } from "./dom.js";
 import { xidText } from "./cards.js";
 import { branchText, transactionOf } from "./transactions.js";
 
-// What a branch is called: by its transaction where the coordinator named it. What the program calls it is below the pointer.
+// What a branch is called: by its transaction where the coordinator named it. What the program calls it is below the
+// pointer.
 function branchName(xid) {
   const found = transactionOf(xid);
   return found ? el("span.xid", { title: xid }, branchText(found)) : xidText(xid);
@@ -12,7 +13,8 @@ function branchName(xid) {
 export function doubtList(room, behind) {
   const all = (behind?.stores ?? []).flatMap(({ store, prepared }) => prepared.map((xid) => ({ store, xid })));
   fill(room, all.length
-    ? all.map(({ store, xid }) => el("p.card.prepared", { "data-xid": xid }, transactionOf(xid)?.store === store ? null : `Store ${store}: `, branchName(xid)))
+    ? all.map(({ store, xid }) => el("p.card.prepared", { "data-xid": xid },
+      transactionOf(xid)?.store === store ? null : `Store ${store}: `, branchName(xid)))
     : el("p.hint", {}, "No branch is in doubt."));
 }
 

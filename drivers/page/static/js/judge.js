@@ -35,7 +35,8 @@ export class Judge {
       if (event.target.id !== "record-example") this.app.keep("judge", this.asked(false));
     });
     byId("record-example").addEventListener("change", (event) => this.openExample(event.target.value));
-    byId("play-order").addEventListener("click", () => this.app.visit("sessions", { script: fromText(readable(this.verdict.order.join("\n"))) }));
+    byId("play-order").addEventListener("click",
+      () => this.app.visit("sessions", { script: fromText(readable(this.verdict.order.join("\n"))) }));
     byId("save-picture").addEventListener("click", () => save(this.picture));
     addEventListener("keydown", (event) => this.clickerKey(event));
   }
@@ -129,7 +130,8 @@ export class Judge {
     const item = el("li", { "data-line": number }, shown(line));
     if (event) item.classList.add(sessionClass(event[1]), { ">": "called", "<": "returned", "!": "lost" }[event[2]]);
     if (marked) item.classList.add("marked");
-    if (number === this.verdict.line) item.append(...this.verdict.could.map((reply) => el("span.could", {}, "could be ", shownLines(reply))));
+    if (number === this.verdict.line)
+      item.append(...this.verdict.could.map((reply) => el("span.could", {}, "could be ", shownLines(reply))));
     if (fault !== undefined) item.append(" ", el("span.fault", {}, fault));
     return item;
   }

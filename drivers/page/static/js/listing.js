@@ -31,14 +31,16 @@ export function refusalOf(reply) {
   return { number: found[1], sqlstate: found[2], text: found[3], at: place ? Number(place[1]) : null };
 }
 
-// {session, reply, rows, refusal, branches, touched}: `session` is "-" for a line that isn't one, null where there is no answer.
+// {session, reply, rows, refusal, branches, touched}: `session` is "-" for a line that isn't one, null where there is
+// no answer.
 export function readShown(text) {
   const found = { session: null, reply: null, rows: "", refusal: null, branches: [], touched: [] };
   let at = 0;
   const first = /^(\d+|-) ([^\n]*)\n/.exec(text);
   if (first) {
     at = endOfReply(text, first[0].length, first[2]);
-    Object.assign(found, { session: first[1], reply: first[2], rows: text.slice(first[0].length, at), refusal: refusalOf(first[2]) });
+    Object.assign(found,
+      { session: first[1], reply: first[2], rows: text.slice(first[0].length, at), refusal: refusalOf(first[2]) });
   }
   for (const line of text.slice(at).split("\n")) readListed(line, found);
   return found;

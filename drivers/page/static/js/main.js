@@ -19,7 +19,8 @@ const TOO_LONG = "This is too long for an address, which has a million character
 
 class App {
   constructor() {
-    this.views = { sessions: new Sessions(this), race: new Race(this), commit: new Commit(this), judge: new Judge(this), server: new Server(this) };
+    this.views = { sessions: new Sessions(this), race: new Race(this), commit: new Commit(this), judge: new Judge(this),
+      server: new Server(this) };
     this.current = null;
     addEventListener("hashchange", () => this.enter());
     listen(() => this.enter());
@@ -75,7 +76,9 @@ class App {
   notify({ ended, note, fault }) {
     const said = [];
     if (ended) said.push(el("p.notice.ended", {}, endingText(ended), " The next step gives all lines to a new one."));
-    if (note) said.push(el("p.notice", {}, `The program's child had been ended, since ${note}; a new one was given the same lines.`));
+    if (note)
+      said.push(el("p.notice", {},
+        `The program's child had been ended, since ${note}; a new one was given the same lines.`));
     if (fault) said.push(el("p.notice.ended", {}, fault));
     fill(byId("notices"), said);
   }

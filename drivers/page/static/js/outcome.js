@@ -42,7 +42,8 @@ export function tie(outcome, script) {
     waiting.get(session).push({ line, statement });
   }
   for (const answer of outcome.answers) Object.assign(answer, waiting.get(answer.session)?.shift());
-  // An entry's answer is its session's last one at that place: what it was answered before stands in front of the entry.
+  // An entry's answer is its session's last one at that place: what it was answered before stands in front of the
+  // entry.
   for (const answer of outcome.answers) {
     const entry = outcome.history[answer.place];
     if (entry?.session === answer.session) entry.answer = answer;

@@ -1,4 +1,5 @@
-// All that a script's lines can be answered, whatever the order of its sessions, as `xa_script explore` lists it, and which of it came.
+// All that a script's lines can be answered, whatever the order of its sessions, as `xa_script explore` lists it, and
+// which of it came.
 import { readableValue } from "./bytes.js";
 import { cameText, el, sessionClass, shown, shownLines } from "./dom.js";
 import { endOfReply } from "./listing.js";
@@ -30,7 +31,8 @@ function answersFrom(text, from, count) {
   return { answers, end: at };
 }
 
-// Each outcome as {text, answers, order}, or null where none is listed: there are too many ways, the script isn't read, or the program lacks the job.
+// Each outcome as {text, answers, order}, or null where none is listed: there are too many ways, the script isn't read,
+// or the program lacks the job.
 export function readPossible(text, parts) {
   const head = HEAD.exec(text);
   if (!head) return null;
@@ -40,13 +42,15 @@ export function readPossible(text, parts) {
     const read = name && answersFrom(text, at + name[0].length, parts.lines.length);
     const order = read && matchAt(ORDER, text, read.end);
     if (!order) return null;
-    found.push({ text: text.slice(at + name[0].length, read.end), answers: read.answers, order: order[1].split(" ").slice(1).map(Number) });
+    found.push({ text: text.slice(at + name[0].length, read.end), answers: read.answers,
+      order: order[1].split(" ").slice(1).map(Number) });
     at = read.end + order[0].length;
   }
   return found;
 }
 
-// How often each outcome came in a race of so many runs: pairs of its text and the count; none where the script isn't read.
+// How often each outcome came in a race of so many runs: pairs of its text and the count; none where the script isn't
+// read.
 export function readCame(text, parts) {
   const found = [];
   for (let at = 0; at < text.length; ) {
@@ -72,15 +76,18 @@ export function answersOf(outcome, parts) {
 // A line with its answer, a value as a statement would have it.
 function answeredLine({ session, statement }, { reply, rows }) {
   const kind = reply.startsWith("ERROR") ? "span.reply.refused" : "span.reply";
-  return el(`li.${sessionClass(session)}`, {}, el("span.who", {}, String(session)), " ", shown(statement, "bdi.statement"), " ",
-    el(kind, { "data-printed": reply }, shown(readableValue(reply) ?? reply)), rows ? el("pre.rows", {}, shownLines(rows.replace(/\n$/, ""))) : null);
+  return el(`li.${sessionClass(session)}`, {}, el("span.who", {}, String(session)), " ",
+    shown(statement, "bdi.statement"), " ",
+    el(kind, { "data-printed": reply }, shown(readableValue(reply) ?? reply)),
+    rows ? el("pre.rows", {}, shownLines(rows.replace(/\n$/, ""))) : null);
 }
 
 function itemOf({ answers, order }, number, count, parts, openLines) {
   const label = `Open outcome ${number} in Sessions`;
   return el(count ? "li.came" : "li", { value: number, "data-came": count },
     el("span.count", {}, cameText(count)),
-    el("button", { type: "button", title: label, "aria-label": label, onclick: () => openLines(linesInOrder(parts, order)) }, "Open in Sessions"),
+    el("button", { type: "button", title: label, "aria-label": label,
+      onclick: () => openLines(linesInOrder(parts, order)) }, "Open in Sessions"),
     el("ul.answered", {}, parts.lines.map((line, at) => answeredLine(line, answers[at]))));
 }
 

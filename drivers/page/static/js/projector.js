@@ -1,4 +1,5 @@
-// For a lecture hall: F leaves out tools and forms and makes the rest larger, + and - make all larger and smaller, and a clicker's keys step.
+// For a lecture hall: F leaves out tools and forms and makes the rest larger, + and - make all larger and smaller, and
+// a clicker's keys step.
 import { byId } from "./dom.js";
 
 const ZOOMS = [0.6, 0.7, 0.8, 0.9, 1, 1.15, 1.3, 1.5, 1.75, 2, 2.5];
@@ -9,7 +10,8 @@ export const isTyping = (event) => Boolean(event.target.closest?.("input, textar
 export const isProjected = () => document.body.classList.contains("projected");
 
 // Whether a key is the control's own that has the focus: a blank in a text, or on a button.
-const hasKeys = (event) => Boolean(event.target.closest?.("input, textarea, select, button, a, summary, [role=button]"));
+const hasKeys = (event) =>
+  Boolean(event.target.closest?.("input, textarea, select, button, a, summary, [role=button]"));
 
 // What a clicker's key is meant to do: "step", "back", or nothing.
 export function clicked(event) {
@@ -19,7 +21,8 @@ export function clicked(event) {
   return event.key === " " && !event.shiftKey && !hasKeys(event) ? "step" : null;
 }
 
-// A list in which a pointer has chosen, or in which the choice was confirmed, leaves the keys to the view: the focus goes to its Step.
+// A list in which a pointer has chosen, or in which the choice was confirmed, leaves the keys to the view: the focus
+// goes to its Step.
 function listenToChoices() {
   let pointed = null;
   const leave = (select) => {
@@ -61,7 +64,8 @@ export function listen(changed) {
     changed();
   });
   addEventListener("keydown", (event) => {
-    const isToggle = (event.key === "f" || event.key === "F") && !event.altKey && !event.ctrlKey && !event.metaKey && !isTyping(event);
+    const isToggle = (event.key === "f" || event.key === "F") && !event.altKey && !event.ctrlKey && !event.metaKey
+      && !isTyping(event);
     if (!isToggle && !(event.key === "Escape" && isProjected())) return;
     event.preventDefault();
     document.body.classList.toggle("projected");

@@ -1,12 +1,15 @@
-// A quiz: a step first asks what the next line will be answered, and the answer comes once somebody has guessed, or asked for it.
+// A quiz: a step first asks what the next line will be answered, and the answer comes once somebody has guessed, or
+// asked for it.
 import { el, fill, shown } from "./dom.js";
 
 const plain = (text) => text.trim().replace(/;$/, "").replace(/\s+/g, " ").toUpperCase();
 
-// The words that a coordinator's answer begins with, as WRONG STAGE or RECOVERED: the numbers behind them needn't be guessed.
+// The words that a coordinator's answer begins with, as WRONG STAGE or RECOVERED: the numbers behind them needn't be
+// guessed.
 const NAMED = /^(?!VALUE|ROWS)[A-Z]+(?: [A-Z]+)*(?=:| [\da-z]|$)/;
 
-// Whether a guess is this answer: as it is printed or as it is shown, by an error's number, or by the words that name it.
+// Whether a guess is this answer: as it is printed or as it is shown, by an error's number, or by the words that name
+// it.
 export function isRight(guess, printed, read) {
   const said = plain(guess);
   if (said === "") return false;
@@ -26,7 +29,8 @@ export class Quiz {
     this.input = el("input", { type: "text", spellcheck: "false", autocapitalize: "off", "aria-label": "Your guess",
       placeholder: view.dataset.guess });
     this.form = el("form.quiz", { hidden: true, autocomplete: "off" }, el("label", {}, this.line, this.input),
-      el("button.main", { type: "submit" }, "Guess"), el("button.reveal", { type: "button", onclick: () => this.reveal(null) }, "Show the answer"));
+      el("button.main", { type: "submit" }, "Guess"),
+      el("button.reveal", { type: "button", onclick: () => this.reveal(null) }, "Show the answer"));
     this.said = el("p.quiz-said", { role: "status", "aria-live": "polite" });
     this.form.addEventListener("submit", (event) => {
       event.preventDefault();

@@ -16,7 +16,8 @@ import { follow, titleOf } from "./titles.js";
 const BATCH = 10;
 const FAULTY = 6; // the status of counted races whose script has faulty lines, which are then the output
 const STRIP = 48; // entries that a bar shows
-const UNSHUFFLED = "none"; // in place of a seed: else the sessions' turns are shuffled, so that a script shows its histories soon
+// in place of a seed: else the sessions' turns are shuffled, so that a script shows its histories soon
+const UNSHUFFLED = "none";
 const MANY = "The possible outcomes are too many to be listed.";
 const IN_PARTS = "BESIDE or AFTER parts this script, so its histories aren't listed: see its outcomes.";
 const GONE = "The history that the address names didn't come in these runs.";
@@ -52,14 +53,16 @@ export class Race {
     this.byHand = new ByHand(app, (hand) => this.app.keep("race", { ...this.asked(false), hand }));
     byId("by-hand-begin").addEventListener("click", () => this.app.visit("race", { ...this.asked(false), hand: "0" }));
     addEventListener("keydown", (event) => this.clickerKey(event));
-    byId("open-order").addEventListener("click", () => this.app.visit("sessions", { script: orderOf(this.drawn).join("\n") }));
+    byId("open-order")
+      .addEventListener("click", () => this.app.visit("sessions", { script: orderOf(this.drawn).join("\n") }));
   }
 
   offer(examples) {
     this.examples = [...examples.races, ...examples.scripts, ...examples.stories];
     let from = 0;
     const listed = (kind) => examples[kind].map((story) => [String(from++), titleOf(story)]);
-    options(byId("race-example"), [["Races", listed("races")], ["Examples", listed("scripts")], ["Stories", listed("stories")]]);
+    options(byId("race-example"),
+      [["Races", listed("races")], ["Examples", listed("scripts")], ["Stories", listed("stories")]]);
   }
 
   openExample(choice) {
@@ -71,7 +74,8 @@ export class Race {
   asked(go) {
     const number = (id) => byId(id).value;
     return { script: this.script(), together: byId("together").checked ? 1 : "", renew: byId("renew").checked ? 1 : "",
-      seed: byId("shuffled").checked ? number("seed") : UNSHUFFLED, runs: number("runs"), capacity: number("capacity"), go: go ? ++this.runs : "" };
+      seed: byId("shuffled").checked ? number("seed") : UNSHUFFLED, runs: number("runs"), capacity: number("capacity"),
+      go: go ? ++this.runs : "" };
   }
 
   // The text of the box; bytes that aren't text stay as the address had them while the box isn't touched.
@@ -137,7 +141,8 @@ export class Race {
     this.parts = partsOf(this.raced);
     fill(byId("race-parts"), this.parts.hasParts ? IN_PARTS : null);
     const times = Math.max(1, Math.min(200, Number(byId("runs").value) || 1));
-    const question = { script: this.parts.text, parts: this.parts.hasParts, together: byId("together").checked, renew: byId("renew").checked,
+    const question = { script: this.parts.text, parts: this.parts.hasParts, together: byId("together").checked,
+      renew: byId("renew").checked,
       capacity: Number(byId("capacity").value) };
     const seed = byId("shuffled").checked ? Number(byId("seed").value) : null;
     this.app.notify({});
@@ -145,7 +150,8 @@ export class Race {
     this.explore(wanted);
     try {
       for (let done = 0; done < times && this.begun === wanted; ) {
-        const { ran } = await ask("race", { ...question, times: Math.min(BATCH, times - done), seed: seed === null ? null : seed + done });
+        const { ran } = await ask("race",
+          { ...question, times: Math.min(BATCH, times - done), seed: seed === null ? null : seed + done });
         if (this.begun !== wanted) return;
         done += this.parts.hasParts ? Math.min(BATCH, times - done) : ran.length;
         if (!(this.parts.hasParts ? this.takeCounted(ran[0]) : this.take(ran))) break;
@@ -176,7 +182,8 @@ export class Race {
     if (!this.isExplored || !this.came.size) return;
     byId("all-outcomes").hidden = false;
     if (this.possible === null) return void fill(byId("possible-seen"), MANY);
-    const { seen, items } = possibleItems(this.possible, this.came, this.parts, (lines) => this.app.visit("sessions", { script: lines.join("\n") }));
+    const { seen, items } = possibleItems(this.possible, this.came, this.parts,
+      (lines) => this.app.visit("sessions", { script: lines.join("\n") }));
     fill(byId("possible-seen"), seen);
     keepingFocus(byId("possible"), () => fill(byId("possible"), items));
   }
@@ -213,7 +220,8 @@ export class Race {
   }
 
   count(outcome, output) {
-    if (!this.histories.has(outcome.key)) this.histories.set(outcome.key, { key: outcome.key, count: 0, history: outcome.history, outcomes: new Map() });
+    if (!this.histories.has(outcome.key))
+      this.histories.set(outcome.key, { key: outcome.key, count: 0, history: outcome.history, outcomes: new Map() });
     const found = this.histories.get(outcome.key);
     found.count += 1;
     found.outcomes.set(output, (found.outcomes.get(output) ?? 0) + 1);
@@ -226,7 +234,8 @@ export class Race {
     fill(byId("race-faults"), faults.map((fault) => {
       const found = /^LINE (\d+) (.*)$/s.exec(fault);
       const number = found && this.parts.numbers[Number(found[1]) - 1];
-      return number ? el("li", {}, `LINE ${number} `, shown(found[2]), ": ", shown(lines[number - 1])) : el("li", {}, shown(fault));
+      return number ? el("li", {}, `LINE ${number} `, shown(found[2]), ": ", shown(lines[number - 1]))
+        : el("li", {}, shown(fault));
     }));
     if (faults.length) fill(byId("histories"));
     return faults.length === 0;
@@ -262,14 +271,17 @@ export class Race {
   }
 
   bar(found, most) {
-    const strip = found.history.slice(0, STRIP).map((entry) => el(`span.entry.${sessionClass(entry.session)}`, {}, String(entry.session)));
+    const strip = found.history.slice(0, STRIP)
+      .map((entry) => el(`span.entry.${sessionClass(entry.session)}`, {}, String(entry.session)));
     const bar = el("span.bar");
     bar.style.setProperty("--part", found.count / most);
-    return el("button.history", { type: "button", "aria-pressed": String(found.key === this.picked), "data-count": found.count,
+    return el("button.history", { type: "button", "aria-pressed": String(found.key === this.picked),
+      "data-count": found.count,
       "aria-label": `History of ${found.history.length} entries, by sessions ${found.history.map((it) => it.session).join(" ")}: ${cameText(found.count)}`,
       onclick: () => this.choose(found) },
     el("span.count", {}, String(found.count)), bar,
-    el("span.strip", {}, strip, found.history.length > STRIP ? "…" : null, found.history.length === 0 ? "no entries" : null));
+    el("span.strip", {}, strip, found.history.length > STRIP ? "…" : null,
+      found.history.length === 0 ? "no entries" : null));
   }
 
   // Picks a history, which the address then names; where nobody has chosen, the one that came most often is picked.
@@ -296,7 +308,8 @@ export class Race {
     if (!found) return;
     const outcomes = [...found.outcomes].sort(([a, m], [b, n]) => n - m || (a < b ? -1 : 1));
     this.outcomes = outcomes.map(([text]) => text);
-    fill(byId("outcome"), outcomes.map(([, count], at) => el("option", { value: at }, `${at + 1} of ${outcomes.length}: ${cameText(count)}`)));
+    fill(byId("outcome"), outcomes.map(
+      ([, count], at) => el("option", { value: at }, `${at + 1} of ${outcomes.length}: ${cameText(count)}`)));
     byId("outcome-choice").hidden = outcomes.length < 2;
     if (this.drawn === null) this.drawOutcome(0);
     else byId("outcome").value = this.outcomes.indexOf(this.text);

@@ -1,4 +1,5 @@
-// Which line of docs/STATEMENTS.md's tables refused a statement: the tables come from the server, which reads them there.
+// Which line of docs/STATEMENTS.md's tables refused a statement: the tables come from the server, which reads them
+// there.
 import { fetched } from "./api.js";
 
 let tables = { replies: [[]], refusals: [[]], legend: [] };
@@ -20,7 +21,8 @@ function wordsOf(statement) {
   return words.replace(/^XA BEGIN\b/, "XA START");
 }
 
-// The row of the statement that has the refusal's number in the column of the session's state; ONE PHASE before what it begins like.
+// The row of the statement that has the refusal's number in the column of the session's state; ONE PHASE before what it
+// begins like.
 function replyRule(number, statement, state) {
   const [head = [], ...rows] = tables.replies;
   const column = head.indexOf(state);
@@ -31,7 +33,8 @@ function replyRule(number, statement, state) {
   return row ? { statement: row[0], state, cell: row[column] } : null;
 }
 
-// {where, rule}: when the number is returned, as the table of errors has it, and the row of the table of replies if there is one.
+// {where, rule}: when the number is returned, as the table of errors has it, and the row of the table of replies if
+// there is one.
 export function ruleOf(refusal, statement, state) {
   const row = tables.refusals.slice(1).find((it) => it[0] === refusal.number);
   return row ? { where: row.at(-1), rule: replyRule(refusal.number, statement, state) } : null;

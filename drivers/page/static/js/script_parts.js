@@ -4,11 +4,13 @@ import { cut, isCaption } from "./columns.js";
 
 const trimmed = (line) => line.replace(/^[ \t\r]+|[ \t\r]+$/g, "");
 
-// {text, numbers, lines, hasParts, before, beside, after}: `text` is what the program is given, `numbers` has for each of its lines the number that it was typed with,
-// `lines` are those of statements, and the others have their places among these. Lines of no session stand where they are: the program names them.
+// {text, numbers, lines, hasParts, before, beside, after}: `text` is what the program is given, `numbers` has for each
+// of its lines the number that it was typed with, `lines` are those of statements, and the others have their places
+// among these. Lines of no session stand where they are: the program names them.
 export function partsOf(script) {
   const kept = linesOf(script).flatMap((line, at) => (isCaption(line) ? [] : [{ line, number: at + 1 }]));
-  const found = { text: kept.map(({ line }) => line).join("\n"), numbers: kept.map(({ number }) => number), lines: [], hasParts: false, before: [], beside: [], after: [] };
+  const found = { text: kept.map(({ line }) => line).join("\n"), numbers: kept.map(({ number }) => number), lines: [],
+    hasParts: false, before: [], beside: [], after: [] };
   let part = found.beside;
   for (const { line } of kept) {
     const word = trimmed(line);
@@ -24,7 +26,8 @@ export function partsOf(script) {
   return found;
 }
 
-// The places of the lines where the sessions side by side take turns in this order; those for which there is no line are left out.
+// The places of the lines where the sessions side by side take turns in this order; those for which there is no line
+// are left out.
 export function placesIn(parts, order) {
   const left = [...parts.beside];
   const turns = order.flatMap((session) => {

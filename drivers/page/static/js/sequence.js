@@ -1,4 +1,5 @@
-// The sequence diagram of a coordinator's calls: the server makes its SVG, which is shown as it is. What can be done in it are its buttons.
+// The sequence diagram of a coordinator's calls: the server makes its SVG, which is shown as it is. What can be done in
+// it are its buttons.
 import { ask } from "./api.js";
 import { byId, el, fill } from "./dom.js";
 import { isProjected } from "./projector.js";
@@ -17,7 +18,8 @@ function read(svg) {
 }
 
 function selectorOf(button) {
-  return PLACE.filter((name) => name in button.dataset).map((name) => `[data-${name}="${CSS.escape(button.dataset[name])}"]`).join("");
+  return PLACE.filter((name) => name in button.dataset)
+    .map((name) => `[data-${name}="${CSS.escape(button.dataset[name])}"]`).join("");
 }
 
 export class Sequence {
@@ -32,7 +34,8 @@ export class Sequence {
     room.addEventListener("keydown", (event) => {
       if (event.key === "Enter" || event.key === " ") this.act(event.target.closest("[data-act]"), event);
     });
-    for (const kind of ["focusin", "mouseover"]) room.addEventListener(kind, (event) => this.say(event.target.closest("[data-act]")));
+    for (const kind of ["focusin", "mouseover"])
+      room.addEventListener(kind, (event) => this.say(event.target.closest("[data-act]")));
     for (const kind of ["focusout", "mouseleave"]) room.addEventListener(kind, () => this.say(null));
   }
 
@@ -93,7 +96,8 @@ export class Sequence {
     byId("sequence-heads").style.setProperty("--head", `${height}px`);
     if (focused && !this.room.contains(document.activeElement)) {
       const same = focused.dataset.act ? this.room.querySelector(selectorOf(focused)) : null;
-      (same ?? this.room.querySelector(`[data-act="go"][data-line="${focused.dataset.line}"]`))?.focus({ preventScroll: true });
+      (same ?? this.room.querySelector(`[data-act="go"][data-line="${focused.dataset.line}"]`))
+        ?.focus({ preventScroll: true });
     }
     this.room.dataset.given = asked.at;
     this.drawn();

@@ -5,7 +5,8 @@ import { byId, el, fill, sessionClass } from "./dom.js";
 
 const EACH = 1000; // milliseconds
 const HOW = { HOLDS: "holds", SHARES: "shares" };
-const NUMBERS = [["connections", "connections"], ["strangers", "not logged in yet"], ["lent", "sessions lent"], ["waiting", "statements that wait for a session"],
+const NUMBERS = [["connections", "connections"], ["strangers", "not logged in yet"], ["lent", "sessions lent"],
+  ["waiting", "statements that wait for a session"],
   ["entries", "entries of the history"]];
 
 function ageText(seconds) {
@@ -15,7 +16,8 @@ function ageText(seconds) {
 
 function owner(branch) {
   const who = branch.connection === null ? "no connection" : `connection ${branch.connection}`;
-  return branch.session === null ? el("span.owner", {}, branch.state === "PREPARED" ? `no owner; prepared by ${who}` : who)
+  return branch.session === null
+    ? el("span.owner", {}, branch.state === "PREPARED" ? `no owner; prepared by ${who}` : who)
     : el(`span.owner.${sessionClass(branch.session)}`, {}, `${who}, session ${branch.session}`);
 }
 
@@ -27,12 +29,14 @@ function card(branch) {
     el("h3", {}, xidText(branch.xid)),
     el("p", {}, el("span.phase", {}, branch.state), " ", owner(branch)),
     branch.age === null ? null : el("p.hint", {}, `since ${ageText(branch.age)}`),
-    rows.length ? el("ul", {}, rows.map(([key, how]) => el("li", {}, `${HOW[how] ?? how} `, literalText(key)))) : el("p.hint", {}, "holds no row"));
+    rows.length ? el("ul", {}, rows.map(([key, how]) => el("li", {}, `${HOW[how] ?? how} `, literalText(key))))
+      : el("p.hint", {}, "holds no row"));
 }
 
 function counts(title, entries, none) {
   return el("table", {}, el("caption", {}, title),
-    entries.length ? el("tbody", {}, entries.map(([name, count]) => el("tr", {}, el("th", { scope: "row" }, name), el("td", {}, String(count)))))
+    entries.length ? el("tbody", {},
+      entries.map(([name, count]) => el("tr", {}, el("th", { scope: "row" }, name), el("td", {}, String(count)))))
       : el("tbody", {}, el("tr", {}, el("td.hint", {}, none))));
 }
 
@@ -42,8 +46,10 @@ function section(store) {
   return el("section.store", { "data-store": store.name, "aria-label": store.name },
     el("h2", {}, store.name, store.out ? el("span.out", {}, " is out: it refuses connections") : null),
     el("div.watched", {},
-      el("div.cards", {}, store.branches.length ? store.branches.map(card) : el("p.hint", {}, "No branch is open or prepared.")),
-      el("div.tables", {}, counts("Now", numbers, ""), counts("Statements", statements, "none yet"), counts("Refused", Object.entries(store.refusals), "none yet"))));
+      el("div.cards", {},
+        store.branches.length ? store.branches.map(card) : el("p.hint", {}, "No branch is open or prepared.")),
+      el("div.tables", {}, counts("Now", numbers, ""), counts("Statements", statements, "none yet"),
+        counts("Refused", Object.entries(store.refusals), "none yet"))));
 }
 
 export class Server {

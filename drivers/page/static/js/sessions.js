@@ -4,7 +4,9 @@ import { fromText, linesOf, readableValue } from "./bytes.js";
 import { card, rowLine, rowsOf, xidText } from "./cards.js";
 import { cut, isCaption, lineItem, widestSession } from "./columns.js";
 import { enable, wire } from "./controls.js";
-import { bringAcross, bringIntoView, byId, el, fill, keepingFocus, options, printedInto, remarkOf, sessionClass, shown } from "./dom.js";
+import {
+  bringAcross, bringIntoView, byId, el, fill, keepingFocus, options, printedInto, remarkOf, sessionClass, shown,
+} from "./dom.js";
 import { readShown } from "./listing.js";
 import { Patch } from "./patch.js";
 import { Quiz } from "./quiz.js";
@@ -28,7 +30,8 @@ export class Sessions {
     this.given = new Patch(byId("given"));
     this.pending = new Patch(byId("pending"));
     this.quiz = new Quiz(this.view, this.tape, (place) => this.answerAt(place), () => this.changed({}));
-    wire(this.view, this.tape, { story: (lines, at) => this.open(lines, at), quiz: this.quiz, print: () => this.print() });
+    wire(this.view, this.tape,
+      { story: (lines, at) => this.open(lines, at), quiz: this.quiz, print: () => this.print() });
     byId("add-session").addEventListener("click", () => this.addSession());
     byId("race-this").addEventListener("click", () => this.raceThese());
     byId("story").addEventListener("change", (event) => this.openStory(event.target.value));
@@ -38,14 +41,16 @@ export class Sessions {
   offer(examples) {
     this.stories = [...examples.stories, ...examples.scripts];
     const listed = (kind, from) => examples[kind].map((story, at) => [String(from + at), titleOf(story)]);
-    options(byId("story"), [["Stories", listed("stories", 0)], ["Examples", listed("scripts", examples.stories.length)]]);
+    options(byId("story"),
+      [["Stories", listed("stories", 0)], ["Examples", listed("scripts", examples.stories.length)]]);
     this.offerFirst();
   }
 
   // What somebody who has nothing open can begin with.
   offerFirst() {
     const first = FIRST_STORIES.map((name) => this.stories.find((story) => story.name === name)).filter(Boolean);
-    fill(byId("first-stories"), first.map((story) => el("button.story", { type: "button", onclick: () => this.open(linesOf(story.text), 0) },
+    fill(byId("first-stories"),
+      first.map((story) => el("button.story", { type: "button", onclick: () => this.open(linesOf(story.text), 0) },
       el("strong", {}, story.name.replaceAll("_", " ")), " ", story.title)));
     fill(byId("sample"), SAMPLE);
     byId("sample").addEventListener("click", () => {
@@ -101,7 +106,9 @@ export class Sessions {
     const place = this.tape.lines.slice(0, this.tape.at).findLastIndex((line) => !isCaption(line));
     const answer = this.answerAt(place);
     const { session, statement } = place < 0 ? {} : cut(this.tape.lines[place]);
-    fill(byId("sessions-said"), answer ? [`Line ${place + 1}${session ? `, session ${session}` : ""}: `, shown(statement), ": ", shown(answer.read)] : null);
+    fill(byId("sessions-said"), answer
+      ? [`Line ${place + 1}${session ? `, session ${session}` : ""}: `, shown(statement), ": ", shown(answer.read)]
+      : null);
   }
 
   addSession() {
@@ -118,7 +125,8 @@ export class Sessions {
 
   changed(news) {
     this.app.notify(news);
-    this.read = this.tape.answers.map(([text], at) => (text === this.read[at]?.text ? this.read[at] : { text, ...readShown(text) }));
+    this.read = this.tape.answers.map(
+      ([text], at) => (text === this.read[at]?.text ? this.read[at] : { text, ...readShown(text) }));
     this.columns = Math.max(this.columns, widestSession(this.tape.lines));
     this.quiz.follow();
     this.drawHeads();
@@ -158,7 +166,8 @@ export class Sessions {
   }
 
   input(session, kept) {
-    const input = el("input", { name: session, type: "text", spellcheck: "false", autocapitalize: "off", "aria-label": `Statement of session ${session}`,
+    const input = el("input", { name: session, type: "text", spellcheck: "false", autocapitalize: "off",
+      "aria-label": `Statement of session ${session}`,
       placeholder: "statement, Enter" });
     input.value = kept.get(String(session)) ?? "";
     input.addEventListener("keydown", (event) => {
@@ -198,7 +207,8 @@ export class Sessions {
       const place = Number(item.dataset.line) - 1;
       item.classList.toggle("current", place === current);
       item.classList.toggle("asked", place === this.quiz.asked);
-      item.classList.toggle("veiled", this.quiz.isOn && place > (this.quiz.next() ?? place) && isCaption(lines[place])); // it may tell the answer
+      // it may tell the answer
+      item.classList.toggle("veiled", this.quiz.isOn && place > (this.quiz.next() ?? place) && isCaption(lines[place]));
       if (place === current) item.setAttribute("aria-current", "step");
       else item.removeAttribute("aria-current");
     }
@@ -208,7 +218,8 @@ export class Sessions {
     const made = lineItem(line, place, answer, (wanted) => this.tape.goTo(wanted));
     if (answer === null && !isCaption(line)) {
       const label = `Remove line ${place + 1}`;
-      made.append(el("button.remove", { type: "button", title: label, "aria-label": label, onclick: () => this.tape.remove(place) }, "×"));
+      made.append(el("button.remove",
+        { type: "button", title: label, "aria-label": label, onclick: () => this.tape.remove(place) }, "×"));
     }
     return made;
   }

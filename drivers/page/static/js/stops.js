@@ -3,7 +3,8 @@ import { linesOf } from "./bytes.js";
 
 const STOP = /^STOP (?:(\d+) (\d+)|END)$/;
 
-// {line, calls, recovered} of each stop; `line` is null for the one behind all lines. None where a line can't stand among stops.
+// {line, calls, recovered} of each stop; `line` is null for the one behind all lines. None where a line can't stand
+// among stops.
 export function readStops(text) {
   const found = [];
   for (const line of linesOf(text)) {
@@ -20,7 +21,8 @@ export function nameOfStop({ line, calls, recovered }, lines) {
   return `${place}: ${recovered.replace("RECOVERED ", "")}`;
 }
 
-// The calls that come to a stop, and recover. `counts` has how many calls the line makes of the session in each store: the stores get them in order.
+// The calls that come to a stop, and recover. `counts` has how many calls the line makes of the session in each store:
+// the stores get them in order.
 export function linesUntil(lines, { line, calls }, counts) {
   if (line === null) return [...lines, "STOP", "RECOVER"];
   const before = lines.slice(0, line - 1);

@@ -2,8 +2,8 @@
 import { ask, Failure, NAME } from "./api.js";
 
 export class Tape {
-  // `question` says which job, `changed` is called behind every change, with what is to be said of it, and `isCaption` says which lines are
-  // read in passing: they go with the line that follows them.
+  // `question` says which job, `changed` is called behind every change, with what is to be said of it, and `isCaption`
+  // says which lines are read in passing: they go with the line that follows them.
   constructor(question, changed, isCaption) {
     this.question = question;
     this.changed = changed;

@@ -23,14 +23,17 @@ function betweenRow(outcome, place, columns) {
 function entryRow(entry, columns) {
   return el(`tr.entry.${sessionClass(entry.session)}`, { "data-place": entry.place },
     el("th.node", { scope: "row" }, el("span.dot", {}, String(entry.place))),
-    el("td.canonical", { title: entry.statement }, el("span.who", {}, String(entry.session)), " ", el("bdi", {}, readable(entry.statement))),
+    el("td.canonical", { title: entry.statement }, el("span.who", {}, String(entry.session)), " ",
+      el("bdi", {}, readable(entry.statement))),
     cells(columns, entry.answer ? [entry.answer] : []));
 }
 
 export function draw(room, outcome) {
   const columns = Math.max(1, ...outcome.answers.map((answer) => answer.session));
-  const heads = Array.from({ length: columns }, (_, at) => el(`th.${sessionClass(at + 1)}`, { scope: "col" }, `Session ${at + 1}`));
-  const rows = outcome.history.flatMap((entry) => [betweenRow(outcome, entry.place, columns), entryRow(entry, columns)]);
+  const heads = Array.from({ length: columns },
+    (_, at) => el(`th.${sessionClass(at + 1)}`, { scope: "col" }, `Session ${at + 1}`));
+  const rows = outcome.history.flatMap(
+    (entry) => [betweenRow(outcome, entry.place, columns), entryRow(entry, columns)]);
   fill(room, el("table.timeline", {},
     el("thead", {}, el("tr", {}, el("th", { scope: "col" }, "Place"), el("th", { scope: "col" }, "Entry"), heads)),
     el("tbody", {}, [...rows, betweenRow(outcome, outcome.history.length, columns)].filter((row) => row))));

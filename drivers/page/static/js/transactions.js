@@ -1,4 +1,5 @@
-// The coordinator's branches by their transactions, as docs/COORDINATOR.md names them: the page's coordinator has the name `c`.
+// The coordinator's branches by their transactions, as docs/COORDINATOR.md names them: the page's coordinator has the
+// name `c`.
 
 const NAMED = /^0x63([0-9a-f]{16}),0x([0-9a-f]{2}),22593$/;
 const ROW = /^22593 9 1 0x63([0-9a-f]{16})([0-9a-f]{2})$/;

@@ -2,7 +2,8 @@
 
 const quoted = (name) => `'${name.replaceAll("\\", "\\\\").replaceAll("'", "''")}'`;
 
-// `form` has {fromName, fromHas, fromStore, toName, toHas, toStore, amount, crash}: names are bytes, and the others numbers.
+// `form` has {fromName, fromHas, fromStore, toName, toHas, toStore, amount, crash}: names are bytes, and the others
+// numbers.
 export function transferCalls({ fromName, fromHas, fromStore, toName, toHas, toStore, amount, crash }) {
   const opened = (store, name, has) => [`AT ${store} PUT ${quoted(name)},'${has}'`];
   const [from, to] = [quoted(fromName), quoted(toName)];
@@ -18,7 +19,10 @@ export function transferCalls({ fromName, fromHas, fromStore, toName, toHas, toS
     within: ["PREPARE 1", "DECIDE 1", `FAIL ${Math.max(fromStore, toStore)} AFTER 0`, "FINISH 1", ...crashed],
   };
   // Within one store there is one participant: no vote, no decision.
-  const oneStore = { ...ends, none: ["PREPARE 1", "FINISH 1"], after: ["PREPARE 1", ...crashed], within: ["PREPARE 1", `FAIL ${fromStore} AFTER 0`, "FINISH 1", ...crashed] };
-  return [title, "# What both have, put there by another client.", ...opened(fromStore, fromName, fromHas), ...opened(toStore, toName, toHas),
-    "# The transfer.", ...work, ...(fromStore === toStore ? oneStore : ends)[crash], `AT ${fromStore} GET ${from}`, `AT ${toStore} GET ${to}`];
+  const oneStore = { ...ends, none: ["PREPARE 1", "FINISH 1"], after: ["PREPARE 1", ...crashed],
+    within: ["PREPARE 1", `FAIL ${fromStore} AFTER 0`, "FINISH 1", ...crashed] };
+  return [title, "# What both have, put there by another client.", ...opened(fromStore, fromName, fromHas),
+    ...opened(toStore, toName, toHas),
+    "# The transfer.", ...work, ...(fromStore === toStore ? oneStore : ends)[crash], `AT ${fromStore} GET ${from}`,
+    `AT ${toStore} GET ${to}`];
 }

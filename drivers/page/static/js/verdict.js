@@ -1,7 +1,8 @@
 // Reads what `xa_script judge` prints.
 import { linesOf } from "./bytes.js";
 
-// {kind, line, could, order, faults}: `kind` is "LEGAL", "ILLEGAL", "UNDECIDED", "EMPTY", "FAULTY", or null where it is none of these.
+// {kind, line, could, order, faults}: `kind` is "LEGAL", "ILLEGAL", "UNDECIDED", "EMPTY", "FAULTY", or null where it is
+// none of these.
 export function readVerdict(text) {
   const lines = linesOf(text);
   const found = { kind: null, line: null, could: [], order: [], faults: [] };
