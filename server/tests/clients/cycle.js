@@ -3,7 +3,8 @@ const mysql = require("mysql");
 const port = Number(process.argv[2]);
 
 function asker(connection) {
-  return (text, values) => new Promise((resolve, reject) => connection.query(text, values, (fault, rows) => (fault ? reject(fault) : resolve(rows))));
+  return (text, values) => new Promise(
+    (resolve, reject) => connection.query(text, values, (fault, rows) => (fault ? reject(fault) : resolve(rows))));
 }
 
 async function cycle() {
@@ -25,19 +26,22 @@ async function cycle() {
   await ask("PUT 'l','local'");
   await new Promise((resolve) => connection.commit(resolve));
   console.log("local", (await ask("GET 'l'"))[0].value.toString("hex"));
-  await new Promise((resolve, reject) => connection.changeUser({ user: "root" }, (fault) => (fault ? reject(fault) : resolve())));
+  await new Promise(
+    (resolve, reject) => connection.changeUser({ user: "root" }, (fault) => (fault ? reject(fault) : resolve())));
   connection.end();
 }
 
 async function pool() {
   const them = mysql.createPool({ host: "127.0.0.1", port, user: "root", database: "db", connectionLimit: 30 });
-  const taken = () => new Promise((resolve, reject) => them.getConnection((fault, it) => (fault ? reject(fault) : resolve(it))));
+  const taken = () =>
+    new Promise((resolve, reject) => them.getConnection((fault, it) => (fault ? reject(fault) : resolve(it))));
   const connections = await Promise.all(Array.from({ length: 30 }, taken));
   const works = connections.map(async (connection, number) => {
     const ask = asker(connection);
     for (let turn = 0; turn < 5; turn++) {
       const xid = `'${number} ${turn}'`;
-      for (const text of [`XA START ${xid}`, `PUT 'row ${number}','${turn}'`, `XA END ${xid}`, `XA PREPARE ${xid}`, `XA COMMIT ${xid}`]) {
+      for (const text of [`XA START ${xid}`, `PUT 'row ${number}','${turn}'`, `XA END ${xid}`, `XA PREPARE ${xid}`,
+          `XA COMMIT ${xid}`]) {
         await ask(text);
       }
     }
