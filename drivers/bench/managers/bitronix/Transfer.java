@@ -3,7 +3,10 @@ import bitronix.tm.resource.jdbc.PoolingDataSource;
 import java.util.ArrayList;
 import java.util.List;
 
-/** Bitronix, as its own documents use it: recovers, and with a value writes a row into each store of $PORTS, in one transaction. Status 0: it committed, or recovered. */
+/**
+ * Bitronix, as its own documents use it: recovers, and with a value writes a row into each store of $PORTS, in one
+ * transaction. Status 0: it committed, or recovered.
+ */
 public final class Transfer {
     static PoolingDataSource store(int number, String port) {
         var source = new PoolingDataSource();
@@ -27,7 +30,8 @@ public final class Transfer {
         }
         var manager = TransactionManagerServices.getTransactionManager();  // recovers first
         var found = TransactionManagerServices.getRecoverer();
-        System.out.println("recovered: " + found.getCommittedCount() + " committed, " + found.getRolledbackCount() + " rolled back");
+        System.out.println("recovered: " + found.getCommittedCount() + " committed, "
+                + found.getRolledbackCount() + " rolled back");
         int status = 0;
         if (words.length > 0) {
             manager.begin();
