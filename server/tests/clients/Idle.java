@@ -6,8 +6,8 @@ import javax.sql.DataSource;
 import org.mariadb.jdbc.MariaDbPoolDataSource;
 
 /**
- * Pools of one connection, which the server has closed while it idled: whether the next use of the pool succeeds. Words: a folder for the journal, the port, and how many milliseconds the
- * connection idles.
+ * Pools of one connection, which the server has closed while it idled: whether the next use of the pool succeeds.
+ * Words: a folder for the journal, the port, and how many milliseconds the connection idles.
  */
 public final class Idle {
     static long pause;

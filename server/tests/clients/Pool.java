@@ -7,7 +7,10 @@ import java.util.concurrent.Future;
 import javax.sql.DataSource;
 import org.mariadb.jdbc.MariaDbPoolDataSource;
 
-/** Thirty connections at once of HikariCP's pool, or of MariaDB's, each with local transactions; prints how many were committed. Words: the port, and `hikari` or `mariadb`. */
+/**
+ * Thirty connections at once of HikariCP's pool, or of MariaDB's, each with local transactions; prints how many were
+ * committed. Words: the port, and `hikari` or `mariadb`.
+ */
 public final class Pool {
     public static void main(String[] words) throws Exception {
         String address = "jdbc:mariadb://127.0.0.1:" + words[0] + "/db?maxPoolSize=30&user=root";

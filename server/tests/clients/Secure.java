@@ -19,7 +19,8 @@ public final class Secure {
     }
 
     public static void main(String[] words) throws Exception {
-        var source = new MariaDbDataSource("jdbc:mariadb://127.0.0.1:" + words[0] + "/db?user=root&useSSL=true&serverSslCert=" + words[1]);
+        var source = new MariaDbDataSource(
+                "jdbc:mariadb://127.0.0.1:" + words[0] + "/db?user=root&useSSL=true&serverSslCert=" + words[1]);
         XAConnection held = source.getXAConnection();
         Connection connection = held.getConnection();
         System.out.println(asked(connection, "SHOW STATUS LIKE 'Ssl_version'"));

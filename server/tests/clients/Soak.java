@@ -5,9 +5,11 @@ import java.sql.SQLException;
 import java.util.concurrent.ThreadLocalRandom;
 
 /**
- * Moves amounts between accounts of two stores, by four threads with transactions of Bitronix, until it is killed; or recovers what an earlier process left over, and ends.
+ * Moves amounts between accounts of two stores, by four threads with transactions of Bitronix, until it is killed; or
+ * recovers what an earlier process left over, and ends.
  *
- * <p>Words: the folder of the journal, the two ports, and `recover` or `move`. Accounts are the rows 0 to 9 of both stores, and no row is 0.
+ * <p>Words: the folder of the journal, the two ports, and `recover` or `move`. Accounts are the rows 0 to 9 of both
+ * stores, and no row is 0.
  */
 public final class Soak {
     static PoolingDataSource store(String name, String port) {

@@ -4,7 +4,10 @@ import java.util.ArrayList;
 import java.util.concurrent.Executors;
 import java.util.concurrent.Future;
 
-/** Thirty threads with transactions of Bitronix over two stores, whose pools have thirty connections each; prints how many were committed. */
+/**
+ * Thirty threads with transactions of Bitronix over two stores, whose pools have thirty connections each; prints how
+ * many were committed.
+ */
 public final class Transfers {
     static PoolingDataSource store(String name, String port) {
         var source = new PoolingDataSource();

@@ -27,7 +27,8 @@ say("local", hex(asked(db, "GET 'l'")$value))
 invisible(dbDisconnect(db))
 pool <- lapply(1:30, function(number) connect())
 for (number in 1:30) {
-    for (text in c("XA START 'p%d'", "PUT 'row %d','v'", "XA END 'p%d'", "XA PREPARE 'p%d'")) done(pool[[number]], sprintf(text, number))
+    for (text in c("XA START 'p%d'", "PUT 'row %d','v'", "XA END 'p%d'", "XA PREPARE 'p%d'"))
+        done(pool[[number]], sprintf(text, number))
 }
 say("thirty", nrow(asked(pool[[1]], "XA RECOVER")))
 for (number in 1:30) done(pool[[number]], sprintf("XA COMMIT 'p%d'", 31 - number))

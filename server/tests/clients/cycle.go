@@ -1,4 +1,5 @@
-// A cycle by Go's driver, its transactions with levels, and thirty connections of its pool at once; prints what `test_clients` expects.
+// A cycle by Go's driver, its transactions with levels, and thirty connections of its pool at once; prints what
+// `test_clients` expects.
 package main
 
 import (
@@ -65,8 +66,10 @@ func cycle(db *sql.DB) {
 
 func levels(db *sql.DB) {
 	count := 0
-	for _, level := range []sql.IsolationLevel{sql.LevelReadUncommitted, sql.LevelReadCommitted, sql.LevelRepeatableRead, sql.LevelSerializable} {
-		work, err := db.BeginTx(context.Background(), &sql.TxOptions{Isolation: level, ReadOnly: level == sql.LevelReadCommitted})
+	for _, level := range []sql.IsolationLevel{
+		sql.LevelReadUncommitted, sql.LevelReadCommitted, sql.LevelRepeatableRead, sql.LevelSerializable} {
+		work, err := db.BeginTx(context.Background(),
+			&sql.TxOptions{Isolation: level, ReadOnly: level == sql.LevelReadCommitted})
 		must(err)
 		must(work.Rollback())
 		count++
@@ -86,7 +89,8 @@ func pool(db *sql.DB) {
 			defer one.Close()
 			for turn := 0; turn < 5; turn++ {
 				xid := fmt.Sprintf("'%d %d'", number, turn)
-				for _, text := range []string{"XA START " + xid, fmt.Sprintf("PUT 'row %d','%d'", number, turn), "XA END " + xid, "XA PREPARE " + xid, "XA COMMIT " + xid} {
+				for _, text := range []string{"XA START " + xid, fmt.Sprintf("PUT 'row %d','%d'", number, turn),
+					"XA END " + xid, "XA PREPARE " + xid, "XA COMMIT " + xid} {
 					_, err := one.ExecContext(context.Background(), text)
 					must(err)
 				}

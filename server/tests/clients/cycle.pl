@@ -4,7 +4,8 @@ use warnings;
 use DBI;
 
 my ($driver, $port) = @ARGV;
-my $address = $driver eq "mysql" ? "DBI:mysql:database=db;host=127.0.0.1;port=$port" : "DBI:MariaDB:database=db;host=127.0.0.1;port=$port";
+my $address = $driver eq "mysql" ? "DBI:mysql:database=db;host=127.0.0.1;port=$port"
+    : "DBI:MariaDB:database=db;host=127.0.0.1;port=$port";
 my $db = DBI->connect($address, "root", "", { RaiseError => 1, PrintError => 0, AutoCommit => 1 });
 my $xid = "X'6700','b',7";
 $db->do("XA START $xid");
@@ -32,7 +33,8 @@ print "prepared ", unpack("H*", $value), "\n";
 $get->finish;
 my @pool = map { DBI->connect($address, "root", "", { RaiseError => 1, PrintError => 0, AutoCommit => 1 }) } 1 .. 30;
 for my $number (0 .. 29) {
-    $pool[$number]->do($_) for "XA START 'p$number'", "PUT 'row $number','$number'", "XA END 'p$number'", "XA PREPARE 'p$number'";
+    $pool[$number]->do($_)
+        for "XA START 'p$number'", "PUT 'row $number','$number'", "XA END 'p$number'", "XA PREPARE 'p$number'";
 }
 print "thirty ", scalar @{ $pool[0]->selectall_arrayref("XA RECOVER") }, "\n";
 $pool[$_]->do("XA COMMIT 'p" . (29 - $_) . "'") for 0 .. 29;

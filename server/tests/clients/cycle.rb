@@ -25,7 +25,8 @@ puts "prepared #{hex[db.prepare("GET ?").execute("p").first["value"]]}"
 db.close
 pool = Array.new(30) { Mysql2::Client.new(host: "127.0.0.1", port: ARGV[0].to_i, username: "root") }
 pool.each_with_index do |each, number|
-  ["XA START 'p#{number}'", "PUT 'row #{number}','#{number}'", "XA END 'p#{number}'", "XA PREPARE 'p#{number}'"].each { |text| each.query(text) }
+  ["XA START 'p#{number}'", "PUT 'row #{number}','#{number}'", "XA END 'p#{number}'",
+   "XA PREPARE 'p#{number}'"].each { |text| each.query(text) }
 end
 puts "thirty #{pool[0].query("XA RECOVER").count}"
 pool.each_with_index { |each, number| each.query("XA COMMIT 'p#{29 - number}'") }

@@ -36,7 +36,8 @@ $db->change_user("root", "", "db");
 $db->close();
 for ($number = 0; $number < 30; $number++) {
     $pool[] = new mysqli("127.0.0.1", "root", "", "db", (int) $argv[1]);
-    foreach (["XA START 'p$number'", "PUT 'row $number','$number'", "XA END 'p$number'", "XA PREPARE 'p$number'"] as $text) {
+    foreach (["XA START 'p$number'", "PUT 'row $number','$number'", "XA END 'p$number'",
+            "XA PREPARE 'p$number'"] as $text) {
         $pool[$number]->query($text);
     }
 }

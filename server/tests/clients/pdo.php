@@ -1,6 +1,7 @@
 <?php
 // A cycle by PDO, with statements that the server prepares; prints what `test_clients` expects.
-$db = new PDO("mysql:host=127.0.0.1;port=$argv[1];dbname=db;charset=utf8mb4", "root", "", [PDO::ATTR_ERRMODE => PDO::ERRMODE_EXCEPTION]);
+$db = new PDO("mysql:host=127.0.0.1;port=$argv[1];dbname=db;charset=utf8mb4", "root", "",
+    [PDO::ATTR_ERRMODE => PDO::ERRMODE_EXCEPTION]);
 $xid = "X'6700','b',7";
 $db->exec("XA START $xid");
 $db->exec("PUT 'k'," . $db->quote("\0\n'\xff\\"));
@@ -28,8 +29,10 @@ $get = $db->prepare("GET ?");
 $get->execute(["p"]);
 echo "prepared ", bin2hex($get->fetchColumn()), "\n";
 for ($number = 0; $number < 30; $number++) {
-    $pool[] = new PDO("mysql:host=127.0.0.1;port=$argv[1];dbname=db", "root", "", [PDO::ATTR_ERRMODE => PDO::ERRMODE_EXCEPTION]);
-    foreach (["XA START 'p$number'", "PUT 'row $number','$number'", "XA END 'p$number'", "XA PREPARE 'p$number'"] as $text) {
+    $pool[] = new PDO("mysql:host=127.0.0.1;port=$argv[1];dbname=db", "root", "",
+        [PDO::ATTR_ERRMODE => PDO::ERRMODE_EXCEPTION]);
+    foreach (["XA START 'p$number'", "PUT 'row $number','$number'", "XA END 'p$number'",
+            "XA PREPARE 'p$number'"] as $text) {
         $pool[$number]->exec($text);
     }
 }

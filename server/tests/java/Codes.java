@@ -40,7 +40,8 @@ public final class Codes {
         } catch (XAException refused) {
             System.out.println(what + " XA " + refused.errorCode);
         } catch (SQLException refused) {
-            System.out.println(what + " SQL " + refused.getErrorCode() + " " + refused.getSQLState() + " " + refused.getClass().getSimpleName());
+            System.out.println(what + " SQL " + refused.getErrorCode() + " " + refused.getSQLState() + " "
+                    + refused.getClass().getSimpleName());
         }
     }
 
@@ -51,14 +52,16 @@ public final class Codes {
     }
 
     static String get(Connection connection, String key) throws SQLException {
-        try (Statement statement = connection.createStatement(); ResultSet rows = statement.executeQuery("GET '" + key + "'")) {
+        try (Statement statement = connection.createStatement();
+                ResultSet rows = statement.executeQuery("GET '" + key + "'")) {
             return rows.next() ? rows.getString("value") : null;
         }
     }
 
     static void list(String what, XAResource resource) throws XAException {
         for (Xid xid : resource.recover(XAResource.TMSTARTRSCAN | XAResource.TMENDRSCAN)) {
-            System.out.println(what + " lists " + xid.getFormatId() + " " + new String(xid.getGlobalTransactionId()) + " " + Arrays.toString(xid.getBranchQualifier()));
+            System.out.println(what + " lists " + xid.getFormatId() + " " + new String(xid.getGlobalTransactionId())
+                    + " " + Arrays.toString(xid.getBranchQualifier()));
         }
     }
 
@@ -128,7 +131,8 @@ public final class Codes {
             rows.setTransactionIsolation(Connection.TRANSACTION_SERIALIZABLE);
             System.out.println("level " + rows.getTransactionIsolation() + ", valid " + rows.isValid(5));
             rows.clearWarnings();
-            System.out.println("warnings " + rows.getWarnings() + ", version " + rows.getMetaData().getDatabaseProductVersion());
+            System.out.println("warnings " + rows.getWarnings() + ", version "
+                    + rows.getMetaData().getDatabaseProductVersion());
         });
         one.close();
         two.close();

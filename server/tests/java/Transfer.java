@@ -6,9 +6,11 @@ import java.sql.Connection;
 import java.sql.Statement;
 
 /**
- * Recovers what an earlier process left over, prints how many branches it committed and rolled back, and then writes a row in each of two stores, in one transaction of Bitronix.
+ * Recovers what an earlier process left over, prints how many branches it committed and rolled back, and then writes a
+ * row in each of two stores, in one transaction of Bitronix.
  *
- * <p>Words: the folder of the journal, the two ports, what to do (commit, rollback, or recover alone), and the row's value.
+ * <p>Words: the folder of the journal, the two ports, what to do (commit, rollback, or recover alone), and the row's
+ * value.
  */
 public final class Transfer {
     static PoolingDataSource store(String name, String port, int place) {
@@ -55,7 +57,8 @@ public final class Transfer {
         two.close();
     }
 
-    static void work(BitronixTransactionManager manager, PoolingDataSource one, PoolingDataSource two, boolean commits, String value) throws Exception {
+    static void work(BitronixTransactionManager manager, PoolingDataSource one, PoolingDataSource two,
+            boolean commits, String value) throws Exception {
         manager.begin();
         try {
             put(one, "k", value);
