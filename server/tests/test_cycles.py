@@ -90,8 +90,8 @@ class Witness(threading.Thread):
 
     def __init__(self, server, numbers, record, lock, seed):
         super().__init__()
-        self.server, self.numbers, self.record, self.lock, self.draw = (server, numbers, record, lock,
-                                                                        random.Random(seed))
+        self.server, self.numbers, self.record, self.lock, self.draw = (
+            server, numbers, record, lock, random.Random(seed))
         self.fault, self.plan = None, []
 
     def note(self, *lines):

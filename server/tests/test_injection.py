@@ -46,8 +46,8 @@ class Injection(Case):
         """Every byte, as PyMySQL writes texts and bytes, comes back."""
         connection = pymysql.connect(host="127.0.0.1", port=self.server.port, user="u", autocommit=True)
         with connection, connection.cursor() as cursor:
-            for value in [bytes((byte,)) * 2 for byte in range(256)] + [b"'\n2 XA ROLLBACK 'victim'", b"\\';--\n",
-                                                                        bytes(range(64))]:
+            for value in ([bytes((byte,)) * 2 for byte in range(256)]
+                          + [b"'\n2 XA ROLLBACK 'victim'", b"\\';--\n", bytes(range(64))]):
                 cursor.execute("PUT %s,%s", (b"row", value))
                 cursor.execute("GET %s", ("row",))
                 self.assertEqual(cursor.fetchall(), ((value,),))

@@ -80,8 +80,8 @@ class Limits(Case):
         """A client that says nothing at its login, one that stops in its login, and one that stops in a packet are each
         waited for ten seconds."""
         server = self.serve()
-        silent, halting, half = Client(server.port, log_in=False), Client(server.port,
-                                                                          log_in=False), self.client(server)
+        silent, halting, half = (Client(server.port, log_in=False), Client(server.port, log_in=False),
+                                 self.client(server))
         began = time.monotonic()
         halting.greeted()
         halting.socket.sendall(b"\x40\0\0\x01abc")

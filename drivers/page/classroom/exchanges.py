@@ -189,8 +189,8 @@ def said(it, store, of, fuses, is_decided):
     made = [Statement(words[at] if words else b"call %d of %d" % (at + 1, of), b"", at < answered_here, at, of)
             for at in range(min(of, answered_here + 1))]
     for statement in made:
-        statement.answer = b"stopped" if not statement.is_answered else answer_in(it, store, words,
-                                                                                  statement.call) if words else b""
+        statement.answer = (b"stopped" if not statement.is_answered
+                            else answer_in(it, store, words, statement.call) if words else b"")
     if it.words[0] == b"RECOVER" and words:
         parts = [made[:2], *([one] for one in made[2:])]
     else:

@@ -38,8 +38,8 @@ class Layout:
 
     def _letters(self, calls):
         most = next(letters for lanes, letters in LETTERS if len(self.sessions) <= lanes)
-        said = [columns(call.begin.text) for call in calls] + [columns(line.text)
-                                                               for line in self.lines if line.kind in (RETURN, ROW)]
+        said = ([columns(call.begin.text) for call in calls]
+                + [columns(line.text) for line in self.lines if line.kind in (RETURN, ROW)])
         return min(most, max(said + [len("Session 16")]))
 
     def _width(self):

@@ -129,8 +129,9 @@ class Sequence:
                       element("text", {"class_": "head", "x": x, "y": (1.3 if part else 1.8) * size}, name)]
             if part:
                 found.append(element("text", {"class_": "role", "x": x, "y": 2.35 * size}, part))
-        return element("g", {"class_": "heads"}, element("rect", {"class_": "paper", "width": self.width,
-                                                                  "height": HEAD * size - 0.35 * size}), *found)
+        return element(
+            "g", {"class_": "heads"},
+            element("rect", {"class_": "paper", "width": self.width, "height": HEAD * size - 0.35 * size}), *found)
 
     def names(self, lifeline):
         if FIRST_STORE <= lifeline < FIRST_STORE + self.stores:
