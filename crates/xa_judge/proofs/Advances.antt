@@ -4,7 +4,7 @@
 --     advance_return      a return
 --     advance_closed      an event before which the list is closed
 use Rattle.std.proofs.Common.{◌≡◌, ℕ, false, Some, None, List, [], ◌∷◌, ◌++◌, length, slice_get, refl, ap, sym, ◌∙◌}
-use Rattle.std.proofs.Common.{subst, arith}
+use Rattle.std.proofs.Common.{subst, inl, inr, arith}
 use Rattle.std.proofs.lemmas.Option.{none-some}
 use Rattle.std.specs.List.{All, Contains}
 use Rattle.xa_server.specs.State.{State}
@@ -21,8 +21,8 @@ use Rattle.xa_judge.specs.declared.advance.Advance.{Advance}
 use Rattle.xa_judge.specs.declared.advance.Advance.TheVariants.{Known, Impossible, TooMany}
 use Rattle.xa_judge.specs.Explained.{Config, opening_config, effect_of, observed, LeadsThrough, IsSession}
 use Rattle.xa_judge.specs.Verdicts.{IsReachedByMoves}
-use Rattle.xa_judge.specs.Found.{config_of, Has, Reaches, Grows, KeepsReach, after_settling, has_unheard, IsAnsweredIn}
-use Rattle.xa_judge.specs.Found.{IsClosedBelow}
+use Rattle.xa_judge.specs.Late.{after_settling, has_unheard, IsReachedFrom, IsAnyUnheard, Widens, IsCounted, IsReady}
+use Rattle.xa_judge.specs.Found.{config_of, Has, Reaches, Grows, KeepsReach, IsAnsweredIn, IsSettledIn, IsClosedBelow}
 use Rattle.xa_judge.specs.Advances.{Continues, IsCallOf, IsReturnOf, IsNoReturn, IsSeenFrom, AreAnswers, AreAnswersTo}
 use Rattle.xa_judge.specs.Advances.{IsAdvance}
 use Rattle.xa_judge.proofs.Waits.{First, CanWait, later}
@@ -44,18 +44,20 @@ first_now old end event more waits now = later now.one end event more now.moves 
 
 pub advance_now : (old : List Configuration) (answers : List Answer) (event : Event) (limit : ℕ) (next : Advance)
     → ((config : Config) → Has old config → CanWait config event)
+    → ((config : Config) → Has old config → IsReady (Has old) event config)
     → AreAnswers old event answers → IsSeenFrom old answers event next → IsAdvance old event limit next
-advance_now old answers event limit (Known list) waits none seen = (
+advance_now old answers event limit (Known list) waits ready none seen = (
   seen.0,
   (λ more end now. goes_on old list.items now.one end event more seen.1 now.has
       (first_now old end event more waits now)),
   seen.2,
+  λ new has. let from = seen.3 new has in (from.0, ready from.0 from.1, from.2),
 )
-advance_now old answers event limit (Impossible others) waits none seen = (
+advance_now old answers event limit (Impossible others) waits ready none seen = (
   (λ more end now. let rest = first_now old end event more waits now in seen.0 now.one rest.first now.has rest.sees),
   subst (λ l. AreAnswers old event l) (sym seen.1) none,
 )
-advance_now old answers event limit TooMany waits none seen = absurd seen
+advance_now old answers event limit TooMany waits ready none seen = absurd seen
 
 -- where events go on behind a return, they do from a closed list, once what its session called for has taken effect
 settled_first : (old closed : List Configuration) (session : ℕ) (seen : Seen) (more : List Event) (end : Config)
@@ -106,49 +108,70 @@ answers_to old closed ready answers session grows is_closed settles reach given 
       given.all (after_settling s.one session) answer (settles s.one s.has) s.stands;
 }
 
+-- acts of other sessions lead to each of the closed list, and each that is ready comes of one of it
+pub record AreLate (old closed ready : List Configuration) (session : ℕ) : Type 0 where
+  pub reached : (config : Config) → Has closed config → IsReachedFrom (Has old) (Some session) config
+  pub settled : (config : Config) → Has ready config → IsSettledIn closed session config
+
 advance_at : (old closed ready : List Configuration) (answers : List Answer) (session : ℕ) (seen : Seen) (limit : ℕ)
     (next : Advance) → Grows old closed
     → IsClosedBelow (length closed) (Some session) closed
     → ((one : Config) → Has closed one → Has ready (after_settling one session)) → KeepsReach closed ready
-    → AreAnswersIn ready session answers
+    → AreAnswersIn ready session answers → AreLate old closed ready session
     → IsSeenFrom ready answers (Return session seen) next
     → IsAdvance old (Return session seen) limit next
-advance_at old closed ready answers session seen limit (Known list) grows is_closed settles reach given leads = (
+advance_at old closed ready answers session seen limit (Known list) grows is_closed settles reach given late leads = (
   leads.0,
   λ more end now.
       let s = settled_first old closed session seen more end grows is_closed now in
       goes_on ready list.items (after_settling s.one session) end (Return session seen) more leads.1
       (settles s.one s.has) s.rest,
   λ base events trunk all. leads.2 base events trunk (reach base events trunk (grows.reach base events trunk all)),
+  λ new has.
+      let from = leads.3 new has in
+      let was = late.settled from.0 from.1 in
+      (from.0, (was.0, record { widens = tt; reached = late.reached was.0 was.1 }, was.2), from.2),
 )
-advance_at old closed ready answers session seen limit (Impossible others) grows is_closed settles reach given leads = (
+advance_at old closed ready answers session seen limit (Impossible others) grows is_closed settles reach given late
+    leads = (
   (λ more end now.
       let s = settled_first old closed session seen more end grows is_closed now in
       leads.0 (after_settling s.one session) s.rest.first (settles s.one s.has) s.rest.sees),
   subst (λ l. AreAnswersTo old session l) (sym leads.1)
       (answers_to old closed ready answers session grows is_closed settles reach given),
 )
-advance_at old closed ready answers session seen limit TooMany grows is_closed settles reach given leads = absurd leads
+advance_at old closed ready answers session seen limit TooMany grows is_closed settles reach given late leads =
+    absurd leads
 
 pub advance_return : (old closed ready : List Configuration) (answers : List Answer) (session : ℕ) (event : Event)
     (limit : ℕ) (next : Advance)
     → IsReturnOf session event → Grows old closed → IsClosedBelow (length closed) (Some session) closed
     → ((one : Config) → Has closed one → Has ready (after_settling one session)) → KeepsReach closed ready
-    → AreAnswersIn ready session answers
+    → AreAnswersIn ready session answers → AreLate old closed ready session
     → IsSeenFrom ready answers event next
     → IsAdvance old event limit next
 advance_return old closed ready answers session (Call other request) limit next is grows is_closed settles reach given
-    leads = absurd is
+    late leads = absurd is
 advance_return old closed ready answers session (Return other seen) limit next is grows is_closed settles reach given
-    leads =
+    late leads =
     advance_at old closed ready answers other seen limit next grows
     (subst (λ n. IsClosedBelow (length closed) (Some n) closed) (sym is) is_closed)
     (subst (λ n. (one : Config) → Has closed one → Has ready (after_settling one n)) (sym is) settles) reach
-    (subst (λ n. AreAnswersIn ready n answers) (sym is) given) leads
-advance_return old closed ready answers session (Lost other) limit next is grows is_closed settles reach given leads =
-    absurd is
-advance_return old closed ready answers session (Unknown other) limit next is grows is_closed settles reach given
+    (subst (λ n. AreAnswersIn ready n answers) (sym is) given) (subst (AreLate old closed ready) (sym is) late) leads
+advance_return old closed ready answers session (Lost other) limit next is grows is_closed settles reach given late
     leads = absurd is
+advance_return old closed ready answers session (Unknown other) limit next is grows is_closed settles reach given late
+    leads = absurd is
+
+-- what acts of other sessions lead to is counted before a return
+pub counts_return : (old closed : List Configuration) (session : ℕ) (event : Event) → IsReturnOf session event
+    → ((config : Config) → Has closed config → IsReachedFrom (Has old) (Some session) config)
+    → (config : Config) → Has closed config → IsCounted (Has old) event config
+counts_return old closed session (Call other request) is reached config has = absurd is
+counts_return old closed session (Return other seen) is reached config has =
+    record { widens = tt; reached = subst (λ n. IsReachedFrom (Has old) (Some n) config) (sym is) (reached config has) }
+counts_return old closed session (Lost other) is reached config has = absurd is
+counts_return old closed session (Unknown other) is reached config has = absurd is
 
 -- whatever acts lead to is in a list that is closed
 stays_in : (list : List Configuration) (old mid : Config) (session : ℕ) (act : Act)
@@ -188,23 +211,54 @@ from_closed : (old closed : List Configuration) (event : Event) (more : List Eve
 from_closed old closed event more end grows is_closed now =
     closed_first closed event more now.one end now.moves is_closed (has_still old closed now.one grows now.has) now.runs
 
+-- what acts lead to is counted before an event that isn't a return
+pub counts_closed : (old closed : List Configuration) (event : Event) → IsNoReturn event → Widens (Has old) event
+    → ((config : Config) → Has closed config → IsReachedFrom (Has old) None config)
+    → (config : Config) → Has closed config → IsCounted (Has old) event config
+counts_closed old closed (Call session request) is widens reached config has =
+    record { widens = widens; reached = reached config has }
+counts_closed old closed (Return session seen) is widens reached config has = absurd is
+counts_closed old closed (Lost session) is widens reached config has = absurd widens
+counts_closed old closed (Unknown session) is widens reached config has =
+    record { widens = tt; reached = reached config has }
+
+-- and it stands directly before that event
+ready_counted : (old : List Configuration) (event : Event) (config : Config) → IsNoReturn event
+    → IsCounted (Has old) event config → IsReady (Has old) event config
+ready_counted old (Call session request) config is counted = inr counted
+ready_counted old (Return session seen) config is counted = absurd is
+ready_counted old (Lost session) config is counted = absurd counted.widens
+ready_counted old (Unknown session) config is counted = counted
+
 pub advance_closed : (old closed : List Configuration) (answers : List Answer) (event : Event) (limit : ℕ)
     (next : Advance) → IsNoReturn event
-    → Grows old closed → IsClosedBelow (length closed) None closed → answers ≡ [] → IsSeenFrom closed answers event next
+    → Grows old closed → IsClosedBelow (length closed) None closed → answers ≡ []
+    → ((config : Config) → Has closed config → IsCounted (Has old) event config) → IsSeenFrom closed answers event next
     → IsAdvance old event limit next
-advance_closed old closed answers event limit (Known list) is grows is_closed none seen = (
+advance_closed old closed answers event limit (Known list) is grows is_closed none counted seen = (
   seen.0,
   λ more end now.
       let s = from_closed old closed event more end grows is_closed now in
       goes_on closed list.items s.one end event more seen.1 s.has s.rest,
   λ base events trunk all. seen.2 base events trunk (grows.reach base events trunk all),
+  λ new has.
+      let from = seen.3 new has in
+      (from.0, ready_counted old event from.0 is (counted from.0 from.1), from.2),
 )
-advance_closed old closed answers event limit (Impossible others) is grows is_closed none seen = (
+advance_closed old closed answers event limit (Impossible others) is grows is_closed none counted seen = (
   (λ more end now. let s = from_closed old closed event more end grows is_closed now in
       seen.0 s.one s.rest.first s.has s.rest.sees),
   no_answers old event others.items is (seen.1 ∙ none),
 )
-advance_closed old closed answers event limit TooMany is grows is_closed none seen = absurd seen
+advance_closed old closed answers event limit TooMany is grows is_closed none counted seen = absurd seen
+
+-- an open call of the session that calls, its client gone, may have to take effect before it calls again
+pub widens_call : (old : List Configuration) (calling : ℕ) (event : Event) → IsCallOf calling event
+    → IsAnyUnheard (Has old) calling → Widens (Has old) event
+widens_call old calling (Call session request) is some = subst (IsAnyUnheard (Has old)) (sym is) some
+widens_call old calling (Return session shown) is some = absurd is
+widens_call old calling (Lost session) is some = absurd is
+widens_call old calling (Unknown session) is some = absurd is
 
 -- no open call of the session, its client gone, may still take effect
 abbrev pub NoneUnheard : List Configuration → ℕ → Type 0
@@ -217,7 +271,7 @@ pub advance_call : (old : List Configuration) (answers : List Answer) (calling :
     → IsAdvance old event limit next
 advance_call old answers calling (Call session request) limit next is heard none seen =
     advance_now old answers (Call session request) limit next
-    (λ config has. ap (has_unheard config) is ∙ heard config has) none seen
+    (λ config has. ap (has_unheard config) is ∙ heard config has) (λ config has. inl has) none seen
 advance_call old answers calling (Return session shown) limit next is heard none seen = absurd is
 advance_call old answers calling (Lost session) limit next is heard none seen = absurd is
 advance_call old answers calling (Unknown session) limit next is heard none seen = absurd is

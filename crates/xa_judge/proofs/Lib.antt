@@ -4,6 +4,7 @@ pub mod Growth
 pub mod Paths
 pub mod Settling
 pub mod Loops
+pub mod Late
 pub mod Spreading
 pub mod Advances
 pub mod Verdicts

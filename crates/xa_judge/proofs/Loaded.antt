@@ -29,7 +29,7 @@ use Rattle.xa_judge.specs.declared.moves.Move.TheVariants.{Event as Seeing, Effe
 use Rattle.xa_judge.specs.Explained.{Config, opening_config, with_client, effect_of, carried_out, disconnected}
 use Rattle.xa_judge.specs.Explained.{observed, called, returned, shows_answer, answer_to}
 use Rattle.xa_judge.specs.Explained.{next_state, LeadsThrough, Explained, IsSession}
-use Rattle.xa_judge.specs.Found.{called_for}
+use Rattle.xa_judge.specs.Late.{called_for}
 use Rattle.xa_judge.specs.Near.{IsLoadedTo}
 use Rattle.xa_judge.specs.Verdicts.{IsRefuted, CouldBe, AreAllAnswers}
 use Rattle.xa_judge.proofs.Places.{same_number, stands_at, get_written, get_apart}

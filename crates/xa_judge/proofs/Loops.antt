@@ -18,7 +18,8 @@ use Rattle.xa_judge.specs.declared.moves.Move.{Move}
 use Rattle.xa_judge.specs.declared.moves.Move.TheVariants.{Effect}
 use Rattle.xa_judge.specs.declared.configuration.Configuration.{Configuration}
 use Rattle.xa_judge.specs.Explained.{Config, effect_of, observed, IsSession}
-use Rattle.xa_judge.specs.Found.{config_of, configs, Has, Reaches, Grows, after_settling, AddsUnlessThere}
+use Rattle.xa_judge.specs.Late.{after_settling}
+use Rattle.xa_judge.specs.Found.{config_of, configs, Has, Reaches, Grows, AddsUnlessThere}
 use Rattle.xa_judge.specs.Found.{IsSettledFrom, IsSeenAdded, IsAnsweredIn}
 use Rattle.xa_judge.specs.Found.{IsAnswerAdded}
 use Rattle.xa_judge.specs.Found.{IsExpandedBelow, IsClosedBelow}
@@ -53,7 +54,7 @@ pub has_pushed : (list new : List Configuration) (one : Configuration) → new �
 has_pushed list new one is = has_added list new one (inr is)
 
 -- a member of a list with one more at its end
-has_last : (rest known : List Configuration) (one : Configuration) (c : Config) → known ≡ rest ++ one ∷ [] → Has known c
+pub has_last : (rest known : List Configuration) (one : Configuration) (c : Config) → known ≡ rest ++ one ∷ [] → Has known c
     → Has rest c ⊎ (config_of one ≡ c)
 has_last rest known one c parts has =
     Contains-push_cases (configs rest) (config_of one) c (subst (λ l. Contains l c)

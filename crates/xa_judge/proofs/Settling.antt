@@ -21,8 +21,8 @@ use Rattle.xa_judge.specs.declared.moves.Move.TheVariants.{Event as Seeing, Effe
 use Rattle.xa_judge.specs.declared.configuration.Configuration.{Configuration}
 use Rattle.xa_judge.specs.Explained.{Config, effect_of, carried_out, disconnected, answer_to, next_state, LeadsThrough}
 use Rattle.xa_judge.specs.Explained.{IsSession}
-use Rattle.xa_judge.specs.Found.{config_of, Has, after_settling, settled_by, called_for, call_is_answered, answered_so}
-use Rattle.xa_judge.specs.Found.{IsClosedBelow}
+use Rattle.xa_judge.specs.Late.{after_settling, settled_by, called_for, call_is_answered, answered_so}
+use Rattle.xa_judge.specs.Found.{config_of, Has, IsClosedBelow}
 use Rattle.xa_judge.proofs.Places.{same_number, get_written, get_apart, mapped_place}
 use Rattle.xa_judge.proofs.Waits.{acted, may_answer, answered_apart, First, later, return_answered}
 

@@ -15,11 +15,13 @@ use Rattle.xa_judge.specs.declared.configuration.Configuration.{Configuration}
 use Rattle.xa_judge.specs.Explained.{Config, opening_config, LeadsThrough, Explained}
 use Rattle.xa_judge.specs.Found.{config_of, configs, Has, Reaches, IsSpread, KeepsReach, ReachesPast, IsShortened}
 use Rattle.xa_judge.specs.Found.{IsOpening, IsPathOf}
+use Rattle.xa_judge.specs.Late.{IsCounted, IsKept}
 use Rattle.xa_judge.specs.Advances.{Continues, AreAnswers}
 use Rattle.xa_judge.specs.Verdicts.{IsRefuted, CouldBe, AreAllAnswers, IsWide}
 use Rattle.xa_judge.proofs.Places.{get_within, length_map}
 use Rattle.xa_judge.proofs.Growth.{all_at}
 use Rattle.xa_judge.proofs.Advances.{reached_of}
+use Rattle.xa_judge.proofs.Late.{counted_of_more}
 
 -- where moves lead through those that were seen and more, some lead through these from the list, to the same end
 abbrev pub IsComplete : State → List Event → List Configuration → Type 0
@@ -132,11 +134,15 @@ answers_given base events place (Unknown session) trunk list answers at all comp
       ∙ could.returns in cc);
 }
 
-pub wide : (base : State) (events : List Event) (limit place : ℕ) (trunk : List Move) (list many : List Configuration)
-    → place < length events
-    → All (Reaches base (take place events) trunk) list → IsSpread limit many → KeepsReach list many
+pub wide : (base : State) (events : List Event) (limit place : ℕ) (event : Event) (trunk : List Move)
+    (list many : List Configuration)
+    → place < length events → slice_get events place ≡ Some event
+    → All (Reaches base (take place events) trunk) list
+    → ((config : Config) → Has list config → IsKept base events place config)
+    → IsSpread limit many → KeepsReach list many
+    → ((config : Config) → Has many config → IsCounted (Has list) event config)
     → IsWide base events limit place
-wide base events limit place trunk list many within all spread keeps = record {
+wide base events limit place event trunk list many within at all kept spread keeps counted = record {
   within = within;
   many = spread.many;
   over = spread.over;
@@ -144,6 +150,11 @@ wide base events limit place trunk list many within all spread keeps = record {
   reached = λ k d below.
       reached_of base (take place events) trunk many (get_or spread.many k d) (keeps base (take place events) trunk all)
       (spread.has k d below);
+  event = event;
+  at = at;
+  counted = λ k d below.
+      counted_of_more (Has list) (IsKept base events place) event (get_or spread.many k d) kept
+      (counted (get_or spread.many k d) (spread.has k d below));
 }
 
 pub opens_reached : (base : State) (list : List Configuration) → IsOpening base list → All (Reaches base [] []) list

@@ -24,7 +24,7 @@ use Rattle.xa_judge.specs.declared.moves.Move.TheVariants.{Event as Seeing, Effe
 use Rattle.xa_judge.specs.Explained.{Config, with_client, effect_of, carried_out, disconnected, observed, called}
 use Rattle.xa_judge.specs.Explained.{returned, lost, shows_answer, answer_to}
 use Rattle.xa_judge.specs.Explained.{next_state, LeadsThrough, IsSession}
-use Rattle.xa_judge.specs.Found.{call_is_answered, answered_so, has_unheard, unheard_so, called_for}
+use Rattle.xa_judge.specs.Late.{call_is_answered, answered_so, has_unheard, unheard_so, called_for}
 use Rattle.xa_judge.proofs.Places.{same_number, get_written, get_apart, set_apart}
 
 pub runs_effect : (old mid new : Config) (events : List Event) (moves : List Move) (session : ℕ) (act : Act)

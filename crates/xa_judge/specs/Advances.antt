@@ -15,7 +15,8 @@ use Rattle.xa_judge.specs.declared.configuration.Configuration.{Configuration}
 use Rattle.xa_judge.specs.declared.advance.Advance.{Advance}
 use Rattle.xa_judge.specs.declared.advance.Advance.TheVariants.{Known, Impossible, TooMany}
 use Rattle.xa_judge.specs.Explained.{Config, observed, LeadsThrough}
-use Rattle.xa_judge.specs.Found.{Has, Reaches, IsSpread, KeepsReach, ReachesPast}
+use Rattle.xa_judge.specs.Found.{Has, Reaches, IsSpread, KeepsReach, ReachesPast, IsSeenIn}
+use Rattle.xa_judge.specs.Late.{IsCounted, IsKeptAfter}
 use Rattle.xa_judge.specs.Verdicts.{IsAnswerAfter}
 
 -- from one of these configurations, some moves lead through the events to this one
@@ -46,12 +47,13 @@ IsNoReturn (Return session seen) = ⊥
 IsNoReturn (Lost session) = Unit {0}
 IsNoReturn (Unknown session) = Unit {0}
 
--- the list has each configuration to which the event leads at once; or there is none, and these are the
--- answers
+-- the list has each configuration to which the event leads at once, and no other; or there is none, and these are
+-- the answers
 abbrev pub IsSeenFrom : List Configuration → List Answer → Event → Advance → Type 0
 IsSeenFrom old answers event (Known list) =
     (0 < vec_len list) × ((one new : Config) → Has old one → observed one event ≡ Some new → Has list.items new)
     × ReachesPast event old list.items
+    × ((new : Config) → Has list.items new → IsSeenIn old event new)
 IsSeenFrom old answers event (Impossible others) =
     ((one new : Config) → Has old one → observed one event ≡ Some new → ⊥) × (others.items ≡ answers)
 IsSeenFrom old answers event TooMany = ⊥
@@ -68,12 +70,15 @@ abbrev pub AreAnswers : List Configuration → Event → List Answer → Type 0
 AreAnswers list (Return session seen) answers = AreAnswersTo list session answers
 AreAnswers list event answers = answers ≡ []
 
--- what the event leads to: if events go on from the old list, they go on from the new one; or they never go
--- on; or too many different configurations are reached
+-- what the event leads to: if events go on from the old list, they go on from the new one, which has only what has
+-- to be kept; or they never go on; or too many different configurations are counted before the event
 abbrev pub IsAdvance : List Configuration → Event → ℕ → Advance → Type 0
 IsAdvance old event limit (Known list) =
     (0 < vec_len list) × ((more : List Event) (new : Config) → Continues old (event ∷ more) new
     → Continues list.items more new) × ReachesPast event old list.items
+    × ((new : Config) → Has list.items new → IsKeptAfter (Has old) event new)
 IsAdvance old event limit (Impossible answers) =
     ((more : List Event) (new : Config) → Continues old (event ∷ more) new → ⊥) × AreAnswers old event answers.items
-IsAdvance old event limit TooMany = (many : List Configuration) × IsSpread limit many × KeepsReach old many
+IsAdvance old event limit TooMany =
+    (many : List Configuration) × IsSpread limit many × KeepsReach old many
+    × ((config : Config) → Has many config → IsCounted (Has old) event config)

@@ -1,33 +1,29 @@
 -- The configurations that a judge keeps.
 --     config_of        a configuration as the definitions see it
 --     moved_to         a configuration with this state and these clients, of which one is replaced
---     called_for       what a session has called for, if that has taken no effect yet
---     after_settling   the configuration after that takes effect
---     call_is_answered  the session's call was answered
---     has_unheard      the session's client is gone with an open call that may still take effect
---     is_over          acts don't count any more, since the session that is to return was answered
 --     Reaches          the trunk and a configuration's path lead to it
 --     Has              a list has this configuration
 --     IsEffectAt       an act leads to a configuration from the one at a place of a list
 --     IsSpread         a list has more different configurations than a limit
 --     Grows            a list has more at its end, which is reached if the list is
+--     AddsOnly         nothing is added but what acts that count lead to from a configuration
+--     IsSettledIn, IsSeenIn    it comes of one of a list, by what a session called for;  by an event
 --     IsExpandedBelow, IsClosedBelow      the list has what acts that count lead to
-use Rattle.std.specs.Prelude.{◌≡◌, ◌≢◌, ◌⊎◌, ℕ, ◌<◌, Bool, true, false, Option, Some, None, List, [], ◌∷◌, ◌++◌, length}
+use Rattle.std.specs.Prelude.{◌≡◌, ◌≢◌, ◌⊎◌, ℕ, ◌<◌, false, Option, Some, None, List, [], ◌∷◌, ◌++◌, length}
 use Rattle.std.specs.Prelude.{map, slice_get, slice_set}
 use Rattle.std.specs.List.{All, Contains}
 use Rattle.xa_server.specs.State.{State}
-use Rattle.xa_judge.specs.declared.request.Request.{Request}
 use Rattle.xa_judge.specs.declared.event.Event.{Event}
 use Rattle.xa_judge.specs.declared.client_state.ClientState.{ClientState}
-use Rattle.xa_judge.specs.declared.client_state.ClientState.TheVariants.{Called, Answered, Gone}
+use Rattle.xa_judge.specs.declared.client_state.ClientState.TheVariants.{Answered}
 use Rattle.xa_judge.specs.declared.answer.Answer.{Answer}
 use Rattle.xa_judge.specs.declared.moves.Act.{Act}
 use Rattle.xa_judge.specs.declared.moves.Act.TheVariants.{Statement}
 use Rattle.xa_judge.specs.declared.moves.Move.TheVariants.{Event as Seeing, Effect}
 use Rattle.xa_judge.specs.declared.moves.Move.{Move}
 use Rattle.xa_judge.specs.declared.configuration.Configuration.{Configuration}
-use Rattle.xa_judge.specs.Explained.{Config, opening_config, effect_of, observed, LeadsThrough, IsSession, answer_to}
-use Rattle.xa_judge.specs.Explained.{next_state}
+use Rattle.xa_judge.specs.Explained.{Config, opening_config, effect_of, observed, LeadsThrough, IsSession}
+use Rattle.xa_judge.specs.Late.{after_settling, is_over, IsNextTo}
 use Rattle.xa_judge.specs.Verdicts.{AreDifferent}
 
 -- a configuration as the definitions see it
@@ -40,44 +36,6 @@ moved_to state clients session client = record { state = state; clients = slice_
 
 abbrev pub configs : List Configuration → List Config
 configs list = map config_of list
-
--- what a session has called for, if that has taken no effect yet
-abbrev pub called_for : Option ClientState → Option Request
-called_for (Some (Called request)) = Some request
-called_for other = None
-
-abbrev pub settled_by : Option Request → Config → ℕ → Config
-settled_by None config session = config
-settled_by (Some request) config session =
-    record {
-      state = next_state config.state session request;
-      clients = slice_set config.clients session (Answered (answer_to config.state session request));
-    }
-
--- the configuration after what the session has called for takes effect
-unfoldable pub after_settling : Config → ℕ → Config
-after_settling config session = settled_by (called_for (slice_get config.clients session)) config session
-
-abbrev pub answered_so : Option ClientState → Bool
-answered_so (Some (Answered answer)) = true
-answered_so other = false
-
--- the session's call was answered
-abbrev pub call_is_answered : Config → ℕ → Bool
-call_is_answered config session = answered_so (slice_get config.clients session)
-
--- an open call of a session whose client is gone may still take effect
-abbrev pub unheard_so : Option ClientState → Bool
-unheard_so (Some (Gone (Some request))) = true
-unheard_so other = false
-
-abbrev pub has_unheard : Config → ℕ → Bool
-has_unheard config session = unheard_so (slice_get config.clients session)
-
--- there is a session that is to return, and it was answered
-abbrev pub is_over : Option ℕ → Config → Bool
-is_over None config = false
-is_over (Some returning) config = call_is_answered config returning
 
 -- the trunk and the path of the configuration lead to it
 unfoldable pub Reaches : State → List Event → List Move → Configuration → Type 0
@@ -160,6 +118,18 @@ pub record Grows (old new : List Configuration) : Type 0 where
   pub more : List Configuration
   pub parts : new ≡ old ++ more
   pub reach : KeepsReach old new
+
+-- what the new list has was in the old one, or an act that counts leads to it from this configuration
+abbrev pub AddsOnly : Option ℕ → Config → List Configuration → List Configuration → Type 0
+AddsOnly returning one old new = (config : Config) → Has new config → Has old config ⊎ IsNextTo returning one config
+
+-- this is one of the list after what the session called for takes effect
+abbrev pub IsSettledIn : List Configuration → ℕ → Config → Type 0
+IsSettledIn list session config = (one : Config) × Has list one × (config ≡ after_settling one session)
+
+-- the event leads to this from one of the list
+abbrev pub IsSeenIn : List Configuration → Event → Config → Type 0
+IsSeenIn list event config = (one : Config) × Has list one × (observed one event ≡ Some config)
 
 -- the list has what acts of sessions below a number lead to from this configuration. Acts of the session that
 -- is to return don't count, nor any acts after it was answered

@@ -1,5 +1,6 @@
 pub mod Answers
 pub mod Explained
+pub mod Late
 pub mod Kept
 pub mod Verdicts
 pub mod Found

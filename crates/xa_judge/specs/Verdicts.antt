@@ -2,7 +2,7 @@
 --     IsRefuted        no order explains the events up to and including the one at a place
 --     AreAllAnswers    these are the answers that some order gives the call that returns there
 --     AreDifferent     no two configurations of a list are the same
---     IsWide           more different configurations than allowed can stand before an event
+--     IsWide           more different configurations than allowed have to be kept before an event
 --     IsVerdict        the verdict is right
 use Rattle.std.specs.Prelude.{◌≡◌, ◌≢◌, ℕ, ◌+◌, ◌<◌, List, Some, length, take, slice_get}
 use Rattle.std.specs.List.{All, AllPairs, Contains}
@@ -16,6 +16,7 @@ use Rattle.xa_judge.specs.declared.moves.Move.{Move}
 use Rattle.xa_judge.specs.declared.verdict.Verdict.{Verdict}
 use Rattle.xa_judge.specs.declared.verdict.Verdict.TheVariants.{Legal, Illegal, Undecided}
 use Rattle.xa_judge.specs.Explained.{Config, opening_config, LeadsThrough, Explained}
+use Rattle.xa_judge.specs.Late.{IsCounted, IsKept}
 
 -- an order explains the events before this place; none explains those up to and including the one at this
 -- place, nor all
@@ -52,13 +53,17 @@ pub record AreAllAnswers (base : State) (events : List Event) (place : ℕ) (ans
 abbrev pub AreDifferent : List Config → Type 0
 AreDifferent list = AllPairs (λ one other. one ≢ other) list
 
--- the events before this place lead to more configurations than are allowed, no two of them the same
+-- acts may have to take effect before the event at this place. Taken as late as they can be, they and the events
+-- before lead to more configurations than are allowed, no two of them the same
 pub record IsWide (base : State) (events : List Event) (limit place : ℕ) : Type 0 where
   pub within : place < length events
   pub many : List Config
   pub over : limit < length many
   pub differ : AreDifferent many
   pub reached : All (IsReachedByMoves base (take place events)) many
+  pub event : Event
+  pub at : slice_get events place ≡ Some event
+  pub counted : All (IsCounted (IsKept base events place) event) many
 
 -- the verdict is right
 abbrev pub IsVerdict : State → List Event → ℕ → Verdict → Type 0

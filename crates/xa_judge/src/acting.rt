@@ -4,7 +4,8 @@ ghost use Rattle.std.specs.Option.{option_map};
 ghost use Rattle.xa_xid.specs.declared.statement.Statement.TheVariants.{Disconnect};
 ghost use Rattle.xa_server.specs.Step.{after};
 ghost use Rattle.xa_judge.specs.Explained.{answer_to, next_state, effect_of, IsSession};
-ghost use Rattle.xa_judge.specs.Found.{config_of, moved_to, called_for, after_settling, IsSettledFrom};
+ghost use Rattle.xa_judge.specs.Found.{config_of, moved_to, IsSettledFrom};
+ghost use Rattle.xa_judge.specs.Late.{called_for, after_settling};
 
 use crate::answer::Answer;
 use crate::client_state::ClientState;
@@ -155,7 +156,7 @@ impl Configuration {
     /// has called for nothing.
     ///
     /// May return `NoMemory`.
-    #[tactic(auto, unfolding(crate::specs::Found::after_settling))]
+    #[tactic(auto, unfolding(crate::specs::Late::after_settling))]
     pub fn settled(
         self,
         session: SessionNo,

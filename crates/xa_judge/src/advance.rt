@@ -1,7 +1,8 @@
 //! What one more event does to the configurations that are kept.
 ghost use Rattle.std.specs.Prelude.{◌≡◌, ◌<◌, true, false, vec_len, IfOk};
 ghost use Rattle.xa_judge.specs.Explained.{Config};
-ghost use Rattle.xa_judge.specs.Found.{Has, has_unheard};
+ghost use Rattle.xa_judge.specs.Found.{Has};
+ghost use Rattle.xa_judge.specs.Late.{has_unheard, IsAnyUnheard, Widens};
 ghost use Rattle.xa_judge.specs.Advances.{IsAdvance, IsSeenFrom, IsCallOf, IsReturnOf, IsNoReturn};
 
 use crate::closing::{answers_in, close, observe_all, settle_all};
@@ -73,7 +74,8 @@ fn closed_seen(
     event: &Event,
     limit: usize,
 ) -> Result<Advance, NoMemory>
-    requires { IsNoReturn event.now }
+    requires no_return { IsNoReturn event.now }
+    requires widens { Widens (Has known.items) event.now }
     ensures { IfOk result (IsAdvance known.items event.now limit) }
 {
     let is_closed = close(&mut known, index, &None, limit)?;
@@ -87,7 +89,8 @@ fn closed_seen(
 /// Whether in none of these configurations the session's client is gone with a call that may still take
 /// effect.
 fn none_unheard(known: &[Configuration], session: SessionNo) -> bool
-    ensures { result ≡ true → (one : Config) → Has known.now one → has_unheard one session ≡ false }
+    ensures none { result ≡ true → (one : Config) → Has known.now one → has_unheard one session ≡ false }
+    ensures some { result ≡ false → IsAnyUnheard (Has known.now) session }
 {
     for one in known {
         if one.has_unheard(session) {
@@ -127,9 +130,10 @@ pub fn see_event(
     limit: usize,
 ) -> Result<Advance, NoMemory>
     // Proved (records, one-event): Every order that goes on past an event from the configurations before it
-    //   also goes on from those that are kept after it. If none is kept, no order goes on; then the listed
-    //   answers are all that the session of a return could get. Otherwise more than `limit` different
-    //   configurations were reached.
+    //   also goes on from those that are kept after it, and no others are kept than acts lead to that take
+    //   effect as late as they can. If none is kept, no order goes on; then the listed answers are all that the
+    //   session of a return could get. Otherwise acts had to take effect before this event, and led to more
+    //   than `limit` different configurations.
     ensures { IfOk result (IsAdvance known.items event.now limit) }
 {
     match event {

@@ -3,8 +3,9 @@ ghost use Rattle.std.specs.Prelude.{◌≡◌, ◌<◌, ℕ, List, Some, true, f
 ghost use Rattle.std.specs.List.{All, Contains};
 ghost use Rattle.xa_judge.specs.Explained.{Config, observed};
 ghost use Rattle.xa_judge.specs.declared.answer.Answer.{Answer};
-ghost use Rattle.xa_judge.specs.Found.{Has, IsSpread, Grows, KeepsReach, ReachesPast, after_settling, IsClosedBelow};
-ghost use Rattle.xa_judge.specs.Found.{IsAnsweredIn, IsAnswerAdded, IsSeenAdded};
+ghost use Rattle.xa_judge.specs.Found.{Has, IsSpread, Grows, KeepsReach, ReachesPast, IsClosedBelow, IsSettledIn};
+ghost use Rattle.xa_judge.specs.Found.{IsAnsweredIn, IsAnswerAdded, IsSeenAdded, IsSeenIn};
+ghost use Rattle.xa_judge.specs.Late.{after_settling, IsReachedFrom};
 
 use crate::client_state::ClientState;
 use crate::configuration::Configuration;
@@ -48,6 +49,8 @@ pub fn close(
     ensures closed { IfOk result (λ done. done ≡ true → IsClosedBelow
         (length known.new.items) returning.now known.new.items) }
     ensures wide { IfOk result (λ done. done ≡ false → IsSpread limit known.new.items) }
+    ensures only { OnOk result ((config : Config) → Has known.new.items config
+        → IsReachedFrom (Has known.old.items) returning.now config) }
 {
     index.clear();
     let mut uncounted = limit;
@@ -74,6 +77,8 @@ pub fn settle_all(
     ensures has { IfOk result (λ list. (one : Config) → Has known.items one
         → Has list.items (after_settling one session)) }
     ensures reach { IfOk result (λ list. KeepsReach known.items list.items) }
+    ensures only { IfOk result (λ list. (config : Config) → Has list.items config
+        → IsSettledIn known.items session config) }
 {
     let mut list = Vec::new(alloc);
     while let Some(one) = known.pop() {
@@ -112,6 +117,8 @@ pub fn observe_all(
     ensures has { IfOk result (λ list. (one new : Config) → Has known.items one → observed one event.now ≡ Some new
         → Has list.items new) }
     ensures reach { IfOk result (λ list. ReachesPast event.now known.items list.items) }
+    ensures only { IfOk result (λ list. (config : Config) → Has list.items config
+        → IsSeenIn known.items event.now config) }
 {
     index.go_on(event)?;
     let count = known.len();

@@ -6,8 +6,8 @@ ghost use Rattle.std.specs.Prelude.{replicate};
 ghost use Rattle.xa_xid.specs.declared.statement.Statement.TheVariants.{Disconnect};
 ghost use Rattle.xa_server.specs.Step.{after};
 ghost use Rattle.xa_judge.specs.Explained.{opening_config, answer_to, next_state, effect_of, IsSession};
-ghost use Rattle.xa_judge.specs.Found.{config_of, moved_to, called_for, call_is_answered, has_unheard, is_over};
-ghost use Rattle.xa_judge.specs.Found.{after_settling, IsSettledFrom};
+ghost use Rattle.xa_judge.specs.Found.{config_of, moved_to, IsSettledFrom};
+ghost use Rattle.xa_judge.specs.Late.{called_for, call_is_answered, has_unheard, is_over, after_settling};
 
 use crate::client_state::ClientState;
 use crate::kept_server::KeptServer;

@@ -145,8 +145,8 @@ pub fn judge_telling<P: Progress>(
 
 /// Returns the verdict whether any order explains the events, beginning with a server in the state of `base`.
 ///
-/// If more than `limit` different configurations can precede an event, the verdict is `Undecided`. If eight
-/// aren't enough, or 512 or more events come before calls overlap, one order is looked for before all
+/// If more than `limit` different configurations have to be kept before an event, the verdict is `Undecided`,
+/// unless one order was found. If eight aren't enough, or 512 or more events come before calls overlap, one order is looked for before all
 /// configurations are kept. Identifiers that a call returns have to be in ascending order.
 /// Errors: `NoMemory` if an allocation failed.
 /// Takes memory for the configurations: in a list of up to 255 each has a copy of the server's records, as
@@ -165,7 +165,9 @@ pub fn judge(
     // Proved (records, illegal-answers): The answers listed at ILLEGAL are all that some order of what was
     //   seen before gives the call that returns there, and no others.
     // Proved (records, undecided): UNDECIDED is returned only if the events before its place lead to more
-    //   configurations than allowed, no two of them the same.
+    //   configurations than allowed, no two of them the same, though statements take effect as late as they
+    //   can. The event there is a return, an unknown answer, or a call of a session whose client is gone with
+    //   an open call. Before a return, statements of other sessions count, and none after its call was answered.
     ensures { IfOk result (IsVerdict base.now events.now limit) }
 {
     judge_telling(alloc, base, events, limit, &mut Silent)

@@ -1,9 +1,11 @@
 //! Lists in which each configuration is kept once.
-ghost use Rattle.std.specs.Prelude.{◌≡◌, ◌∷◌, ◌++◌, ◌≢◌, ◌<◌, ℕ, true, Some, slice_get, length, vec_len, IfOk, OnOk};
+ghost use Rattle.std.specs.Prelude.{◌≡◌, ◌∷◌, ◌++◌, ◌≢◌, ◌<◌, ℕ, true, false, Option, Some, slice_get, length, vec_len};
+ghost use Rattle.std.specs.Prelude.{IfOk, OnOk};
 ghost use Rattle.xa_judge.specs.declared.configuration.Configuration.{Configuration as Found};
 ghost use Rattle.xa_judge.specs.Explained.{Config, IsSession, effect_of};
-ghost use Rattle.xa_judge.specs.Found.{config_of, call_is_answered, IsOpening, Has, Grows, AddsUnlessThere, IsEffectAt};
-ghost use Rattle.xa_judge.specs.Found.{IsExpandedBelow};
+ghost use Rattle.xa_judge.specs.Found.{config_of, IsOpening, Has, Grows, AddsUnlessThere, IsEffectAt};
+ghost use Rattle.xa_judge.specs.Found.{IsExpandedBelow, AddsOnly};
+ghost use Rattle.xa_judge.specs.Late.{call_is_answered, is_over};
 
 use crate::configuration::Configuration;
 use crate::fingerprint_index::FingerprintIndex;
@@ -182,6 +184,12 @@ fn add_effect(
         → slice_get known.old.items place ≡ Some one
         → effect_of (config_of one) session act ≡ Some new
         → Has known.new.items new) }
+    ensures only { OnOk result
+        ((one : Found) (returning : Option ℕ)
+        → slice_get known.old.items place ≡ Some one
+        → returning ≢ Some session
+        → is_over returning (config_of one) ≡ false
+        → AddsOnly returning (config_of one) known.old.items known.new.items) }
 {
     match known[place].effected(session, act, &mut index.lists)? {
         None => Ok(()),
@@ -206,6 +214,12 @@ fn add_effects(
         → slice_get known.old.items place ≡ Some one
         → effect_of (config_of one) session act ≡ Some new
         → Has known.new.items new) }
+    ensures only { OnOk result
+        ((one : Found) (returning : Option ℕ)
+        → slice_get known.old.items place ≡ Some one
+        → returning ≢ Some session
+        → is_over returning (config_of one) ≡ false
+        → AddsOnly returning (config_of one) known.old.items known.new.items) }
 {
     add_effect(known, index, place, session, Act::Statement)?;
     add_effect(known, index, place, session, Act::Disconnect)?;
@@ -214,7 +228,8 @@ fn add_effects(
 
 /// Whether the session of this number is `returning`.
 fn is_returning(returning: &Option<SessionNo>, number: u64) -> bool
-    ensures { result ≡ true → returning.now ≡ Some number }
+    ensures yes { result ≡ true → returning.now ≡ Some number }
+    ensures no { result ≡ false → returning.now ≢ Some number }
 {
     match returning {
         None => false,
@@ -240,6 +255,11 @@ fn add_others(
         → returning.now ≢ Some number
         → effect_of (config_of one) number act ≡ Some new
         → Has known.new.items new) }
+    ensures only { OnOk result
+        ((one : Found)
+        → slice_get known.old.items place ≡ Some one
+        → is_over returning.now (config_of one) ≡ false
+        → AddsOnly returning.now (config_of one) known.old.items known.new.items) }
 {
     if is_returning(returning, number) {
         return Ok(());
@@ -264,6 +284,11 @@ fn add_all(
     ensures grows { OnOk result (Grows known.old.items known.new.items) }
     ensures all { OnOk result ((one : Found) → slice_get known.old.items place ≡ Some one
         → IsExpandedBelow 17 one returning.now known.new.items) }
+    ensures only { OnOk result
+        ((one : Found)
+        → slice_get known.old.items place ≡ Some one
+        → is_over returning.now (config_of one) ≡ false
+        → AddsOnly returning.now (config_of one) known.old.items known.new.items) }
 {
     for number in 1..17 {
         add_others(known, index, place, number, returning)?;
@@ -285,9 +310,12 @@ pub fn expand(
     ensures grows { OnOk result (Grows known.old.items known.new.items) }
     ensures all { OnOk result ((one : Found) → slice_get known.old.items place ≡ Some one
         → IsExpandedBelow 17 one returning.now known.new.items) }
+    ensures only { OnOk result ((one : Found) → slice_get known.old.items place ≡ Some one
+        → AddsOnly returning.now (config_of one) known.old.items known.new.items) }
 {
     if known[place].is_over(returning) {
         return Ok(());
     }
-    add_all(known, index, place, returning)
+    add_all(known, index, place, returning)?;
+    Ok(())
 }

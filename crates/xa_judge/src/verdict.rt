@@ -11,6 +11,7 @@ pub enum Verdict {
     /// No order explains the record up to and including the event at this place, counted from 0, though one
     /// explains what comes before it. The call that returns there could have been answered with these.
     Illegal(usize, Vec<SharedAnswer>),
-    /// No verdict was found, since more configurations than allowed can precede the event at this place.
+    /// No verdict was found, since more configurations than allowed have to be kept before the event at this
+    /// place.
     Undecided(usize),
 }

@@ -1,5 +1,5 @@
 use Rattle.std.proofs.Common.{◌≡◌, true, subst, rules, tests}
-use Rattle.xa_judge.proofs.Advances.{AreAnswersIn, advance_return}
+use Rattle.xa_judge.proofs.Advances.{AreAnswersIn, AreLate, advance_return, counts_return}
 use Rattle.xa_judge.proofs.advance.return_seen.Goals as goal
 
 pub returns : goal.returns
@@ -12,4 +12,5 @@ returns c =
     c.in_ok-settled.ensures.reach
     (subst (λ l. AreAnswersIn l c.args.returning c.in_ok-answers.answers.items) c.as_slice.ensures.value
     (record { each = c.in_ok-answers.ensures.each; all = c.in_ok-answers.ensures.all }))
+    (record { reached = c.in_ok-is_closed.ensures.only; settled = c.in_ok-settled.ensures.only })
     c.in_ok-next.ensures

@@ -1,5 +1,7 @@
 use Rattle.std.proofs.Common.{sym, subst}
 use Rattle.std.proofs.lemmas.Result.{IfOk-weaker}
+use Rattle.xa_judge.specs.Late.{IsReady}
+use Rattle.xa_judge.specs.Found.{Has}
 use Rattle.xa_judge.specs.Advances.{IsSeenFrom, AreAnswers, IsAdvance}
 use Rattle.xa_judge.proofs.Waits.{CanWait}
 use Rattle.xa_judge.proofs.Advances.{advance_now}
@@ -11,5 +13,6 @@ returns-in-Lost c =
     (IsAdvance c.args.known.items c.args.event.now c.args.limit)
     (λ next seen. advance_now c.args.known.items c.new.result.items c.args.event.now c.args.limit next
     (λ config has. subst (CanWait config) (sym c.in-Lost.is) tt)
+    (λ config has. subst (λ e. IsReady (Has c.args.known.items) e config) (sym c.in-Lost.is) has)
     (subst (λ e. AreAnswers c.args.known.items e c.new.result.items) (sym c.in-Lost.is) c.new.ensures.items) seen)
     c.seen.ensures

@@ -1,8 +1,18 @@
 use Rattle.std.proofs.Common.{length, ap, arith}
 use Rattle.std.proofs.lemmas.List.{length-append}
-use Rattle.xa_judge.proofs.Growth.{grows_more}
+use Rattle.xa_judge.specs.Late.{at_once}
+use Rattle.xa_judge.proofs.Growth.{grows_none, grows_more}
+use Rattle.xa_judge.proofs.Late.{reached_more}
 use Rattle.xa_judge.proofs.Loops.{closed_more}
 use Rattle.xa_judge.proofs.closing.close.Goals as goal
+
+pub loop-place-init : goal.loop-place-init
+loop-place-init c = record {
+  grows = grows_none c.args.known.now.items;
+  closed = λ place one below. absurd (omega (arith, below));
+  within = omega arith;
+  only = λ config has. at_once config has;
+}
 
 pub loop-place-preserved : goal.loop-place-preserved
 loop-place-preserved c =
@@ -25,4 +35,8 @@ loop-place-preserved c =
             ap length grows.parts,
             length-append now grows.more,
           );
+      only =
+          reached_more c.args.known.now.items now new c.loop-place.place c.args.returning.now
+          (omega (arith, c.loop-place-test.true, c.len.ensures, c.loop-place.known.ok.0)) c.loop-place.invariant.only
+          c.in_ok-expand.ensures.only;
     }

@@ -1,6 +1,7 @@
 use Rattle.std.proofs.Common.{subst}
 use Rattle.xa_judge.specs.Found.{IsSeenAdded}
 use Rattle.xa_judge.proofs.Loops.{sees_step, sees_reach}
+use Rattle.xa_judge.proofs.Late.{seen_only}
 use Rattle.xa_judge.proofs.closing.observe_all.Goals as goal
 
 pub loop-one-preserved : goal.loop-one-preserved
@@ -16,4 +17,6 @@ loop-one-preserved c =
           c.loop-one.invariant.has;
       reach = sees_reach c.args.event.now first known rest list new c.in-Some.one c.in-Some.ensures.items seen
           c.loop-one.invariant.reach;
+      only = seen_only c.args.event.now first known rest list new c.in-Some.one c.in-Some.ensures.items seen
+          c.loop-one.invariant.only;
     }

@@ -2,6 +2,7 @@ use Rattle.std.proofs.Common.{inl, inr, arith}
 use Rattle.xa_judge.proofs.Places.{length_map}
 use Rattle.xa_judge.specs.Found.{config_of}
 use Rattle.xa_judge.proofs.Loops.{settles_step, settles_reach}
+use Rattle.xa_judge.proofs.Late.{settled_only}
 use Rattle.xa_judge.proofs.closing.settle_all.Goals as goal
 
 pub loop-one-preserved : goal.loop-one-preserved
@@ -20,6 +21,10 @@ loop-one-preserved c =
           settles_reach c.args.session first known rest list new c.in-Some.one c.in_ok-settled.field-0
           c.in-Some.ensures.items c.in_ok-push.ensures.items
           c.in_ok-settled.ensures.reach c.loop-one.invariant.reach;
+      only =
+          settled_only c.args.session first known rest list new c.in-Some.one c.in_ok-settled.field-0
+          c.in-Some.ensures.items c.in_ok-push.ensures.items
+          c.in_ok-settled.ensures.config c.loop-one.invariant.only;
     }
 
 pub returns-clause-has : goal.returns-clause-has

@@ -5,6 +5,7 @@ use Rattle.xa_judge.specs.Found.{Reaches, IsPathOf}
 use Rattle.xa_judge.specs.Advances.{IsAdvance}
 use Rattle.xa_judge.proofs.Verdicts.{complete_more, reach_more, legal, refuted, answers_given, wide, opens_reached}
 use Rattle.xa_judge.proofs.Verdicts.{opens_complete, continues_shortened, some_shortened}
+use Rattle.xa_judge.proofs.Late.{opens_kept, kept_on}
 use Rattle.xa_judge.proofs.judging.judge_in_breadth.Goals as goal
 
 pub loop-place-init : goal.loop-place-init
@@ -16,6 +17,7 @@ loop-place-init g c =
       reach = subst (λ trunk. All (Reaches c.args.base.now [] trunk) known) (sym c.new-trunk.ensures.items)
           (opens_reached c.args.base.now known is);
       complete = opens_complete c.args.base.now known is;
+      kept = opens_kept c.args.base.now c.args.events.now known is;
     }
 
 pub returns-in-Impossible : goal.returns-in-Impossible
@@ -39,8 +41,12 @@ returns-in-TooMany g c =
     let event = c.index-events-place.result in
     let known = c.loop-place.known.items in
     let many = subst (λ a. IsAdvance known event c.args.limit a) c.in-TooMany.is c.in_ok-next.ensures in
-    wide c.args.base.now c.args.events.now c.args.limit c.loop-place.place c.loop-place.trunk.items known many.0
-    (omega (arith, c.loop-place-test.true)) c.loop-place.invariant.reach many.1 many.2
+    let within : c.loop-place.place < length c.args.events.now = omega (arith, c.loop-place-test.true) in
+    wide c.args.base.now c.args.events.now c.args.limit c.loop-place.place event c.loop-place.trunk.items known many.0
+    within
+    (slice_get_read c.args.events.now (length c.args.events.now) c.loop-place.place event refl within
+    c.index-events-place.is)
+    c.loop-place.invariant.reach c.loop-place.invariant.kept many.1 many.2 many.3
 
 pub loop-place-preserved : goal.loop-place-preserved
 loop-place-preserved g c =
@@ -65,6 +71,10 @@ loop-place-preserved g c =
           continues_shortened trunk longer next new more end c.in_ok-share.ensures
           (complete_more base events place event known next within c.index-events-place.is
           c.loop-place.invariant.complete leads.1 more moves end runs);
+      kept =
+          kept_on base events place event trunk longer known next new
+          (slice_get_read events (length events) place event refl within c.index-events-place.is)
+          c.loop-place.invariant.kept leads.3 c.in_ok-share.ensures;
     }
 
 pub returns : goal.returns

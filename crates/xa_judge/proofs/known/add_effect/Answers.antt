@@ -5,6 +5,7 @@ use Rattle.xa_judge.specs.Explained.{effect_of}
 use Rattle.xa_judge.specs.Found.{config_of}
 use Rattle.xa_judge.proofs.Places.{stands_at}
 use Rattle.xa_judge.proofs.Loops.{effect_added}
+use Rattle.xa_judge.proofs.Late.{adds_none, adds_effect}
 use Rattle.xa_judge.proofs.known.add_effect.Goals as goal
 
 pub returns-in_ok-add_next-in-Some-clause-grows : goal.returns-in_ok-add_next-in-Some-clause-grows
@@ -24,6 +25,19 @@ returns-in_ok-add_next-in-Some-clause-has c =
     (omega (arith, c.requires, c.args.known.now.ok.0)) c.index.ensures)
     c.in_ok-effected.ensures.session c.in_ok-effected.ensures.config c.in_ok-effected.ensures.path c.in-Some.is
     c.in_ok-add_next-in-Some.ensures).1
+
+pub returns-in_ok-add_next-in-Some-clause-only : goal.returns-in_ok-add_next-in-Some-clause-only
+returns-in_ok-add_next-in-Some-clause-only c =
+    adds_effect c.args.known.now.items c.add_next.new.known.items c.args.place c.index.result.now c.in-Some.next
+    c.in_ok-effected.field-0 c.args.session
+    c.args.act (stands_at c.args.known.now.items c.args.place c.index.result.now
+    (omega (arith, c.requires, c.args.known.now.ok.0)) c.index.ensures)
+    c.in_ok-effected.ensures.session c.in_ok-effected.ensures.config c.in-Some.is
+    c.in_ok-add_next-in-Some.ensures
+
+pub returns-in-None-clause-only : goal.returns-in-None-clause-only
+returns-in-None-clause-only c = λ one returning at apart unanswered.
+    adds_none returning (config_of one) c.args.known.now.items
 
 pub add_next-requires-clause-leads : goal.add_next-requires-clause-leads
 add_next-requires-clause-leads c = record {

@@ -1,0 +1,219 @@
+-- What is kept is no more than what acts lead to that take effect as late as they can.
+--     adds_none, adds_more, adds_effect     what an act adds to a list
+--     reached_more     acts lead to all that is in a list while it grows
+--     unheard_at, heard_more      an open call of a session whose client is gone, in some of a list;  in none
+--     settled_only, seen_only     what was made of a list comes of it
+--     kept_on          so it is with what is kept from one event to the next
+use Rattle.std.proofs.Common.{◌≡◌, ◌≢◌, ◌⊎◌, ℕ, ◌+◌, ◌<◌, suc, Option, Some, List, [], ◌∷◌, ◌++◌, length, get_or, true, false}
+use Rattle.std.proofs.Common.{refl, ap, sym, ◌∙◌, subst, inl, inr, arith}
+use Rattle.std.specs.Prelude.{slice_get}
+use Rattle.std.specs.Option.{option_map}
+use Rattle.std.specs.List.{Contains}
+use Rattle.std.proofs.lemmas.Option.{same_Some, slice_get_read}
+use Rattle.std.proofs.lemmas.Bool.{cases_lt}
+use Rattle.xa_server.specs.State.{State}
+use Rattle.xa_judge.specs.declared.event.Event.{Event}
+use Rattle.xa_judge.specs.declared.event.Event.TheVariants.{Call, Return, Lost, Unknown}
+use Rattle.xa_judge.specs.declared.moves.Act.{Act}
+use Rattle.xa_judge.specs.declared.configuration.Configuration.{Configuration}
+use Rattle.xa_judge.specs.Explained.{Config, effect_of, IsSession}
+use Rattle.xa_judge.specs.Late.{after_settling, has_unheard, is_over, IsNextTo, IsReachedFrom, at_once, by_act}
+use Rattle.xa_judge.specs.Late.{IsAnyUnheard, Widens, IsCounted, IsReady, IsKeptAfter, IsKept}
+use Rattle.xa_judge.specs.Found.{config_of, configs, Has, Grows, IsShortened, AddsUnlessThere, IsSeenAdded, IsOpening}
+use Rattle.xa_judge.specs.Found.{AddsOnly, IsSettledIn, IsSeenIn}
+use Rattle.xa_judge.proofs.Places.{get_within, place_mapped}
+use Rattle.xa_judge.proofs.Growth.{has_more, still_there}
+use Rattle.xa_judge.proofs.Loops.{has_last, has_pushed}
+
+-- an empty list has nothing
+has_none : (c : Config) → Has [] c → ⊥
+has_none c has = omega (arith, has.1)
+
+-- what one more was added for is that one
+added_last : (old new : List Configuration) (one : Configuration) (c : Config) → AddsUnlessThere old one new → Has new c
+    → Has old c ⊎ (config_of one ≡ c)
+added_last old new one c (inl was) has = inl (subst (λ l. Has l c) was.1 has)
+added_last old new one c (inr is) has = has_last old new one c is has
+
+pub adds_none : (returning : Option ℕ) (one : Config) (list : List Configuration) → AddsOnly returning one list list
+adds_none returning one list = λ config has. inl has
+
+pub adds_more : (returning : Option ℕ) (one : Config) (old mid new : List Configuration) → AddsOnly returning one old mid
+    → AddsOnly returning one mid new → AddsOnly returning one old new
+adds_more returning one old mid new first second = λ config has. elim (second config has) [
+  | inl there ↦ first config there
+  | inr next ↦ inr next
+]
+
+-- what one act leads to is added
+pub adds_effect : (old new : List Configuration) (place : ℕ) (one next : Configuration) (found : Option Configuration)
+    (session : ℕ) (act : Act)
+    → slice_get old place ≡ Some one → IsSession session
+    → option_map config_of found ≡ effect_of (config_of one) session act
+    → found ≡ Some next → AddsUnlessThere old next new
+    → (other : Configuration) (returning : Option ℕ) → slice_get old place ≡ Some other → returning ≢ Some session
+    → is_over returning (config_of other) ≡ false
+    → AddsOnly returning (config_of other) old new
+adds_effect old new place one next found session act at is effect some added other returning there apart unanswered =
+    λ config has. elim (added_last old new next config added has) [
+      | inl was ↦ inl was
+      | inr same ↦ inr (record {
+          session = session;
+          act = act;
+          is = is;
+          other = apart;
+          unanswered = unanswered;
+          leads = ap (λ o. effect_of (config_of o) session act) (same_Some other one (sym there ∙ at)) ∙ sym effect
+              ∙ ap (option_map config_of) some ∙ ap Some same;
+        })
+    ]
+
+-- acts lead to all of the list, also once it has what they lead to from one of it
+pub reached_more : (first old new : List Configuration) (place : ℕ) (returning : Option ℕ) → place < length old
+    → ((config : Config) → Has old config → IsReachedFrom (Has first) returning config)
+    → ((one : Configuration) → slice_get old place ≡ Some one → AddsOnly returning (config_of one) old new)
+    → (config : Config) → Has new config → IsReachedFrom (Has first) returning config
+reached_more first old new place returning within before adds config has =
+    let at = get_within old place within in
+    elim (adds at.0 at.1 config has) [
+      | inl there ↦ before config there
+      | inr next ↦ by_act (config_of at.0) config
+          (before (config_of at.0) (place_mapped config_of old place at.0 at.1)) next
+    ]
+
+-- what is left of a list is of it, and what was made of the rest comes of it
+abbrev pub SettledOnly : ℕ → List Configuration → List Configuration → List Configuration → Type 0
+SettledOnly session first rest list =
+    ((config : Config) → Has rest config → Has first config)
+    × ((config : Config) → Has list config → IsSettledIn first session config)
+
+abbrev pub SeenOnly : Event → List Configuration → List Configuration → List Configuration → Type 0
+SeenOnly event first rest list =
+    ((config : Config) → Has rest config → Has first config)
+    × ((config : Config) → Has list config → IsSeenIn first event config)
+
+-- the last of the list was of the first one too
+last_of : (first known rest : List Configuration) (one : Configuration) → known ≡ rest ++ one ∷ []
+    → ((config : Config) → Has known config → Has first config) → Has first (config_of one)
+last_of first known rest one parts of = of (config_of one) (has_pushed rest known one parts)
+
+rest_of : (first known rest : List Configuration) (one : Configuration) → known ≡ rest ++ one ∷ []
+    → ((config : Config) → Has known config → Has first config) → (config : Config) → Has rest config → Has first config
+rest_of first known rest one parts of config has =
+    of config (subst (λ l. Has l config) (sym parts) (has_more rest (one ∷ []) config has))
+
+pub settled_only : (session : ℕ) (first known rest list new : List Configuration) (one next : Configuration)
+    → known ≡ rest ++ one ∷ [] → new ≡ list ++ next ∷ []
+    → config_of next ≡ after_settling (config_of one) session
+    → SettledOnly session first known list → SettledOnly session first rest new
+settled_only session first known rest list new one next parts pushed is only = (
+  rest_of first known rest one parts only.0,
+  λ config has. elim (has_last list new next config pushed has) [
+    | inl there ↦ only.1 config there
+    | inr same ↦ (config_of one, last_of first known rest one parts only.0, sym same ∙ is)
+  ],
+)
+
+pub seen_only : (event : Event) (first known rest list new : List Configuration) (one : Configuration)
+    → known ≡ rest ++ one ∷ [] → IsSeenAdded event one list new
+    → SeenOnly event first known list → SeenOnly event first rest new
+seen_only event first known rest list new one parts (inl none) only = (
+  rest_of first known rest one parts only.0,
+  λ config has. only.1 config (subst (λ l. Has l config) none.1 has),
+)
+seen_only event first known rest list new one parts (inr some) only = (
+  rest_of first known rest one parts only.0,
+  λ config has. elim (added_last list new some.0 config some.3 has) [
+    | inl there ↦ only.1 config there
+    | inr same ↦ (config_of one, last_of first known rest one parts only.0, some.1 ∙ ap Some same)
+  ],
+)
+
+pub settled_none : (session : ℕ) (first : List Configuration) → SettledOnly session first first []
+settled_none session first = (λ config has. has, λ config has. absurd (has_none config has))
+
+pub seen_none : (event : Event) (first : List Configuration) → SeenOnly event first first []
+seen_none event first = (λ config has. has, λ config has. absurd (has_none config has))
+
+-- the client of the session is gone with an open call in the configuration at a place
+pub unheard_at : (known : List Configuration) (place session : ℕ) (one : Configuration) → place < length known
+    → one ≡ get_or known place one → has_unheard (config_of one) session ≡ true → IsAnyUnheard (Has known) session
+unheard_at known place session one within at is = (
+  config_of one,
+  place_mapped config_of known place one (slice_get_read known (length known) place one refl within at),
+  is,
+)
+
+-- in those before a place it isn't, nor in the one there
+pub heard_more : (known : List Configuration) (place session : ℕ) (one : Configuration) → place < length known
+    → one ≡ get_or known place one → has_unheard (config_of one) session ≡ false
+    → ((k : ℕ) (other : Configuration) → k < place → slice_get known k ≡ Some other
+    → has_unheard (config_of other) session ≡ false)
+    → (k : ℕ) (other : Configuration) → k < place + 1 → slice_get known k ≡ Some other
+    → has_unheard (config_of other) session ≡ false
+heard_more known place session one within at is before k other below found = elim (cases_lt k place) [
+  | inl less ↦ before k other less found
+  | inr more ↦
+      let here : slice_get known place ≡ Some one = slice_get_read known (length known) place one refl within at in
+      let same : k ≡ place = omega (arith, below, more) in
+      let one_is : one ≡ other = same_Some one other (sym here ∙ ap (slice_get known) (sym same) ∙ found) in
+      ap (λ o. has_unheard (config_of o) session) (sym one_is) ∙ is
+]
+
+-- from more configurations, no less is reached
+reached_of_more : (P Q : Config → Type 0) (returning : Option ℕ) (config : Config)
+    → ((one : Config) → P one → Q one) → IsReachedFrom P returning config → IsReachedFrom Q returning config
+reached_of_more P Q returning _ wider (at_once config is) = at_once config (wider config is)
+reached_of_more P Q returning _ wider (by_act one config before next) =
+    by_act one config (reached_of_more P Q returning one wider before) next
+
+widens_of_more : (P Q : Config → Type 0) (event : Event) → ((one : Config) → P one → Q one) → Widens P event
+    → Widens Q event
+widens_of_more P Q (Call session request) wider is = (is.0, wider is.0 is.1, is.2)
+widens_of_more P Q (Return session seen) wider is = is
+widens_of_more P Q (Lost session) wider is = is
+widens_of_more P Q (Unknown session) wider is = is
+
+pub counted_of_more : (P Q : Config → Type 0) (event : Event) (config : Config) → ((one : Config) → P one → Q one)
+    → IsCounted P event config → IsCounted Q event config
+counted_of_more P Q event config wider is = record {
+  widens = widens_of_more P Q event wider is.widens;
+  reached = reached_of_more P Q _ config wider is.reached;
+}
+
+ready_of_more : (P Q : Config → Type 0) (event : Event) (config : Config) → ((one : Config) → P one → Q one)
+    → IsReady P event config → IsReady Q event config
+ready_of_more P Q (Call session request) config wider (inl is) = inl (wider config is)
+ready_of_more P Q (Call session request) config wider (inr is) =
+    inr (counted_of_more P Q (Call session request) config wider is)
+ready_of_more P Q (Return session seen) config wider is =
+    (is.0, counted_of_more P Q (Return session seen) is.0 wider is.1, is.2)
+ready_of_more P Q (Lost session) config wider is = wider config is
+ready_of_more P Q (Unknown session) config wider is = counted_of_more P Q (Unknown session) config wider is
+
+-- before all events
+pub opens_kept : (base : State) (events : List Event) (list : List Configuration) → IsOpening base list
+    → (config : Config) → Has list config → IsKept base events 0 config
+opens_kept base events list is config has = elim (has_last [] list is.0 config is.1 has) [
+  | inl there ↦ absurd (has_none config there)
+  | inr same ↦ sym same ∙ is.2
+]
+
+-- after one event more, also of a list with shorter paths
+pub kept_on : (base : State) (events : List Event) (place : ℕ) (event : Event) (trunk longer : List _)
+    (old next new : List Configuration)
+    → slice_get events place ≡ Some event
+    → ((config : Config) → Has old config → IsKept base events place config)
+    → ((config : Config) → Has next config → IsKeptAfter (Has old) event config)
+    → IsShortened trunk longer next new
+    → (config : Config) → Has new config → IsKept base events (place + 1) config
+kept_on base events place event trunk longer old next new at kept leads short config has =
+    let after = leads config (subst (λ l. Contains l config) short.same has) in
+    subst (λ n. IsKept base events n config) more (
+      event,
+      at,
+      (after.0, ready_of_more (Has old) (IsKept base events place) event after.0 kept after.1, after.2),
+    )
+  where
+    more : suc place ≡ place + 1
+    more = omega arith

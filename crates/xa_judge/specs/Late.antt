@@ -1,0 +1,118 @@
+-- The configurations that a judge has to keep, if acts take effect as late as they can.
+-- Every rule here is the project's own: docs/HISTORIES.md#verdicts.
+--     called_for       what a session has called for, if that has taken no effect yet
+--     after_settling   the configuration after that takes effect
+--     call_is_answered  the session's call was answered
+--     has_unheard      the session's client is gone with an open call that may still take effect
+--     is_over          acts don't count any more, since the session that is to return was answered
+--     IsNextTo         an act that counts leads from one configuration to another
+--     IsReachedFrom    acts that count lead to a configuration from one that is kept
+--     Widens           acts may have to take effect before an event
+--     IsCounted        what acts lead to before such an event
+--     IsReady, IsKeptAfter     what stands directly before an event, and after it
+--     IsKept           what is kept before the event at a place
+use Rattle.std.specs.Prelude.{◌≡◌, ◌≢◌, ◌⊎◌, ℕ, zero, suc, Bool, true, false, Option, Some, None, List, slice_get, slice_set}
+use Rattle.xa_server.specs.State.{State}
+use Rattle.xa_judge.specs.declared.request.Request.{Request}
+use Rattle.xa_judge.specs.declared.event.Event.{Event}
+use Rattle.xa_judge.specs.declared.event.Event.TheVariants.{Call, Return, Lost, Unknown}
+use Rattle.xa_judge.specs.declared.client_state.ClientState.{ClientState}
+use Rattle.xa_judge.specs.declared.client_state.ClientState.TheVariants.{Called, Answered, Gone}
+use Rattle.xa_judge.specs.declared.moves.Act.{Act}
+use Rattle.xa_judge.specs.Explained.{Config, opening_config, effect_of, observed, IsSession, answer_to, next_state}
+
+-- what a session has called for, if that has taken no effect yet
+abbrev pub called_for : Option ClientState → Option Request
+called_for (Some (Called request)) = Some request
+called_for other = None
+
+abbrev pub settled_by : Option Request → Config → ℕ → Config
+settled_by None config session = config
+settled_by (Some request) config session =
+    record {
+      state = next_state config.state session request;
+      clients = slice_set config.clients session (Answered (answer_to config.state session request));
+    }
+
+-- the configuration after what the session has called for takes effect
+unfoldable pub after_settling : Config → ℕ → Config
+after_settling config session = settled_by (called_for (slice_get config.clients session)) config session
+
+abbrev pub answered_so : Option ClientState → Bool
+answered_so (Some (Answered answer)) = true
+answered_so other = false
+
+-- the session's call was answered
+abbrev pub call_is_answered : Config → ℕ → Bool
+call_is_answered config session = answered_so (slice_get config.clients session)
+
+-- an open call of a session whose client is gone may still take effect
+abbrev pub unheard_so : Option ClientState → Bool
+unheard_so (Some (Gone (Some request))) = true
+unheard_so other = false
+
+abbrev pub has_unheard : Config → ℕ → Bool
+has_unheard config session = unheard_so (slice_get config.clients session)
+
+-- there is a session that is to return, and it was answered
+abbrev pub is_over : Option ℕ → Config → Bool
+is_over None config = false
+is_over (Some returning) config = call_is_answered config returning
+
+-- an act leads from the first configuration to the other. It is of another session than the one that is to return,
+-- which wasn't answered yet
+pub record IsNextTo (returning : Option ℕ) (one config : Config) : Type 0 where
+  pub session : ℕ
+  pub act : Act
+  pub is : IsSession session
+  pub other : returning ≢ Some session
+  pub unanswered : is_over returning one ≡ false
+  pub leads : effect_of one session act ≡ Some config
+
+-- any number of such acts lead to the configuration from one that is kept
+pub data IsReachedFrom (kept : Config → Type 0) (returning : Option ℕ) : Config → Type 0 where
+  at_once : (config : Config) → kept config → IsReachedFrom kept returning config
+  by_act : (one config : Config) → IsReachedFrom kept returning one → IsNextTo returning one config
+      → IsReachedFrom kept returning config
+
+-- in one that is kept the session's client is gone with an open call that may still take effect
+abbrev pub IsAnyUnheard : (Config → Type 0) → ℕ → Type 0
+IsAnyUnheard kept session = (one : Config) × kept one × (has_unheard one session ≡ true)
+
+-- acts may have to take effect before the event: the call of a return or of an unknown answer, after calls of others;
+-- and the earlier call of a session whose client is gone, before it calls again
+abbrev pub Widens : (Config → Type 0) → Event → Type 0
+Widens kept (Call session request) = IsAnyUnheard kept session
+Widens kept (Return session seen) = Unit {0}
+Widens kept (Lost session) = ⊥
+Widens kept (Unknown session) = Unit {0}
+
+-- the session that is to return
+abbrev pub returning_at : Event → Option ℕ
+returning_at (Call session request) = None
+returning_at (Return session seen) = Some session
+returning_at (Lost session) = None
+returning_at (Unknown session) = None
+
+-- acts may have to take effect before the event, and those that count lead to this
+pub record IsCounted (kept : Config → Type 0) (event : Event) (config : Config) : Type 0 where
+  pub widens : Widens kept event
+  pub reached : IsReachedFrom kept (returning_at event) config
+
+-- this stands directly before the event; before a return, what its session called for takes effect last
+abbrev pub IsReady : (Config → Type 0) → Event → Config → Type 0
+IsReady kept (Call session request) config = kept config ⊎ IsCounted kept (Call session request) config
+IsReady kept (Return session seen) config =
+    (one : Config) × IsCounted kept (Return session seen) one × (config ≡ after_settling one session)
+IsReady kept (Lost session) config = kept config
+IsReady kept (Unknown session) config = IsCounted kept (Unknown session) config
+
+-- this is kept after the event
+abbrev pub IsKeptAfter : (Config → Type 0) → Event → Config → Type 0
+IsKeptAfter kept event config = (one : Config) × IsReady kept event one × (observed one event ≡ Some config)
+
+-- this is kept before the event at the place
+abbrev pub IsKept : State → List Event → ℕ → Config → Type 0
+IsKept base events zero config = config ≡ opening_config base
+IsKept base events (suc place) config =
+    (event : Event) × (slice_get events place ≡ Some event) × IsKeptAfter (IsKept base events place) event config
