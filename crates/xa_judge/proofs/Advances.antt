@@ -163,16 +163,6 @@ advance_return old closed ready answers session (Lost other) limit next is grows
 advance_return old closed ready answers session (Unknown other) limit next is grows is_closed settles reach given late
     leads = absurd is
 
--- what acts of other sessions lead to is counted before a return
-pub counts_return : (old closed : List Configuration) (session : ℕ) (event : Event) → IsReturnOf session event
-    → ((config : Config) → Has closed config → IsReachedFrom (Has old) (Some session) config)
-    → (config : Config) → Has closed config → IsCounted (Has old) event config
-counts_return old closed session (Call other request) is reached config has = absurd is
-counts_return old closed session (Return other seen) is reached config has =
-    record { widens = tt; reached = subst (λ n. IsReachedFrom (Has old) (Some n) config) (sym is) (reached config has) }
-counts_return old closed session (Lost other) is reached config has = absurd is
-counts_return old closed session (Unknown other) is reached config has = absurd is
-
 -- whatever acts lead to is in a list that is closed
 stays_in : (list : List Configuration) (old mid : Config) (session : ℕ) (act : Act)
     → IsClosedBelow (length list) None list → Has list old → IsSession session

@@ -4,8 +4,8 @@
 --     unheard_at, heard_more      an open call of a session whose client is gone, in some of a list;  in none
 --     settled_only, seen_only     what was made of a list comes of it
 --     kept_on          so it is with what is kept from one event to the next
-use Rattle.std.proofs.Common.{◌≡◌, ◌≢◌, ◌⊎◌, ℕ, ◌+◌, ◌<◌, suc, Option, Some, List, [], ◌∷◌, ◌++◌, length, get_or, true, false}
-use Rattle.std.proofs.Common.{refl, ap, sym, ◌∙◌, subst, inl, inr, arith}
+use Rattle.std.proofs.Common.{◌≡◌, ◌≢◌, ◌⊎◌, ℕ, ◌+◌, ◌<◌, suc, Option, Some, List, [], ◌∷◌, ◌++◌, length, get_or, true}
+use Rattle.std.proofs.Common.{false, refl, ap, sym, ◌∙◌, subst, inl, inr, arith}
 use Rattle.std.specs.Prelude.{slice_get}
 use Rattle.std.specs.Option.{option_map}
 use Rattle.std.specs.List.{Contains}
@@ -17,12 +17,12 @@ use Rattle.xa_judge.specs.declared.event.Event.TheVariants.{Call, Return, Lost, 
 use Rattle.xa_judge.specs.declared.moves.Act.{Act}
 use Rattle.xa_judge.specs.declared.configuration.Configuration.{Configuration}
 use Rattle.xa_judge.specs.Explained.{Config, effect_of, IsSession}
-use Rattle.xa_judge.specs.Late.{after_settling, has_unheard, is_over, IsNextTo, IsReachedFrom, at_once, by_act}
+use Rattle.xa_judge.specs.Late.{after_settling, has_unheard, is_over, IsReachedFrom, at_once, by_act}
 use Rattle.xa_judge.specs.Late.{IsAnyUnheard, Widens, IsCounted, IsReady, IsKeptAfter, IsKept}
-use Rattle.xa_judge.specs.Found.{config_of, configs, Has, Grows, IsShortened, AddsUnlessThere, IsSeenAdded, IsOpening}
+use Rattle.xa_judge.specs.Found.{config_of, Has, IsShortened, AddsUnlessThere, IsSeenAdded, IsOpening}
 use Rattle.xa_judge.specs.Found.{AddsOnly, IsSettledIn, IsSeenIn}
 use Rattle.xa_judge.proofs.Places.{get_within, place_mapped}
-use Rattle.xa_judge.proofs.Growth.{has_more, still_there}
+use Rattle.xa_judge.proofs.Growth.{has_more}
 use Rattle.xa_judge.proofs.Loops.{has_last, has_pushed}
 
 -- an empty list has nothing
@@ -38,7 +38,8 @@ added_last old new one c (inr is) has = has_last old new one c is has
 pub adds_none : (returning : Option ℕ) (one : Config) (list : List Configuration) → AddsOnly returning one list list
 adds_none returning one list = λ config has. inl has
 
-pub adds_more : (returning : Option ℕ) (one : Config) (old mid new : List Configuration) → AddsOnly returning one old mid
+pub adds_more : (returning : Option ℕ) (one : Config) (old mid new : List Configuration)
+    → AddsOnly returning one old mid
     → AddsOnly returning one mid new → AddsOnly returning one old new
 adds_more returning one old mid new first second = λ config has. elim (second config has) [
   | inl there ↦ first config there

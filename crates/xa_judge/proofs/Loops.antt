@@ -54,7 +54,8 @@ pub has_pushed : (list new : List Configuration) (one : Configuration) → new �
 has_pushed list new one is = has_added list new one (inr is)
 
 -- a member of a list with one more at its end
-pub has_last : (rest known : List Configuration) (one : Configuration) (c : Config) → known ≡ rest ++ one ∷ [] → Has known c
+pub has_last : (rest known : List Configuration) (one : Configuration) (c : Config) → known ≡ rest ++ one ∷ []
+    → Has known c
     → Has rest c ⊎ (config_of one ≡ c)
 has_last rest known one c parts has =
     Contains-push_cases (configs rest) (config_of one) c (subst (λ l. Contains l c)

@@ -11,7 +11,8 @@
 --     IsCounted        what acts lead to before such an event
 --     IsReady, IsKeptAfter     what stands directly before an event, and after it
 --     IsKept           what is kept before the event at a place
-use Rattle.std.specs.Prelude.{◌≡◌, ◌≢◌, ◌⊎◌, ℕ, zero, suc, Bool, true, false, Option, Some, None, List, slice_get, slice_set}
+use Rattle.std.specs.Prelude.{◌≡◌, ◌≢◌, ◌⊎◌, ℕ, zero, suc, Bool, true, false, Option, Some, None, List, slice_get}
+use Rattle.std.specs.Prelude.{slice_set}
 use Rattle.xa_server.specs.State.{State}
 use Rattle.xa_judge.specs.declared.request.Request.{Request}
 use Rattle.xa_judge.specs.declared.event.Event.{Event}

@@ -146,8 +146,9 @@ pub fn judge_telling<P: Progress>(
 /// Returns the verdict whether any order explains the events, beginning with a server in the state of `base`.
 ///
 /// If more than `limit` different configurations have to be kept before an event, the verdict is `Undecided`,
-/// unless one order was found. If eight aren't enough, or 512 or more events come before calls overlap, one order is looked for before all
-/// configurations are kept. Identifiers that a call returns have to be in ascending order.
+/// unless one order was found. If eight aren't enough, or 512 or more events come before calls overlap, one
+/// order is looked for before all configurations are kept. Identifiers that a call returns have to be in
+/// ascending order.
 /// Errors: `NoMemory` if an allocation failed.
 /// Takes memory for the configurations: in a list of up to 255 each has a copy of the server's records, as
 /// long as 128 MiB hold these by an estimate; others share those of one server. Doesn't wait.

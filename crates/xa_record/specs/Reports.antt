@@ -5,8 +5,8 @@
 --     outcome_of          which of the five ends it is
 --     keys_named          the rows that calls name, each once, ascending
 --     IsReason            the order explains what is before a place, and the store is the one after it
---     IsReasonSought      if it is asked for, there is such a reason, unless too many configurations precede
---                         the place
+--     IsReasonSought      if it is asked for, there is such a reason, unless too many configurations have to be
+--                         kept before a place
 --     IsReportOf          what is reported of a verdict
 use Rattle.std.specs.Prelude.{◌≡◌, ℕ, Bool, true, false, Option, Some, None, List, [], ◌∷◌, take}
 use Rattle.std.specs.BTreeSet.{insert_key}
@@ -88,7 +88,8 @@ pub record IsReason (base : State) (numbered : List NumberedEvent) (events : Lis
   pub order_is : reason.order ≡ order_text no_calls numbered moves
   pub state_is : reason.state ≡ listing config.state (keys_named events)
 
--- the reason explains what is seen; it is missing only if too many configurations precede a place of that
+-- the reason explains what is seen; it is missing only if too many configurations have to be kept before a place of
+-- that
 abbrev pub IsReasonFound : State → List NumberedEvent → List Event → ℕ → Option Reason → Type 0
 IsReasonFound base numbered events limit (Some reason) = IsReason base numbered events reason
 IsReasonFound base numbered events limit None = (place : ℕ) × IsWide base events limit place

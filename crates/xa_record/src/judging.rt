@@ -102,9 +102,10 @@ fn text_in(alloc: Global, form: Form, report: &Report) -> Result<Vec<u8>, NoMemo
 /// the verdict.
 ///
 /// `allowances` are known differences between the answers of the recorded server and the rules. If more than
-/// `asked.limit` different configurations can precede an event, the end is `Undecided`. With `asked.explains`
-/// the part before an ILLEGAL line is judged once more; if that passes the limit, it isn't explained. If lines
-/// are faulty, or nothing happens, there is no verdict. `progress` takes note of how far judging is.
+/// `asked.limit` different configurations have to be kept before an event, and no order is found, the end is
+/// `Undecided`. With `asked.explains` the part before an ILLEGAL line is judged once more; if that passes the
+/// limit, it isn't explained. If lines are faulty, or nothing happens, there is no verdict. `progress` takes
+/// note of how far judging is.
 /// Errors: `NoMemory` if an allocation failed.
 /// May return `NoMemory`. Doesn't wait.
 /// Own rule: docs/HISTORIES.md#records-in-pieces.
@@ -131,10 +132,10 @@ pub fn judge_text_from<P: Progress>(
 /// Judges the record of this text, and returns how that ended and the text of the verdict.
 ///
 /// The server holds nothing at first. `allowances` are known differences between its answers and the rules.
-/// If more than `asked.limit` different configurations can precede an event, the end is `Undecided`. With
-/// `asked.explains` the part before an ILLEGAL line is judged once more; if that passes the limit, it isn't
-/// explained. If lines are faulty, or nothing happens, there is no verdict. `progress` takes note of how far
-/// judging is.
+/// If more than `asked.limit` different configurations have to be kept before an event, and no order is found,
+/// the end is `Undecided`. With `asked.explains` the part before an ILLEGAL line is judged once more; if that
+/// passes the limit, it isn't explained. If lines are faulty, or nothing happens, there is no verdict.
+/// `progress` takes note of how far judging is.
 /// Errors: `NoMemory` if an allocation failed.
 /// May return `NoMemory`. Doesn't wait.
 /// Own rule: docs/HISTORIES.md#verdicts.

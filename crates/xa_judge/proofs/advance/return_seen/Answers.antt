@@ -1,5 +1,5 @@
 use Rattle.std.proofs.Common.{◌≡◌, true, subst, rules, tests}
-use Rattle.xa_judge.proofs.Advances.{AreAnswersIn, AreLate, advance_return, counts_return}
+use Rattle.xa_judge.proofs.Advances.{AreAnswersIn, advance_return}
 use Rattle.xa_judge.proofs.advance.return_seen.Goals as goal
 
 pub returns : goal.returns

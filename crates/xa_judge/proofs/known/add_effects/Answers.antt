@@ -23,5 +23,5 @@ returns-clause-only c = λ one returning at apart unanswered.
     c.add_effect-2.new.known.items
     (c.in_ok-add_effect.ensures.only one returning at apart unanswered)
     (c.in_ok-add_effect-2.ensures.only one returning
-    (still_there c.args.known.now.items c.add_effect.new.known.items c.args.place one c.in_ok-add_effect.ensures.grows at)
-    apart unanswered)
+    (still_there c.args.known.now.items c.add_effect.new.known.items c.args.place one c.in_ok-add_effect.ensures.grows
+    at) apart unanswered)
