@@ -258,7 +258,8 @@ impl BranchTable {
 
     /// Lists every branch without its rows, ascending by identifier.
     pub fn entries(&self, alloc: Global) -> Result<Vec<BranchEntry>, NoMemory>
-        ensures { IfOk result (λ branches. branches.items ≡ recorded_entries self.now) }
+        ensures listed { IfOk result (λ branches. branches.items ≡ recorded_entries self.now) }
+        ensures memory { OnErr result (recorded_entries self.now ≢ []) }
     {
         entries_in(alloc, &self.by_xid)
     }

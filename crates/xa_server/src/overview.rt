@@ -29,6 +29,7 @@ pub fn entries_in(
     by_xid: &BTreeMap<Xid, BranchRecord>,
 ) -> Result<Vec<BranchEntry>, NoMemory>
     ensures listed { IfOk result (λ branches. branches.items ≡ map recorded_entry by_xid.now.entries) }
+    ensures memory { OnErr result (map recorded_entry by_xid.now.entries ≢ []) }
     ensures ordered { tree.IsOrdered xid_cmp by_xid.now }
 {
     let mut branches = Vec::new(alloc);
@@ -70,13 +71,15 @@ impl Server {
 
     /// Lists every branch, once, ascending by identifier.
     ///
-    /// May return `NoMemory`. Doesn't wait.
+    /// May return `NoMemory`, only if there is a branch. Doesn't wait.
     /// Own rule: docs/COMMANDS.md#show.
     pub fn branches(&self, alloc: Global) -> Result<Vec<BranchEntry>, NoMemory>
         // Proved (server, listing): A server lists every branch once, ascending, with its phase and owner.
         //   It lists the rows that a branch holds, each once, ascending, with what the branch writes to
         //   each. It returns a row's committed value, and the rows that a statement is about.
-        ensures { IfOk result (λ branches. branches.items ≡ branches_of self.now) }
+        ensures listed { IfOk result (λ branches. branches.items ≡ branches_of self.now) }
+        // Proved (server, memory-for-lists)
+        ensures memory { OnErr result (branches_of self.now ≢ []) }
     {
         self.branch_entries(alloc)
     }

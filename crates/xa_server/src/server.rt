@@ -209,7 +209,8 @@ impl Server {
 
     /// Lists every branch without its rows, ascending by identifier.
     pub(crate) fn branch_entries(&self, alloc: Global) -> Result<Vec<BranchEntry>, NoMemory>
-        ensures { IfOk result (λ branches. branches.items ≡ branches_of self.now) }
+        ensures listed { IfOk result (λ branches. branches.items ≡ branches_of self.now) }
+        ensures memory { OnErr result (branches_of self.now ≢ []) }
     {
         self.branches.entries(alloc)
     }
