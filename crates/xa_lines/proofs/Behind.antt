@@ -1,5 +1,5 @@
 -- What stands behind an answer is what is to stand there.
-use Rattle.std.proofs.Common.{◌≡◌, ◌⊎◌, ◌++◌, ◌∙◌, ℕ, Bool, ◌||◌, ◌&&◌, List, [], true, false, not, subst, Result, Ok}
+use Rattle.std.proofs.Common.{◌≡◌, ◌≢◌, ◌⊎◌, ◌++◌, ◌∙◌, ℕ, Bool, ◌||◌, ◌&&◌, List, [], true, false, not, subst, Result, Ok}
 use Rattle.std.proofs.Common.{Err, refl, ap, sym, append-nil, inl, inr, codes, decimal}
 use Rattle.std.specs.Prelude.{IfOk, OnOk, OnErr, MatchResult}
 use Rattle.xa_xid.specs.declared.statement.Statement.{Statement}
@@ -23,7 +23,8 @@ use Rattle.xa_server.specs.declared.xa_error.XaError.TheVariants.{Nota, Rmfail, 
 use Rattle.xa_server.specs.declared.xa_error.BranchState.TheVariants.{Prepared}
 use Rattle.xa_lines.specs.Statements.{IsAnswerTo, IsStatementAnswer, MayBeRefused, refused_text}
 use Rattle.xa_lines.specs.Listing.{listing}
-use Rattle.xa_lines.specs.Shown.{keys_asked, keys_of_read, listing_after, IsUnshown, IsAnswerShown, IsShown}
+use Rattle.xa_lines.proofs.Listed.{key_listed}
+use Rattle.xa_lines.specs.Shown.{keys_asked, keys_of_read, listing_after, StandsBehind, IsAnswerShown, IsShown}
 use Rattle.xa_lines.specs.Shown.{comment_text, unshown_text}
 
 -- a session's statement, read or not, is answered, or memory is refused for it
@@ -125,34 +126,38 @@ reply_answered state session statement reply is list =
     ∙ sym (ap is_list is) ∙ list)
 
 behind : (old : State) (line : Line) (answer text rest : List ℕ) (new : State)
-    → (text ≡ answer ++ unshown_text → IsUnshown line answer text)
-    → IsAnswerTo old line answer new → rest ≡ listing_after old line new
-    → (text ≡ answer ++ rest) ⊎ (text ≡ answer ++ unshown_text)
+    → IsAnswerTo old line answer new → rest ≡ listing_after old line new → StandsBehind rest answer text
     → IsAnswerShown old line text new
-behind old line answer text rest new unshown is same (inl shown) =
-    record { answer = answer; is = is; shown = inl (shown ∙ ap (λ more. answer ++ more) same) }
-behind old line answer text rest new unshown is same (inr refused) =
-    record { answer = answer; is = is; shown = inr (unshown refused) }
+behind old line answer text rest new is same shown =
+    record { answer = answer; is = is; shown = subst (λ more. StandsBehind more answer text) same shown }
 
 -- the listing stands behind the answer, or that memory was refused for it
 pub given_shown : (old new : State) (session : ℕ) (statement : List ℕ) (read : Result Statement ℕ)
     (answer text : List ℕ) (keys : List (List ℕ))
     → read_of statement ≡ read → keys ≡ keys_of_read old session read
-    → IsAnswerTo old (Given session statement) answer new
-    → (text ≡ answer ++ listing new keys) ⊎ (text ≡ answer ++ unshown_text)
+    → IsAnswerTo old (Given session statement) answer new → StandsBehind (listing new keys) answer text
     → IsAnswerShown old (Given session statement) text new
 unfolding keys_asked listing_after
 given_shown old new session statement read answer text keys is keys_are answered shown =
-    behind old (Given session statement) answer text (listing new keys) new (λ e. e) answered
+    behind old (Given session statement) answer text (listing new keys) new answered
     (ap (listing new) (keys_are ∙ ap (keys_of_read old session) (sym is))) shown
 
--- no listing stands behind the answer, but that memory was refused for it
-pub given_unshown : (old new : State) (session : ℕ) (statement answer text : List ℕ)
-    → IsAnswerTo old (Given session statement) answer new
-    → text ≡ answer ++ unshown_text
+-- no listing stands behind the answer, but that memory was refused for the rows that the line is about
+pub given_unshown : (old new : State) (session : ℕ) (statement : List ℕ) (read : Result Statement ℕ)
+    (answer text : List ℕ)
+    → read_of statement ≡ read → keys_of_read old session read ≢ []
+    → IsAnswerTo old (Given session statement) answer new → text ≡ answer ++ unshown_text
     → IsAnswerShown old (Given session statement) text new
-given_unshown old new session statement answer text is refused =
-    record { answer = answer; is = is; shown = inr refused }
+unfolding keys_asked listing_after
+given_unshown old new session statement read answer text is some answered refused = record {
+  answer = answer;
+  is = answered;
+  shown = inr (
+    refused,
+    key_listed new (keys_of_read old session (read_of statement))
+        (λ none. some (ap (keys_of_read old session) (sym is) ∙ none)),
+  );
+}
 
 pub blank_shown : (state : State) (text : List ℕ) → text ≡ [] → IsAnswerShown state Blank text state
 unfolding answer_of state_after_line listing_after
@@ -161,10 +166,10 @@ blank_shown state text none = record { answer = text; is = inl (none, refl); sho
 -- behind the answer to a bad line stands the listing of no rows
 pub bad_shown : (state : State) (answer text : List ℕ) (keys : List (List ℕ)) → keys ≡ []
     → answer ≡ answer_text (codes "-") (syntax_text 0)
-    → (text ≡ answer ++ listing state keys) ⊎ (text ≡ answer ++ unshown_text) → IsAnswerShown state Bad text state
+    → StandsBehind (listing state keys) answer text → IsAnswerShown state Bad text state
 unfolding answer_of state_after_line listing_after
 bad_shown state answer text keys none is shown =
-    behind state Bad answer text (listing state keys) state (λ e. e) (inl (is, refl)) (ap (listing state) none) shown
+    behind state Bad answer text (listing state keys) state (inl (is, refl)) (ap (listing state) none) shown
 
 pub comment_shown : (old : State) (line text : List ℕ) (new : State) → true ≡ is_comment_line line
     → (text ≡ comment_text line) ⊎ (text ≡ unshown_text) → new ≡ old

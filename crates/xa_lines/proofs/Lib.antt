@@ -8,6 +8,7 @@ pub mod Cut
 pub mod Under
 pub mod Clients
 pub mod Told
+pub mod Listed
 pub mod Behind
 pub mod JsonWritten
 pub mod Bare

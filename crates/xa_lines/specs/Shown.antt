@@ -3,8 +3,9 @@
 --     unshown_text               what is said where memory is refused for a listing or a comment
 --     keys_asked                 the rows that a line is about
 --     listing_after              what stands behind the answer to a line
+--     StandsBehind               it stands behind an answer, or what is said in its place does
 --     BeginsEmpty, IsShown       how it begins, and how it may answer a line
-use Rattle.std.specs.Prelude.{◌≡◌, ◌⊎◌, ℕ, Bool, true, false, List, [], ◌++◌, codes, Result, Ok, Err}
+use Rattle.std.specs.Prelude.{◌≡◌, ◌≢◌, ◌⊎◌, ℕ, Bool, true, false, List, [], ◌++◌, codes, Result, Ok, Err}
 use Rattle.xa_xid.specs.declared.statement.Statement.{Statement}
 use Rattle.xa_statement.specs.Reading.{read_of}
 use Rattle.xa_server.specs.Overview.{keys_about}
@@ -40,17 +41,16 @@ listing_after old Blank new = []
 listing_after old Bad new = listing new []
 listing_after old (Given session text) new = listing new (keys_asked old (Given session text))
 
--- behind the answer it is said that memory was refused; a line of blanks has no answer, and nothing is said
-abbrev pub IsUnshown : Line → List ℕ → List ℕ → Type 0
-IsUnshown Blank answer text = ⊥
-IsUnshown Bad answer text = text ≡ answer ++ unshown_text
-IsUnshown (Given session statement) answer text = text ≡ answer ++ unshown_text
+-- behind the answer stands this listing, or that memory is refused for it; where nothing is to be listed no memory is
+-- wanted, and none is refused
+abbrev pub StandsBehind : List ℕ → List ℕ → List ℕ → Type 0
+StandsBehind listed answer text = (text ≡ answer ++ listed) ⊎ ((text ≡ answer ++ unshown_text) × (listed ≢ []))
 
 -- the answer that serving gives, and behind it the listing, or that memory is refused for that
 pub record IsAnswerShown (old : State) (line : Line) (text : List ℕ) (new : State) : Type 0 where
   pub answer : List ℕ
   pub is : IsAnswerTo old line answer new
-  pub shown : (text ≡ answer ++ listing_after old line new) ⊎ IsUnshown line answer text
+  pub shown : StandsBehind (listing_after old line new) answer text
 
 -- a comment is repeated, or it is said that memory is refused for that; it changes nothing
 abbrev pub IsCommentShown : State → List ℕ → List ℕ → State → Type 0

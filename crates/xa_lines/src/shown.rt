@@ -2,14 +2,14 @@
 //!
 //! When the listing is made the statement is carried out already. If memory is refused for the listing, the
 //! answer is therefore given without it.
-ghost use Rattle.std.specs.Prelude.{◌≡◌, ◌++◌, ℕ, List, ◌⊎◌, Ok, Err, IfOk, IfErr, IfSome, OnOk};
+ghost use Rattle.std.specs.Prelude.{◌≡◌, ◌≢◌, ◌++◌, ℕ, [], true, false, List, ◌⊎◌, Ok, Err, IfOk, IfErr, IfSome, OnOk};
 ghost use Rattle.xa_statement.specs.Reading.{read_of};
 ghost use Rattle.xa_lines.specs.Script.{Bad, Given, line_of};
 ghost use Rattle.xa_lines.specs.Answer.{bytes_of, HasRoom};
 ghost use Rattle.xa_lines.specs.Exchange.{IsFresh};
 ghost use Rattle.xa_lines.specs.Served.{IsServed, AfterServing};
 ghost use Rattle.xa_lines.specs.Listing.{listing};
-ghost use Rattle.xa_lines.specs.Shown.{comment_text, unshown_text, IsAnswerShown, BeginsEmpty, Shows};
+ghost use Rattle.xa_lines.specs.Shown.{comment_text, unshown_text, StandsBehind, IsAnswerShown, BeginsEmpty, Shows};
 
 use crate::served_answer::{serve_read, serve_unread};
 use crate::short_answer::{bad_line, unshown, with_unshown};
@@ -62,13 +62,31 @@ fn listed(
     with_listing(alloc, text, server, keys)
 }
 
+/// Whether the listing of these rows is empty. It takes no memory if it is.
+#[tactic(auto, using(crate::proofs::Listed::branch_listed, crate::proofs::Listed::key_listed))]
+fn lists_nothing(alloc: Global, server: &Server, keys: &[Key]) -> bool
+    ensures nothing { result ≡ true → listing server.now keys.now ≡ [] }
+    ensures some { result ≡ false → listing server.now keys.now ≢ [] }
+{
+    if !keys.is_empty() {
+        return false;
+    }
+    match server.branches(alloc) {
+        Ok(branches) => branches.is_empty(),
+        // Memory is refused only where there is a branch.
+        Err(_) => false,
+    }
+}
+
 /// Returns the answer, followed by the listing of these rows, or by the line that says that memory was
-/// refused for it.
+/// refused for it. If nothing is listed no memory is wanted, and the answer stands alone.
 fn with_shown(alloc: Global, answer: Answer, server: &Server, keys: &[Key]) -> Answer
     requires { HasRoom 16 answer }
-    ensures { (bytes_of result ≡ bytes_of answer ++ listing server.now keys.now)
-        ⊎ (bytes_of result ≡ bytes_of answer ++ unshown_text) }
+    ensures { StandsBehind (listing server.now keys.now) (bytes_of answer) (bytes_of result) }
 {
+    if lists_nothing(alloc, server, keys) {
+        return answer;
+    }
     match listed(alloc, &answer, server, keys) {
         Ok(text) => Answer::Text(text),
         Err(_) => with_unshown(answer),
@@ -152,8 +170,8 @@ impl LineServer for Shown {
     ghost begins = { BeginsEmpty };
 
     // Proved (scripts, shown-answers): After each answer comes the listing of the store that it leaves. If an
-    //   allocation for that fails, the line `OUT OF MEMORY` comes in its place. A comment is repeated, or
-    //   replaced by that line, and changes nothing.
+    //   allocation for that fails, the line `OUT OF MEMORY` comes in its place, but never where nothing is to
+    //   be listed. A comment is repeated, or replaced by that line, and changes nothing.
     ghost answers = { Shows };
 
     fn answer(&mut self, alloc: Global, line: &[u8]) -> Answer {

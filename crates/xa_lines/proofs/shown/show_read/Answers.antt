@@ -14,8 +14,8 @@ returns-in-Ok c = λ text is.
 
 pub returns-in-Err : goal.returns-in-Err
 returns-in-Err c = λ text is.
-    given_unshown c.args.server.now c.serve_read-answer.new.server c.args.session text
-    (bytes_of c.serve_read-answer.result) (bytes_of c.with_unshown.result)
+    given_unshown c.args.server.now c.serve_read-answer.new.server c.args.session text (Ok c.args.statement.now)
+    (bytes_of c.serve_read-answer.result) (bytes_of c.with_unshown.result) is c.in-Err.ensures.memory
     (given_answer c.args.server.now c.serve_read-answer.new.server c.args.session text (Ok c.args.statement.now)
     (bytes_of c.serve_read-answer.result) is
     c.serve_read-answer.ensures.answered) c.with_unshown.ensures

@@ -1,0 +1,35 @@
+-- When a listing is empty.
+use Rattle.std.proofs.Common.{◌≡◌, ◌≢◌, ◌++◌, ◌∷◌, ◌∙◌, ℕ, List, [], refl, ap}
+use Rattle.std.specs.List.{flat_map}
+use Rattle.xa_server.specs.declared.overview.BranchEntry.{BranchEntry}
+use Rattle.xa_server.specs.Overview.{branches_of}
+use Rattle.xa_server.specs.State.{State}
+use Rattle.xa_lines.specs.Listing.{branch_lines, row_line, listing}
+
+-- without a branch and a row it is
+pub nothing_listed : (state : State) (keys : List (List ℕ)) → branches_of state ≡ [] → keys ≡ []
+    → listing state keys ≡ []
+unfolding listing
+nothing_listed state keys none nil =
+    ap (λ branches. flat_map (branch_lines state) branches ++ flat_map (row_line state) keys) none
+    ∙ ap (flat_map (row_line state)) nil
+
+-- a branch has a line
+pub branch_listed : (state : State) (keys : List (List ℕ)) → branches_of state ≢ [] → listing state keys ≢ []
+unfolding listing
+branch_listed state keys some = by (branches_of state) some
+  where
+    by : (branches : List BranchEntry) → branches ≢ []
+        → flat_map (branch_lines state) branches ++ flat_map (row_line state) keys ≢ []
+    by [] has none = has refl
+    by (branch ∷ branches) has none = cc
+
+-- a row has a line
+pub key_listed : (state : State) (keys : List (List ℕ)) → keys ≢ [] → listing state keys ≢ []
+unfolding listing
+key_listed state keys some = by (flat_map (branch_lines state) (branches_of state)) keys some
+  where
+    by : (front : List ℕ) (all : List (List ℕ)) → all ≢ [] → front ++ flat_map (row_line state) all ≢ []
+    by front [] has none = has refl
+    by [] (key ∷ rest) has none = cc
+    by (byte ∷ front) (key ∷ rest) has none = cc
