@@ -3,6 +3,7 @@ pub mod Printed
 pub mod Script
 pub mod Transcript
 pub mod Written
+pub mod Trying
 pub mod Calls
 pub mod Cut
 pub mod Under

@@ -4,6 +4,7 @@ pub mod Transcript
 pub mod Cut
 pub mod Limits
 pub mod Calls
+pub mod Trying
 pub mod Faults
 pub mod Received
 pub mod Answer

@@ -1,10 +1,11 @@
 //! Readers and writers whose calls a contract can name one by one.
-ghost use Rattle.std.specs.Prelude.{ℕ, List, take, MatchResult};
+ghost use Rattle.std.specs.Prelude.{◌≡◌, ℕ, List, take, IfErr, MatchResult};
 ghost use Rattle.std.specs.Io.{ReadsAtMost, WritesAtMost};
 ghost use Rattle.std.specs.Io.KnownBytes.{Appends, Consumes, Keeps, ReadConsumes, WriteAppends};
+ghost use Rattle.std.specs.IoError.{error_kind};
 
 use std::io;
-use std::io::{Read, Write};
+use std::io::{ErrorKind, Read, Write};
 
 /// A reader whose reads a contract can name one by one. Every reader is one.
 ///
@@ -46,6 +47,9 @@ pub trait PieceWriter: Write {
     // In the first state a write may fail, and the writer is then in the last state.
     ghost refuses: { Self → Self → Type 0 };
 
+    // In the first state a write may be interrupted, and the writer is then in the last state.
+    ghost interrupts: { Self → Self → Type 0 };
+
     /// Writes once.
     ///
     /// Errors: the writer's own. Takes no memory. Doesn't wait, unless the writer does.
@@ -53,13 +57,17 @@ pub trait PieceWriter: Write {
         ensures bound { WritesAtMost result bytes.now }
         ensures bytes { WriteAppends (Self.contents self.old) (Self.contents self.new) result bytes.now }
         ensures told { MatchResult result (λ count. takes self.old (take count bytes.now) self.new)
-            (λ _. refuses self.old self.new) };
+            (λ _. refuses self.old self.new) }
+        ensures interrupted { IfErr result (λ fault. error_kind fault ≡ ErrorKind.Interrupted
+            → interrupts self.old self.new) };
 }
 
 impl<W: Write> PieceWriter for W {
     ghost takes = { λ old bytes new. Appends (W.contents old) (W.contents new) bytes };
 
     ghost refuses = { λ old new. Keeps (W.contents old) (W.contents new) };
+
+    ghost interrupts = { λ old new. Keeps (W.contents old) (W.contents new) };
 
     fn write_piece(&mut self, bytes: &[u8]) -> io::Result<usize> {
         self.write(bytes)

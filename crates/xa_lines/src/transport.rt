@@ -1,22 +1,27 @@
 //! A client over streams.
-ghost use Rattle.std.specs.Prelude.{◌≡◌, [], take, MatchResult, OnOk, OnErr};
+ghost use Rattle.std.specs.Prelude.{◌≡◌, ◌≢◌, ◌⊎◌, [], take, MatchResult, IfOk, IfErr, OnOk, OnErr};
 ghost use Rattle.std.specs.Io.{ReadsAtMost, WritesAtMost};
 ghost use Rattle.std.specs.Io.KnownBytes.{Appends, Keeps, ReadConsumes, WriteAppends};
 ghost use Rattle.std.specs.Io.Buffered.{writer_buffer, writer_contents};
+ghost use Rattle.std.specs.IoError.{error_kind};
 ghost use Rattle.xa_lines.specs.Transcript.{AppendsPrefix};
+ghost use Rattle.xa_lines.specs.Trying.{IsTry, HasTried, StopsTrying};
 
-use crate::{Client, LineServer, PieceReader};
+use crate::{Client, LineServer, PieceReader, PieceWriter};
 use std::io;
 use std::io::{BufWriter, ErrorKind, Read, Write};
 
 /// Writes once. An interrupted write takes nothing.
 ///
 /// Errors: any other error of the write, and a write that took nothing.
-fn give_once<W: Write>(writer: &mut W, text: &[u8]) -> io::Result<usize>
+fn give_once<W: PieceWriter>(writer: &mut W, text: &[u8]) -> io::Result<usize>
     ensures bound { WritesAtMost result text.now }
     ensures taken { WriteAppends (W.contents writer.old) (W.contents writer.new) result text.now }
+    ensures tried { IfOk result (λ count. IsTry W.takes W.interrupts writer.old (take count text.now) writer.new) }
+    ensures refused { OnErr result (W.refuses writer.old writer.new ⊎ W.takes writer.old [] writer.new) }
+    ensures retried { IfErr result (λ fault. error_kind fault ≢ ErrorKind.Interrupted) }
 {
-    match writer.write(text) {
+    match writer.write_piece(text) {
         Ok(0) => Err(ErrorKind::WriteZero.into()),
         Ok(count) => Ok(count),
         Err(fault) => {
@@ -30,11 +35,15 @@ fn give_once<W: Write>(writer: &mut W, text: &[u8]) -> io::Result<usize>
 
 /// Gives all of the text to a writer, and tries again if a write is interrupted.
 ///
-/// Errors: any other error of a write, and a write that took nothing. A prefix of the text was then taken,
-/// and nothing more.
-fn give<W: Write>(writer: &mut W, text: &[u8]) -> io::Result<()>
+/// Errors: any other error of a write, and a write that took nothing, which aren't tried again; and after
+/// 2 ^ 64 - 1 writes. A prefix of the text was then taken, and nothing more.
+fn give<W: PieceWriter>(writer: &mut W, text: &[u8]) -> io::Result<()>
     ensures all { OnOk result (Appends (W.contents writer.old) (W.contents writer.new) text.now) }
     ensures prefix { OnErr result (AppendsPrefix (W.contents writer.old) (W.contents writer.new) text.now) }
+    ensures calls { MatchResult result
+        (λ _. HasTried W.takes W.interrupts writer.old text.now writer.new)
+        (λ _. StopsTrying W.takes W.interrupts W.refuses writer.old text.now writer.new) }
+    ensures retried { IfErr result (λ fault. error_kind fault ≢ ErrorKind.Interrupted) }
 {
     let mut written = 0;
     for _try in 0..u64::MAX {
@@ -44,7 +53,7 @@ fn give<W: Write>(writer: &mut W, text: &[u8]) -> io::Result<()>
         let count = give_once(writer, &text[written..])?;
         written += count;
     }
-    Err(ErrorKind::Interrupted.into())
+    Err(ErrorKind::TimedOut.into())
 }
 
 /// A client over two streams: it sends what a reader gives, and its answers go to a writer.
@@ -90,6 +99,9 @@ impl<S: LineServer, R: PieceReader + Drop, W: Write + Drop> Client<S> for Transp
         ensures prefix { OnErr result
             (AppendsPrefix (writer_contents W.contents self.old.writer)
             (writer_contents W.contents self.new.writer) text.now) }
+        // Proved (scripts, interrupted-writes): A client over streams never gives a text up because a write was
+        //   interrupted.
+        ensures retried { IfErr result (λ fault. error_kind fault ≢ ErrorKind.Interrupted) }
         ensures reader { self.new.reader ≡ self.old.reader }
     {
         give(&mut self.writer, text)

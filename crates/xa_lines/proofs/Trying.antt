@@ -1,0 +1,39 @@
+-- Tries to write a text.
+use Rattle.std.proofs.Common.{◌≡◌, ℕ, suc, ◌+◌, ◌-◌, List, [], ◌++◌, length, take, drop, refl, sym, ap, ◌∙◌, subst}
+use Rattle.std.proofs.Common.{arith}
+use Rattle.std.proofs.lemmas.List.{take_rest, take-append-drop}
+use Rattle.std.proofs.Math.Seq.{take-add}
+use Rattle.xa_lines.specs.Trying.{IsTry, Tries, IsLastTry, StopsTrying}
+
+module _ {S : Type 0} (takes : S → List ℕ → S → Type 0) (interrupts : S → S → Type 0) where
+  pub tried_none : (stream : S) → Tries takes interrupts 0 stream [] stream
+  unfolding Tries
+  tried_none stream = (refl, refl)
+
+  -- one write more of the same text
+  pub tried_next : (count : ℕ) (old mid new : S) (text : List ℕ) (written n : ℕ)
+      → Tries takes interrupts count old (take written text) mid
+      → IsTry takes interrupts mid (take n (take (length text - written) (drop written text))) new
+      → Tries takes interrupts (count + 1) old (take (written + n) text) new
+  unfolding Tries
+  tried_next count old mid new text written n before now =
+      let piece = take n (take (length text - written) (drop written text)) in
+      let is : take (written + n) text ≡ take written text ++ piece =
+      take-add written n text ∙ ap (λ xs. take written text ++ take n xs) (sym (take_rest text written)) in
+      let next : suc count ≡ count + 1 = omega arith in
+      let P : ℕ → Type 0 = λ k. Tries takes interrupts k old (take (written + n) text) new in
+      subst P next (mid, take written text, piece, before, now, is)
+
+  -- a part of the text is taken, and then no more
+  pub tried_part : (count : ℕ) (old last new : S) (text : List ℕ) (written : ℕ)
+      → (refuses : S → S → Type 0) → Tries takes interrupts count old (take written text) last
+      → IsLastTry takes refuses count last new → StopsTrying takes interrupts refuses old text new
+  tried_part count old last new text written refuses calls stopped = record {
+    count = count;
+    last = last;
+    taken = take written text;
+    left = drop written text;
+    calls = calls;
+    parts = sym (take-append-drop written text);
+    stopped = stopped;
+  }
