@@ -134,12 +134,12 @@ advance_at old closed ready answers session seen limit (Known list) grows is_clo
 )
 advance_at old closed ready answers session seen limit (Impossible others) grows is_closed settles reach given late
     leads = (
-  (λ more end now.
-      let s = settled_first old closed session seen more end grows is_closed now in
-      leads.0 (after_settling s.one session) s.rest.first (settles s.one s.has) s.rest.sees),
-  subst (λ l. AreAnswersTo old session l) (sym leads.1)
-      (answers_to old closed ready answers session grows is_closed settles reach given),
-)
+      (λ more end now.
+          let s = settled_first old closed session seen more end grows is_closed now in
+          leads.0 (after_settling s.one session) s.rest.first (settles s.one s.has) s.rest.sees),
+      subst (λ l. AreAnswersTo old session l) (sym leads.1)
+          (answers_to old closed ready answers session grows is_closed settles reach given),
+    )
 advance_at old closed ready answers session seen limit TooMany grows is_closed settles reach given late leads =
     absurd leads
 

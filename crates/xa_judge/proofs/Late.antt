@@ -59,14 +59,14 @@ adds_effect old new place one next found session act at is effect some added oth
     λ config has. elim (added_last old new next config added has) [
       | inl was ↦ inl was
       | inr same ↦ inr (record {
-          session = session;
-          act = act;
-          is = is;
-          other = apart;
-          unanswered = unanswered;
-          leads = ap (λ o. effect_of (config_of o) session act) (same_Some other one (sym there ∙ at)) ∙ sym effect
-              ∙ ap (option_map config_of) some ∙ ap Some same;
-        })
+        session = session;
+        act = act;
+        is = is;
+        other = apart;
+        unanswered = unanswered;
+        leads = ap (λ o. effect_of (config_of o) session act) (same_Some other one (sym there ∙ at)) ∙ sym effect
+            ∙ ap (option_map config_of) some ∙ ap Some same;
+      })
     ]
 
 -- acts lead to all of the list, also once it has what they lead to from one of it
