@@ -1,6 +1,7 @@
 pub mod Allowed
 pub mod Audited
 pub mod CommandFaults
+pub mod JobEnds
 pub mod MannerFound
 pub mod NamedAudits
 pub mod NamedCalls

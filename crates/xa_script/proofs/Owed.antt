@@ -5,6 +5,7 @@ use Rattle.std.proofs.lemmas.List.{append_assoc, take_rest, take-append-drop, dr
 use Rattle.std.specs.Io.KnownBytes.{Appends, Keeps, WriteAppends, append_known}
 use Rattle.std.specs.Prelude.{IfOk, OnOk}
 use Rattle.xa_script.specs.Owing.{sent_of, known_of, IsWrittenAs, Takes}
+use Rattle.xa_script.specs.declared.line_form.LineForm.{LineForm}
 use Rattle.xa_script.specs.declared.texts.Texts.{Texts}
 
 -- the first of the bytes that are due, and then the others
@@ -93,14 +94,15 @@ appends_behind (Some first) (Some second) (Some third) bytes kept more = more �
 -- bytes that are taken behind what is kept
 pub takes_behind : {W : Type 0} (contents : W → Option (List ℕ)) (old between new : Texts W) (bytes : List ℕ)
     → Keeps (known_of contents old) (known_of contents between)
-    → Keeps (sent_of contents old) (sent_of contents between) → between.held ≡ old.held
+    → Keeps (sent_of contents old) (sent_of contents between) → between.held ≡ old.held → between.form ≡ old.form
     → Takes contents between bytes new → Takes contents old bytes new
-takes_behind contents old between new bytes known sent held (inl more) =
+takes_behind contents old between new bytes known sent held kept (inl more) =
     inl (appends_behind (known_of contents old) (known_of contents between) (known_of contents new) bytes known more)
-takes_behind contents old between new bytes known sent held (inr ends) = inr (record {
+takes_behind contents old between new bytes known sent held kept (inr ends) = inr (record {
   text = ends.text;
-  written = let P : List ℕ → Type 0 = λ line. IsWrittenAs (line ++ bytes) ends.text in
-      subst P (ap (λ room. room.items) held) ends.written;
+  written = let P : List ℕ → Type 0 = λ line. IsWrittenAs between.form (line ++ bytes) ends.text in
+      let Q : LineForm → Type 0 = λ form. IsWrittenAs form (old.held.items ++ bytes) ends.text in
+      subst Q kept (subst P (ap (λ room. room.items) held) ends.written);
   sent = appends_behind (sent_of contents old) (sent_of contents between)
       (known_of contents new) ends.text sent ends.sent;
 })

@@ -1,6 +1,9 @@
 pub mod CommandLine
+pub mod Jobs
+pub mod Lines
 pub mod Manner
 pub mod Owing
 pub mod Status
 pub mod Texts
+pub mod Unread
 pub mod Wanted

@@ -1,5 +1,8 @@
 -- How the program ends.
 --     status_after     the exit status after a fault
+--     status_of_job    the exit status for how a job ended
+--     strict_status    the exit status for whether a line was faulty
+--     end_of           how a job ends whose lines were looked at
 --     status_for       the exit status for how judging a record ended
 --     AppendsVerdict   the writer got what is written for a record, and the status is for how judging it ended
 --     status_of_end    the exit status for how exploring a script ended
@@ -14,8 +17,10 @@
 --     AfterAuditing    what a fault leaves in the writer
 --     audit_form       the form of an audit
 --     form_of          the form of a verdict
+--     asked_of         what is asked of judging
 --     IsAllowedBy      what a text allows
-use Rattle.std.specs.Prelude.{◌≡◌, ℕ, Bool, true, false, Option, Some, None, Ok, Err, List, IfSome}
+use Rattle.std.specs.Prelude.{◌≡◌, ◌==◌, ◌&&◌, ℕ, Bool, true, false, Option, Some, None, Result, Ok, Err, List, IfSome}
+use Rattle.std.specs.Prelude.{if◌then◌else◌}
 use Rattle.std.specs.Io.KnownBytes.{Keeps}
 use Rattle.xa_audit.specs.Audits.{AppendsAudit, AppendsAuditPrefix}
 use Rattle.xa_audit.specs.declared.ended.Ended.{Ended as AuditEnded}
@@ -54,6 +59,21 @@ status_after Full = 3
 status_after GateShut = 3
 status_after ThreadRefused = 3
 
+-- the job's own status, or the one after its fault
+abbrev pub status_of_job : Result ℕ ScriptFault → ℕ
+status_of_job (Ok status) = status
+status_of_job (Err fault) = status_after fault
+
+-- 8 in place of 0 where a line was faulty, if that is asked for (own rule)
+abbrev pub strict_status : (strict faulty : Bool) → (status : ℕ) → ℕ
+strict_status strict faulty status = if strict && faulty && status == 0 then 8 else status
+
+-- how a job ends whose lines were looked at: a fault stays; if memory was refused for looking, that is the fault
+abbrev pub end_of : (strict : Bool) → (faulty : Option Bool) → Result ℕ ScriptFault → Result ℕ ScriptFault
+end_of strict faulty (Err fault) = Err fault
+end_of strict None (Ok status) = Err NoMemory
+end_of strict (Some faulty) (Ok status) = Ok (strict_status strict faulty status)
+
 -- 0 where an order explains the record, 4 where none does, 5 where the limit was passed, 6 where lines are faulty, 7
 -- where nothing happens (own rule)
 abbrev pub status_for : Outcome → ℕ
@@ -75,6 +95,10 @@ AppendsVerdict base allowances asked status input old new =
 abbrev pub form_of : (json : Bool) → Form
 form_of true = Json
 form_of false = Plain
+
+-- what the options ask of judging
+abbrev pub asked_of : (limit : ℕ) → (explain json : Bool) → Asked
+asked_of limit explain json = record { limit = limit; form = form_of json; explains = explain }
 
 -- the text allows these, or a line of it is no allowance
 abbrev pub IsAllowedBy : Option (List Allowance) → List ℕ → Type 0

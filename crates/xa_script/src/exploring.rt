@@ -4,6 +4,7 @@ ghost use Rattle.xa_orders.specs.Scripts.{AfterExploreFault};
 ghost use Rattle.xa_script.specs.CommandLine.{IsLimit};
 ghost use Rattle.xa_lines.specs.Writing.{AppendsObjects, AfterObjects};
 ghost use Rattle.xa_script.specs.Status.{status_of_end as status_of, AppendsOutcomes};
+ghost use Rattle.xa_script.specs.Jobs.{HasExplored};
 
 use std::alloc::Global;
 use std::io::{Read, Write};
@@ -84,4 +85,25 @@ pub fn explore_objects<R: Read, W: Write>(
     let status = in_memory(explore_within(alloc, reader, &mut text, limit))?;
     write_objects(alloc, writer, text.as_slice())?;
     Ok(status)
+}
+
+/// Explores a script, and writes lines, or if `json` their objects.
+///
+/// `limit` is in `[1, 1_000_000]`.
+/// Errors: as `explore_within`. May return `NoMemory`. Doesn't wait, unless the reader or the writer does.
+pub fn explore_as<R: Read, W: Write>(
+    alloc: Global,
+    reader: &mut R,
+    writer: &mut W,
+    limit: u64,
+    json: bool,
+) -> Result<u8, ScriptFault>
+    requires { IsLimit limit }
+    ensures { HasExplored json limit (R.remaining reader.old) (W.contents writer.old) (W.contents writer.new) result }
+{
+    if json {
+        explore_objects(alloc, reader, writer, limit)
+    } else {
+        explore_within(alloc, reader, writer, limit)
+    }
 }

@@ -1,17 +1,24 @@
 //! The jobs, from a reader to a writer. Each returns the exit status, or the fault that ended it.
-ghost use Rattle.std.specs.Prelude.{◌≤◌, length};
+//!
+//! What a job writes depends on what it is asked for alone. `rt` and `speaks` are for the standard error.
+ghost use Rattle.std.specs.Prelude.{◌≡◌, ◌≤◌, ◌⊎◌, [], ℕ, List, Some, Err, IfOk, IfErr, IfSome, OnOk, length, map};
+ghost use Rattle.std.specs.Io.KnownBytes.{Appends, Keeps};
+ghost use Rattle.std.specs.Io.Buffered.{writer_buffer, writer_contents, writer_inner};
 ghost use Rattle.decision_log.specs.Opens.{IsCapacity};
+ghost use Rattle.xa_lines.specs.Transcript.{transcript, AfterFault};
 ghost use Rattle.xa_script.specs.CommandLine.{IsLimit, IsStoreCount};
+ghost use Rattle.xa_script.specs.Jobs.{HasRun, HasRaced, HasCame, HasJudged, HasExplored, HasStopped, HasAudited};
+ghost use Rattle.xa_script.specs.Jobs.{HasConversed, IsFlushed};
 
 use crate::advised::Advised;
 use crate::auditing::audit_within;
-use crate::exploring::{explore_objects, explore_within};
+use crate::exploring::explore_as;
 use crate::judging::judge_within;
 use crate::line_form::LineForm;
-use crate::racing::{race_commented, race_objects};
-use crate::running::{run_by, run_objects};
+use crate::racing::race_as;
+use crate::running::run_as;
 use crate::spoken::Spoken;
-use crate::stopping::{stop_each, stop_objects};
+use crate::stopping::stop_as;
 use crate::telling::Telling;
 use crate::texts::Texts;
 use crate::watch::Watch;
@@ -38,7 +45,9 @@ pub type Output<'r, R> = BufWriter<Spoken<'r, Printer<'r, R>, R>>;
 fn gathered<R: Alloc<A = Global>, W: Write + Drop>(
     rt: &R,
     writer: W,
-) -> Result<BufWriter<W>, ScriptFault> {
+) -> Result<BufWriter<W>, ScriptFault>
+    ensures { IfOk result (λ output. writer_inner output ≡ writer) }
+{
     match BufWriter::new(rt.alloc(), writer) {
         Ok(output) => Ok(output),
         Err(_) => Err(ScriptFault::NoMemory),
@@ -58,7 +67,9 @@ pub fn text_output<R: Print + Eprint + Alloc<A = Global>>(
     rt: &R,
     speaks: bool,
     form: LineForm,
-) -> Result<BufWriter<Texts<Output<'_, R>>>, ScriptFault> {
+) -> Result<BufWriter<Texts<Output<'_, R>>>, ScriptFault>
+    ensures { IfOk result (λ output. (writer_inner output).form ≡ form) }
+{
     let texts = Texts::new(output(rt, speaks)?, form);
     gathered(rt, texts)
 }
@@ -68,48 +79,68 @@ pub fn text_output<R: Print + Eprint + Alloc<A = Global>>(
 fn flushed<W: Write + Drop>(
     output: &mut BufWriter<W>,
     done: Result<u8, ScriptFault>,
-) -> Result<u8, ScriptFault> {
+) -> Result<u8, ScriptFault>
+    ensures kept { Keeps (writer_contents W.contents output.old) (writer_contents W.contents output.new) }
+    ensures ends { (result ≡ done) ⊎ (result ≡ Err ScriptFault.Write) }
+    ensures emptied { OnOk result (writer_buffer output.new ≡ []) }
+{
     if output.flush().is_err() {
         return Err(ScriptFault::Write);
     }
     done
 }
 
+/// Runs the script, and returns the exit status.
+fn run_within<I: Read, O: Write>(
+    alloc: Global,
+    input: &mut I,
+    output: &mut O,
+) -> Result<u8, ScriptFault>
+    ensures written { IfOk result (λ status. (status ≡ 0) × IfSome (I.remaining input.old)
+        (λ script. Appends (O.contents output.old) (O.contents output.new) (transcript script))) }
+    ensures fault { IfErr result (λ fault. AfterFault fault (I.remaining input.old) (O.contents output.old)
+        (O.contents output.new)) }
+{
+    run_script(alloc, input, output)?;
+    Ok(DONE)
+}
+
 /// Runs the script.
-pub fn run<I: Read + Drop, W: Write + Drop, R: Alloc<A = Global>>(
+pub fn run<I: Read, W: Write + Drop, R: Alloc<A = Global>>(
     rt: &R,
-    mut input: I,
-    mut output: BufWriter<W>,
-) -> Result<u8, ScriptFault> {
-    let done = run_script(rt.alloc(), &mut input, &mut output);
-    flushed(&mut output, done.and(Ok(DONE)))
+    input: &mut I,
+    output: &mut BufWriter<W>,
+) -> Result<u8, ScriptFault>
+    ensures { IsFlushed W.contents (HasRun (I.remaining input.old) (writer_contents W.contents output.old))
+        output.new result }
+{
+    let done = run_within(rt.alloc(), input, output);
+    flushed(output, done)
 }
 
 /// Races the script. If `json`, each line is written as an object.
-pub fn race<I: Read + Drop, W: Write + Drop, R: Alloc<A = Global> + Threads + Wait + Sync>(
+pub fn race<I: Read, W: Write + Drop, R: Alloc<A = Global> + Threads + Wait + Sync>(
     rt: &R,
-    mut input: I,
-    mut output: BufWriter<W>,
+    input: &mut I,
+    output: &mut BufWriter<W>,
     capacity: u64,
     schedule: Schedule,
     renews: bool,
     json: bool,
 ) -> Result<u8, ScriptFault>
     requires { IsCapacity capacity }
+    ensures { IsFlushed W.contents (HasRaced json renews capacity (I.remaining input.old)
+        (writer_contents W.contents output.old)) output.new result }
 {
-    let done = if json {
-        race_objects(rt, &mut input, &mut output, capacity, schedule, renews)
-    } else {
-        race_commented(rt, &mut input, &mut output, capacity, schedule, renews)
-    };
-    flushed(&mut output, done.and(Ok(DONE)))
+    let done = race_as(rt, input, output, capacity, schedule, renews, json);
+    flushed(output, done)
 }
 
 /// Races the script `runs` times. If `json`, each line is written as an object.
-pub fn races<I: Read + Drop, W: Write + Drop, R: Alloc<A = Global> + Threads + Wait + Sync>(
+pub fn races<I: Read, W: Write + Drop, R: Alloc<A = Global> + Threads + Wait + Sync>(
     rt: &R,
-    mut input: I,
-    mut output: BufWriter<W>,
+    input: &mut I,
+    output: &mut BufWriter<W>,
     capacity: u64,
     schedule: Schedule,
     renews: bool,
@@ -118,155 +149,166 @@ pub fn races<I: Read + Drop, W: Write + Drop, R: Alloc<A = Global> + Threads + W
 ) -> Result<u8, ScriptFault>
     requires capacity { IsCapacity capacity }
     requires runs { IsLimit runs }
+    ensures { IsFlushed W.contents (HasCame json renews runs (I.remaining input.old)
+        (writer_contents W.contents output.old)) output.new result }
 {
-    let (input, writer) = (&mut input, &mut output);
-    let done = if json {
-        run_objects(rt, input, writer, capacity, schedule, renews, runs)
-    } else {
-        run_by(rt, input, writer, capacity, schedule, renews, runs)
-    };
-    flushed(&mut output, done)
+    let done = run_as(rt, input, output, capacity, schedule, renews, runs, json);
+    flushed(output, done)
 }
 
 /// Judges the record, which begins with this server.
-pub fn judge<I: Read + Drop, W: Write + Drop, R: Clock + Eprint + Alloc<A = Global>>(
+pub fn judge<I: Read, W: Write + Drop, R: Clock + Eprint + Alloc<A = Global>>(
     rt: &R,
-    mut input: I,
-    mut output: BufWriter<W>,
+    input: &mut I,
+    output: &mut BufWriter<W>,
     base: &Server,
     allowances: &[Allowance],
     asked: Asked,
     quiet: bool,
 ) -> Result<u8, ScriptFault>
     requires { IsLimit asked.limit }
+    ensures { IsFlushed W.contents (HasJudged base.now allowances.now asked (I.remaining input.old)
+        (writer_contents W.contents output.old)) output.new result }
 {
     let mut telling = Telling::new(rt, quiet);
-    let done = judge_within(
-        rt.alloc(),
-        base,
-        &mut input,
-        &mut output,
-        allowances,
-        asked,
-        &mut telling,
-    );
-    flushed(&mut output, done)
+    let telling = &mut telling;
+    let done = judge_within(rt.alloc(), base, input, output, allowances, asked, telling);
+    flushed(output, done)
 }
 
 /// Audits the histories.
 pub fn audit<I: Read + Drop, W: Write + Drop, R: Eprint + Alloc<A = Global>>(
     rt: &R,
     inputs: Vec<Watch<'_, I, R>>,
-    mut output: BufWriter<W>,
+    output: &mut BufWriter<W>,
     form: Form,
 ) -> Result<u8, ScriptFault>
     requires { length inputs.items ≤ 64 }
+    ensures { (histories : List (List ℕ)) → map (λ input. I.remaining input.inner) inputs.entry.items ≡ map Some histories
+        → IsFlushed W.contents (HasAudited histories form (writer_contents W.contents output.old)) output.new result }
 {
-    let done = audit_within(rt, inputs, &mut output, form);
-    flushed(&mut output, done)
+    let done = audit_within(rt, inputs, output, form);
+    flushed(output, done)
 }
 
 /// Stops the coordinator of the calls at each place. If `json`, each line is written as an object.
-pub fn stops<I: Read + Drop, W: Write + Drop, R: Alloc<A = Global> + Wait>(
+pub fn stops<I: Read, W: Write + Drop, R: Alloc<A = Global> + Wait>(
     rt: &R,
-    mut input: I,
-    mut output: BufWriter<W>,
+    input: &mut I,
+    output: &mut BufWriter<W>,
     stores: u64,
     json: bool,
 ) -> Result<u8, ScriptFault>
     requires { IsStoreCount stores }
+    ensures { IsFlushed W.contents (HasStopped json stores (I.remaining input.old)
+        (writer_contents W.contents output.old)) output.new result }
 {
-    let done = if json {
-        stop_objects(rt, rt.alloc(), &mut input, &mut output, stores)
-    } else {
-        stop_each(rt, rt.alloc(), &mut input, &mut output, stores)
-    };
-    flushed(&mut output, done)
+    let done = stop_as(rt, rt.alloc(), input, output, stores, json);
+    flushed(output, done)
 }
 
 /// Explores the script. If `json`, each line is written as an object.
-pub fn explore<I: Read + Drop, W: Write + Drop, R: Alloc<A = Global>>(
+pub fn explore<I: Read, W: Write + Drop, R: Alloc<A = Global>>(
     rt: &R,
-    mut input: I,
-    mut output: BufWriter<W>,
+    input: &mut I,
+    output: &mut BufWriter<W>,
     limit: u64,
     json: bool,
 ) -> Result<u8, ScriptFault>
     requires { IsLimit limit }
+    ensures { IsFlushed W.contents (HasExplored json limit (I.remaining input.old)
+        (writer_contents W.contents output.old)) output.new result }
 {
-    let done = if json {
-        explore_objects(rt.alloc(), &mut input, &mut output, limit)
-    } else {
-        explore_within(rt.alloc(), &mut input, &mut output, limit)
-    };
-    flushed(&mut output, done)
+    let done = explore_as(rt.alloc(), input, output, limit, json);
+    flushed(output, done)
+}
+
+/// Returns a client over the reader and the writer, whose buffer is the only one.
+fn client_over<'a, I: Read, W: Write + Drop>(
+    alloc: Global,
+    input: &'a mut I,
+    output: &'a mut BufWriter<W>,
+) -> Result<Transport<&'a mut I, &'a mut BufWriter<W>>, ScriptFault> {
+    match BufWriter::with_capacity(alloc, 0, output) {
+        Ok(writer) => Ok(Transport::new(input, writer)),
+        Err(_) => Err(ScriptFault::NoMemory),
+    }
 }
 
 /// Carries out the calls over stores that are never full. If `speaks`, each call that is out of turn is
 /// explained.
-pub fn coordinate<I: Read + Drop, W: Write + Drop, R: Eprint + Alloc<A = Global> + Wait>(
+pub fn coordinate<I: Read, W: Write + Drop, R: Eprint + Alloc<A = Global> + Wait>(
     rt: &R,
-    input: &mut Watch<'_, I, R>,
-    output: BufWriter<W>,
+    input: &mut I,
+    output: &mut BufWriter<W>,
     speaks: bool,
     stores: u64,
 ) -> Result<u8, ScriptFault>
     requires { IsStoreCount stores }
+    ensures { HasConversed result }
 {
-    let mut transport = Transport::new(input, output);
-    // Nothing is explained, so nobody has to follow the transactions.
+    let mut client = client_over(rt.alloc(), input, output)?;
     if !speaks {
-        return converse_lasting(rt, rt.alloc(), &mut transport, stores).and(Ok(DONE));
+        converse_lasting(rt, rt.alloc(), &mut client, stores)?;
+        return Ok(DONE);
     }
     let manager = lasting_manager(rt.alloc(), stores)?;
     let mut server = Advised::new(rt, BesideServer::new(rt, manager));
-    xa_lines::serve(rt.alloc(), &mut server, &mut transport)?;
+    xa_lines::serve(rt.alloc(), &mut server, &mut client)?;
     server.looked()?;
     Ok(DONE)
 }
 
 /// Carries out the calls over stores whose histories have room for `capacity` entries.
-pub fn coordinate_fixed<I: Read + Drop, W: Write + Drop, R: Eprint + Alloc<A = Global> + Wait>(
+pub fn coordinate_fixed<I: Read, W: Write + Drop, R: Eprint + Alloc<A = Global> + Wait>(
     rt: &R,
-    input: &mut Watch<'_, I, R>,
-    output: BufWriter<W>,
+    input: &mut I,
+    output: &mut BufWriter<W>,
     speaks: bool,
     stores: u64,
     capacity: u64,
 ) -> Result<u8, ScriptFault>
     requires stores { IsStoreCount stores }
     requires capacity { IsCapacity capacity }
+    ensures { HasConversed result }
 {
-    let mut transport = Transport::new(input, output);
+    let mut client = client_over(rt.alloc(), input, output)?;
     let (stores, firsts, seconds) = open_stores(rt.alloc(), stores, capacity)?;
     let stores = stores.as_slice();
     // Nothing is explained, so nobody has to follow the transactions.
     if !speaks {
-        return converse(rt, rt.alloc(), &mut transport, stores, firsts, seconds).and(Ok(DONE));
+        converse(rt, rt.alloc(), &mut client, stores, firsts, seconds)?;
+        return Ok(DONE);
     }
     let manager = manager_over(rt.alloc(), stores, firsts, seconds)?;
     let mut server = Advised::new(rt, CallServer::new(rt, manager));
-    xa_lines::serve(rt.alloc(), &mut server, &mut transport)?;
+    xa_lines::serve(rt.alloc(), &mut server, &mut client)?;
     server.looked()?;
     Ok(DONE)
 }
 
 /// Answers each line before it reads more.
-pub fn serve<I: Read + Drop, W: Write + Drop, R: Alloc<A = Global>>(
+pub fn serve<I: Read, W: Write + Drop, R: Alloc<A = Global>>(
     rt: &R,
-    input: I,
-    output: BufWriter<W>,
-) -> Result<u8, ScriptFault> {
-    let mut transport = Transport::new(input, output);
-    serve_statements(rt.alloc(), &mut transport).and(Ok(DONE))
+    input: &mut I,
+    output: &mut BufWriter<W>,
+) -> Result<u8, ScriptFault>
+    ensures { HasConversed result }
+{
+    let mut client = client_over(rt.alloc(), input, output)?;
+    serve_statements(rt.alloc(), &mut client)?;
+    Ok(DONE)
 }
 
 /// Answers likewise, and shows the store after each answer.
-pub fn show<I: Read + Drop, W: Write + Drop, R: Alloc<A = Global>>(
+pub fn show<I: Read, W: Write + Drop, R: Alloc<A = Global>>(
     rt: &R,
-    input: I,
-    output: BufWriter<W>,
-) -> Result<u8, ScriptFault> {
-    let mut transport = Transport::new(input, output);
-    show_statements(rt.alloc(), &mut transport).and(Ok(DONE))
+    input: &mut I,
+    output: &mut BufWriter<W>,
+) -> Result<u8, ScriptFault>
+    ensures { HasConversed result }
+{
+    let mut client = client_over(rt.alloc(), input, output)?;
+    show_statements(rt.alloc(), &mut client)?;
+    Ok(DONE)
 }

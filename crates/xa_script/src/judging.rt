@@ -2,7 +2,7 @@
 ghost use Rattle.std.specs.Prelude.{◌≡◌, IfOk, IfErr};
 ghost use Rattle.xa_record.specs.Judged.{AfterJudgeFaultFrom};
 ghost use Rattle.xa_script.specs.CommandLine.{IsLimit};
-ghost use Rattle.xa_script.specs.Status.{form_of, status_for, AppendsVerdict};
+ghost use Rattle.xa_script.specs.Status.{asked_of, form_of, status_for, AppendsVerdict};
 
 use std::alloc::Global;
 use std::io::{Read, Write};
@@ -51,6 +51,8 @@ pub fn asked(limit: u64, explains: bool, json: bool) -> Asked
     ensures form { result.form ≡ form_of json }
     // Proved (scripts, judging-as-asked)
     ensures explains { result.explains ≡ explains }
+    // Proved (scripts, judging-as-asked)
+    ensures all { result ≡ asked_of limit explains json }
 {
     let form = if json { Form::Json } else { Form::Plain };
     Asked {

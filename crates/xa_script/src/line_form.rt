@@ -1,4 +1,7 @@
 //! The form of the lines that a job writes.
+ghost use Rattle.std.specs.Prelude.{◌≡◌};
+ghost use Rattle.xa_script.specs.Owing.{KeepsLine};
+
 use xa_lines::{ScriptLine, is_comment, number_in, read_line, split_word};
 use xa_statement::read_statement;
 use xa_xid::{Statement, skip_blanks};
@@ -81,7 +84,11 @@ impl LineForm {
     /// isn't a statement.
     ///
     /// The line is without its line feed. Takes no memory. Doesn't wait.
-    pub fn keeps(self, line: &[u8]) -> bool {
+    pub fn keeps(self, line: &[u8]) -> bool
+        // Proved (scripts, text-kept-lines): `--text` never leaves an answer as it is for its form, and never changes an
+        //   object, or a comment among shown stores.
+        ensures { KeepsLine self line.now result }
+    {
         match self {
             LineForm::Answers => false,
             LineForm::Shown => is_comment(line),

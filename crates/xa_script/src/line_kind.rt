@@ -1,4 +1,12 @@
 //! The kind of lines that a job reads.
+ghost use Rattle.std.specs.Prelude.{◌≡◌, is_some};
+ghost use Rattle.xa_statement.specs.Reading.{read_of};
+ghost use Rattle.xa_lines.specs.Script.{line_of};
+ghost use Rattle.xa_manager.specs.Calls.{call_of};
+ghost use Rattle.xa_manager.specs.Scripts.{taken};
+ghost use Rattle.xa_script.specs.Unread.{goes_wrong, is_faulty, divides_script, is_no_call, given_by, is_no_record};
+ghost use Rattle.xa_script.specs.Unread.{is_unread_by, kind_after, kind_of_first};
+
 use crate::line_fault::LineFault;
 use xa_lines::{ScriptLine, is_comment, number_in, read_line, split_word};
 use xa_manager::{Call, read_call};
@@ -25,7 +33,9 @@ pub enum LineKind {
 }
 
 /// Why a text isn't a statement.
-fn statement_fault(text: &[u8]) -> Option<LineFault<'_>> {
+fn statement_fault(text: &[u8]) -> Option<LineFault<'_>>
+    ensures { is_some result ≡ goes_wrong (read_of text.now) }
+{
     match read_statement(text) {
         Ok(_) => None,
         Err(fault) => Some(LineFault::NoStatement(text, fault.at)),
@@ -33,7 +43,9 @@ fn statement_fault(text: &[u8]) -> Option<LineFault<'_>> {
 }
 
 /// Why a line isn't one of a script.
-fn script_fault(line: &[u8]) -> Option<LineFault<'_>> {
+fn script_fault(line: &[u8]) -> Option<LineFault<'_>>
+    ensures { is_some result ≡ is_faulty (line_of line.now) }
+{
     match read_line(line) {
         ScriptLine::Blank => None,
         ScriptLine::Bad => Some(LineFault::NoSession),
@@ -42,7 +54,9 @@ fn script_fault(line: &[u8]) -> Option<LineFault<'_>> {
 }
 
 /// Returns whether a line is one of the words that divide a script for exploring.
-fn parts(line: &[u8]) -> bool {
+fn parts(line: &[u8]) -> bool
+    ensures { result ≡ divides_script line.now }
+{
     let (word, rest) = split_word(skip_blanks(line));
     let is_word = word == b"BESIDE".as_slice() || word == b"AFTER".as_slice();
     is_word && skip_blanks(rest).is_empty()
@@ -78,7 +92,9 @@ fn call_fault(line: &[u8]) -> LineFault<'_> {
 }
 
 /// Returns why a line isn't one that `stops` takes.
-fn stopped_fault(line: &[u8]) -> Option<LineFault<'_>> {
+fn stopped_fault(line: &[u8]) -> Option<LineFault<'_>>
+    ensures { is_some result ≡ is_no_call (taken (call_of line.now)) }
+{
     match read_call(line) {
         Call::Unread(_) => match call_fault(line) {
             LineFault::NoCall => Some(LineFault::NoStopped),
@@ -90,7 +106,9 @@ fn stopped_fault(line: &[u8]) -> Option<LineFault<'_>> {
 }
 
 /// Returns what comes after the session of a line, and nothing if it names none.
-fn given_in(line: &[u8]) -> &[u8] {
+fn given_in(line: &[u8]) -> &[u8]
+    ensures { result.now ≡ given_by (line_of line.now) }
+{
     match read_line(line) {
         ScriptLine::Blank => &[],
         ScriptLine::Bad => &[],
@@ -110,7 +128,9 @@ pub fn rows_behind(line: &[u8]) -> u64 {
 }
 
 /// Why a line isn't one of a record, by its first words.
-fn record_fault(line: &[u8]) -> Option<LineFault<'_>> {
+fn record_fault(line: &[u8]) -> Option<LineFault<'_>>
+    ensures { is_some result ≡ is_no_record (given_by (line_of line.now)) }
+{
     let (sign, rest) = split_word(given_in(line));
     if sign == b">".as_slice() {
         statement_fault(skip_blanks(rest))
@@ -121,25 +141,42 @@ fn record_fault(line: &[u8]) -> Option<LineFault<'_>> {
     }
 }
 
+/// Returns the kind of the lines of a script that is raced, by one of them. A blank line doesn't settle it.
+fn raced_by(line: &[u8]) -> LineKind
+    ensures { result ≡ kind_of_first line.now }
+{
+    if skip_blanks(line).is_empty() {
+        LineKind::Raced
+    } else if is_comment(line) {
+        LineKind::Shown
+    } else {
+        LineKind::Statement
+    }
+}
+
 impl LineKind {
     /// Returns the kind that this line, and all after it, are of.
     ///
     /// The line is without its line feed. Takes no memory. Doesn't wait.
-    pub fn settled_by(self, line: &[u8]) -> LineKind {
-        // The first line that isn't blank says whether a script for races has comments.
-        if self != LineKind::Raced || skip_blanks(line).is_empty() {
-            self
-        } else if is_comment(line) {
-            LineKind::Shown
-        } else {
-            LineKind::Statement
+    pub fn settled_by(self, line: &[u8]) -> LineKind
+        // Proved (scripts, unread-lines)
+        ensures { result ≡ kind_after self line.now }
+    {
+        match self {
+            LineKind::Raced => raced_by(line),
+            _ => self,
         }
     }
 
     /// Returns why a line isn't read, if it isn't.
     ///
     /// The line is without its line feed. Takes no memory. Doesn't wait.
-    pub fn fault_in(self, line: &[u8]) -> Option<LineFault<'_>> {
+    pub fn fault_in(self, line: &[u8]) -> Option<LineFault<'_>>
+        // Proved (scripts, unread-lines): `--strict` and `--verbose` look at each line as the job reads it: a line is
+        //   at fault if it is bad, if its text isn't a statement, or if it isn't a call or not one for the job. A blank
+        //   line, a comment where there are comments, and a word that divides a script to explore never is.
+        ensures { is_some result ≡ is_unread_by self line.now }
+    {
         let silent = skip_blanks(line).is_empty() || is_comment(line);
         match self {
             LineKind::Statement | LineKind::Raced => script_fault(line),

@@ -4,13 +4,16 @@
 //! `xa_audit` audits.
 //!
 //! Functions that use the process or its streams promise nothing, since no contract can name these; tests of
-//! the built program show what they do. Read `src/jobs.rt` next, then `src/command.rt`, `src/subcommands.rt`
-//! and `src/help.rt`.
+//! the built program show what they do. Down from `carry_out_to`, which does a job from a reader to a writer, each
+//! has a contract. Read `src/jobs.rt` next, then `src/command.rt`, `src/subcommands.rt` and `src/help.rt`.
 #![tactic(auto)]
 
 ghost use Rattle.std.specs.Prelude.{◌≡◌, ◌≤◌, IfOk, length};
+ghost use Rattle.std.specs.Io.Buffered.{writer_contents};
 ghost use Rattle.xa_script.specs.CommandLine.{CanBeDone, ReadsInput, audit_asked};
-ghost use Rattle.xa_script.specs.Status.{status_after};
+ghost use Rattle.xa_script.specs.Jobs.{HasDone, IsLookedAt};
+ghost use Rattle.xa_script.specs.Lines.{kind_of_lines, most_bytes, form_of_job, form_of_lines, form_of_texts};
+ghost use Rattle.xa_script.specs.Status.{status_after, status_of_job, strict_status, end_of};
 
 mod advised;
 mod allowing;
@@ -117,7 +120,11 @@ fn status<
 }
 
 /// Reports the fault of a job, if it had one, and returns the exit status.
-fn ended<R: Eprint>(rt: &R, manner: &Manner<'_>, done: Result<u8, ScriptFault>) -> u8 {
+fn ended<R: Eprint>(rt: &R, manner: &Manner<'_>, done: Result<u8, ScriptFault>) -> u8
+    // Proved (scripts, status-of-a-job): The program's exit status is the job's own, or the one after its fault,
+    //   whatever the options are.
+    ensures { result ≡ status_of_job done }
+{
     match done {
         Ok(status) => status,
         Err(fault) => {
@@ -217,16 +224,26 @@ fn carry_out_audit<R: Files + Print + Eprint + Alloc<A = Global>>(
     requires { length histories.now.names.items ≤ 64 }
 {
     let inputs = opened_each(rt, histories.names.as_slice(), manner.verbose)?;
-    if manner.text {
-        let output = jobs::text_output(rt, manner.verbose, form_of(job))?;
-        jobs::audit(rt, inputs, output, form)
-    } else {
-        jobs::audit(rt, inputs, jobs::output(rt, manner.verbose)?, form)
+    match text_form(job, manner) {
+        Some(lines) => {
+            let mut output = jobs::text_output(rt, manner.verbose, lines)?;
+            jobs::audit(rt, inputs, &mut output, form)
+        }
+        None => {
+            let mut output = jobs::output(rt, manner.verbose)?;
+            jobs::audit(rt, inputs, &mut output, form)
+        }
     }
 }
 
 /// Returns how a job reads its lines, and how many bytes a line may have.
-fn lines_of(job: Job) -> (LineKind, usize) {
+fn lines_of(job: Job) -> (LineKind, usize)
+    // Proved (scripts, lines-of-a-job): Each job looks at its lines as the page says: as statements, calls or a
+    //   record, with comments or without. Only the jobs that answer line by line have a longest line.
+    ensures kind { result.0 ≡ kind_of_lines job }
+    // Proved (scripts, lines-of-a-job)
+    ensures most { result.1 ≡ most_bytes job }
+{
     match job {
         Job::Run => (LineKind::Statement, usize::MAX),
         Job::Race { runs: None, .. } => (LineKind::Raced, usize::MAX),
@@ -240,8 +257,10 @@ fn lines_of(job: Job) -> (LineKind, usize) {
     }
 }
 
-/// Returns the form of the lines that a job writes.
-fn form_of(job: Job) -> LineForm {
+/// Returns the form of the lines that a job writes, if they aren't written as objects.
+fn form_of(job: Job) -> LineForm
+    ensures { result ≡ form_of_job job }
+{
     match job {
         Job::Run | Job::Race { .. } | Job::Coordinate { .. } | Job::Serve => LineForm::Answers,
         Job::Explore { .. } | Job::Stops { .. } => LineForm::Answers,
@@ -250,6 +269,26 @@ fn form_of(job: Job) -> LineForm {
         Job::Judge { json: false, .. } => LineForm::Verdict,
         Job::Audit { json: true } => LineForm::Object,
         Job::Audit { json: false } => LineForm::Answers,
+    }
+}
+
+/// Returns the form of the lines that a job writes.
+fn written_form(job: Job, json: bool) -> LineForm
+    ensures { result ≡ form_of_lines json job }
+{
+    if json { LineForm::Object } else { form_of(job) }
+}
+
+/// Returns the form of the lines whose literals are written as texts, if that is asked for.
+fn text_form(job: Job, manner: &Manner<'_>) -> Option<LineForm>
+    // Proved (scripts, text-form): `--text` is heard beside any other option, and takes the lines for what the job
+    //   writes: objects with `--json`, else verdicts, shown stores or answers.
+    ensures { result ≡ form_of_texts manner.now.text manner.now.json job }
+{
+    if manner.text {
+        Some(written_form(job, manner.json))
+    } else {
+        None
     }
 }
 
@@ -268,36 +307,52 @@ fn carry_out_on<
     requires done { CanBeDone job }
     requires input { ReadsInput job }
 {
-    let (kind, most) = lines_of(job);
-    let mut watch = Watch::new(rt, input, kind, most, manner.verbose, manner.strict);
-    let status = if manner.text {
-        let form = if manner.json {
-            LineForm::Object
-        } else {
-            form_of(job)
-        };
-        let output = jobs::text_output(rt, manner.verbose, form)?;
-        carry_out_job(rt, &mut watch, output, job, manner, allowances, base)?
-    } else {
-        let output = jobs::output(rt, manner.verbose)?;
-        carry_out_job(rt, &mut watch, output, job, manner, allowances, base)?
+    match text_form(job, manner) {
+        Some(form) => {
+            let mut output = jobs::text_output(rt, manner.verbose, form)?;
+            carry_out_to(rt, input, &mut output, job, manner, allowances, base)
+        }
+        None => {
+            let mut output = jobs::output(rt, manner.verbose)?;
+            carry_out_to(rt, input, &mut output, job, manner, allowances, base)
+        }
+    }
+}
+
+/// Returns how a job ends whose lines were looked at, by whether one of them was faulty. If that isn't known,
+/// memory ran out.
+fn looked_at(
+    strict: bool,
+    faulty: Option<bool>,
+    done: Result<u8, ScriptFault>,
+) -> Result<u8, ScriptFault>
+    // Proved (scripts, strict-status): With `--strict` the status is 8 in place of 0 if a line was faulty. Any other
+    //   status, and any fault, stays. Without `--strict` every status stays.
+    ensures { result ≡ end_of strict faulty done }
+{
+    let status = match done {
+        Ok(status) => status,
+        Err(fault) => return Err(fault),
+    };
+    let Some(faulty) = faulty else {
+        return Err(ScriptFault::NoMemory);
     };
     // Any other status says more than that a line wasn't read.
-    if watch.has_faults()? && manner.strict && status == DONE {
+    if strict && faulty && status == DONE {
         return Ok(UNREAD);
     }
     Ok(status)
 }
 
-/// Does a job from a reader to a writer.
-fn carry_out_job<
+/// Does a job from a reader to a writer, with its lines looked at as they are read, and returns the exit status.
+fn carry_out_to<
     I: Read + Drop,
     W: Write + Drop,
     R: Clock + Eprint + Alloc<A = Global> + Threads + Wait + Sync,
 >(
     rt: &R,
-    input: &mut Watch<'_, I, R>,
-    output: BufWriter<W>,
+    input: I,
+    output: &mut BufWriter<W>,
     job: Job,
     manner: &Manner<'_>,
     allowances: &[Allowance],
@@ -305,7 +360,39 @@ fn carry_out_job<
 ) -> Result<u8, ScriptFault>
     requires done { CanBeDone job }
     requires input { ReadsInput job }
+    // Proved (scripts, jobs-as-asked): `run`, `race`, `judge`, `explore` and `stops` write what the job and `--json`
+    //   ask for, of all that the input holds, and end with the status for that. No other option changes a byte.
+    //   `--strict` alone changes a status.
+    ensures { IsLookedAt manner.now.strict (HasDone W.contents job manner.now.json base.now allowances.now
+        (I.remaining input) (writer_contents W.contents output.old)) output.new result }
 {
+    let (kind, most) = lines_of(job);
+    let mut watch = Watch::new(rt, input, kind, most, manner.verbose, manner.strict);
+    let done = carry_out_job(rt, &mut watch, output, job, manner, allowances, base);
+    looked_at(manner.strict, watch.has_faults().ok(), done)
+}
+
+/// Does a job from a reader to a writer.
+fn carry_out_job<
+    I: Read,
+    W: Write + Drop,
+    R: Clock + Eprint + Alloc<A = Global> + Threads + Wait + Sync,
+>(
+    rt: &R,
+    input: &mut I,
+    output: &mut BufWriter<W>,
+    job: Job,
+    manner: &Manner<'_>,
+    allowances: &[Allowance],
+    base: &Server,
+) -> Result<u8, ScriptFault>
+    requires done { CanBeDone job }
+    requires input { ReadsInput job }
+    // Proved (scripts, jobs-as-asked)
+    ensures { HasDone W.contents job manner.now.json base.now allowances.now (I.remaining input.old)
+        (writer_contents W.contents output.old) output.new result }
+{
+    let json = manner.json;
     match job {
         Job::Run => jobs::run(rt, input, output),
         Job::Race {
@@ -313,16 +400,13 @@ fn carry_out_job<
             schedule,
             renews,
             runs: None,
-        } => jobs::race(rt, input, output, capacity, schedule, renews, manner.json),
+        } => jobs::race(rt, input, output, capacity, schedule, renews, json),
         Job::Race {
             capacity,
             schedule,
             renews,
             runs: Some(runs),
-        } => {
-            let json = manner.json;
-            jobs::races(rt, input, output, capacity, schedule, renews, runs, json)
-        }
+        } => jobs::races(rt, input, output, capacity, schedule, renews, runs, json),
         Job::Coordinate {
             stores,
             capacity,
@@ -343,8 +427,8 @@ fn carry_out_job<
             let asked = asked(limit, explain, json);
             jobs::judge(rt, input, output, base, allowances, asked, manner.quiet)
         }
-        Job::Explore { limit } => jobs::explore(rt, input, output, limit, manner.json),
-        Job::Stops { stores, .. } => jobs::stops(rt, input, output, stores, manner.json),
+        Job::Explore { limit } => jobs::explore(rt, input, output, limit, json),
+        Job::Stops { stores, .. } => jobs::stops(rt, input, output, stores, json),
         // `carry_out` does audits, which have several readers.
         Job::Audit { .. } => unreachable!(),
     }

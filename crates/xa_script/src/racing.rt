@@ -1,11 +1,12 @@
 //! Races of the script of the standard input.
-ghost use Rattle.std.specs.Prelude.{OnOk, IfSome};
+ghost use Rattle.std.specs.Prelude.{◌≡◌, Ok, Err, OnOk, IfSome, MatchResult};
 ghost use Rattle.decision_log.specs.Opens.{IsCapacity};
 ghost use Rattle.xa_lines.specs.Writing.{AppendsObjects};
 ghost use Rattle.xa_script.specs.Status.{AppendsRaceBy};
+ghost use Rattle.xa_script.specs.Jobs.{HasRaced};
 ghost use Rattle.xa_lines.specs.Uncommented.{uncommented as uncommented_text};
 
-use crate::Schedule;
+use crate::{DONE, Schedule};
 use std::alloc::{Alloc, Global};
 use std::io::{Read, Write};
 use std::sync::Wait;
@@ -113,4 +114,38 @@ pub fn race_objects<I: Read, O: Write, R: Alloc<A = Global> + Threads + Wait + S
     let done = race_commented(rt, input, &mut text, capacity, schedule, renews);
     in_memory(done)?;
     write_objects(rt.alloc(), output, text.as_slice())
+}
+
+/// Returns the exit status of a race that has ended, or its fault.
+fn ended(done: Result<(), ScriptFault>) -> Result<u8, ScriptFault>
+    ensures { MatchResult done (λ _. result ≡ Ok 0) (λ fault. result ≡ Err fault) }
+{
+    match done {
+        Ok(()) => Ok(DONE),
+        Err(fault) => Err(fault),
+    }
+}
+
+/// Races a script, writes lines, or if `json` their objects, and returns the exit status.
+///
+/// `capacity` is in `[1, 1024]`.
+/// Errors: as `race_commented`. Waits.
+pub fn race_as<I: Read, O: Write, R: Alloc<A = Global> + Threads + Wait + Sync>(
+    rt: &R,
+    input: &mut I,
+    output: &mut O,
+    capacity: u64,
+    schedule: Schedule,
+    renews: bool,
+    json: bool,
+) -> Result<u8, ScriptFault>
+    requires { IsCapacity capacity }
+    ensures { HasRaced json renews capacity (I.remaining input.old) (O.contents output.old) (O.contents output.new)
+        result }
+{
+    if json {
+        ended(race_objects(rt, input, output, capacity, schedule, renews))
+    } else {
+        ended(race_commented(rt, input, output, capacity, schedule, renews))
+    }
 }

@@ -5,6 +5,7 @@ ghost use Rattle.xa_races.specs.Came.{AfterRunsFault};
 ghost use Rattle.xa_script.specs.CommandLine.{IsLimit};
 ghost use Rattle.xa_lines.specs.Writing.{AppendsObjects, AfterObjects};
 ghost use Rattle.xa_script.specs.Status.{AppendsCame};
+ghost use Rattle.xa_script.specs.Jobs.{HasCame};
 
 use crate::Schedule;
 use crate::exploring::status_of_end;
@@ -106,4 +107,29 @@ pub fn run_objects<I: Read, O: Write, R: Alloc<A = Global> + Threads + Wait + Sy
     let status = in_memory(done)?;
     write_objects(rt.alloc(), output, text.as_slice())?;
     Ok(status)
+}
+
+/// Races a script `runs` times, and writes lines, or if `json` their objects.
+///
+/// It takes, returns and waits as `run_by` does.
+/// Errors: as `run_by`. May return `NoMemory`. Waits.
+pub fn run_as<I: Read, O: Write, R: Alloc<A = Global> + Threads + Wait + Sync>(
+    rt: &R,
+    input: &mut I,
+    output: &mut O,
+    capacity: u64,
+    schedule: Schedule,
+    renews: bool,
+    runs: u64,
+    json: bool,
+) -> Result<u8, ScriptFault>
+    requires capacity { IsCapacity capacity }
+    requires runs { IsLimit runs }
+    ensures { HasCame json renews runs (I.remaining input.old) (O.contents output.old) (O.contents output.new) result }
+{
+    if json {
+        run_objects(rt, input, output, capacity, schedule, renews, runs)
+    } else {
+        run_by(rt, input, output, capacity, schedule, renews, runs)
+    }
 }

@@ -4,6 +4,7 @@ ghost use Rattle.xa_manager.specs.Scripts.{AfterStopsFault};
 ghost use Rattle.xa_script.specs.CommandLine.{IsStoreCount};
 ghost use Rattle.xa_lines.specs.Writing.{AppendsObjects, AfterObjects};
 ghost use Rattle.xa_script.specs.Status.{status_of_stops as status_of, AppendsStopped};
+ghost use Rattle.xa_script.specs.Jobs.{HasStopped};
 
 use std::alloc::Global;
 use std::io::{Read, Write};
@@ -81,4 +82,26 @@ pub fn stop_objects<H: Wait, R: Read, W: Write>(
     let status = in_memory(stop_each(rt, alloc, reader, &mut text, stores))?;
     write_objects(alloc, writer, text.as_slice())?;
     Ok(status)
+}
+
+/// Stops the coordinator of a script at each place, and writes lines, or if `json` their objects.
+///
+/// `stores` is in `[1, 16]`.
+/// Errors: as `stop_each`. May return `NoMemory`. Waits.
+pub fn stop_as<H: Wait, R: Read, W: Write>(
+    rt: &H,
+    alloc: Global,
+    reader: &mut R,
+    writer: &mut W,
+    stores: u64,
+    json: bool,
+) -> Result<u8, ScriptFault>
+    requires { IsStoreCount stores }
+    ensures { HasStopped json stores (R.remaining reader.old) (W.contents writer.old) (W.contents writer.new) result }
+{
+    if json {
+        stop_objects(rt, alloc, reader, writer, stores)
+    } else {
+        stop_each(rt, alloc, reader, writer, stores)
+    }
 }

@@ -57,7 +57,8 @@ impl<W: Write + Drop> Texts<W> {
     ///
     /// Takes no memory. Doesn't wait.
     pub fn new(inner: W, form: LineForm) -> Texts<W>
-        ensures { Keeps (W.contents inner) (known_of W.contents result) }
+        ensures known { Keeps (W.contents inner) (known_of W.contents result) }
+        ensures form { result.form ≡ form }
     {
         Texts {
             inner,
@@ -76,6 +77,7 @@ impl<W: Write + Drop> Texts<W> {
         ensures sent { Keeps (sent_of W.contents self.old) (sent_of W.contents self.new) }
         ensures held { self.new.held ≡ self.old.held }
         ensures passes { self.new.passes ≡ self.old.passes }
+        ensures form { self.new.form ≡ self.old.form }
         ensures due { self.new.due ≡ self.old.due }
         ensures more { OnOk result (self.old.given < self.new.given) }
     {
@@ -94,6 +96,7 @@ impl<W: Write + Drop> Texts<W> {
         ensures kept { Keeps (known_of W.contents self.old) (known_of W.contents self.new) }
         ensures held { self.new.held ≡ self.old.held }
         ensures passes { self.new.passes ≡ self.old.passes }
+        ensures form { self.new.form ≡ self.old.form }
         ensures all { OnOk result (drop self.new.given self.new.due.items ≡ []) }
     {
         while self.given < self.due.len() {
@@ -110,6 +113,7 @@ impl<W: Write + Drop> Texts<W> {
         ensures inner { self.new.inner ≡ self.old.inner }
         ensures held { self.new.held ≡ self.old.held }
         ensures passes { self.new.passes ≡ self.old.passes }
+        ensures form { self.new.form ≡ self.old.form }
     {
         self.given = 0;
         self.due = text;
@@ -121,6 +125,7 @@ impl<W: Write + Drop> Texts<W> {
         ensures kept { Keeps (known_of W.contents self.old) (known_of W.contents self.new) }
         ensures held { self.new.held.items ≡ [] }
         ensures passes { self.new.passes ≡ true }
+        ensures form { self.new.form ≡ self.old.form }
         ensures all { OnOk result (drop self.new.given self.new.due.items ≡ []) }
     {
         let held = mem::replace(&mut self.held, Room::new());
@@ -134,6 +139,7 @@ impl<W: Write + Drop> Texts<W> {
         ensures kept { Keeps (known_of W.contents self.old) (known_of W.contents self.new) }
         ensures due { OnOk result (drop self.new.given self.new.due.items ≡ []) }
         ensures held { OnOk result (self.new.held.items ≡ []) }
+        ensures form { self.new.form ≡ self.old.form }
     {
         self.give()?;
         // Nothing of a line is held back, so its rest needn't pass unchanged.
@@ -150,6 +156,7 @@ impl<W: Write + Drop> Texts<W> {
         ensures sent { OnOk result (self.new.passes ≡ false
             → Keeps (sent_of W.contents self.old) (sent_of W.contents self.new)) }
         ensures held { OnOk result (self.new.passes ≡ false → self.new.held ≡ self.old.held) }
+        ensures form { self.new.form ≡ self.old.form }
     {
         self.give()?;
         if self.held.is_full() {
@@ -166,7 +173,7 @@ impl<W: Write + Drop> Texts<W> {
 
     /// Returns what is written for a line, which ends in a line feed.
     fn written(form: LineForm, line: Room) -> Room
-        ensures { IsWrittenAs line.items result.items }
+        ensures { IsWrittenAs form line.items result.items }
     {
         if form.keeps(without_feed(line.as_slice())) {
             return line;
@@ -180,7 +187,7 @@ impl<W: Write + Drop> Texts<W> {
     /// Takes the line that is whole.
     fn end_line(&mut self)
         requires { drop self.old.given self.old.due.items ≡ [] }
-        ensures written { IsWrittenAs self.old.held.items self.new.due.items }
+        ensures written { IsWrittenAs self.old.form self.old.held.items self.new.due.items }
         ensures given { self.new.given ≡ 0 }
         ensures held { self.new.held.items ≡ [] }
         ensures inner { self.new.inner ≡ self.old.inner }
@@ -242,7 +249,8 @@ impl<W: Write + Drop> Write for Texts<W> {
         ensures bound { WritesAtMost result buf.now }
         ensures bytes { ⊤ }
         // Proved (scripts, text-writer): With `--text` the writer keeps the bytes that it takes in order. A
-        //   whole line is written as it is, or with its literals of printable bytes as texts.
+        //   whole line is written as it is, or with its literals of printable bytes as texts. Of objects nothing is
+        //   changed.
         ensures taken { IfOk result (λ count. Takes W.contents self.old (take count buf.now) self.new) }
         // Proved (scripts, text-writer-faults): After a fault of the `--text` writer nothing more was taken,
         //   and nothing is lost. A flush that succeeds has written all.

@@ -1,7 +1,8 @@
 //! Looks at the lines that a job reads, for `--verbose` and `--strict`.
-ghost use Rattle.std.specs.Prelude.{◌≡◌, false};
+ghost use Rattle.std.specs.Prelude.{◌≡◌, ◌≢◌, ◌||◌, [], false, true, is_some, IfOk, OnOk, OnErr};
 ghost use Rattle.std.specs.Io.{ReadsAtMost};
 ghost use Rattle.std.specs.Io.KnownBytes.{ReadConsumes};
+ghost use Rattle.xa_script.specs.Unread.{is_unread, kind_after};
 
 use crate::hint::tell_line;
 use crate::line_fault::LineFault;
@@ -56,6 +57,9 @@ impl<'r, I: Read + Drop, R: Eprint + Alloc<A = Global>> Watch<'r, I, R> {
     ) -> Watch<'r, I, R>
         ensures reader { result.inner ≡ inner }
         ensures fresh { result.faulty ≡ false }
+        ensures kind { result.kind ≡ kind }
+        ensures most { result.most ≡ most }
+        ensures looks { result.looks ≡ speaks || counts }
     {
         Watch {
             inner,
@@ -88,7 +92,11 @@ impl<'r, I: Read + Drop, R: Eprint + Alloc<A = Global>> Watch<'r, I, R> {
     ///
     /// Errors: `NoMemory` if memory was refused for looking at the lines.
     /// Takes no memory. Doesn't wait.
-    pub fn has_faults(&self) -> Result<bool, NoMemory> {
+    pub fn has_faults(&self) -> Result<bool, NoMemory>
+        ensures faulty { IfOk result (λ faulty. faulty ≡ self.now.faulty) }
+        ensures looked { OnOk result (self.now.refused ≡ false) }
+        ensures refused { OnErr result (self.now.refused ≡ true) }
+    {
         if self.refused {
             return Err(std::alloc::AllocError);
         }
@@ -117,7 +125,9 @@ impl<'r, I: Read + Drop, R: Eprint + Alloc<A = Global>> Watch<'r, I, R> {
     }
 
     /// Returns the fault of the line that has been read, if it has one.
-    fn fault(&self) -> Option<LineFault<'_>> {
+    fn fault(&self) -> Option<LineFault<'_>>
+        ensures { is_some result ≡ is_unread self.now.kind self.now.most self.now.rows self.now.line.items }
+    {
         if self.line.len() > self.most {
             return Some(LineFault::TooLong);
         }
@@ -130,7 +140,9 @@ impl<'r, I: Read + Drop, R: Eprint + Alloc<A = Global>> Watch<'r, I, R> {
 
     /// Counts the rows that the line says that the next lines are, or the line as one of them.
     fn count_rows(&mut self)
-        ensures { self.new.inner ≡ self.old.inner }
+        ensures inner { self.new.inner ≡ self.old.inner }
+        ensures faulty { self.new.faulty ≡ self.old.faulty }
+        ensures kind { self.new.kind ≡ self.old.kind }
     {
         let line = self.line.as_slice();
         // Only returns in records have rows, and a silent line is none of them.
@@ -146,7 +158,14 @@ impl<'r, I: Read + Drop, R: Eprint + Alloc<A = Global>> Watch<'r, I, R> {
 
     /// Looks at the line that has been read, and begins the next.
     fn end_line(&mut self) -> Result<(), NoMemory>
-        ensures { self.new.inner ≡ self.old.inner }
+        ensures inner { self.new.inner ≡ self.old.inner }
+        // Proved (scripts, strict-lines): `--strict` counts a line as faulty exactly if it is longer than it may be, or
+        //   it is no row of a reply and not one for the job.
+        ensures faulty { OnOk result (self.new.faulty ≡ (self.old.faulty
+            || is_unread (kind_after self.old.kind self.old.line.items) self.old.most self.old.rows
+            self.old.line.items)) }
+        ensures kind { OnOk result (self.new.kind ≡ kind_after self.old.kind self.old.line.items) }
+        ensures begun { OnOk result (self.new.line.items ≡ []) }
     {
         self.kind = self.kind.settled_by(self.line.as_slice());
         if let Some(fault) = self.fault() {
@@ -161,7 +180,13 @@ impl<'r, I: Read + Drop, R: Eprint + Alloc<A = Global>> Watch<'r, I, R> {
 
     /// Takes a byte. Of a line that is too long no more is kept than shows that.
     fn take_byte(&mut self, byte: u8) -> Result<(), NoMemory>
-        ensures { self.new.inner ≡ self.old.inner }
+        ensures inner { self.new.inner ≡ self.old.inner }
+        // Proved (scripts, strict-lines)
+        ensures ended { byte ≡ 10 → OnOk result (self.new.faulty ≡ (self.old.faulty
+            || is_unread (kind_after self.old.kind self.old.line.items) self.old.most self.old.rows
+            self.old.line.items)) }
+        // Proved (scripts, strict-lines)
+        ensures begun { byte ≢ 10 → self.new.faulty ≡ self.old.faulty }
     {
         if byte == b'\n' {
             return self.end_line();

@@ -8,6 +8,7 @@ invariant-loop-self g l = record {
   sent : Keeps (sent_of g.W.Write.contents l.fn.self) (sent_of g.W.Write.contents l.self);
   passes : l.self.passes ≡ l.fn.self.passes;
   held : l.self.held ≡ l.fn.self.held;
+  form : l.self.form ≡ l.fn.self.form;
 }
 
 abbrev pub decreases-loop-self : goal.decreases-loop-self

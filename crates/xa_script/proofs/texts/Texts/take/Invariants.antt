@@ -8,6 +8,7 @@ invariant-loop-taken g l = record {
   due : l.self.due ≡ l.fn.self.due;
   inner : l.self.inner ≡ l.fn.self.inner;
   passes : l.self.passes ≡ false;
+  form : l.self.form ≡ l.fn.self.form;
   held : l.self.held.items ≡ l.fn.self.held.items ++ take l.taken l.bytes;
 }
 

@@ -27,4 +27,4 @@ returns-else-self-clause-taken g c =
     takes_behind contents c.args.self.now between c.take.new.self
     (take c.take.result c.args.buf.now) c.in_ok-make_room.ensures.kept
     (c.in_ok-make_room.ensures.sent c.if-self.false) (c.in_ok-make_room.ensures.held c.if-self.false)
-    c.take.ensures.taken
+    c.in_ok-make_room.ensures.form c.take.ensures.taken

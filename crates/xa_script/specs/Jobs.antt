@@ -1,0 +1,149 @@
+-- What each job writes, and how it ends. `old` is what the writer had got before, where that is known.
+--     WritesAs       what is written with `--json`, and without
+--     HasRun, HasRaced, HasCame, HasJudged, HasExplored, HasStopped, HasAudited
+--                    how each of these jobs ends, and what it leaves in the writer
+--     IsFlushed      the same behind a flush
+--     HasDone        the same of any job that reads one input
+--     IsLookedAt     the same where the lines that it reads are looked at
+-- Nothing here knows of `--verbose` and `--quiet`, and only the last definition of `--strict`: they change no byte of
+-- the output.
+use Rattle.std.specs.Prelude.{◌≡◌, ◌⊎◌, ℕ, Bool, true, false, Option, Some, None, Result, Err, List, IfOk, IfSome, OnOk}
+use Rattle.std.specs.Prelude.{MatchResult, []}
+use Rattle.std.specs.Io.KnownBytes.{Keeps, Appends}
+use Rattle.std.specs.Io.Buffered.{writer_contents, writer_buffer}
+use Rattle.std.specs.declared.io.buffered.BufWriter.{BufWriter}
+use Rattle.xa_server.specs.State.{State}
+use Rattle.xa_lines.specs.declared.script_fault.ScriptFault.{ScriptFault}
+use Rattle.xa_lines.specs.declared.script_fault.ScriptFault.TheVariants.{Write}
+use Rattle.xa_lines.specs.Transcript.{transcript, AfterFault}
+use Rattle.xa_lines.specs.Uncommented.{uncommented}
+use Rattle.xa_lines.specs.Writing.{AppendsObjects, AfterObjects}
+use Rattle.xa_races.specs.Came.{AfterRunsFault}
+use Rattle.xa_orders.specs.Scripts.{AfterExploreFault}
+use Rattle.xa_manager.specs.Scripts.{AfterStopsFault}
+use Rattle.xa_record.specs.Judged.{AfterJudgeFaultFrom}
+use Rattle.xa_record.specs.declared.allowance.Allowance.{Allowance}
+use Rattle.xa_record.specs.declared.asked.Asked.{Asked}
+use Rattle.xa_audit.specs.declared.form.Form.{Form as AuditForm}
+use Rattle.xa_script.specs.declared.command.Job.{Job}
+use Rattle.xa_script.specs.declared.command.Job.TheVariants.{Run, Race, Coordinate, Serve, Show, Judge, Explore, Stops}
+use Rattle.xa_script.specs.declared.command.Job.TheVariants.{Audit}
+use Rattle.xa_script.specs.Status.{AppendsVerdict, AppendsOutcomes, AppendsRaceBy, AppendsCame, AppendsStopped}
+use Rattle.xa_script.specs.Status.{AppendsAuditBy, AfterAuditing, asked_of, end_of}
+
+-- how a job ended: with a status, or in a fault
+abbrev pub End : Type 0
+End = Result ℕ ScriptFault
+
+-- the lines that a job writes, or with `--json` their objects
+abbrev pub WritesAs : (json : Bool) → (Option (List ℕ) → Option (List ℕ) → Type 0) → Option (List ℕ) → Option (List ℕ)
+    → Type 0
+WritesAs true Writes old new = AppendsObjects Writes old new
+WritesAs false Writes old new = Writes old new
+
+-- the script was run: its transcript was written
+abbrev pub HasRun : (input old new : Option (List ℕ)) → End → Type 0
+HasRun input old new done =
+    MatchResult done (λ status. (status ≡ 0) × IfSome input (λ script. Appends old new (transcript script)))
+    (λ fault. AfterFault fault input old new)
+
+-- the script was raced once
+abbrev pub HasRaced : (json renews : Bool) → (capacity : ℕ) → (input old new : Option (List ℕ)) → End → Type 0
+HasRaced json renews capacity input old new done =
+    IfOk done (λ status. (status ≡ 0) × IfSome input (λ script. WritesAs json (AppendsRaceBy renews capacity
+    (uncommented script)) old new))
+
+-- what a fault of racing again and again leaves
+abbrev pub AfterCame : (json renews : Bool) → (runs : ℕ) → ScriptFault → (input old new : Option (List ℕ)) → Type 0
+AfterCame true renews runs fault input old new =
+    AfterObjects (λ before after. (status : ℕ) × AppendsCame runs status input before after) fault old new
+AfterCame false renews runs fault input old new = AfterRunsFault renews runs fault input old new
+
+-- the script was raced again and again
+abbrev pub HasCame : (json renews : Bool) → (runs : ℕ) → (input old new : Option (List ℕ)) → End → Type 0
+HasCame json renews runs input old new done =
+    MatchResult done (λ status. WritesAs json (AppendsCame runs status input) old new)
+    (λ fault. AfterCame json renews runs fault input old new)
+
+-- the script was raced once, or as often as is asked
+abbrev pub HasRacedAll : (json renews : Bool) → (capacity : ℕ) → (runs : Option ℕ) → (input old new : Option (List ℕ))
+    → End → Type 0
+HasRacedAll json renews capacity None input old new done = HasRaced json renews capacity input old new done
+HasRacedAll json renews capacity (Some runs) input old new done = HasCame json renews runs input old new done
+
+-- the record was judged
+abbrev pub HasJudged : State → List Allowance → Asked → (input old new : Option (List ℕ)) → End → Type 0
+HasJudged base allowances asked input old new done =
+    MatchResult done (λ status. AppendsVerdict base allowances asked status input old new)
+    (λ fault. AfterJudgeFaultFrom base allowances asked fault input old new)
+
+-- what a fault of exploring leaves
+abbrev pub AfterExploring : (json : Bool) → (limit : ℕ) → ScriptFault → (input old new : Option (List ℕ)) → Type 0
+AfterExploring true limit fault input old new =
+    AfterObjects (λ before after. (status : ℕ) × AppendsOutcomes limit status input before after) fault old new
+AfterExploring false limit fault input old new = AfterExploreFault limit fault input old new
+
+-- the script was explored
+abbrev pub HasExplored : (json : Bool) → (limit : ℕ) → (input old new : Option (List ℕ)) → End → Type 0
+HasExplored json limit input old new done =
+    MatchResult done (λ status. WritesAs json (AppendsOutcomes limit status input) old new)
+    (λ fault. AfterExploring json limit fault input old new)
+
+-- what a fault of stopping leaves
+abbrev pub AfterStopping : (json : Bool) → (stores : ℕ) → ScriptFault → (input old new : Option (List ℕ)) → Type 0
+AfterStopping true stores fault input old new =
+    AfterObjects (λ before after. (status : ℕ) × AppendsStopped stores status input before after) fault old new
+AfterStopping false stores fault input old new = AfterStopsFault stores fault input old new
+
+-- the coordinator of the script was stopped at each place
+abbrev pub HasStopped : (json : Bool) → (stores : ℕ) → (input old new : Option (List ℕ)) → End → Type 0
+HasStopped json stores input old new done =
+    MatchResult done (λ status. WritesAs json (AppendsStopped stores status input) old new)
+    (λ fault. AfterStopping json stores fault input old new)
+
+-- the histories were audited
+abbrev pub HasAudited : List (List ℕ) → AuditForm → (old new : Option (List ℕ)) → End → Type 0
+HasAudited histories form old new done =
+    MatchResult done (λ status. AppendsAuditBy histories form status old new)
+    (λ fault. AfterAuditing histories form fault old new)
+
+-- a conversation that isn't ended by a fault ends with 0; what it writes is a promise of `serve` to its client
+abbrev pub HasConversed : End → Type 0
+HasConversed done = IfOk done (λ status. status ≡ 0)
+
+-- what a job leaves, behind a flush: the flush takes nothing away and adds nothing, and leaves nothing in the buffer
+-- after a job that ended well; the end is the job's own, or a write fault
+pub record IsFlushed {W A : Type 0} (contents : W → Option (List ℕ)) (Left : Option (List ℕ) → End → Type 0)
+    (new : BufWriter W A) (result : End) : Type 0 where
+  pub done : End
+  pub written : Option (List ℕ)
+  pub left : Left written done
+  pub kept : Keeps written (writer_contents contents new)
+  pub ends : (result ≡ done) ⊎ (result ≡ Err Write)
+  pub emptied : OnOk result (writer_buffer new ≡ [])
+
+-- the job was done as it says; `base` and the allowances are those with which a record is judged. An audit reads no
+-- such input
+abbrev pub HasDone : {W A : Type 0} → (W → Option (List ℕ)) → Job → (json : Bool) → (base : State)
+    → (allowances : List Allowance) → (input old : Option (List ℕ)) → (new : BufWriter W A) → End → Type 0
+HasDone contents Run json base allowances input old new done = IsFlushed contents (HasRun input old) new done
+HasDone contents (Race capacity schedule renews runs) json base allowances input old new done =
+    IsFlushed contents (HasRacedAll json renews capacity runs input old) new done
+HasDone contents (Coordinate stores capacity fixed) json base allowances input old new done = HasConversed done
+HasDone contents Serve json base allowances input old new done = HasConversed done
+HasDone contents Show json base allowances input old new done = HasConversed done
+HasDone contents (Judge limit explain object) json base allowances input old new done =
+    IsFlushed contents (HasJudged base allowances (asked_of limit explain object) input old) new done
+HasDone contents (Explore limit) json base allowances input old new done =
+    IsFlushed contents (HasExplored json limit input old) new done
+HasDone contents (Stops stores capacity) json base allowances input old new done =
+    IsFlushed contents (HasStopped json stores input old) new done
+HasDone contents (Audit object) json base allowances input old new done = ⊥
+
+-- a job ended so, and then its lines were asked for: whether one of them was faulty, if memory wasn't refused for that
+pub record IsLookedAt {W A : Type 0} (strict : Bool) (Done : BufWriter W A → End → Type 0) (new : BufWriter W A)
+    (result : End) : Type 0 where
+  pub done : End
+  pub faulty : Option Bool
+  pub own : Done new done
+  pub ends : result ≡ end_of strict faulty done

@@ -1,0 +1,91 @@
+-- Which lines aren't read, as `--strict` counts them.
+--     is_silent      a line is blank, or a comment
+--     is_unread_by   a line isn't one for a job that reads lines of this kind
+--     kind_after     the kind that a line, and all after it, are of
+--     is_unread      a line isn't read, by how long it may be, and by whether it is a row
+use Rattle.std.specs.Prelude.{ℕ, Bool, true, false, not, ◌==◌, ◌&&◌, ◌||◌, if◌then◌else◌, nat_lt, nat_eq, Result, Ok, Err}
+use Rattle.std.specs.Prelude.{List, [], ◌∷◌, length, codes}
+use Rattle.std.specs.Cmp.Lexicographic.{pointwise}
+use Rattle.xa_xid.specs.Bytes.{unblank}
+use Rattle.xa_xid.specs.declared.statement.Statement.{Statement}
+use Rattle.xa_statement.specs.Reading.{read_of}
+use Rattle.xa_lines.specs.Script.{Line, Blank, Bad, Given, line_of, first_word, behind_word, is_empty_line, is_comment_line}
+use Rattle.xa_orders.specs.Scripts.{is_word}
+use Rattle.xa_manager.specs.Calls.{call_of}
+use Rattle.xa_manager.specs.Scripts.{taken}
+use Rattle.xa_manager.specs.declared.call.Call.{Call}
+use Rattle.xa_manager.specs.declared.call.Call.TheVariants.{Unread}
+use Rattle.xa_script.specs.declared.line_kind.LineKind.{LineKind}
+use Rattle.xa_script.specs.declared.line_kind.LineKind.TheVariants.{Statement as Stated, Shown, Raced, Explored}
+use Rattle.xa_script.specs.declared.line_kind.LineKind.TheVariants.{Call as Called, Stopped, Record as Recorded}
+
+-- a text was read as no statement
+abbrev pub goes_wrong : Result Statement ℕ → Bool
+goes_wrong (Ok statement) = false
+goes_wrong (Err place) = true
+
+-- a line of a script is bad, or its text is no statement
+abbrev pub is_faulty : Line → Bool
+is_faulty Blank = false
+is_faulty Bad = true
+is_faulty (Given session text) = goes_wrong (read_of text)
+
+-- a line of blanks, or a comment
+abbrev pub is_silent : List ℕ → Bool
+is_silent line = is_empty_line (unblank line) || is_comment_line line
+
+-- one of the words that divide a script
+abbrev pub divides_script : List ℕ → Bool
+divides_script line = is_word (codes "BESIDE") line || is_word (codes "AFTER") line
+
+-- a line was read as no call
+abbrev pub is_no_call : Call → Bool
+is_no_call (Unread place) = true
+is_no_call call = false
+
+-- what comes after the session of a line
+abbrev pub given_by : Line → List ℕ
+given_by Blank = []
+given_by Bad = []
+given_by (Given session text) = text
+
+-- the first word is this one
+abbrev pub has_sign : (sign text : List ℕ) → Bool
+has_sign sign text = pointwise nat_eq (first_word text) sign
+
+-- what a client said isn't a statement, or the line is neither that nor what it saw
+abbrev pub is_no_record : List ℕ → Bool
+is_no_record text =
+    if has_sign (codes ">") text
+    then goes_wrong (read_of (behind_word text))
+    else not (has_sign (codes "<") text || has_sign (codes "!") text || has_sign (codes "?") text)
+
+-- a line isn't one for a job that reads lines of this kind
+abbrev pub is_unread_by : LineKind → List ℕ → Bool
+is_unread_by Stated line = is_faulty (line_of line)
+is_unread_by Raced line = is_faulty (line_of line)
+is_unread_by Shown line = not (is_silent line) && is_faulty (line_of line)
+is_unread_by Explored line = not (is_silent line || divides_script line) && is_faulty (line_of line)
+is_unread_by Called line = is_no_call (call_of line)
+is_unread_by Stopped line = is_no_call (taken (call_of line))
+is_unread_by Recorded line = not (is_silent line) && is_no_record (given_by (line_of line))
+
+-- a script that is raced has comments if its first line that isn't blank is one
+abbrev pub kind_of_first : List ℕ → LineKind
+kind_of_first line =
+    if is_empty_line (unblank line) then Raced else (if is_comment_line line then Shown else Stated)
+
+-- the kind that a line, and all after it, are of
+abbrev pub kind_after : LineKind → List ℕ → LineKind
+kind_after Stated line = Stated
+kind_after Raced line = kind_of_first line
+kind_after Shown line = Shown
+kind_after Explored line = Explored
+kind_after Called line = Called
+kind_after Stopped line = Stopped
+kind_after Recorded line = Recorded
+
+-- a line isn't read: it is longer than it may be, or it is no row and not one for the job
+abbrev pub is_unread : LineKind → (most rows : ℕ) → List ℕ → Bool
+is_unread kind most rows line =
+    if nat_lt most (length line) then true else (if nat_lt 0 rows then false else is_unread_by kind line)
