@@ -3,13 +3,14 @@
 --     is_unread_by   a line isn't one for a job that reads lines of this kind
 --     kind_after     the kind that a line, and all after it, are of
 --     is_unread      a line isn't read, by how long it may be, and by whether it is a row
-use Rattle.std.specs.Prelude.{ℕ, Bool, true, false, not, ◌==◌, ◌&&◌, ◌||◌, if◌then◌else◌, nat_lt, nat_eq, Result, Ok, Err}
-use Rattle.std.specs.Prelude.{List, [], ◌∷◌, length, codes}
+use Rattle.std.specs.Prelude.{ℕ, Bool, true, false, not, ◌&&◌, ◌||◌, if◌then◌else◌, nat_lt, nat_eq, Result, Ok, Err}
+use Rattle.std.specs.Prelude.{List, [], length, codes}
 use Rattle.std.specs.Cmp.Lexicographic.{pointwise}
 use Rattle.xa_xid.specs.Bytes.{unblank}
 use Rattle.xa_xid.specs.declared.statement.Statement.{Statement}
 use Rattle.xa_statement.specs.Reading.{read_of}
-use Rattle.xa_lines.specs.Script.{Line, Blank, Bad, Given, line_of, first_word, behind_word, is_empty_line, is_comment_line}
+use Rattle.xa_lines.specs.Script.{Line, Blank, Bad, Given, line_of, first_word, behind_word, is_empty_line}
+use Rattle.xa_lines.specs.Script.{is_comment_line}
 use Rattle.xa_orders.specs.Scripts.{is_word}
 use Rattle.xa_manager.specs.Calls.{call_of}
 use Rattle.xa_manager.specs.Scripts.{taken}

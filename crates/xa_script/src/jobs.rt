@@ -184,7 +184,8 @@ pub fn audit<I: Read + Drop, W: Write + Drop, R: Eprint + Alloc<A = Global>>(
     form: Form,
 ) -> Result<u8, ScriptFault>
     requires { length inputs.items ≤ 64 }
-    ensures { (histories : List (List ℕ)) → map (λ input. I.remaining input.inner) inputs.entry.items ≡ map Some histories
+    ensures { (histories : List (List ℕ))
+        → map (λ input. I.remaining input.inner) inputs.entry.items ≡ map Some histories
         → IsFlushed W.contents (HasAudited histories form (writer_contents W.contents output.old)) output.new result }
 {
     let done = audit_within(rt, inputs, output, form);

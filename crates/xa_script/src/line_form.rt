@@ -85,8 +85,8 @@ impl LineForm {
     ///
     /// The line is without its line feed. Takes no memory. Doesn't wait.
     pub fn keeps(self, line: &[u8]) -> bool
-        // Proved (scripts, text-kept-lines): `--text` never leaves an answer as it is for its form, and never changes an
-        //   object, or a comment among shown stores.
+        // Proved (scripts, text-kept-lines): Where `--text` changes literals, no answer is kept out for its form, and
+        //   every object is, and every comment among shown stores.
         ensures { KeepsLine self line.now result }
     {
         match self {

@@ -1,4 +1,4 @@
-use Rattle.std.proofs.Common.{◌≡◌, ℕ, List, Some, map}
+use Rattle.std.proofs.Common.{◌≡◌, Some, map}
 use Rattle.std.specs.Io.Buffered.{writer_contents}
 use Rattle.xa_script.specs.Status.{AppendsAuditBy, AfterAuditing}
 use Rattle.xa_script.proofs.JobEnds.{of_histories}

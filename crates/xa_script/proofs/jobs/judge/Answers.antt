@@ -6,7 +6,9 @@ pub returns : goal.returns
 returns g c = record {
   done = c.judge_within-done.result;
   written = writer_contents g.W.Write.contents c.judge_within-done.new.writer;
-  left = MatchResult-from_both c.judge_within-done.result _ _ c.judge_within-done.ensures.judged c.judge_within-done.ensures.fault;
+  left =
+      MatchResult-from_both c.judge_within-done.result _ _ c.judge_within-done.ensures.judged
+      c.judge_within-done.ensures.fault;
   kept = c.flushed.ensures.kept;
   ends = c.flushed.ensures.ends;
   emptied = c.flushed.ensures.emptied;

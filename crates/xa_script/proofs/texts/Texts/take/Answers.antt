@@ -13,8 +13,8 @@ returns-then-is_whole-clause-taken g c =
     let line : c.push.new.self.items ≡ old.held.items ++ take (c.loop-taken.taken + 1) c.args.bytes.now =
     grind (arith, common_steps) in
     let P : List ℕ → Type 0 = λ line. IsWrittenAs c.loop-taken.self.form line new.due.items in
-    let Q : LineForm → Type 0 = λ form. IsWrittenAs form (old.held.items ++ take (c.loop-taken.taken + 1) c.args.bytes.now)
-    new.due.items in
+    let Q : LineForm → Type 0 = λ form. IsWrittenAs form
+    (old.held.items ++ take (c.loop-taken.taken + 1) c.args.bytes.now) new.due.items in
     inr (record {
       text = new.due.items;
       written = subst Q c.loop-taken.invariant.form (subst P line c.end_line.ensures.written);
