@@ -112,6 +112,14 @@ class Bitronix(Java):
         self.assertEqual(one, two)
         return one
 
+    def test_a_journal_that_got_full(self):
+        """What docs/BENCH.md says of the journal: a process finds the decision that the one before it has left, but not
+        once that one has gone on in the other part."""
+        for decisions, found in ((100, 1), (9_000, 0)):
+            with tempfile.TemporaryDirectory() as journal:
+                self.assertEqual(self.says("Journal", journal, decisions), "OPEN 0 1\n")
+                self.assertEqual(self.says("Journal", journal, 0), f"OPEN {found} {found}\n")
+
     def test_commit_and_rollback(self):
         server = self.serve(stores=2)
         self.assertIn("COMMITTED", self.transfer(server, "commit", "first"))

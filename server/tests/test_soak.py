@@ -1,15 +1,18 @@
 """A transaction manager that is killed over and over amid its work over two stores: nothing is lost or done twice, and
 what the stores did is LEGAL, piece by piece."""
 import random
+import struct
 import subprocess
 import tempfile
 import time
+from pathlib import Path
 
 from pieces import pieces_of, verdicts
 from support import LONG, Case
 from test_clients import HERE
 
 SIZE = 50_000
+JOURNAL_BEGINS = 21  # after its header
 KILLS, SECONDS = (10, 22) if LONG else (3, 1)
 JARS = ":".join(f"/usr/share/java/{jar}.jar" for jar in ["mariadb-java-client", "btm", "geronimo-jta-1.2-spec",
                                                          "geronimo-jms_1.1_spec", "slf4j-api", "slf4j-nop"])
@@ -43,6 +46,7 @@ class Soak(Case):
             moved += self.size(server) > before
         self.assertEqual(moved, KILLS)
         self.assertEqual(self.java(server, "recover").wait(120), 0)
+        self.assertEqual(self.journals_end(2), JOURNAL_BEGINS)
         clients = [self.client(server, store) for store in (0, 1)]
         for client in clients:
             self.assertEqual(client.ask("XA RECOVER").rows, [])
@@ -53,6 +57,11 @@ class Soak(Case):
             found = verdicts(record)
             self.assertGreater(len(found), 2)
             self.assertEqual(set(found), {"LEGAL"})
+
+    def journals_end(self, part):
+        """Where a part of Bitronix' journal ends, by its header: a number of 4 bytes, a time of 8, a state of 1, and
+        this. It begins in part 1, and goes on in part 2 when that is full."""
+        return struct.unpack_from(">q", Path(self.journal, f"btm{part}.tlog").read_bytes(), 13)[0]
 
     @staticmethod
     def size(server):

@@ -40,8 +40,8 @@ public final class Soak {
         settings.setServerId("soak");
         settings.setLogPart1Filename(words[0] + "/btm1.tlog");
         settings.setLogPart2Filename(words[0] + "/btm2.tlog");
-        // Over tens of thousands of transactions Bitronix 2.1.4 was seen to forget decisions, perhaps when it goes on
-        // in the other part of its journal. No part of this one gets full.
+        // Bitronix 2.1.4 forgets decisions once a part of its journal is full (docs/BENCH.md, 'What was seen in
+        // Bitronix'). So no part of this one gets full, which the test looks at.
         settings.setMaxLogSizeInMb(64);
         var one = store("one", words[1]);
         var two = store("two", words[2]);
