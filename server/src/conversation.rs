@@ -205,10 +205,16 @@ impl Conversation {
         }
     }
 
+    /// As MySQL's begin: some clients know the answer by its first letter.
     fn statistics(&mut self) -> Result<(), End> {
-        let connections = self.store.logged_in.load(Ordering::Relaxed);
-        let text =
-            format!("Store: {}  Connection: {}  Connections: {}", self.store.name, self.connection.number, connections);
+        let text = format!(
+            "Uptime: {}  Threads: {}  Questions: {}  Store: {}  Connection: {}",
+            self.store.began.elapsed().as_secs(),
+            self.store.logged_in.load(Ordering::Relaxed),
+            self.store.statements(),
+            self.store.name,
+            self.connection.number
+        );
         self.channel.out.packet(|it| it.extend(text.as_bytes()));
         self.channel.send()
     }

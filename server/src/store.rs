@@ -109,6 +109,7 @@ pub struct Prepared {
 
 pub struct Store {
     pub name: String,
+    pub began: Instant,
     pub pool: Pool,
     /// How many of the last entries of its history it keeps.
     rows: u64,
@@ -158,6 +159,7 @@ impl Store {
         };
         Ok(Store {
             name: format!("store {}", number),
+            began: Instant::now(),
             pool,
             rows: options.rows,
             record,
@@ -208,6 +210,14 @@ impl Store {
     pub fn forget(&self, connection: &Connection) {
         lock(&self.connections).remove(&connection.number);
         self.past.take_over(&connection.counts);
+    }
+
+    /// How many statements were answered, over all connections.
+    pub fn statements(&self) -> u64 {
+        let (mut kinds, mut refusals) = ([0; KINDS.len()], BTreeMap::new());
+        self.past.add_to(&mut kinds, &mut refusals);
+        lock(&self.connections).values().for_each(|it| it.counts.add_to(&mut kinds, &mut refusals));
+        kinds.iter().sum()
     }
 
     pub fn shut_all(&self, how: Shutdown) {

@@ -3,6 +3,9 @@
 /// How many bytes a literal may have.
 pub const LONGEST: usize = 64;
 
+/// The version that the greeting names, as comments write it.
+const NEWEST: u32 = 80_036;
+
 pub fn is_word_byte(byte: u8) -> bool {
     byte.is_ascii_alphanumeric() || byte == b'_' || byte == b'$' || byte >= 128
 }
@@ -104,19 +107,57 @@ pub struct Placed {
     pub end: usize,
 }
 
-/// The words of a text, without comments and without a `;` at its end. A backquoted name is a run.
+/// The words of a text, without comments and without a `;` at its end. A backquoted name is a run. What stands in
+/// `/*! .. */` belongs to the text, as in MySQL.
 pub fn words(text: &[u8]) -> Vec<Placed> {
-    let mut found = Vec::new();
-    let mut begin = after_blanks(text, 0);
+    let (mut found, mut is_open) = (Vec::new(), false);
+    let mut begin = next_word(text, 0, &mut is_open);
     while begin < text.len() {
         let (word, end) = word_at(text, begin);
         found.push(Placed { word, begin, end });
-        begin = after_blanks(text, end);
+        begin = next_word(text, end, &mut is_open);
     }
     while matches!(found.last(), Some(Placed { word: Word::Sign(b';'), .. })) {
         found.pop();
     }
+    if is_open {
+        // (no text that is known has this sign)
+        found.push(Placed { word: Word::Sign(b';'), begin, end: begin });
+    }
     found
+}
+
+/// Where the next word begins from a place on. `is_open` is whether a `/*!` isn't closed.
+fn next_word(text: &[u8], mut place: usize, is_open: &mut bool) -> usize {
+    loop {
+        place = after_blanks(text, place);
+        let rest = &text[place..];
+        if *is_open && rest.starts_with(b"*/") {
+            *is_open = false;
+            place += 2;
+        } else if !*is_open && rest.starts_with(b"/*!") {
+            let (version, digits) = version_at(&rest[3..]);
+            if version <= NEWEST {
+                *is_open = true;
+                place += 3 + digits;
+            } else if let Some(length) = rest.windows(2).position(|pair| pair == b"*/") {
+                place += length + 2;
+            } else {
+                return place;
+            }
+        } else {
+            return place;
+        }
+    }
+}
+
+/// The version of the server from which on a `/*!` is carried out, in five or six digits, and how many these are.
+fn version_at(text: &[u8]) -> (u32, usize) {
+    let digits: Vec<u8> = text.iter().copied().take_while(u8::is_ascii_digit).take(6).collect();
+    if digits.len() < 5 {
+        return (0, 0);
+    }
+    (digits.iter().fold(0, |number, digit| number * 10 + u32::from(digit - b'0')), digits.len())
 }
 
 fn word_at(text: &[u8], begin: usize) -> (Word, usize) {
@@ -173,5 +214,28 @@ mod tests {
             [run("set"), run("n"), Word::Sign(b'='), Word::Quoted(b"Two  Words".to_vec())]
         );
         assert_eq!(spelled("'"), [Word::Sign(b'\'')]);
+    }
+
+    #[test]
+    fn comments_that_are_carried_out() {
+        let spelled = |text: &str| words(text.as_bytes()).into_iter().map(|it| it.word).collect::<Vec<_>>();
+        let run = |text: &str| Word::Run(text.to_string());
+        assert!(crate::packets::VERSION.starts_with("8.0.36"));
+        for text in [
+            "a b",
+            "/*!a*/b",
+            "/*!40101 a */ b;",
+            "/*!040101a*/b",
+            "/*!80036 a b */",
+            "a /*!80037 c */ b",
+            "a/*!100000 c*/b",
+            "/*!/* c */ a */ b",
+        ] {
+            assert_eq!(spelled(text), [run("a"), run("b")], "{}", text);
+        }
+        assert_eq!(spelled("/*!123 a */"), [run("123"), run("a")]);
+        assert_eq!(spelled("/*!40101 a"), [run("a"), Word::Sign(b';')]);
+        assert_eq!(spelled("a */"), [run("a"), Word::Sign(b'*'), Word::Sign(b'/')]);
+        assert_eq!(spelled("/*!99999 a").len(), 5);
     }
 }

@@ -63,10 +63,11 @@ class Clients(Case):
         self.cycle("php", HERE / "clients" / "pdo.php")
 
     def test_node_mysql(self):
-        """It has no prepared statements; the thirty connections are its pool's."""
+        """It has no prepared statements; the thirty connections are its pool's. It breaks off at statistics that don't
+        begin as MySQL's."""
         self.cycle("node", HERE / "clients" / "cycle.js",
                    env={**os.environ, "NODE_PATH": "/usr/share/nodejs:/usr/lib/nodejs"},
-                   expected=UNPREPARED.replace("thirty", "pool"))
+                   expected=UNPREPARED.replace("thirty", "statistics 1\npool"))
 
     def test_ruby_mysql2(self):
         self.cycle("ruby", HERE / "clients" / "cycle.rb")

@@ -49,13 +49,15 @@ class Protocol(Case):
         self.assertEqual(self.client(self.server).ask("SELECT CONNECTION_ID() AS id").names, ["id"])
         self.assertEqual(self.one.ask("SELECT 1 FROM DUAL").rows, [(b"1",)])
         self.assertEqual(self.one.ask("SHOW VARIABLES LIKE 'lower%'").rows, [(b"lower_case_table_names", b"0")])
+        self.assertEqual(self.one.ask("show /*!40003 GLOBAL */ variables like 'lower%'").kind, "table")
 
     def test_forms_of_settings(self):
         """Each form of SET that docs or drivers have is taken, with any name of a character set, quoted or not."""
         for name in ("utf8mb4", "'utf8mb4'", '"latin1"', "`koi8r`", "binary", "DEFAULT", "'any name'", "nobody_knows"):
             for text in ("SET NAMES {}", "set names {};", "SET NAMES {} COLLATE utf8_bin", "SET NAMES {} COLLATE 'x'",
                          "SET CHARACTER SET {}", "SET CHARSET {}", "/* c */ SET  NAMES\n{} -- x", "SET CHAR SET {}",
-                         "SET NAMES {}, time_zone = '+00:00'", "SET sql_mode = '', NAMES {}, SESSION wait_timeout = 1"):
+                         "SET NAMES {}, time_zone = '+00:00'", "SET sql_mode = '', NAMES {}, SESSION wait_timeout = 1",
+                         "/*!40101 SET NAMES {} */"):
                 self.ok(self.one, text.format(name))
         levels = ("READ UNCOMMITTED", "READ COMMITTED", "REPEATABLE READ", "SERIALIZABLE")
         for scope in ("", "SESSION ", "LOCAL "):
@@ -147,7 +149,7 @@ class Protocol(Case):
         self.one.send(b"\x1b\0\0")
         self.assertEqual(self.one.packet()[0], 0xFE)
         self.one.send(b"\x09")
-        self.assertIn(b"Store: store 1", self.one.packet())
+        self.assertRegex(self.one.packet(), rb"\AUptime: \d+  Threads: 1  Questions: 0  Store: store 1  Connection: 1\Z")
         for command in (b"\x0a", b"\x0c\x01\0\0\0", b"\x1c\x01\0\0\0\x01\0\0\0", b"\x07"):
             self.assertEqual(self.one.command(command).number, 1047)
 

@@ -28,6 +28,9 @@ async function cycle() {
   console.log("local", (await ask("GET 'l'"))[0].value.toString("hex"));
   await new Promise(
     (resolve, reject) => connection.changeUser({ user: "root" }, (fault) => (fault ? reject(fault) : resolve())));
+  const seen = await new Promise(
+    (resolve, reject) => connection.statistics((fault, it) => (fault ? reject(fault) : resolve(it))));
+  console.log("statistics", seen.threads);
   connection.end();
 }
 
