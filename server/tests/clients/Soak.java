@@ -41,8 +41,10 @@ public final class Soak {
         settings.setLogPart1Filename(words[0] + "/btm1.tlog");
         settings.setLogPart2Filename(words[0] + "/btm2.tlog");
         // Bitronix 2.1.4 forgets decisions once a part of its journal is full (docs/BENCH.md, 'What was seen in
-        // Bitronix'). So no part of this one gets full, which the test looks at.
+        // Bitronix'). So the parts are large, and only decisions and their ends are kept: 126 bytes a transaction. The
+        // test looks at the end whether none got full.
         settings.setMaxLogSizeInMb(64);
+        settings.setFilterLogStatus(true);
         var one = store("one", words[1]);
         var two = store("two", words[2]);
         var manager = TransactionManagerServices.getTransactionManager();
