@@ -25,8 +25,8 @@ pub enum End {
     Cut,
     /// It isn't let in, and has been told so; the text is for the log.
     Refused(String),
-    /// A packet of more bytes than may be; so many of them aren't read yet, and whether no more packets belong to it.
-    TooLong(usize, bool),
+    /// A packet of more bytes than may be, which isn't taken; and whether the text ends with it.
+    TooLong(bool),
     /// It said what is no packet, or nothing where something was due.
     Wrong(String),
     /// The server ends.
@@ -206,13 +206,13 @@ impl Channel {
             return Ok(false);
         }
         let end = HEADER + length_in(held);
+        self.out.number = held[3].wrapping_add(1);
         if end > HEADER + self.limits.longest {
-            return Err(End::TooLong(end - held.len().min(end), length_in(held) < MOST));
+            return Err(End::TooLong(length_in(held) < MOST));
         }
         if held.len() < end {
             return Ok(false);
         }
-        self.out.number = held[3].wrapping_add(1);
         packet.clear();
         packet.extend(&held[HEADER..end]);
         self.taken += end;
@@ -285,15 +285,38 @@ impl Channel {
         Ok(())
     }
 
-    /// Passes over the rest of a packet, so that the client reads its refusal instead of a broken connection.
-    /// Of a text of 16 MiB and more, which comes in several packets, all that the client still sends is the rest.
-    pub fn pass_over(&mut self, mut rest: usize, is_last: bool) {
+    /// Passes over a text that is too long, so that the client reads its refusal instead of a broken connection. One of
+    /// 16 MiB and more comes in several packets; what is sent then is numbered after the last of them.
+    pub fn pass_over(&mut self) {
         let deadline = Instant::now() + self.limits.patience;
-        self.held.clear();
-        self.taken = 0;
-        while (rest > 0 || !is_last) && matches!(self.fill(Some(deadline)), Ok(Came::Bytes)) {
-            rest = rest.saturating_sub(self.held.len());
-            self.held.clear();
+        loop {
+            while self.held.len() < self.taken + HEADER {
+                if !matches!(self.fill(Some(deadline)), Ok(Came::Bytes)) {
+                    return;
+                }
+            }
+            let header = &self.held[self.taken..];
+            let length = length_in(header);
+            self.out.number = header[3].wrapping_add(1);
+            self.taken += HEADER;
+            if !self.skip(length, deadline) || length < MOST {
+                return;
+            }
+        }
+    }
+
+    /// Passes over so many bytes; whether they have come.
+    fn skip(&mut self, mut rest: usize, deadline: Instant) -> bool {
+        loop {
+            let here = rest.min(self.held.len() - self.taken);
+            self.taken += here;
+            rest -= here;
+            if rest == 0 {
+                return true;
+            }
+            if !matches!(self.fill(Some(deadline)), Ok(Came::Bytes)) {
+                return false;
+            }
         }
     }
 }

@@ -217,13 +217,21 @@ impl Port {
             End::Left(place) => log(format!("closed {}, without a goodbye", place)),
             End::Refused(why) => log(format!("refused: {}", why)),
             End::Wrong(why) => log(format!("closed: {}", why)),
-            End::TooLong(rest, is_last) => {
-                let longest = self.options.limits.longest;
-                log(format!("closed: a packet of more than {} bytes", longest));
-                let _ = refuse(conversation.channel(), too_long(longest));
-                connection.stream.shutdown(Shutdown::Write);
-                conversation.channel().pass_over(rest, is_last);
-            }
+            End::TooLong(is_whole) => self.refuse_long(conversation.channel(), connection, is_whole),
+        }
+    }
+
+    /// Refuses a packet that is too long, at once if no others belong to it: its client may wait for the answer.
+    fn refuse_long(&self, channel: &mut Channel, connection: &Connection, is_whole: bool) {
+        let longest = self.options.limits.longest;
+        self.store.log(connection.number, &format!("closed: a packet of more than {} bytes", longest));
+        if !is_whole {
+            channel.pass_over();
+        }
+        let _ = refuse(channel, too_long(longest));
+        connection.stream.shutdown(Shutdown::Write);
+        if is_whole {
+            channel.pass_over();
         }
     }
 

@@ -7,6 +7,7 @@ import tempfile
 import time
 from pathlib import Path
 
+import pymysql
 from support import Case, wait_for
 from wire import ERROR, Client, Closed
 
@@ -40,7 +41,7 @@ class Limits(Case):
         server = self.serve()
         client = self.client(server)
         self.ok(client, "PUT 'k','v'" + " " * (65_535 - 11))
-        for size in (65_537, 1 << 20, (1 << 24) - 1):
+        for size in (65_537, 1 << 20, (1 << 24) - 2):
             with server.client() as greedy:
                 greedy.send(b"\x03" + b"x" * (size - 1))
                 answer = greedy.read(greedy.packet())
@@ -53,6 +54,11 @@ class Limits(Case):
             greedy.send(b"x" * 1000, 2)
             answer = greedy.read(greedy.packet())
             self.assertEqual((answer.number, answer.text), (1153, "a packet of more than 65536 bytes"))
+        for size in (70_000, 17 << 20):
+            with pymysql.connect(host="127.0.0.1", port=server.port, user="root") as greedy:
+                with self.assertRaises(pymysql.err.Error) as refused:
+                    greedy.query("GET '" + "x" * size + "'")
+                self.assertEqual(refused.exception.args, (1153, "a packet of more than 65536 bytes"))
         with Client(server.port, log_in=False) as greedy:
             greedy.greeted()
             greedy.send(b"x" * 100_000, 1)

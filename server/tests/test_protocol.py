@@ -319,6 +319,7 @@ class Patience(Case):
         self.ok(client, "PUT 'k','v'" + " " * 10_000_000)
         self.assertEqual(client.ask("SHOW VARIABLES LIKE '" + "%a" * 1_000_000 + "'").number, 1064)
         client.send(b"\x03" + b"x" * ((1 << 24) - 2))
+        client.send(b"", 1)
         self.assertEqual(client.read(client.packet()).number, 1153)
 
 

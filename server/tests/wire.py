@@ -52,7 +52,7 @@ class Client:
                  host="127.0.0.1"):
         self.socket = socket.create_connection((host, port), timeout=60)
         self.socket.setsockopt(socket.IPPROTO_TCP, socket.TCP_NODELAY, 1)
-        self.held, self.sequence = b"", 0
+        self.held, self.sequence, self.due = b"", 0, 0
         self.number = 0
         if log_in:
             self.log_in(user, password, plugin)
@@ -70,10 +70,13 @@ class Client:
 
     def packet(self):
         header = self.take(4)
-        self.sequence = header[3] + 1
+        # Packets are numbered on: from the one before, or from what was sent last.
+        assert header[3] in (self.sequence, self.due), (header, self.sequence, self.due)
+        self.sequence = (header[3] + 1) % 256
         return self.take(int.from_bytes(header[:3], "little"))
 
     def send(self, payload, sequence=0):
+        self.due = (sequence + 1) % 256
         self.socket.sendall(len(payload).to_bytes(3, "little") + bytes((sequence,)) + payload)
 
     # login
