@@ -6,7 +6,7 @@
 //! asks. A name that isn't known is no statement, so that a client learns of it.
 use crate::answers::{Table, MOST};
 use crate::packets::{Column, Value, VERSION};
-use crate::tokens::{words, Placed, Word};
+use crate::tokens::{quoted_at, words, Placed, Word};
 
 /// A text that is read.
 #[derive(Clone, Debug, PartialEq, Eq)]
@@ -19,6 +19,8 @@ pub enum Other {
     Table(Table),
     /// `SHOW NIGBARU STATUS`.
     Status,
+    /// A database is named, of which there is none; its name is all that is kept.
+    Use(Vec<u8>),
     /// Nothing to do, and nothing to show.
     Nothing,
 }
@@ -36,6 +38,8 @@ pub struct Settings {
 /// What a text may ask for.
 pub struct Facts {
     pub connection: u64,
+    /// What the client has named, if it has.
+    pub database: Option<Vec<u8>>,
     pub autocommit: bool,
     /// Whether transactions read alone.
     pub is_read_only: bool,
@@ -120,7 +124,7 @@ pub fn read(text: &[u8], facts: &Facts) -> Option<Other> {
         "commit" => it.ending().map(|()| Other::Commit)?,
         "rollback" => it.ending().map(|()| Other::RollBack)?,
         "do" if !it.words.is_empty() => it.rest(Other::Nothing),
-        "use" if it.words.len() == 1 => it.rest(Other::Nothing),
+        "use" if it.words.len() == 1 => Other::Use(it.written()?),
         _ => return None,
     };
     Some(other).filter(|_| it.words.is_empty())
@@ -151,6 +155,14 @@ impl<'a> Words<'a> {
             self.next();
         }
         sees
+    }
+
+    /// A run that comes next, in the letters that it was written in; it is taken.
+    fn written(&mut self) -> Option<Vec<u8>> {
+        let first = self.words.first()?;
+        self.run()?;
+        let text = &self.text[first.begin..first.end];
+        Some(if text[0] == b'`' { quoted_at(text, 0)?.0 } else { text.to_vec() })
     }
 
     fn sees_sign(&mut self, sign: u8) -> bool {
@@ -473,7 +485,7 @@ impl<'a> Words<'a> {
 fn function(name: &str, has_brackets: bool, facts: &Facts) -> Option<(Value, bool)> {
     match (name, has_brackets) {
         ("connection_id", true) => Some((Value::Number(facts.connection as i64), true)),
-        ("database" | "schema", true) => Some((Value::Null, false)),
+        ("database" | "schema", true) => Some((facts.database.clone().map_or(Value::Null, Value::Text), false)),
         ("user" | "current_user" | "session_user" | "system_user", true) | ("current_user", false) => {
             Some((Value::from("nigbaru"), false))
         }
@@ -530,8 +542,15 @@ fn is_like(name: &[u8], pattern: &[u8]) -> bool {
 mod tests {
     use super::*;
 
-    const FACTS: Facts =
-        Facts { connection: 7, autocommit: true, is_read_only: false, longest: 65_536, has_tls: false, agreed: None };
+    const FACTS: Facts = Facts {
+        connection: 7,
+        database: None,
+        autocommit: true,
+        is_read_only: false,
+        longest: 65_536,
+        has_tls: false,
+        agreed: None,
+    };
     const NOTHING: Settings = Settings { autocommit: None, usual: None, next: None };
 
     fn said(text: &str) -> Option<Other> {
@@ -749,7 +768,10 @@ mod tests {
     #[test]
     fn other_questions() {
         assert_eq!(said("DO 1"), Some(Other::Nothing));
-        assert_eq!(said("USE db"), Some(Other::Nothing));
+        for (text, name) in [("USE Db", "Db"), ("use `my ``Db`", "my `Db"), ("/* c */ use db;", "db")] {
+            assert_eq!(said(text), Some(Other::Use(name.as_bytes().to_vec())), "{}", text);
+        }
+        assert_eq!((said("USE"), said("USE 'db'"), said("USE a b")), (None, None, None));
         assert_eq!(said("show nigbaru status"), Some(Other::Status));
         for text in [
             "SHOW DATABASES",

@@ -19,6 +19,8 @@ use std::sync::Arc;
 const PREPARED: usize = 1024;
 const LONGEST_PREPARED: usize = 4096;
 const ALL_PREPARED: usize = 256 * 1024;
+/// How many bytes a database's name may have: 64 signs of 4 bytes, as in MySQL.
+const LONGEST_NAME: usize = 256;
 
 /// A prepared text, and what was sent for its `?` ahead of its execution.
 struct Prepared {
@@ -43,6 +45,8 @@ pub struct Conversation {
     tls: Option<Keys>,
     /// What the client said at its login that it can do.
     can: u32,
+    /// The database that it has named.
+    database: Option<Vec<u8>>,
     prepared: HashMap<u32, Prepared>,
     last: u32,
 }
@@ -95,6 +99,7 @@ impl Conversation {
             scramble,
             tls: options.tls.clone(),
             can: 0,
+            database: None,
             prepared: HashMap::new(),
             last: 0,
         })
@@ -123,6 +128,7 @@ impl Conversation {
         }
         let login = packets::read_login(&packet)?;
         self.can = login.can;
+        self.use_database(&login.database);
         self.prove(&login)
     }
 
@@ -188,7 +194,11 @@ impl Conversation {
                 self.answer(&answer, false)
             }
             command::QUIT => Err(End::Quit),
-            command::PING | command::INIT_DB => self.answer(&OK, false),
+            command::INIT_DB => {
+                self.use_database(rest);
+                self.answer(&OK, false)
+            }
+            command::PING => self.answer(&OK, false),
             command::CHANGE_USER => self.change_user(packet),
             command::RESET_CONNECTION => {
                 let answer = self.reset()?;
@@ -229,10 +239,16 @@ impl Conversation {
         self.guest.reset()
     }
 
+    /// Keeps a database's name, which clients ask for. An empty one is none, and so is one that is too long.
+    fn use_database(&mut self, name: &[u8]) {
+        self.database = Some(name.to_vec()).filter(|it| (1..=LONGEST_NAME).contains(&it.len()));
+    }
+
     /// The client says that it is somebody else, and begins anew.
     fn change_user(&mut self, packet: &[u8]) -> Result<(), End> {
         let login = packets::read_change(packet, self.can)?;
         self.reset()?;
+        self.use_database(&login.database);
         self.prove(&login)?;
         self.answer(&OK, false)
     }
@@ -242,6 +258,7 @@ impl Conversation {
     fn facts(&self) -> Facts {
         Facts {
             connection: self.connection.number,
+            database: self.database.clone(),
             autocommit: self.guest.autocommit,
             is_read_only: self.guest.is_read_only,
             longest: self.longest,
@@ -282,6 +299,9 @@ impl Conversation {
 
     fn other(&mut self, it: Other) -> Result<Answer, End> {
         self.connection.counts.count(None);
+        if let Other::Use(name) = &it {
+            self.use_database(name);
+        }
         let (point, at) = match &it {
             Other::Begin(_) => (Point::Begin, "BEGIN"),
             Other::Commit => (Point::LocalCommit, "COMMIT"),

@@ -406,7 +406,7 @@ impl Guest {
             Other::Commit => self.commit(),
             Other::RollBack => self.roll_back(),
             Other::Set(settings) => self.set(settings),
-            Other::Nothing => Ok(OK),
+            Other::Use(_) | Other::Nothing => Ok(OK),
             Other::Table(table) => Ok(Answer::Table(table)),
             Other::Status => Ok(Answer::Table(table_of(&self.store))),
         };

@@ -117,7 +117,13 @@ mod tests {
     #[test]
     fn who_is_asked_for_another_proof() {
         let asked = |plugin: &str, proof: &[u8], has_account, greeted| {
-            let login = Login { can: 0, user: Vec::new(), proof: proof.to_vec(), plugin: plugin.as_bytes().to_vec() };
+            let login = Login {
+                can: 0,
+                user: Vec::new(),
+                proof: proof.to_vec(),
+                database: Vec::new(),
+                plugin: plugin.as_bytes().to_vec(),
+            };
             needs_other(&login, has_account, greeted)
         };
         for greeted in [NATIVE, SHA2] {

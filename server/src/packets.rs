@@ -367,11 +367,13 @@ pub struct Login {
     pub can: u32,
     pub user: Vec<u8>,
     pub proof: Vec<u8>,
+    /// The database that is named, or nothing.
+    pub database: Vec<u8>,
     /// Empty where the client names none.
     pub plugin: Vec<u8>,
 }
 
-/// What the client says of itself. Its database and its attributes are passed over.
+/// What the client says of itself. Its attributes are passed over.
 pub fn read_login(packet: &[u8]) -> Result<Login, Malformed> {
     let mut it = Bytes::new(packet);
     let can = it.number(4)? as u32;
@@ -388,11 +390,9 @@ pub fn read_login(packet: &[u8]) -> Result<Login, Malformed> {
     } else {
         it.up_to_zero()?
     };
-    if can & can::CONNECT_WITH_DB != 0 {
-        it.up_to_zero()?;
-    }
+    let database = if can & can::CONNECT_WITH_DB != 0 { it.up_to_zero()? } else { b"" };
     let plugin = if can & can::PLUGIN_AUTH != 0 { it.up_to_zero()? } else { b"" };
-    Ok(Login { can, user: user.to_vec(), proof: proof.to_vec(), plugin: plugin.to_vec() })
+    Ok(Login { can, user: user.to_vec(), proof: proof.to_vec(), database: database.to_vec(), plugin: plugin.to_vec() })
 }
 
 /// COM_CHANGE_USER, from a client that can do what it said at its login.
@@ -401,7 +401,7 @@ pub fn read_change(packet: &[u8], can: u32) -> Result<Login, Malformed> {
     let user = it.up_to_zero()?;
     let length = it.number(1)?;
     let proof = it.take(length as usize)?;
-    it.up_to_zero()?;
+    let database = it.up_to_zero()?;
     let mut plugin: &[u8] = b"";
     if !it.is_empty() {
         it.take(2)?;
@@ -409,7 +409,7 @@ pub fn read_change(packet: &[u8], can: u32) -> Result<Login, Malformed> {
             plugin = it.up_to_zero()?;
         }
     }
-    Ok(Login { can, user: user.to_vec(), proof: proof.to_vec(), plugin: plugin.to_vec() })
+    Ok(Login { can, user: user.to_vec(), proof: proof.to_vec(), database: database.to_vec(), plugin: plugin.to_vec() })
 }
 
 /// Asks a client that began by another way to prove its password by this one.

@@ -192,6 +192,7 @@ class Protocol(Case):
         self.ok(self.one, "SET autocommit=0", "XA START 'a'", "PUT 'k','v'")
         answer = self.one.command(b"\x11judy\0\0db\0\x2d\0mysql_native_password\0")
         self.assertEqual((answer.kind, answer.status), ("ok", 2))
+        self.assertEqual(self.one.ask("SELECT DATABASE(), SCHEMA()").rows, [(b"db", b"db")])
         self.ok(self.one, "XA START 'a'", "PUT 'k','w'")
         self.assertEqual(self.server.verdicts(), ["LEGAL"])
 

@@ -32,6 +32,19 @@ class PyMySQL(Case):
         self.assertEqual(self.rows(two, "XA COMMIT %s,%s,%s", ("g", b"b", 7)), ())
         self.assertEqual(self.rows(one, "GET %s", "k"), ((b"v",),))
 
+    def test_databases(self):
+        """There are none, but the name that a client has given is told."""
+        one = self.connect(database="db", autocommit=True)
+        self.assertEqual(self.rows(one, "SELECT DATABASE()"), ((b"db",),))
+        one.select_db("Other")
+        self.assertEqual(self.rows(one, "SELECT DATABASE()"), ((b"Other",),))
+        self.rows(one, "USE `third one`")
+        self.assertEqual(self.rows(one, "SELECT DATABASE()"), ((b"third one",),))
+        one.select_db("x" * 257)
+        self.assertEqual(self.rows(one, "SELECT DATABASE()"), ((None,),))
+        self.assertEqual(self.rows(self.connect(autocommit=True), "SELECT DATABASE()"), ((None,),))
+        self.rows(one, "GET 'k'")
+
     def test_columns(self):
         with self.connect() as connection, connection.cursor(pymysql.cursors.DictCursor) as cursor:
             cursor.execute("XA RECOVER")
