@@ -149,7 +149,8 @@ class Protocol(Case):
         self.one.send(b"\x1b\0\0")
         self.assertEqual(self.one.packet()[0], 0xFE)
         self.one.send(b"\x09")
-        self.assertRegex(self.one.packet(), rb"\AUptime: \d+  Threads: 1  Questions: 0  Store: store 1  Connection: 1\Z")
+        self.assertRegex(self.one.packet(),
+                         rb"\AUptime: \d+  Threads: 1  Questions: 0  Store: store 1  Connection: 1\Z")
         for command in (b"\x0a", b"\x0c\x01\0\0\0", b"\x1c\x01\0\0\0\x01\0\0\0", b"\x07"):
             self.assertEqual(self.one.command(command).number, 1047)
 
