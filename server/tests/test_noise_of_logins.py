@@ -59,6 +59,7 @@ class Logins(Case):
     def end_of(client, login):
         """The number of the error that ends the connection, or how it ends without one."""
         try:
+            client.due = None
             client.socket.sendall(login)
             client.socket.shutdown(1)
             while True:

@@ -70,8 +70,8 @@ class Client:
 
     def packet(self):
         header = self.take(4)
-        # Packets are numbered on: from the one before, or from what was sent last.
-        assert header[3] in (self.sequence, self.due), (header, self.sequence, self.due)
+        # Packets are numbered on: from the one before, or from what was sent last, unless that was noise.
+        assert self.due is None or header[3] in (self.sequence, self.due), (header, self.sequence, self.due)
         self.sequence = (header[3] + 1) % 256
         return self.take(int.from_bytes(header[:3], "little"))
 
