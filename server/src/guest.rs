@@ -132,8 +132,19 @@ impl Guest {
         )
     }
 
-    /// Asks the store, and answers. A session that is borrowed is kept until `settle`.
-    fn ask(&mut self, text: &[u8], kind: Option<Kind>, converts: bool) -> Result<Answer, End> {
+    /// Asks the store for a statement of the client's, and answers.
+    fn ask_for(&mut self, it: &Statement) -> Result<Answer, End> {
+        self.ask(&it.text, &it.told, Some(it.kind), it.converts)
+    }
+
+    /// Asks the store for a text of the server's own.
+    fn ask_own(&mut self, text: &[u8], kind: Option<Kind>) -> Result<Answer, End> {
+        self.ask(text, text, kind, false)
+    }
+
+    /// Asks the store, which is told a statement, and answers. The record has its canonical text. A session that is
+    /// borrowed is kept until `settle`.
+    fn ask(&mut self, text: &[u8], told: &[u8], kind: Option<Kind>, converts: bool) -> Result<Answer, End> {
         let need = if kind == Some(Kind::Start) { Need::Branch } else { Need::Statement };
         let mut lent = match self.borrow(need)? {
             Ok(lent) => lent,
@@ -144,8 +155,8 @@ impl Guest {
         let reply = match self.hold_history(kind) {
             Err(fault) => Err(fault),
             Ok(()) => match &self.store.record {
-                None => lent.execute(text),
-                Some(record) => record.ask(&mut lent, self.store.follower.as_ref(), text, state),
+                None => lent.execute(told),
+                Some(record) => record.ask(&mut lent, self.store.follower.as_ref(), text, told, state),
             },
         };
         self.lent = Some(lent);
@@ -190,13 +201,13 @@ impl Guest {
     /// Rolls back what is open in the session. Without memory the branch would stay, and whoever has the session next
     /// would be in it, so that is tried again, and a session that can't be cleared is never lent again.
     fn disconnect(&mut self) -> Result<Answer, End> {
-        let mut answer = self.ask(b"DISCONNECT", None, false)?;
+        let mut answer = self.ask_own(b"DISCONNECT", None)?;
         for _ in 0..TRIES {
             if answer.is_ok() {
                 return Ok(answer);
             }
             std::thread::sleep(BREATH);
-            answer = self.ask(b"DISCONNECT", None, false)?;
+            answer = self.ask_own(b"DISCONNECT", None)?;
         }
         if !answer.is_ok() {
             self.store.log(self.connection.number, "its branch can't be rolled back, and its session is lost");
@@ -227,7 +238,7 @@ impl Guest {
         let answer = if it.kind.is_row() {
             self.row(it)
         } else if it.kind == Kind::Recover {
-            self.ask(&it.text, Some(it.kind), it.converts)
+            self.ask_for(it)
         } else if !self.is_local() {
             self.branch(it)
         } else if let Kind::End | Kind::Prepare = it.kind {
@@ -250,7 +261,7 @@ impl Guest {
         if let Some(refused) = self.begin_own()? {
             return Ok(refused);
         }
-        let answer = self.ask(&it.text, Some(it.kind), false)?;
+        let answer = self.ask_for(it)?;
         let is_within = self.state == State::Active || self.own.is_some();
         if is_within && !matches!(answer, Answer::Refused(_)) {
             let mut look = lock(&self.connection.look);
@@ -264,7 +275,7 @@ impl Guest {
         if it.kind == Kind::Prepare && self.state == State::Idle {
             self.tell_prepared(it);
         }
-        let answer = self.ask(&it.text, Some(it.kind), false)?;
+        let answer = self.ask_for(it)?;
         if let Kind::Commit | Kind::Rollback = it.kind {
             if answer.is_ok() && self.state == State::Free {
                 lock(&self.store.prepared).remove(it.subject());
@@ -323,7 +334,7 @@ impl Guest {
         let mut name = Vec::new();
         write_literal(&mut name, &[&b"local "[..], &random].concat());
         name.extend(b",X'',1");
-        let answer = self.ask(&[&b"XA START "[..], &name].concat(), Some(Kind::Start), false)?;
+        let answer = self.ask_own(&[&b"XA START "[..], &name].concat(), Some(Kind::Start))?;
         if let Answer::Refused(_) = answer {
             return Ok(Some(answer));
         }
@@ -339,9 +350,9 @@ impl Guest {
             Some(own) => own,
             None => return Ok(OK),
         };
-        let mut answer = self.ask(&[&b"XA END "[..], &own].concat(), None, false)?;
+        let mut answer = self.ask_own(&[&b"XA END "[..], &own].concat(), None)?;
         if answer.is_ok() {
-            answer = self.ask(&[&b"XA COMMIT "[..], &own, b" ONE PHASE"].concat(), None, false)?;
+            answer = self.ask_own(&[&b"XA COMMIT "[..], &own, b" ONE PHASE"].concat(), None)?;
         }
         if !answer.is_ok() {
             self.disconnect()?;

@@ -77,12 +77,13 @@ impl Record {
         Some(Box::new(move |session, text| locked(&mirror).apply(session, text)))
     }
 
-    /// Asks the store, and writes call and return.
+    /// Asks the store, which is told a statement, and writes call and return with the statement's canonical text.
     pub fn ask(
         &self,
         session: &mut Lent,
         follower: Option<&Follower>,
         text: &[u8],
+        told: &[u8],
         state: &str,
     ) -> Result<Reply, Error> {
         if self.is_full.load(Ordering::Relaxed) {
@@ -90,7 +91,7 @@ impl Record {
         }
         let _open = self.gate.read().unwrap_or_else(|poisoned| poisoned.into_inner());
         self.call(session.number, text);
-        let reply = session.execute(text);
+        let reply = session.execute(told);
         self.returned(session.number, &reply, state);
         reply
     }

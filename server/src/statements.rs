@@ -1,5 +1,4 @@
-//! Reads statements by docs/STATEMENTS.md, and writes each anew in its canonical form: nothing but that ever reaches a
-//! store.
+//! Reads statements by docs/STATEMENTS.md, and writes each anew: nothing but that ever reaches a store.
 //!
 //! Besides what that page says, clients may write comments where blanks stand, `_binary` in front of a literal, `0x`
 //! for an empty bqual, and `?` for a literal or a formatID of a prepared statement. A formatID is at most 2^31-1, since
@@ -44,8 +43,11 @@ impl Kind {
 #[derive(Clone, Debug, PartialEq, Eq)]
 pub struct Statement {
     pub kind: Kind,
-    /// What the store is told.
+    /// The statement in its canonical form.
     pub text: Vec<u8>,
+    /// What the store is told: the same statement, with literals in quotes where that is sure to be the same, since the
+    /// store reads these faster.
+    pub told: Vec<u8>,
     /// The part of the text that is its identifier or its key.
     subject: (usize, usize),
     /// `XA RECOVER`: the client wants digits.
@@ -183,6 +185,7 @@ struct Reader<'a> {
     token: Token,
     end: usize,
     written: Vec<u8>,
+    told: Vec<u8>,
 }
 
 /// The statement that a text is.
@@ -205,7 +208,8 @@ pub fn bind(text: &[u8], parameters: &[Parameter]) -> Result<Statement, Fault> {
 impl<'a> Reader<'a> {
     fn new(text: &'a [u8], given: Option<&'a [Parameter]>) -> Reader<'a> {
         let (token, end) = next_token(text, 0);
-        Reader { text, given, parameters: 0, token, end, written: Vec::with_capacity(64) }
+        let (written, told) = (Vec::with_capacity(64), Vec::with_capacity(64));
+        Reader { text, given, parameters: 0, token, end, written, told }
     }
 
     fn step(&mut self) -> Token {
@@ -237,6 +241,7 @@ impl<'a> Reader<'a> {
 
     fn write(&mut self, text: &str) {
         self.written.extend(text.as_bytes());
+        self.told.extend(text.as_bytes());
     }
 
     /// Puts the value that is bound to a `?` in its place.
@@ -265,6 +270,7 @@ impl<'a> Reader<'a> {
         match self.token.literal.take() {
             Some(data) if data.len() >= least => {
                 write_literal(&mut self.written, &data);
+                tell_literal(&mut self.told, &data);
                 self.step();
                 Ok(())
             }
@@ -294,7 +300,8 @@ impl<'a> Reader<'a> {
     fn xid(&mut self) -> Result<(), Fault> {
         self.literal(0)?;
         if !self.sees(",") {
-            self.write(",X'',1");
+            // (the store is told less, which says the same)
+            self.written.extend(b",X'',1");
             return Ok(());
         }
         self.write(",");
@@ -314,7 +321,8 @@ impl<'a> Reader<'a> {
         if !self.token.word.is_empty() || self.token.place != self.text.len() {
             return self.fail();
         }
-        Ok(Statement { text: std::mem::take(&mut self.written), ..statement })
+        let (text, told) = (std::mem::take(&mut self.written), std::mem::take(&mut self.told));
+        Ok(Statement { text, told, ..statement })
     }
 
     fn row(&mut self, verb: &str) -> Result<Statement, Fault> {
@@ -333,7 +341,7 @@ impl<'a> Reader<'a> {
             "PUT" => Kind::Put,
             _ => Kind::Del,
         };
-        Ok(Statement { kind, text: Vec::new(), subject, converts: false })
+        Ok(Statement { kind, text: Vec::new(), told: Vec::new(), subject, converts: false })
     }
 
     fn xa(&mut self) -> Result<Statement, Fault> {
@@ -344,7 +352,13 @@ impl<'a> Reader<'a> {
                 self.word(&["XID"])?;
             }
             self.write("XA RECOVER CONVERT XID");
-            return Ok(Statement { kind: Kind::Recover, text: Vec::new(), subject: (0, 0), converts });
+            return Ok(Statement {
+                kind: Kind::Recover,
+                text: Vec::new(),
+                told: Vec::new(),
+                subject: (0, 0),
+                converts,
+            });
         }
         let verb = if verb == "BEGIN" { "START" } else { verb };
         self.write("XA ");
@@ -353,7 +367,7 @@ impl<'a> Reader<'a> {
         let begin = self.written.len();
         self.xid()?;
         let subject = (begin, self.written.len());
-        Ok(Statement { kind: self.suffix(verb)?, text: Vec::new(), subject, converts: false })
+        Ok(Statement { kind: self.suffix(verb)?, text: Vec::new(), told: Vec::new(), subject, converts: false })
     }
 
     /// What may stand behind an identifier. All but ONE PHASE is read so that the store can refuse it by name.
@@ -403,9 +417,41 @@ pub fn write_literal(to: &mut Vec<u8>, data: &[u8]) {
     }
 }
 
+/// Writes a literal for the store: in quotes if all of its bytes are signs of ASCII that stand for themselves there.
+fn tell_literal(to: &mut Vec<u8>, data: &[u8]) {
+    if data.iter().all(|byte| matches!(byte, b' '..=b'~') && !matches!(byte, b'\'' | b'\\')) {
+        to.push(b'\'');
+        to.extend(data);
+        to.push(b'\'');
+    } else {
+        write_literal(to, data);
+    }
+}
+
 #[cfg(test)]
 mod tests {
     use super::*;
+
+    /// What the store is told reads as the same statement, and has quotes around plain signs alone.
+    #[test]
+    fn what_the_store_is_told() {
+        for (text, told) in [
+            ("xa begin 0x61", "XA START 'a'".to_string()),
+            ("XA END 'a',''", "XA END 'a','',1".to_string()),
+            ("put 'it''s','v w'", "PUT 0x69742773,'v w'".to_string()),
+            ("GET X'5c'", "GET 0x5c".to_string()),
+            ("DEL '\u{e4}'", "DEL 0xc3a4".to_string()),
+            ("XA COMMIT '~','\n',7 ONE PHASE", "XA COMMIT '~',0x0a,7 ONE PHASE".to_string()),
+        ] {
+            assert_eq!(String::from_utf8(read(text.as_bytes()).unwrap().told).unwrap(), told, "{}", text);
+        }
+        for byte in 0..=255 {
+            let given = [Some(vec![byte]), Some(vec![b'a', byte])];
+            let bound = bind(b"PUT ?,?", &given).unwrap();
+            let again = read(&bound.told).unwrap();
+            assert_eq!((again.text, again.told), (bound.text, bound.told), "{}", byte);
+        }
+    }
 
     fn canonical(text: &str) -> Result<String, usize> {
         read(text.as_bytes()).map(|it| String::from_utf8(it.text).unwrap()).map_err(|fault| fault.place)
