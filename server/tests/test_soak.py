@@ -37,7 +37,8 @@ class Soak(Case):
         for _ in range(KILLS):
             before = self.size(server)
             process = self.java(server, "move")
-            deadline = time.monotonic() + 60
+            # (on a machine that is very busy a process of Java has taken minutes to begin)
+            deadline = time.monotonic() + 600
             while self.size(server) < before + 20_000 and time.monotonic() < deadline:
                 time.sleep(0.02)
             time.sleep(draw.uniform(SECONDS / 4, SECONDS))
