@@ -12,7 +12,8 @@
    times   so many statements of cycles: how long one takes at most, but for one of a thousand, and the longest
 
    The store has ROWS rows more than those, which nobody touches meanwhile. Its ring has 16,384 rows, or as many as
-   BENCH_RING says. With BENCH_BEHIND set, a second line says how many tries were lost, and how many were behind. */
+   BENCH_RING says. With BENCH_BEHIND set, a line before says how many tries were lost, how many were behind, and how
+   much was done. */
 #include "nigbaru.h"
 
 #include <pthread.h>
@@ -189,15 +190,16 @@ static unsigned long join(int threads) {
 }
 
 static void closed(int threads) {
-  unsigned long overtaken = 0, behind = 0;
+  unsigned long overtaken = 0, behind = 0, done = 0;
   for (int index = 0; index < threads; index++) {
     overtaken += workers[index].overtaken;
     behind += workers[index].behind;
+    done += workers[index].done;
     nigbaru_leave(&workers[index].session);
   }
   nigbaru_leave(&sleeper);
   if (getenv("BENCH_BEHIND") != NULL)
-    printf("overtaken=%lu behind=%lu\n", overtaken, behind);
+    printf("overtaken=%lu behind=%lu done=%lu\n", overtaken, behind, done);
 }
 
 /* What threads do a second. */
