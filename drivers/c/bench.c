@@ -5,11 +5,15 @@
        bench memory THREADS ENTRIES ROWS     writes memory threads=T before_kb=N after_kb=N: what the process has before
                                              so many entries and afterwards, with a session more that sleeps all the
                                              time
+       bench slept THREADS STATEMENTS ROWS   writes slept threads=T middle=N p999=N most=N: how many entries others add
+                                             between two statements of a session
 
    cycle   threads commit branches of one row each in two phases, by texts; what is counted are branches
    get     threads read a hundred rows in turn, each outside a branch; what is counted are reads
    mix5    of a hundred statements outside branches five write, the others read; what is counted are statements
    times   so many statements of cycles: how long one takes at most, but for one of a thousand, and the longest
+   slept   of the same: how many entries of others come between two of a session: in the middle, at most but for one
+           of a thousand, and at most
 
    The store has ROWS rows more than those, which nobody touches meanwhile. Its ring has 16,384 rows, or as many as
    BENCH_RING says. With BENCH_BEHIND set, a line before says how many tries were lost, how many were behind, and how
@@ -49,8 +53,8 @@ static void fail(const char *what, uint32_t status) {
   exit(1);
 }
 
-/* As nigbaru_run, but for the counts, and that a session that is behind lets others go on. */
-static void say(struct worker *it, const char *text, uint32_t wanted) {
+/* As nigbaru_run, but for the counts, and that a session that is behind lets others go on. Returns the place. */
+static uint64_t say(struct worker *it, const char *text, uint32_t wanted) {
   nigbaru_answer answer;
   uint32_t status;
   size_t length = strlen(text);
@@ -62,6 +66,7 @@ static void say(struct worker *it, const char *text, uint32_t wanted) {
     else if (status != NIGBARU_OVERTAKEN)
       fail(text, status);
   }
+  return answer.place;
 }
 
 static void write_texts(struct worker *it) {
@@ -137,6 +142,18 @@ static void *timed(void *worker) {
     uint64_t begun = now();
     say(it, it->texts[it->done / TEXTS % TURNS][it->done % TEXTS], NIGBARU_OK);
     it->times[it->done] = now() - begun;
+  }
+  return NULL;
+}
+
+/* Every statement of a cycle adds an entry, so the places between two of a session are the others'. */
+static void *slept(void *worker) {
+  struct worker *it = worker;
+  uint64_t last = say(it, it->texts[0][1], NIGBARU_OK);
+  for (; it->done < it->wanted; it->done++) {
+    uint64_t place = say(it, it->texts[it->done / TEXTS % TURNS][it->done % TEXTS], NIGBARU_OK);
+    it->times[it->done] = place - last - 1;
+    last = place;
   }
   return NULL;
 }
@@ -221,7 +238,7 @@ static int by_time(const void *one, const void *other) {
   return (a > b) - (a < b);
 }
 
-static void print_times(int threads, unsigned long statements, long rows) {
+static void print_each(void *(*work)(void *), int threads, unsigned long statements, long rows) {
   unsigned long each = statements / (unsigned long)threads, count = each * (unsigned long)threads;
   uint64_t *times = calloc(count, sizeof *times);
   if (times == NULL)
@@ -231,12 +248,15 @@ static void print_times(int threads, unsigned long statements, long rows) {
     workers[index].wanted = each;
     workers[index].times = times + each * (unsigned long)index;
   }
-  start(timed, threads);
+  start(work, threads);
   join(threads);
   closed(threads);
   qsort(times, count, sizeof *times, by_time);
-  printf("times threads=%d p999_ns=%lu longest_ns=%lu\n", threads, (unsigned long)times[count - 1 - count / 1000],
-         (unsigned long)times[count - 1]);
+  unsigned long middle = times[count / 2], p999 = times[count - 1 - count / 1000], most = times[count - 1];
+  if (work == timed)
+    printf("times threads=%d p999_ns=%lu longest_ns=%lu\n", threads, p999, most);
+  else
+    printf("slept threads=%d middle=%lu p999=%lu most=%lu\n", threads, middle, p999, most);
   free(times);
 }
 
@@ -269,22 +289,23 @@ static void print_memory(int threads, unsigned long entries, long rows) {
 }
 
 int main(int count, char **words) {
-  static const struct { const char *name; void *(*work)(void *); } modes[] = {
-      {"cycle", cycle}, {"get", get}, {"mix5", mix5}, {"times", NULL}, {"memory", NULL}};
+  static const struct { const char *name; void *(*work)(void *); int is_each; } modes[] = {
+      {"cycle", cycle, 0}, {"get", get, 0}, {"mix5", mix5, 0}, {"times", timed, 1}, {"slept", slept, 1},
+      {"memory", NULL, 0}};
   size_t mode = 0;
-  while (count == 5 && mode < 5 && strcmp(words[1], modes[mode].name) != 0)
+  while (count == 5 && mode < 6 && strcmp(words[1], modes[mode].name) != 0)
     mode++;
   int threads = count == 5 ? atoi(words[2]) : 0;
   double much = count == 5 ? atof(words[3]) : 0;
-  if (count != 5 || mode == 5 || threads < 1 || threads > 16 || (mode == 4 && threads > 15) || much <= 0) {
-    fprintf(stderr, "bench cycle|get|mix5 THREADS SECONDS ROWS, bench times THREADS STATEMENTS ROWS, or bench memory "
-                    "THREADS ENTRIES ROWS\n");
+  if (count != 5 || mode == 6 || threads < 1 || threads > 16 || (mode == 5 && threads > 15) || much <= 0) {
+    fprintf(stderr, "bench cycle|get|mix5 THREADS SECONDS ROWS, bench times|slept THREADS STATEMENTS ROWS, or bench "
+                    "memory THREADS ENTRIES ROWS\n");
     return 2;
   }
-  if (mode == 4)
+  if (mode == 5)
     print_memory(threads, (unsigned long)much, atol(words[4]));
-  else if (modes[mode].work == NULL)
-    print_times(threads, (unsigned long)much, atol(words[4]));
+  else if (modes[mode].is_each)
+    print_each(modes[mode].work, threads, (unsigned long)much, atol(words[4]));
   else
     printf("%s threads=%d per_s=%.0f\n", words[1], threads, rate(modes[mode].work, threads, much, atol(words[4])));
   return 0;
