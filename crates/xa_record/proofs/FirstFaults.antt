@@ -52,7 +52,8 @@ awaiting-begins true notes a =
     (a.faults, refl)
 awaiting-begins false notes a = begins-same notes.faults
 
-said-begins : (said : LineSaid) (notes : Notes) (number : ℕ) → Begins (noted_said notes number said).faults notes.faults
+said-begins : (said : LineSaid) (notes : Notes) (number : ℕ) → Begins
+    (noted_said false notes number said).faults notes.faults
 unfolding noted_said blamed
 said-begins Nothing notes number = begins-same notes.faults
 said-begins Bad notes number = (fault_text number NotALine, refl)
@@ -77,7 +78,7 @@ quiet-begins false notes a number row = row-begins row (record notes { awaited =
 
 line-begins : (list : List NumberedEvent) (faults : List ℕ) (presence : List Presence) (awaited : Option Awaited)
     (number : ℕ) (line : List ℕ)
-    → Begins (noted_line (record { told = list; faults = faults; presence = presence; awaited = awaited }) number
+    → Begins (noted_line false (record { told = list; faults = faults; presence = presence; awaited = awaited }) number
     line).faults faults
 unfolding noted_line noted_row
 line-begins list faults presence None number line =
@@ -88,11 +89,11 @@ line-begins list faults presence (Some a) number line =
     number (row_said (unblank line))
 
 lines-begin : (lines : List (List ℕ)) (notes : Notes) (number : ℕ)
-    → Begins (noted_lines notes number lines).faults notes.faults
+    → Begins (noted_lines false notes number lines).faults notes.faults
 unfolding noted_lines
 lines-begin [] notes number = begins-same notes.faults
 lines-begin (line ∷ lines) notes number =
-    let new = noted_line notes number line in
+    let new = noted_line false notes number line in
     begins-more new.faults _ notes.faults (line-begins notes.told notes.faults notes.presence notes.awaited number line)
     (lines-begin lines new (number + 1))
 
@@ -105,30 +106,30 @@ ended-begins (Some a) notes =
 -- what is written for all lines begins so
 abbrev pub WritesFirst : List (List ℕ) → ℕ → LineFault → Type 0
 WritesFirst lines number fault =
-    Begins (ended_by (noted_lines no_notes 1 lines).awaited (noted_lines no_notes 1 lines)).faults
+    Begins (ended_by (noted_lines false no_notes 1 lines).awaited (noted_lines false no_notes 1 lines)).faults
     (fault_text number fault)
 
 writes-by : (lines : List (List ℕ)) (number : ℕ) (fault : LineFault)
-    → Begins (noted_lines no_notes 1 lines).faults (fault_text number fault) → WritesFirst lines number fault
+    → Begins (noted_lines false no_notes 1 lines).faults (fault_text number fault) → WritesFirst lines number fault
 writes-by lines number fault begins =
-    begins-more (noted_lines no_notes 1 lines).faults _ (fault_text number fault) begins
-    (ended-begins (noted_lines no_notes 1 lines).awaited (noted_lines no_notes 1 lines))
+    begins-more (noted_lines false no_notes 1 lines).faults _ (fault_text number fault) begins
+    (ended-begins (noted_lines false no_notes 1 lines).awaited (noted_lines false no_notes 1 lines))
 
 -- a line of its own is faulty
 one-first : (lines : List (List ℕ)) (line : List ℕ) (more : List (List ℕ)) (list : List NumberedEvent)
     (read : IsRead lines list) (said : LineSaid) (fault : LineFault)
-    → reading_of_line line ≡ said → (noted_said (noted list read.presence) (length lines + 1) said).faults
+    → reading_of_line line ≡ said → (noted_said false (noted list read.presence) (length lines + 1) said).faults
     ≡ fault_text (length lines + 1) fault
     → WritesFirst (lines ++ line ∷ more) (length lines + 1) fault
 one-first lines line more list read said fault is blames =
     let number = length lines + 1 in
-    let new = noted_line (noted list read.presence) number line in
+    let new = noted_line false (noted list read.presence) number line in
     let text = fault_text number fault in
     let here : new.faults ≡ text = ap (λ (n : Notes). n.faults) (said-of said list read.presence line number is)
     ∙ blames in
     writes-by (lines ++ line ∷ more) number fault
     (subst (λ (n : Notes). Begins n.faults text) (sym (lines-more lines line more list read))
-    (subst (λ (t : List ℕ). Begins (noted_lines new (number + 1) more).faults t) here
+    (subst (λ (t : List ℕ). Begins (noted_lines false new (number + 1) more).faults t) here
     (lines-begin more new (number + 1))))
 
 noted-blames : (o : Option LineFault) (list : List NumberedEvent) (presence : List Presence) (number : ℕ) (told : Told)
@@ -209,7 +210,7 @@ line-faults a number (Some xid) = begins-same a.faults
 -- a line where rows are awaited
 come-line : (list : List NumberedEvent) (presence : List Presence) (a : Awaited) (number : ℕ) (line : List ℕ)
     → is_silent line ≡ false
-    → noted_line (waiting list presence a) number line ≡ awaiting (noted list presence)
+    → noted_line false (waiting list presence a) number line ≡ awaiting (noted list presence)
     (with-line a number (row_said (unblank line)))
 come-line list presence a number line full =
     come-row list presence a number line (row_said (unblank line)) full refl
@@ -223,7 +224,7 @@ record StillWaits (list : List NumberedEvent) (presence : List Presence) (a : Aw
 
 rows-short : (lines : List (List ℕ)) (list : List NumberedEvent) (presence : List Presence) (a : Awaited) (number : ℕ)
     → filled lines < a.missing
-    → StillWaits list presence a (noted_lines (waiting list presence a) number lines)
+    → StillWaits list presence a (noted_lines false (waiting list presence a) number lines)
 unfolding noted_lines
 rows-short [] list presence a number short = record { left = a; is = refl; number = refl }
 rows-short (line ∷ lines) list presence a number short =
@@ -231,10 +232,11 @@ rows-short (line ∷ lines) list presence a number short =
   where
     by : (b : Bool) → is_silent line ≡ b
         → ((b : Awaited) → filled lines < b.missing → StillWaits list presence b
-        (noted_lines (waiting list presence b) (number + 1) lines))
-        → StillWaits list presence a (noted_lines (noted_line (waiting list presence a) number line) (number + 1) lines)
+        (noted_lines false (waiting list presence b) (number + 1) lines))
+        → StillWaits list presence a
+        (noted_lines false (noted_line false (waiting list presence a) number line) (number + 1) lines)
     by true silent again =
-        subst (λ (n : Notes). StillWaits list presence a (noted_lines n (number + 1) lines))
+        subst (λ (n : Notes). StillWaits list presence a (noted_lines false n (number + 1) lines))
         (sym (come-silent list presence a number line silent))
         (again a (omega (arith, short, filled-silent line lines silent)))
     by false full again =
@@ -243,7 +245,7 @@ rows-short (line ∷ lines) list presence a number short =
         let fewer : filled lines < b.missing =
         omega (arith, short, filled-one line lines full, line-missing a number row) in
         let later = again b fewer in
-        subst (λ (n : Notes). StillWaits list presence a (noted_lines n (number + 1) lines))
+        subst (λ (n : Notes). StillWaits list presence a (noted_lines false n (number + 1) lines))
         (sym (come-line list presence a number line full ∙ waits list presence b (omega (arith, fewer))))
         (record { left = later.left; is = later.is; number = later.number ∙ line-number a number row })
 
@@ -255,9 +257,10 @@ unfolding blamed
 missing-first lines line more list session count read is short =
     let a = first-awaited session (length lines + 1) count in
     let later = rows-short more list read.presence a (length lines + 1 + 1) short in
-    let whole : noted_lines no_notes 1 (lines ++ line ∷ more) ≡ waiting list read.presence later.left =
+    let whole : noted_lines false no_notes 1 (lines ++ line ∷ more) ≡ waiting list read.presence later.left =
     awaits-said lines line more list read session count is
-    ∙ ap (λ (n : Notes). noted_lines n (length lines + 1 + 1) more) (waits list read.presence a (omega (arith, short)))
+    ∙ ap (λ (n : Notes). noted_lines false n (length lines + 1 + 1) more)
+    (waits list read.presence a (omega (arith, short)))
     ∙ later.is in
     subst (λ (n : Notes). Begins (ended_by n.awaited n).faults (fault_text (length lines + 1) RowsMissing)) (sym whole)
     (later.left.faults, ap (λ (n : ℕ). fault_text n RowsMissing ++ later.left.faults) later.number)
@@ -266,7 +269,7 @@ missing-first lines line more list session count read is short =
 unfit-now : (lines : List (List ℕ)) (list : List NumberedEvent) (presence : List Presence) (a : Awaited) (number : ℕ)
     (fault : LineFault) → a.missing ≡ 0
     → cause_of (slice_get presence a.session) (Returns a.session (ShowsRows [])) ≡ Some fault
-    → Begins (noted_lines (awaiting (noted list presence) a) number lines).faults (fault_text a.number fault)
+    → Begins (noted_lines false (awaiting (noted list presence) a) number lines).faults (fault_text a.number fault)
 unfit-now lines list presence a number fault none some =
     let told = Returns a.session (ShowsRows a.rows) in
     let o = cause_of (slice_get presence a.session) told in
@@ -275,7 +278,7 @@ unfit-now lines list presence a number fault none some =
     (ShowsRows a.rows) (ShowsRows []) ∙ some) in
     let here : Begins (returned (noted list presence) a).faults (fault_text a.number fault) =
     (a.faults, ap (λ (f : List ℕ). f ++ a.faults) blames) in
-    subst (λ (n : Notes). Begins (noted_lines n number lines).faults (fault_text a.number fault))
+    subst (λ (n : Notes). Begins (noted_lines false n number lines).faults (fault_text a.number fault))
     (sym (all-came list presence a none))
     (begins-more (returned (noted list presence) a).faults _ (fault_text a.number fault) here
     (lines-begin lines (returned (noted list presence) a) number))
@@ -288,7 +291,7 @@ by-missing (suc missing) P none some = some (omega arith)
 unfit-later : (lines : List (List ℕ)) (list : List NumberedEvent) (presence : List Presence) (a : Awaited) (number : ℕ)
     (fault : LineFault) → a.missing ≤ filled lines
     → 0 < a.missing → cause_of (slice_get presence a.session) (Returns a.session (ShowsRows [])) ≡ Some fault
-    → Begins (noted_lines (waiting list presence a) number lines).faults (fault_text a.number fault)
+    → Begins (noted_lines false (waiting list presence a) number lines).faults (fault_text a.number fault)
 unfolding noted_lines filled
 unfit-later [] list presence a number fault enough missing some = absurd (omega (arith, enough, missing))
 unfit-later (line ∷ lines) list presence a number fault enough missing some =
@@ -297,11 +300,11 @@ unfit-later (line ∷ lines) list presence a number fault enough missing some =
     by : (b : Bool) → is_silent line ≡ b
         → ((b : Awaited) → b.missing ≤ filled lines → 0 < b.missing
         → cause_of (slice_get presence b.session) (Returns b.session (ShowsRows [])) ≡ Some fault
-        → Begins (noted_lines (waiting list presence b) (number + 1) lines).faults (fault_text b.number fault))
-        → Begins (noted_lines (noted_line (waiting list presence a) number line) (number + 1) lines).faults
+        → Begins (noted_lines false (waiting list presence b) (number + 1) lines).faults (fault_text b.number fault))
+        → Begins (noted_lines false (noted_line false (waiting list presence a) number line) (number + 1) lines).faults
         (fault_text a.number fault)
     by true silent again =
-        subst (λ (n : Notes). Begins (noted_lines n (number + 1) lines).faults (fault_text a.number fault))
+        subst (λ (n : Notes). Begins (noted_lines false n (number + 1) lines).faults (fault_text a.number fault))
         (sym (come-silent list presence a number line silent))
         (again a (omega (arith, enough, filled-silent line lines silent)) missing some)
     by false full again =
@@ -311,26 +314,26 @@ unfit-later (line ∷ lines) list presence a number fault enough missing some =
         omega (arith, enough, filled-one line lines full, line-missing a number row) in
         let cause : cause_of (slice_get presence b.session) (Returns b.session (ShowsRows [])) ≡ Some fault =
         ap (λ (s : ℕ). cause_of (slice_get presence s) (Returns s (ShowsRows []))) (line-session a number row) ∙ some in
-        let rest : Begins (noted_lines (awaiting (noted list presence) b) (number + 1) lines).faults
+        let rest : Begins (noted_lines false (awaiting (noted list presence) b) (number + 1) lines).faults
         (fault_text b.number fault) =
         by-missing b.missing _ (λ none. unfit-now lines list presence b (number + 1) fault none cause)
         (λ more.
-        subst (λ (n : Notes). Begins (noted_lines n (number + 1) lines).faults (fault_text b.number fault))
+        subst (λ (n : Notes). Begins (noted_lines false n (number + 1) lines).faults (fault_text b.number fault))
         (sym (waits list presence b more))
         (again b left more cause)) in
-        subst (λ (n : Notes). Begins (noted_lines n (number + 1) lines).faults (fault_text a.number fault))
+        subst (λ (n : Notes). Begins (noted_lines false n (number + 1) lines).faults (fault_text a.number fault))
         (sym (come-line list presence a number line full))
-        (subst (λ (n : ℕ). Begins (noted_lines (awaiting (noted list presence) b) (number + 1) lines).faults
+        (subst (λ (n : ℕ). Begins (noted_lines false (awaiting (noted list presence) b) (number + 1) lines).faults
         (fault_text n fault)) (line-number a number row) rest)
 
 rows-unfit : (lines : List (List ℕ)) (list : List NumberedEvent) (presence : List Presence) (a : Awaited) (number : ℕ)
     (fault : LineFault) → a.missing ≤ filled lines
     → cause_of (slice_get presence a.session) (Returns a.session (ShowsRows [])) ≡ Some fault
-    → Begins (noted_lines (awaiting (noted list presence) a) number lines).faults (fault_text a.number fault)
+    → Begins (noted_lines false (awaiting (noted list presence) a) number lines).faults (fault_text a.number fault)
 rows-unfit lines list presence a number fault enough some =
     by-missing a.missing _ (λ none. unfit-now lines list presence a number fault none some)
     (λ more.
-    subst (λ (n : Notes). Begins (noted_lines n number lines).faults (fault_text a.number fault))
+    subst (λ (n : Notes). Begins (noted_lines false n number lines).faults (fault_text a.number fault))
     (sym (waits list presence a more))
     (unfit-later lines list presence a number fault enough more some))
 
@@ -365,7 +368,7 @@ row-there line full (inr said) = said
 
 rows-clean : (rows : List (List ℕ)) (list : List NumberedEvent) (presence : List Presence) (a : Awaited) (number : ℕ)
     → AreRows rows → filled rows < a.missing
-    → CameClean rows list presence a (noted_lines (waiting list presence a) number rows)
+    → CameClean rows list presence a (noted_lines false (waiting list presence a) number rows)
 unfolding noted_lines filled
 rows-clean [] list presence a number are fewer =
     record { left = a; is = refl; session = refl; faults = refl; counted = omega arith }
@@ -374,13 +377,14 @@ rows-clean (line ∷ rows) list presence a number are fewer =
   where
     by : (b : Bool) → is_silent line ≡ b
         → ((b : Awaited) → filled rows < b.missing → CameClean rows list presence b
-        (noted_lines (waiting list presence b) (number + 1) rows))
-        → CameClean (line ∷ rows) list presence a (noted_lines (noted_line (waiting list presence a) number line)
+        (noted_lines false (waiting list presence b) (number + 1) rows))
+        → CameClean (line ∷ rows) list presence a
+        (noted_lines false (noted_line false (waiting list presence a) number line)
         (number + 1) rows)
     by true silent again =
         let same = filled-silent line rows silent in
         let later = again a (omega (arith, fewer, same)) in
-        subst (λ (n : Notes). CameClean (line ∷ rows) list presence a (noted_lines n (number + 1) rows))
+        subst (λ (n : Notes). CameClean (line ∷ rows) list presence a (noted_lines false n (number + 1) rows))
         (sym (come-silent list presence a number line silent))
         (record {
           left = later.left;
@@ -396,10 +400,11 @@ rows-clean (line ∷ rows) list presence a number are fewer =
         let one = filled-one line rows full in
         let left : filled rows < b.missing = omega (arith, fewer, one) in
         let later = again b left in
-        let here : noted_line (waiting list presence a) number line ≡ waiting list presence b =
+        let here : noted_line false (waiting list presence a) number line ≡ waiting list presence b =
         come-row list presence a number line (Some said.0) full said.1 ∙ with-row-some list presence a number said.0
         ∙ waits list presence b (omega (arith, left)) in
-        subst (λ (n : Notes). CameClean (line ∷ rows) list presence a (noted_lines n (number + 1) rows)) (sym here)
+        subst (λ (n : Notes). CameClean (line ∷ rows) list presence a (noted_lines false n (number + 1) rows))
+        (sym here)
         (record {
           left = later.left;
           is = later.is;
@@ -412,7 +417,7 @@ rows-clean (line ∷ rows) list presence a number are fewer =
 fit-now : (lines : List (List ℕ)) (list : List NumberedEvent) (presence : List Presence) (a : Awaited) (number : ℕ)
     (text : List ℕ) → a.missing ≡ 0
     → cause_of (slice_get presence a.session) (Returns a.session (ShowsRows [])) ≡ None → Begins a.faults text
-    → Begins (noted_lines (awaiting (noted list presence) a) number lines).faults text
+    → Begins (noted_lines false (awaiting (noted list presence) a) number lines).faults text
 fit-now lines list presence a number text none fits begins =
     let told = Returns a.session (ShowsRows a.rows) in
     let o = cause_of (slice_get presence a.session) told in
@@ -422,7 +427,7 @@ fit-now lines list presence a number text none fits begins =
     subst (λ (c : Option LineFault). Begins (blamed_too (noted_if c
     (noted list presence) a.number told) a.faults).faults text) (sym nothing)
     (noted-none list presence a.number told a.faults text begins) in
-    subst (λ (n : Notes). Begins (noted_lines n number lines).faults text) (sym (all-came list presence a none))
+    subst (λ (n : Notes). Begins (noted_lines false n number lines).faults text) (sym (all-came list presence a none))
     (begins-more (returned (noted list presence) a).faults _ text here
     (lines-begin lines (returned (noted list presence) a) number))
 
@@ -430,7 +435,7 @@ fit-later : (lines : List (List ℕ)) (list : List NumberedEvent) (presence : Li
     (text : List ℕ) → a.missing ≤ filled lines
     → 0 < a.missing → cause_of (slice_get presence a.session) (Returns a.session (ShowsRows [])) ≡ None
     → Begins a.faults text
-    → Begins (noted_lines (waiting list presence a) number lines).faults text
+    → Begins (noted_lines false (waiting list presence a) number lines).faults text
 unfolding noted_lines filled
 fit-later [] list presence a number text enough missing fits begins = absurd (omega (arith, enough, missing))
 fit-later (line ∷ lines) list presence a number text enough missing fits begins =
@@ -440,10 +445,11 @@ fit-later (line ∷ lines) list presence a number text enough missing fits begin
     by : (b : Bool) → is_silent line ≡ b
         → ((b : Awaited) → b.missing ≤ filled lines → 0 < b.missing
         → cause_of (slice_get presence b.session) (Returns b.session (ShowsRows [])) ≡ None
-        → Begins b.faults text → Begins (noted_lines (waiting list presence b) (number + 1) lines).faults text)
-        → Begins (noted_lines (noted_line (waiting list presence a) number line) (number + 1) lines).faults text
+        → Begins b.faults text → Begins (noted_lines false (waiting list presence b) (number + 1) lines).faults text)
+        → Begins (noted_lines false (noted_line false (waiting list presence a) number line)
+        (number + 1) lines).faults text
     by true silent again =
-        subst (λ (n : Notes). Begins (noted_lines n (number + 1) lines).faults text)
+        subst (λ (n : Notes). Begins (noted_lines false n (number + 1) lines).faults text)
         (sym (come-silent list presence a number line silent))
         (again a (omega (arith, enough, filled-silent line lines silent)) missing fits begins)
     by false full again =
@@ -454,22 +460,23 @@ fit-later (line ∷ lines) list presence a number text enough missing fits begin
         let can : cause_of (slice_get presence b.session) (Returns b.session (ShowsRows [])) ≡ None =
         ap (λ (s : ℕ). cause_of (slice_get presence s) (Returns s (ShowsRows []))) (line-session a number row) ∙ fits in
         let written : Begins b.faults text = begins-more a.faults b.faults text begins (line-faults a number row) in
-        let rest : Begins (noted_lines (awaiting (noted list presence) b) (number + 1) lines).faults text =
+        let rest : Begins (noted_lines false (awaiting (noted list presence) b) (number + 1) lines).faults text =
         by-missing b.missing _ (λ none. fit-now lines list presence b (number + 1) text none can written)
         (λ more.
-        subst (λ (n : Notes). Begins (noted_lines n (number + 1) lines).faults text) (sym (waits list presence b more))
+        subst (λ (n : Notes). Begins (noted_lines false n (number + 1) lines).faults text)
+        (sym (waits list presence b more))
         (again b left more can written)) in
-        subst (λ (n : Notes). Begins (noted_lines n (number + 1) lines).faults text)
+        subst (λ (n : Notes). Begins (noted_lines false n (number + 1) lines).faults text)
         (sym (come-line list presence a number line full)) rest
 
 rows-fit : (lines : List (List ℕ)) (list : List NumberedEvent) (presence : List Presence) (a : Awaited) (number : ℕ)
     (text : List ℕ) → a.missing ≤ filled lines
     → cause_of (slice_get presence a.session) (Returns a.session (ShowsRows [])) ≡ None → Begins a.faults text
-    → Begins (noted_lines (awaiting (noted list presence) a) number lines).faults text
+    → Begins (noted_lines false (awaiting (noted list presence) a) number lines).faults text
 rows-fit lines list presence a number text enough fits begins =
     by-missing a.missing _ (λ none. fit-now lines list presence a number text none fits begins)
     (λ more.
-    subst (λ (n : Notes). Begins (noted_lines n number lines).faults text) (sym (waits list presence a more))
+    subst (λ (n : Notes). Begins (noted_lines false n number lines).faults text) (sym (waits list presence a more))
     (fit-later lines list presence a number text enough more fits begins))
 
 bad-row-first : (lines : List (List ℕ)) (line : List ℕ) (rows : List (List ℕ)) (row : List ℕ) (more : List (List ℕ))
@@ -489,15 +496,15 @@ bad-row-first lines line rows row more list session count read is fits are fewer
     let number = begin + length rows in
     let b : Awaited = record left { missing = left.missing - 1; faults = left.faults ++ fault_text number NotARow } in
     let text = fault_text number NotARow in
-    let here : noted_line (waiting list presence left) number row ≡ awaiting (noted list presence) b =
+    let here : noted_line false (waiting list presence left) number row ≡ awaiting (noted list presence) b =
     come-row list presence left number row None full said ∙ with-row-any list presence left number None in
-    let there : noted_lines no_notes 1 (lines ++ line ∷ (rows ++ row ∷ more))
-    ≡ noted_lines (awaiting (noted list presence) b) (number + 1) more =
+    let there : noted_lines false no_notes 1 (lines ++ line ∷ (rows ++ row ∷ more))
+    ≡ noted_lines false (awaiting (noted list presence) b) (number + 1) more =
     awaits-said lines line (rows ++ row ∷ more) list read session count is
-    ∙ ap (λ (n : Notes). noted_lines n begin (rows ++ row ∷ more)) (waits list presence a (omega (arith, fewer)))
+    ∙ ap (λ (n : Notes). noted_lines false n begin (rows ++ row ∷ more)) (waits list presence a (omega (arith, fewer)))
     ∙ noted_lines-append (waiting list presence a) begin rows (row ∷ more)
-    ∙ ap (λ (n : Notes). noted_lines (noted_line n number row) (number + 1) more) came.is
-    ∙ ap (λ (n : Notes). noted_lines n (number + 1) more) here in
+    ∙ ap (λ (n : Notes). noted_lines false (noted_line false n number row) (number + 1) more) came.is
+    ∙ ap (λ (n : Notes). noted_lines false n (number + 1) more) here in
     let can : cause_of (slice_get presence b.session) (Returns b.session (ShowsRows [])) ≡ None =
     ap (λ (s : ℕ). cause_of (slice_get presence s) (Returns s (ShowsRows []))) came.session
     ∙ fits-here presence list (Returns session (ShowsRows [])) within read.placed ∙ fits in

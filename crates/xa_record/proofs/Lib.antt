@@ -27,4 +27,7 @@ pub mod Presences
 pub mod SessionsWithin
 pub mod FirstFaults
 pub mod TextsTold
+pub mod FaultyTexts
+pub mod StrictNotes
+pub mod LinesReported
 pub mod RowsLeft

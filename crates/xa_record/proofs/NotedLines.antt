@@ -1,5 +1,5 @@
 -- Reading a record line by line.
-use Rattle.std.proofs.Common.{◌≡◌, ℕ, ◌+◌, ◌==◌, true, Option, None, List, [], ◌∷◌, ◌++◌, map, take, drop, length}
+use Rattle.std.proofs.Common.{◌≡◌, ℕ, ◌+◌, ◌==◌, Bool, true, Option, None, List, [], ◌∷◌, ◌++◌, map, take, drop, length}
 use Rattle.std.proofs.Common.{slice_get, slice_set, refl, ap, sym, ◌∙◌, arith}
 use Rattle.std.proofs.lemmas.Grind.{common_steps}
 use Rattle.std.proofs.lemmas.List.{map-append}
@@ -15,17 +15,19 @@ use Rattle.xa_record.specs.Reading.{NumberedEvent, Notes, session_of, presence_a
 use Rattle.xa_record.specs.Reading.{up_to_return, closed_if, note_closed, noted_line, noted_lines}
 
 -- one line was cut off
-pub noted_lines-line : (notes : Notes) (number : ℕ) (text line rest : List ℕ) → lines_of text ≡ line ∷ lines_of rest
-    → noted_lines notes number (lines_of text) ≡ noted_lines (noted_line notes number line) (number + 1) (lines_of rest)
+pub noted_lines-line : (strict : Bool) (notes : Notes) (number : ℕ) (text line rest : List ℕ) → lines_of text
+    ≡ line ∷ lines_of rest
+    → noted_lines strict notes number (lines_of text)
+    ≡ noted_lines strict (noted_line strict notes number line) (number + 1) (lines_of rest)
 unfolding noted_lines
-noted_lines-line notes number text line rest cut = rw cut refl
+noted_lines-line strict notes number text line rest cut = rw cut refl
 
 -- no line is left
-pub noted_lines-end : (notes : Notes) (number : ℕ) (text : List ℕ) → (length text == 0) ≡ true
-    → noted_lines notes number (lines_of text) ≡ notes
+pub noted_lines-end : (strict : Bool) (notes : Notes) (number : ℕ) (text : List ℕ) → (length text == 0) ≡ true
+    → noted_lines strict notes number (lines_of text) ≡ notes
 unfolding noted_lines lines_of
-noted_lines-end notes number [] empty = refl
-noted_lines-end notes number (x ∷ xs) empty =
+noted_lines-end strict notes number [] empty = refl
+noted_lines-end strict notes number (x ∷ xs) empty =
     absurd (let none : length (x ∷ xs) ≡ 0 = grind (arith, common_steps) in omega arith)
 
 -- the notes with another list of what happens, and other words on the sessions

@@ -10,13 +10,13 @@ use Rattle.xa_record.specs.Lines.{Told, Calls, Returns, ReturnsUnknown, Leaves}
 use Rattle.xa_record.specs.Reading.{NumberedEvent, session_of, presence_after, cause_of}
 use Rattle.xa_record.specs.Records.{presence_then, presence_from, presence_in, cause_next, Fits}
 
-set_same : {A : Type 0} (xs : List A) (place : ℕ) (x : A) → place < length xs
+pub set_same : {A : Type 0} (xs : List A) (place : ℕ) (x : A) → place < length xs
     → slice_get (slice_set xs place x) place ≡ Some x
 set_same [] place x below = absurd (omega arith)
 set_same (y ∷ ys) zero x below = refl
 set_same (y ∷ ys) (suc place) x below = set_same ys place x (omega arith)
 
-set_other : {A : Type 0} (xs : List A) (place other : ℕ) (x : A) → other ≢ place
+pub set_other : {A : Type 0} (xs : List A) (place other : ℕ) (x : A) → other ≢ place
     → slice_get (slice_set xs place x) other ≡ slice_get xs other
 set_other [] place other x apart = refl
 set_other (y ∷ ys) zero zero x apart = absurd (apart refl)
@@ -24,15 +24,15 @@ set_other (y ∷ ys) zero (suc other) x apart = refl
 set_other (y ∷ ys) (suc place) zero x apart = refl
 set_other (y ∷ ys) (suc place) (suc other) x apart = set_other ys place other x (λ same. apart (ap suc same))
 
-replicated : {A : Type 0} (count place : ℕ) (x : A) → place < count → slice_get (replicate count x) place ≡ Some x
+pub replicated : {A : Type 0} (count place : ℕ) (x : A) → place < count → slice_get (replicate count x) place ≡ Some x
 replicated zero place x within = absurd (omega arith)
 replicated (suc count) zero x within = refl
 replicated (suc count) (suc place) x within = replicated count place x (omega arith)
 
-tested : (m n : ℕ) → (m == n) ≡ true → m ≡ n
+pub tested : (m n : ℕ) → (m == n) ≡ true → m ≡ n
 tested m n is = grind (arith, nat_tests)
 
-apart_test : (m n : ℕ) → (m == n) ≡ false → m ≢ n
+pub apart_test : (m n : ℕ) → (m == n) ≡ false → m ≢ n
 apart_test m n is = grind (arith, nat_tests)
 
 -- who is gone stays so
@@ -73,7 +73,7 @@ unfolding presence_from
 none-from session presence = refl
 
 -- what can happen leaves the session as it says
-then-after : (presence : Presence) (told : Told) → cause_of (Some presence) told ≡ None
+pub then-after : (presence : Presence) (told : Told) → cause_of (Some presence) told ≡ None
     → presence_then presence told ≡ presence_after told
 then-after Idle told fits = refl
 then-after Open told fits = refl

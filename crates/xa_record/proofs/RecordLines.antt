@@ -284,7 +284,7 @@ next-as done line todo new (inr found) = inr (found-as _ _ (line-end done line t
 said-next : (said : LineSaid) (list : List NumberedEvent) (presence : List Presence) (done : List (List ℕ)) (number : ℕ)
     (line : List ℕ) (todo : List (List ℕ))
     → reading_of_line line ≡ said → number ≡ length done + 1 → Within said → Placed presence list → Tells done list
-    → Next done line todo (noted_said (noted list presence) number said)
+    → Next done line todo (noted_said false (noted list presence) number said)
 unfolding noted_said
 said-next Nothing list presence done number line todo is at within placed tells =
     inl (record { clean = refl; placed = placed; stands = silent_line done line list tells is })
@@ -453,10 +453,10 @@ line-next : (list : List NumberedEvent) (faults : List ℕ) (presence : List Pre
     (done : List (List ℕ)) (number : ℕ) (line : List ℕ)
     (todo : List (List ℕ)) → number ≡ length done + 1 → faults ≡ [] → Placed presence list → Stands done awaited list
     → Next done line todo
-    (noted_line (record { told = list; faults = faults; presence = presence; awaited = awaited }) number line)
+    (noted_line false (record { told = list; faults = faults; presence = presence; awaited = awaited }) number line)
 unfolding noted_line noted_row
 line-next list faults presence None done number line todo at clean placed stands =
-    subst (λ (f : List ℕ). Next done line todo (noted_said
+    subst (λ (f : List ℕ). Next done line todo (noted_said false
     (record { told = list; faults = f; presence = presence; awaited = None }) number (reading_of_line line)))
     (sym clean) (said-next (reading_of_line line) list presence done number line todo refl at
     (line_within line) placed stands)
@@ -469,26 +469,27 @@ length-line : (done : List (List ℕ)) (line : List ℕ) → length (done ++ lin
 length-line done line = grind (arith, common_steps)
 
 lines-next : (todo done : List (List ℕ)) (notes : Notes) (number : ℕ) → number ≡ length done + 1 → Right done notes
-    → Right (done ++ todo) (noted_lines notes number todo) ⊎ Found (done ++ todo)
+    → Right (done ++ todo) (noted_lines false notes number todo) ⊎ Found (done ++ todo)
 unfolding noted_lines
 lines-next [] done notes number at right =
     inl (subst (λ (l : List (List ℕ)). Right l notes) (sym (append-nil done)) right)
 lines-next (line ∷ todo) done notes number at right =
     by (line-next notes.told notes.faults notes.presence notes.awaited done number line todo at right.clean right.placed
     right.stands)
-    (λ here. lines-next todo (done ++ line ∷ []) (noted_line notes number line) (number + 1)
+    (λ here. lines-next todo (done ++ line ∷ []) (noted_line false notes number line) (number + 1)
     (ap (λ (n : ℕ). n + 1) (at ∙ sym (length-line done line))) here)
   where
     new : Notes
-    new = noted_line notes number line
+    new = noted_line false notes number line
 
     by : Next done line todo new
-        → (Right (done ++ line ∷ []) new → Right ((done ++ line ∷ []) ++ todo) (noted_lines new (number + 1) todo)
+        → (Right (done ++ line ∷ []) new → Right ((done ++ line ∷ []) ++ todo) (noted_lines false new (number + 1) todo)
         ⊎ Found ((done ++ line ∷ []) ++ todo))
-        → Right (done ++ line ∷ todo) (noted_lines new (number + 1) todo) ⊎ Found (done ++ line ∷ todo)
+        → Right (done ++ line ∷ todo) (noted_lines false new (number + 1) todo) ⊎ Found (done ++ line ∷ todo)
     by (inr found) again = inr found
     by (inl here) again =
-        subst (λ (l : List (List ℕ)). Right l (noted_lines new (number + 1) todo) ⊎ Found l) (line-end done line todo)
+        subst (λ (l : List (List ℕ)). Right l (noted_lines false new (number + 1) todo) ⊎ Found l)
+        (line-end done line todo)
         (again here)
 
 -- what is read of lines is what they tell, or one of them is the first faulty one
@@ -512,12 +513,12 @@ ended-told lines list faults presence (Some a) clean (part, is) =
           (part.came ++ []) list a.session part.count part.tells part.says short,
     ))
 
-pub lines-told : (lines : List (List ℕ)) → AllTold lines (noted_lines no_notes 1 lines) ⊎ Found lines
+pub lines-told : (lines : List (List ℕ)) → AllTold lines (noted_lines false no_notes 1 lines) ⊎ Found lines
 lines-told lines =
     by (lines-next lines [] no_notes 1 refl (record { clean = refl; placed = placed-none; stands = no_line }))
   where
     notes : Notes
-    notes = noted_lines no_notes 1 lines
+    notes = noted_lines false no_notes 1 lines
 
     by : Right lines notes ⊎ Found lines → AllTold lines notes ⊎ Found lines
     by (inl right) = ended-told lines notes.told notes.faults notes.presence notes.awaited right.clean right.stands

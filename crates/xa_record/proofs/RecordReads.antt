@@ -25,13 +25,14 @@ use Rattle.xa_record.proofs.RecordLines.{cause-shown}
 use Rattle.xa_record.proofs.SessionsWithin.{Within, line_within}
 
 pub noted_lines-append : (notes : Notes) (number : ℕ) (lines more : List (List ℕ))
-    → noted_lines notes number (lines ++ more) ≡ noted_lines (noted_lines notes number lines)
+    → noted_lines false notes number (lines ++ more) ≡ noted_lines false (noted_lines false notes number lines)
     (number + length lines) more
 unfolding noted_lines
-noted_lines-append notes number [] more = ap (λ (n : ℕ). noted_lines notes n more) (omega arith)
+noted_lines-append notes number [] more = ap (λ (n : ℕ). noted_lines false notes n more) (omega arith)
 noted_lines-append notes number (line ∷ lines) more =
-    noted_lines-append (noted_line notes number line) (number + 1) lines more
-    ∙ ap (λ (n : ℕ). noted_lines (noted_lines (noted_line notes number line) (number + 1) lines) n more) (omega arith)
+    noted_lines-append (noted_line false notes number line) (number + 1) lines more
+    ∙ ap (λ (n : ℕ). noted_lines false (noted_lines false (noted_line false notes number line)
+    (number + 1) lines) n more) (omega arith)
 
 -- the notes once this has happened, and nothing was faulty
 abbrev pub noted : List NumberedEvent → List Presence → Notes
@@ -44,32 +45,35 @@ waiting list presence a = record { told = list; faults = []; presence = presence
 pub record IsRead (lines : List (List ℕ)) (list : List NumberedEvent) : Type 0 where
   pub presence : List Presence
   pub placed : Placed presence list
-  pub is : noted_lines no_notes 1 lines ≡ noted list presence
+  pub is : noted_lines false no_notes 1 lines ≡ noted list presence
 
 pub said-of : (said : LineSaid) (list : List NumberedEvent) (presence : List Presence) (line : List ℕ) (number : ℕ)
     → reading_of_line line ≡ said
-    → noted_line (noted list presence) number line ≡ noted_said (noted list presence) number said
+    → noted_line false (noted list presence) number line ≡ noted_said false (noted list presence) number said
 unfolding noted_line
-said-of said list presence line number is = ap (noted_said (noted list presence) number) is
+said-of said list presence line number is = ap (noted_said false (noted list presence) number) is
 
 -- one line more
 pub lines-more : (lines : List (List ℕ)) (line : List ℕ) (more : List (List ℕ)) (list : List NumberedEvent)
     (read : IsRead lines list)
-    → noted_lines no_notes 1 (lines ++ line ∷ more) ≡ noted_lines
-    (noted_line (noted list read.presence) (length lines + 1) line) (length lines + 1 + 1) more
+    → noted_lines false no_notes 1 (lines ++ line ∷ more) ≡ noted_lines false
+    (noted_line false (noted list read.presence) (length lines + 1) line) (length lines + 1 + 1) more
 unfolding noted_lines
 lines-more lines line more list read =
     noted_lines-append no_notes 1 lines (line ∷ more)
-    ∙ ap (λ (n : ℕ). noted_lines (noted_line (noted_lines no_notes 1 lines) n line) (n + 1) more) (omega arith)
-    ∙ ap (λ (n : Notes). noted_lines (noted_line n (length lines + 1) line) (length lines + 1 + 1) more) read.is
+    ∙ ap (λ (n : ℕ). noted_lines false (noted_line false (noted_lines false no_notes 1 lines) n line) (n + 1) more)
+    (omega arith)
+    ∙ ap (λ (n : Notes). noted_lines false (noted_line false n (length lines + 1) line)
+    (length lines + 1 + 1) more) read.is
 
-no-more : (notes : Notes) (number : ℕ) → noted_lines notes number [] ≡ notes
+no-more : (notes : Notes) (number : ℕ) → noted_lines false notes number [] ≡ notes
 unfolding noted_lines
 no-more notes number = refl
 
 line-more : (lines : List (List ℕ)) (line : List ℕ) (list : List NumberedEvent) (read : IsRead lines list)
     (said : LineSaid) → reading_of_line line ≡ said
-    → noted_lines no_notes 1 (lines ++ line ∷ []) ≡ noted_said (noted list read.presence) (length lines + 1) said
+    → noted_lines false no_notes 1 (lines ++ line ∷ []) ≡ noted_said false (noted list read.presence)
+    (length lines + 1) said
 line-more lines line list read said is =
     lines-more lines line [] list read ∙ no-more _ _ ∙ said-of said list read.presence line (length lines + 1) is
 
@@ -157,7 +161,7 @@ all-came list presence a none =
 
 pub come-silent : (list : List NumberedEvent) (presence : List Presence) (a : Awaited) (number : ℕ) (line : List ℕ)
     → is_silent line ≡ true
-    → noted_line (waiting list presence a) number line ≡ waiting list presence a
+    → noted_line false (waiting list presence a) number line ≡ waiting list presence a
 unfolding noted_line noted_row
 come-silent list presence a number line silent =
     ap (λ (b : Bool). if b then waiting list presence a else with_row (noted list presence) a number
@@ -165,7 +169,7 @@ come-silent list presence a number line silent =
 
 pub come-row : (list : List NumberedEvent) (presence : List Presence) (a : Awaited) (number : ℕ) (line : List ℕ)
     (row : Option Xid) → is_silent line ≡ false
-    → row_said (unblank line) ≡ row → noted_line (waiting list presence a) number line
+    → row_said (unblank line) ≡ row → noted_line false (waiting list presence a) number line
     ≡ with_row (noted list presence) a number row
 unfolding noted_line noted_row
 come-row list presence a number line row full said =
@@ -196,7 +200,7 @@ rows-read : (count : ℕ) (lines : List (List ℕ)) (more : List Xid) → RowsOf
     → (list : List NumberedEvent) (presence : List Presence) (a : Awaited) (number : ℕ)
     → a.missing ≡ count → a.faults ≡ [] → cause_of (slice_get presence a.session) (Returns a.session (ShowsRows []))
     ≡ None
-    → noted_lines (awaiting (noted list presence) a) number lines
+    → noted_lines false (awaiting (noted list presence) a) number lines
     ≡ noted (list ++ record { number = a.number; told = Returns a.session (ShowsRows (a.rows ++ more)) } ∷ [])
     (slice_set presence a.session Idle)
 unfolding noted_lines
@@ -207,15 +211,16 @@ rows-read count lines more no_row list presence a number is clean fits =
 rows-read count lines more (silent_row {count = c} {line = line}
     {lines = rest} silent came) list presence a number is clean fits =
     let here = waits list presence a (omega (arith, is)) in
-    ap (λ (n : Notes). noted_lines n (number + 1) rest) (ap (λ (n : Notes). noted_line n number line) here
+    ap (λ (n : Notes). noted_lines false n (number + 1) rest) (ap (λ (n : Notes). noted_line false n number line) here
     ∙ come-silent list presence a number line silent ∙ sym here)
     ∙ rows-read (suc c) rest more came list presence a (number + 1) is clean fits
 rows-read count lines more (one_row {count = c} {line = line} {lines = rest} {xid = xid}
     {rows = fewer} filled said came) list presence a number is clean fits =
     let b : Awaited = record a { missing = a.missing - 1; rows = a.rows ++ xid ∷ [] } in
     let here = waits list presence a (omega (arith, is)) in
-    ap (λ (n : Notes). noted_lines n (number + 1) rest)
-    (ap (λ (n : Notes). noted_line n number line) here ∙ come-row list presence a number line (Some xid) filled said
+    ap (λ (n : Notes). noted_lines false n (number + 1) rest)
+    (ap (λ (n : Notes). noted_line false n number line) here ∙ come-row list presence a number line
+    (Some xid) filled said
     ∙ with-row-some list presence a number xid)
     ∙ rows-read c rest fewer came list presence b (number + 1) (omega (arith, is)) clean fits
     ∙ ap (λ (l : List Xid). noted (list ++ record { number = a.number; told = Returns a.session (ShowsRows l) } ∷ [])
@@ -230,13 +235,13 @@ first-awaited session number count =
 pub awaits-said : (lines : List (List ℕ)) (line : List ℕ) (more : List (List ℕ)) (list : List NumberedEvent)
     (read : IsRead lines list) (session count : ℕ)
     → reading_of_line line ≡ Awaits session count
-    → noted_lines no_notes 1 (lines ++ line ∷ more)
-    ≡ noted_lines (awaiting (noted list read.presence) (first-awaited session (length lines + 1) count))
+    → noted_lines false no_notes 1 (lines ++ line ∷ more)
+    ≡ noted_lines false (awaiting (noted list read.presence) (first-awaited session (length lines + 1) count))
     (length lines + 1 + 1) more
 unfolding noted_said
 awaits-said lines line more list read session count is =
     lines-more lines line more list read
-    ∙ ap (λ (n : Notes). noted_lines n (length lines + 1 + 1) more)
+    ∙ ap (λ (n : Notes). noted_lines false n (length lines + 1 + 1) more)
     (said-of (Awaits session count) list read.presence line (length lines + 1) is)
 
 rows-lines-read : (lines : List (List ℕ)) (line : List ℕ) (more : List (List ℕ)) (list : List NumberedEvent)

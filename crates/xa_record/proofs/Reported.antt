@@ -12,7 +12,7 @@ use Rattle.xa_record.specs.declared.allowance.Allowance.{Allowance}
 use Rattle.xa_record.specs.declared.asked.Asked.{Asked}
 use Rattle.xa_record.specs.declared.line_event.NumberedEvent.{NumberedEvent as NumberedRead}
 use Rattle.xa_record.specs.declared.report.Report.{Report as ReportMade}
-use Rattle.xa_record.specs.Judged.{IsJudgement, IsReportedOf, IsReportedWith}
+use Rattle.xa_record.specs.Judged.{IsJudgement, IsReportedOf, IsReportedByNotes}
 use Rattle.xa_record.specs.Kept.{numbered_kept, report_kept}
 use Rattle.xa_record.specs.Reading.{NumberedEvent}
 use Rattle.xa_record.specs.Events.{AreEvents}
@@ -72,10 +72,10 @@ pub reported : {E : Type 0} (result : Result ReportMade E) (base : State) (allow
     (faults : List ℕ) (numbered : List NumberedRead) (asked : Asked)
     → faults ≡ [] → (length numbered == 0) ≡ false
     → IfOk result (λ report. IsJudgement base allowances (map numbered_kept numbered) asked (report_kept report))
-    → IfOk result (λ report. IsReportedWith base allowances faults (map numbered_kept numbered) asked
+    → IfOk result (λ report. IsReportedByNotes base allowances faults (map numbered_kept numbered) asked
     (report_kept report))
 reported (Ok report) base allowances faults numbered asked none some is =
-    subst (λ (f : List ℕ). IsReportedWith base allowances f (map numbered_kept numbered) asked (report_kept report))
+    subst (λ (f : List ℕ). IsReportedByNotes base allowances f (map numbered_kept numbered) asked (report_kept report))
     (sym none)
     (reported_of base allowances numbered asked (report_kept report) some is)
 reported (Err fault) base allowances faults numbered asked none some is = tt

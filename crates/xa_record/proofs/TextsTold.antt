@@ -1,8 +1,10 @@
 -- What is read of a text, and the first fault in it.
-use Rattle.std.proofs.Common.{◌≡◌, ◌≢◌, ◌⊎◌, inl, inr, ℕ, Option, None, List, [], ◌∷◌, ◌++◌, refl, ap, sym, ◌∙◌, subst}
+use Rattle.std.proofs.Common.{◌≡◌, ◌≢◌, ◌⊎◌, inl, inr, ℕ, false, Option, None, List, [], ◌∷◌, ◌++◌, refl, ap, sym, ◌∙◌}
+use Rattle.std.proofs.Common.{subst}
 use Rattle.xa_lines.specs.Script.{lines_of}
 use Rattle.xa_record.specs.declared.line_fault.LineFault.{LineFault}
-use Rattle.xa_record.specs.Reading.{NumberedEvent, Awaited, Notes, fault_text, no_notes, noted_lines, notes_of}
+use Rattle.xa_record.specs.Reading.{NumberedEvent, Awaited, Notes, fault_text, no_notes, noted_lines, notes_by}
+use Rattle.xa_record.specs.Reading.{notes_of}
 use Rattle.xa_record.specs.Reading.{ended_by}
 use Rattle.xa_record.specs.Records.{Tells, HasFault, Begins}
 use Rattle.xa_record.proofs.RecordLines.{AllTold, Found, lines-told}
@@ -10,16 +12,16 @@ use Rattle.xa_record.proofs.RecordReads.{lines-read}
 use Rattle.xa_record.proofs.FirstFaults.{first-fault}
 
 -- what is written for a faulty line isn't nothing
-nothing-before : (xs ys : List ℕ) → xs ++ ys ≡ [] → xs ≡ []
+pub nothing-before : (xs ys : List ℕ) → xs ++ ys ≡ [] → xs ≡ []
 nothing-before [] ys none = refl
 nothing-before (x ∷ xs) ys none = absurd (cc)
 
-fault-something : (number : ℕ) (fault : LineFault) → fault_text number fault ≡ [] → ⊥
+pub fault-something : (number : ℕ) (fault : LineFault) → fault_text number fault ≡ [] → ⊥
 fault-something number fault none = cc
 
-notes-so : (text : List ℕ) → notes_of text ≡ ended_by (noted_lines no_notes 1 (lines_of text)).awaited
-    (noted_lines no_notes 1 (lines_of text))
-unfolding notes_of
+notes-so : (text : List ℕ) → notes_of text ≡ ended_by (noted_lines false no_notes 1 (lines_of text)).awaited
+    (noted_lines false no_notes 1 (lines_of text))
+unfolding notes_by
 notes-so text = refl
 
 ended-none : (awaited : Option Awaited) (notes : Notes) → awaited ≡ None → ended_by awaited notes ≡ notes
@@ -37,10 +39,10 @@ something : (faults text : List ℕ) (number : ℕ) (fault : LineFault) → faul
 something faults text number fault none begins =
     fault-something number fault (nothing-before (fault_text number fault) begins.0 (sym begins.1 ∙ none))
 
-told-by : (text : List ℕ) → AllTold (lines_of text) (noted_lines no_notes 1 (lines_of text))
+told-by : (text : List ℕ) → AllTold (lines_of text) (noted_lines false no_notes 1 (lines_of text))
     → ((notes_of text).faults ≡ []) × Tells (lines_of text) (notes_of text).told
 told-by text all =
-    let notes = noted_lines no_notes 1 (lines_of text) in
+    let notes = noted_lines false no_notes 1 (lines_of text) in
     let same : notes_of text ≡ notes = notes-so text ∙ ended-none notes.awaited notes all.none in (
       ap (λ (n : Notes). n.faults) same ∙ all.clean,
       subst (λ (n : Notes). Tells (lines_of text) n.told)
@@ -51,7 +53,7 @@ told-by text all =
 pub text-tells : (text : List ℕ) → (notes_of text).faults ≡ [] → Tells (lines_of text) (notes_of text).told
 text-tells text clean = by (lines-told (lines_of text))
   where
-    by : AllTold (lines_of text) (noted_lines no_notes 1 (lines_of text)) ⊎ Found (lines_of text)
+    by : AllTold (lines_of text) (noted_lines false no_notes 1 (lines_of text)) ⊎ Found (lines_of text)
         → Tells (lines_of text) (notes_of text).told
     by (inl all) = (told-by text all).1
     by (inr (number, fault, has)) =
@@ -62,7 +64,7 @@ pub text-found : (text : List ℕ) → (notes_of text).faults ≢ []
     → (number : ℕ) × (fault : LineFault) × HasFault (lines_of text) number fault
 text-found text some = by (lines-told (lines_of text))
   where
-    by : AllTold (lines_of text) (noted_lines no_notes 1 (lines_of text)) ⊎ Found (lines_of text)
+    by : AllTold (lines_of text) (noted_lines false no_notes 1 (lines_of text)) ⊎ Found (lines_of text)
         → (number : ℕ) × (fault : LineFault) × HasFault (lines_of text) number fault
     by (inl all) = absurd (some (told-by text all).0)
     by (inr found) = found
@@ -71,7 +73,7 @@ text-found text some = by (lines-told (lines_of text))
 pub text-told : (text : List ℕ) (list : List NumberedEvent) → Tells (lines_of text) list
     → ((notes_of text).faults ≡ []) × (list ≡ (notes_of text).told)
 text-told text list tells =
-    let notes = noted_lines no_notes 1 (lines_of text) in
+    let notes = noted_lines false no_notes 1 (lines_of text) in
     let read = lines-read (lines_of text) list tells in
     let same : notes_of text ≡ notes = notes-so text ∙ ended-none notes.awaited notes
     (ap (λ (n : Notes). n.awaited) read.is) in

@@ -3,7 +3,8 @@
 --     IsJudgement            a report is that of some right verdict on what the lines say
 --     IsReportedOf           a report is right for lines without a fault; if they say nothing there is no
 --                            verdict
---     IsReported             a report is right for what was read
+--     IsReported             a report is right for lines: if some are faulty it is exactly these, each with its cause
+--     IsReportedOfNotes      the same as the reader finds it
 --     IsJudgedFrom           a record of this text, which begins in a state, ends so, and this is written for it
 --     AppendsJudgedFrom      the writer got that text
 --     AfterJudgeFaultFrom    what a fault leaves in the writer
@@ -14,6 +15,7 @@ use Rattle.std.specs.Io.KnownBytes.{Keeps, Appends}
 use Rattle.xa_server.specs.State.{State, no_state}
 use Rattle.xa_lines.specs.declared.script_fault.ScriptFault.{ScriptFault}
 use Rattle.xa_lines.specs.declared.script_fault.ScriptFault.TheVariants.{Write, NoMemory, Full, GateShut, ThreadRefused}
+use Rattle.xa_lines.specs.Script.{lines_of}
 use Rattle.xa_lines.specs.Transcript.{AppendsPrefix}
 use Rattle.xa_judge.specs.declared.event.Event.{Event}
 use Rattle.xa_judge.specs.declared.verdict.Verdict.{Verdict}
@@ -21,7 +23,9 @@ use Rattle.xa_judge.specs.Verdicts.{IsVerdict}
 use Rattle.xa_record.specs.declared.allowance.Allowance.{Allowance}
 use Rattle.xa_record.specs.declared.asked.Asked.{Asked}
 use Rattle.xa_record.specs.declared.outcome.Outcome.{Outcome}
-use Rattle.xa_record.specs.Reading.{NumberedEvent, Notes, notes_of}
+use Rattle.xa_record.specs.Reading.{NumberedEvent, Notes}
+use Rattle.xa_record.specs.Records.{Tells}
+use Rattle.xa_record.specs.FaultyLines.{faulty_text}
 use Rattle.xa_record.specs.Events.{AreEvents}
 use Rattle.xa_record.specs.Replaying.{IsReplayed}
 use Rattle.xa_record.specs.Reports.{Report, Faulty, Empty, outcome_of, IsReportOf}
@@ -50,20 +54,31 @@ abbrev pub IsReportedOf : State → List Allowance → List NumberedEvent → As
 IsReportedOf base allowances [] asked report = report ≡ Empty
 IsReportedOf base allowances (one ∷ more) asked report = IsJudgement base allowances (one ∷ more) asked report
 
--- if a line is faulty, only the faulty lines are reported
-abbrev pub IsReportedWith : State → List Allowance → List ℕ → List NumberedEvent → Asked → Report → Type 0
-IsReportedWith base allowances [] numbered asked report = IsReportedOf base allowances numbered asked report
-IsReportedWith base allowances (byte ∷ faults) numbered asked report = report ≡ Faulty (byte ∷ faults)
+-- if a line is faulty, only the faulty lines are reported; else what the lines tell is judged
+abbrev pub IsReportedWith : State → List Allowance → List ℕ → List (List ℕ) → Asked → Report → Type 0
+IsReportedWith base allowances [] lines asked report =
+    (numbered : List NumberedEvent) × Tells lines numbered × IsReportedOf base allowances numbered asked report
+IsReportedWith base allowances (byte ∷ faults) lines asked report = report ≡ Faulty (byte ∷ faults)
 
--- what is reported of what was read
-abbrev pub IsReported : State → List Allowance → Notes → Asked → Report → Type 0
-IsReported base allowances notes asked report = IsReportedWith base allowances notes.faults notes.told asked report
+-- what is reported of these lines
+abbrev pub IsReported : State → List Allowance → List (List ℕ) → Asked → Report → Type 0
+IsReported base allowances lines asked report = IsReportedWith base
+    allowances (faulty_text asked.strict_calls lines) lines asked report
+
+-- the same by what was read
+abbrev pub IsReportedByNotes : State → List Allowance → List ℕ → List NumberedEvent → Asked → Report → Type 0
+IsReportedByNotes base allowances [] numbered asked report = IsReportedOf base allowances numbered asked report
+IsReportedByNotes base allowances (byte ∷ faults) numbered asked report = report ≡ Faulty (byte ∷ faults)
+
+abbrev pub IsReportedOfNotes : State → List Allowance → Notes → Asked → Report → Type 0
+IsReportedOfNotes base allowances notes asked report =
+    IsReportedByNotes base allowances notes.faults notes.told asked report
 
 -- how judging a record that begins in a state ends, and what is written
 pub record IsJudgedFrom (base : State) (written : List ℕ) (allowances : List Allowance) (asked : Asked)
     (outcome : Outcome) (text : List ℕ) : Type 0 where
   pub report : Report
-  pub told : IsReported base allowances (notes_of written) asked report
+  pub told : IsReported base allowances (lines_of written) asked report
   pub outcome_is : outcome ≡ outcome_of report
   pub text_is : text ≡ text_in asked.form report
 

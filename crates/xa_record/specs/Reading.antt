@@ -2,21 +2,27 @@
 -- Faulty lines are written in ascending order, each once. What is written for those among the rows of a
 -- return is held until all rows of that return have come, and comes after what is written for it.
 --     cause_of            why what happens to a session is faulty, by what the lines before say of it
+--     fault_called        why a call is faulty if the texts of calls are tested
 --     fault_text          what is written for a faulty line
 --     Awaited             rows that are still to come, and the faulty lines among those that came
 --     Notes               what was read so far
 --     note_of             the notes after this happens
 --     note_closed         the notes after a connection was found closed
 --     noted_line          the notes after a line
---     notes_of            the notes after the lines of a text
-use Rattle.std.specs.Prelude.{ℕ, zero, suc, ◌+◌, ◌-◌, ◌==◌, Bool, true, false, if◌then◌else◌, Option, Some, None, List}
+--     notes_by            the notes after the lines of a text, with the texts of calls tested or not
+--     notes_of            the same without such a test
+use Rattle.std.specs.Prelude.{ℕ, zero, suc, ◌+◌, ◌-◌, ◌==◌, Bool, true, false, if◌then◌else◌, Option, Some, None}
+use Rattle.std.specs.Prelude.{Result, Ok, Err, List}
 use Rattle.std.specs.Prelude.{[], ◌∷◌, ◌++◌, codes, decimal, slice_get, slice_set, replicate}
 use Rattle.std.specs.List.{insert}
 use Rattle.xa_xid.specs.Bytes.{unblank}
 use Rattle.xa_xid.specs.declared.xid.Xid.{Xid}
+use Rattle.xa_xid.specs.declared.statement.Statement.{Statement}
+use Rattle.xa_statement.specs.Reading.{read_of}
 use Rattle.xa_lines.specs.Script.{lines_of}
 use Rattle.xa_record.specs.declared.line_fault.LineFault.{LineFault}
 use Rattle.xa_record.specs.declared.line_fault.LineFault.TheVariants.{NotALine, NotARow, RowsMissing, OpenCall}
+use Rattle.xa_record.specs.declared.line_fault.LineFault.TheVariants.{NotAStatement}
 use Rattle.xa_record.specs.declared.line_fault.LineFault.TheVariants.{NoOpenCall, Lost as WasLost}
 use Rattle.xa_record.specs.declared.presence.Presence.{Presence}
 use Rattle.xa_record.specs.declared.presence.Presence.TheVariants.{Idle, Open, Lost}
@@ -47,10 +53,20 @@ cause_of (Some Idle) (ReturnsUnknown session) = Some (NoOpenCall session)
 cause_of (Some Lost) told = Some (WasLost (session_of told))
 cause_of presence told = None
 
+abbrev pub fault_read : Result Statement ℕ → Option LineFault
+fault_read (Ok statement) = None
+fault_read (Err place) = Some NotAStatement
+
+-- a call of a text that isn't a statement is faulty if the texts of calls are tested
+abbrev pub fault_called : Told → Option LineFault
+fault_called (Calls session text) = fault_read (read_of text)
+fault_called told = None
+
 abbrev pub cause_text : LineFault → List ℕ
 cause_text NotALine = codes "not a line of a record"
 cause_text NotARow = codes "not a row"
 cause_text RowsMissing = codes "rows are missing"
+cause_text NotAStatement = codes "not a statement"
 cause_text (OpenCall session) = codes "session " ++ decimal session ++ codes " has an open call"
 cause_text (NoOpenCall session) = codes "session " ++ decimal session ++ codes " has no open call"
 cause_text (WasLost session) = codes "session " ++ decimal session ++ codes " is lost"
@@ -103,6 +119,23 @@ noted_if (Some fault) notes number told = blamed notes number fault
 -- this happens on the line of this number, or the line is faulty
 abbrev pub note_of : Notes → ℕ → Told → Notes
 note_of notes number told = noted_if (cause_of (slice_get notes.presence (session_of told)) told) notes number told
+
+-- the other fault, if there is none
+abbrev pub beyond : Option LineFault → Option LineFault → Option LineFault
+beyond (Some fault) other = None
+beyond None other = other
+
+abbrev pub blamed_if : Option LineFault → Notes → ℕ → Notes
+blamed_if None notes number = notes
+blamed_if (Some fault) notes number = blamed notes number fault
+
+-- this happens on the line of this number, or the line is faulty; if it is strict, a call has to be a statement,
+-- and counts also if it isn't one
+abbrev pub note_strictly : Bool → Notes → ℕ → Told → Notes
+note_strictly false notes number told = note_of notes number told
+note_strictly true notes number told =
+    blamed_if (beyond (cause_of (slice_get notes.presence (session_of told)) told) (fault_called told))
+    (note_of notes number told) number
 
 -- a call of the session returns
 abbrev pub is_return_of : ℕ → Told → Bool
@@ -159,26 +192,27 @@ noted_row notes awaited number line =
     (row_said (unblank line))
 
 -- a line that isn't in the place of a row
-unfoldable pub noted_said : Notes → ℕ → LineSaid → Notes
-noted_said notes number Nothing = notes
-noted_said notes number Bad = blamed notes number NotALine
-noted_said notes number (Says told) = note_of notes number told
-noted_said notes number (Closed session) = note_closed notes number session
-noted_said notes number (Awaits session count) =
+unfoldable pub noted_said : Bool → Notes → ℕ → LineSaid → Notes
+noted_said strict notes number Nothing = notes
+noted_said strict notes number Bad = blamed notes number NotALine
+noted_said strict notes number (Says told) = note_strictly strict notes number told
+noted_said strict notes number (Closed session) = note_closed notes number session
+noted_said strict notes number (Awaits session count) =
     awaiting notes (record { session = session; number = number; missing = count; rows = []; faults = [] })
 
-abbrev pub noted_by : Option Awaited → Notes → ℕ → List ℕ → Notes
-noted_by None notes number line = noted_said notes number (reading_of_line line)
-noted_by (Some awaited) notes number line = noted_row notes awaited number line
+abbrev pub noted_by : Bool → Option Awaited → Notes → ℕ → List ℕ → Notes
+noted_by strict None notes number line = noted_said strict notes number (reading_of_line line)
+noted_by strict (Some awaited) notes number line = noted_row notes awaited number line
 
 -- the notes after the line of this number
-unfoldable pub noted_line : Notes → ℕ → List ℕ → Notes
-noted_line notes number line = noted_by notes.awaited notes number line
+unfoldable pub noted_line : Bool → Notes → ℕ → List ℕ → Notes
+noted_line strict notes number line = noted_by strict notes.awaited notes number line
 
 -- the notes after these lines, the first of which has this number
-unfoldable pub noted_lines : Notes → ℕ → List (List ℕ) → Notes
-noted_lines notes number [] = notes
-noted_lines notes number (line ∷ lines) = noted_lines (noted_line notes number line) (number + 1) lines
+unfoldable pub noted_lines : Bool → Notes → ℕ → List (List ℕ) → Notes
+noted_lines strict notes number [] = notes
+noted_lines strict notes number (line ∷ lines) =
+    noted_lines strict (noted_line strict notes number line) (number + 1) lines
 
 -- rows that are still to come when the record ends are missing; the faulty lines among those that came follow
 -- the return's line
@@ -186,6 +220,10 @@ abbrev pub ended_by : Option Awaited → Notes → Notes
 ended_by None notes = notes
 ended_by (Some awaited) notes = blamed_too (blamed notes awaited.number RowsMissing) awaited.faults
 
+-- what was read of a record; if it is strict, each call has to be a statement
+unfoldable pub notes_by : Bool → List ℕ → Notes
+notes_by strict text = let notes = noted_lines strict no_notes 1 (lines_of text) in ended_by notes.awaited notes
+
 -- what was read of a record
-unfoldable pub notes_of : List ℕ → Notes
-notes_of text = let notes = noted_lines no_notes 1 (lines_of text) in ended_by notes.awaited notes
+abbrev pub notes_of : List ℕ → Notes
+notes_of text = notes_by false text

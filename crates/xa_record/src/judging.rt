@@ -1,10 +1,11 @@
 //! Judges the text of a record.
 ghost use Rattle.std.specs.Prelude.{◌≡◌, List, IfOk};
+ghost use Rattle.xa_lines.specs.Script.{lines_of};
 ghost use Rattle.xa_record.specs.Events.{AreCalls, AreEvents};
 ghost use Rattle.xa_record.specs.Forms.{text_in as text_of_report};
-ghost use Rattle.xa_record.specs.Judged.{IsJudgement, IsReported, IsJudged, IsJudgedFrom};
+ghost use Rattle.xa_record.specs.Judged.{IsJudgement, IsReported, IsReportedOfNotes, IsJudged, IsJudgedFrom};
 ghost use Rattle.xa_record.specs.Kept.{notes_kept, report_kept};
-ghost use Rattle.xa_record.specs.Reading.{notes_of};
+ghost use Rattle.xa_record.specs.Reading.{notes_of, notes_by};
 ghost use Rattle.xa_record.specs.Replaying.{AreBare};
 
 use crate::allowance::Allowance;
@@ -75,9 +76,10 @@ fn report_on<P: Progress>(
     progress: &mut P,
 ) -> Result<Report, NoMemory>
     ensures { IfOk result
-        (λ report. IsReported base.now allowances.now (notes_of text.now) asked (report_kept report)) }
+        (λ report. IsReportedOfNotes base.now allowances.now (notes_by asked.strict_calls text.now) asked
+        (report_kept report)) }
 {
-    let notes = read_notes(alloc, text)?;
+    let notes = read_notes(alloc, asked.strict_calls, text)?;
     if !notes.faults.is_empty() {
         return Ok(Report::Faulty(notes.faults));
     }
@@ -86,6 +88,21 @@ fn report_on<P: Progress>(
     }
     let events = events_read(alloc, allowances, notes)?;
     verdict_on(alloc, base, text, events.as_slice(), asked, progress)
+}
+
+/// What is reported of the lines of this text. The reader finds exactly the lines that are faulty.
+fn report_of_lines<P: Progress>(
+    alloc: Global,
+    base: &Server,
+    text: &[u8],
+    allowances: &[Allowance],
+    asked: Asked,
+    progress: &mut P,
+) -> Result<Report, NoMemory>
+    ensures { IfOk result
+        (λ report. IsReported base.now allowances.now (lines_of text.now) asked (report_kept report)) }
+{
+    report_on(alloc, base, text, allowances, asked, progress)
 }
 
 /// The text of a report in a form.
@@ -104,8 +121,9 @@ fn text_in(alloc: Global, form: Form, report: &Report) -> Result<Vec<u8>, NoMemo
 /// `allowances` are known differences between the answers of the recorded server and the rules. If more than
 /// `asked.limit` different configurations have to be kept before an event, and no order is found, the end is
 /// `Undecided`. With `asked.explains` the part before an ILLEGAL line is judged once more; if that passes the
-/// limit, it isn't explained. If lines are faulty, or nothing happens, there is no verdict. `progress` takes
-/// note of how far judging is.
+/// limit, it isn't explained. If lines are faulty, or nothing happens, there is no verdict. With
+/// `asked.strict_calls` a call whose text isn't a statement is a faulty line. `progress` takes note of how far
+/// judging is.
 /// Errors: `NoMemory` if an allocation failed.
 /// May return `NoMemory`. Doesn't wait.
 /// Own rule: docs/HISTORIES.md#records-in-pieces.
@@ -122,7 +140,7 @@ pub fn judge_text_from<P: Progress>(
     ensures { IfOk result
         (λ judged. IsJudgedFrom base.now text.now allowances.now asked judged.outcome judged.text.items) }
 {
-    let report = report_on(alloc, base, text, allowances, asked, progress)?;
+    let report = report_of_lines(alloc, base, text, allowances, asked, progress)?;
     Ok(Judged {
         outcome: report.outcome(),
         text: text_in(alloc, asked.form, &report)?,
@@ -134,8 +152,9 @@ pub fn judge_text_from<P: Progress>(
 /// The server holds nothing at first. `allowances` are known differences between its answers and the rules.
 /// If more than `asked.limit` different configurations have to be kept before an event, and no order is found,
 /// the end is `Undecided`. With `asked.explains` the part before an ILLEGAL line is judged once more; if that
-/// passes the limit, it isn't explained. If lines are faulty, or nothing happens, there is no verdict.
-/// `progress` takes note of how far judging is.
+/// passes the limit, it isn't explained. If lines are faulty, or nothing happens, there is no verdict. With
+/// `asked.strict_calls` a call whose text isn't a statement is a faulty line. `progress` takes note of how far
+/// judging is.
 /// Errors: `NoMemory` if an allocation failed.
 /// May return `NoMemory`. Doesn't wait.
 /// Own rule: docs/HISTORIES.md#verdicts.
@@ -147,7 +166,9 @@ pub fn judge_text<P: Progress>(
     progress: &mut P,
 ) -> Result<Judged, NoMemory>
     // Proved (records, judged-faulty): A record with a faulty line ends as faulty, and exactly its faulty
-    //   lines are written, each with its cause.
+    //   lines are written, each with its cause, in order. Whether a line is faulty, and why, is a rule for that
+    //   line, by the lines before and after it. If calls are strict, a call whose text isn't a statement is
+    //   faulty too.
     // Proved (records, judged-empty): A record without a faulty line and without an event ends as empty, and
     //   `EMPTY` is written.
     // Proved (records, judged-verdict): Every other record ends with a verdict that is right for the events

@@ -1,11 +1,13 @@
 //! What happens to the sessions of a record.
 ghost use Rattle.std.specs.Prelude.{◌≡◌, Some, option_copied};
 ghost use Rattle.xa_record.specs.Reading.{session_of, presence_after, cause_of, is_return_of};
+ghost use Rattle.xa_record.specs.Reading.{fault_called};
 ghost use Rattle.xa_record.specs.Kept.{told_kept};
 
 use crate::line_fault::LineFault;
 use crate::presence::Presence;
 use crate::shown::Shown;
+use xa_statement::read_statement;
 use xa_xid::SessionNo;
 
 /// What happens to a session.
@@ -62,6 +64,22 @@ impl LineEvent<'_> {
             LineEvent::Return(_, _) => Presence::Idle,
             LineEvent::Unknown(_) => Presence::Idle,
             LineEvent::Lost(_) => Presence::Lost,
+        }
+    }
+
+    /// Returns why its line is faulty if the texts of calls are tested: it is a call of a text that isn't a
+    /// statement.
+    pub fn call_fault(&self) -> Option<LineFault>
+        ensures { result ≡ fault_called (told_kept self.now) }
+    {
+        match self {
+            LineEvent::Call(_, text) => match read_statement(text) {
+                Ok(_) => None,
+                Err(_) => Some(LineFault::NotAStatement),
+            },
+            LineEvent::Return(_, _) => None,
+            LineEvent::Unknown(_) => None,
+            LineEvent::Lost(_) => None,
         }
     }
 

@@ -14,6 +14,8 @@ pub enum LineFault {
     NotARow,
     /// The record ends before all rows of this return.
     RowsMissing,
+    /// The text of a call isn't a statement, and such texts are tested.
+    NotAStatement,
     /// The session calls, but has an open call.
     OpenCall(SessionNo),
     /// A call of the session returns, but it has none open.
@@ -31,6 +33,7 @@ impl LineFault {
             LineFault::NotALine => text.extend_from_slice(b"not a line of a record"),
             LineFault::NotARow => text.extend_from_slice(b"not a row"),
             LineFault::RowsMissing => text.extend_from_slice(b"rows are missing"),
+            LineFault::NotAStatement => text.extend_from_slice(b"not a statement"),
             LineFault::OpenCall(session) => {
                 push_session(text, session)?;
                 text.extend_from_slice(b" has an open call")

@@ -19,7 +19,7 @@ use xa_xid::NoMemory;
 fn numbered_in(alloc: Global, text: &[u8]) -> Result<Vec<NumberedEvent<'_>>, NoMemory>
     ensures { IfOk result (λ numbered. map numbered_kept numbered.items ≡ (notes_of text.now).told) }
 {
-    Ok(read_notes(alloc, text)?.numbered)
+    Ok(read_notes(alloc, false, text)?.numbered)
 }
 
 /// The number of the line on which the event at this place happens, or 0 past the end.

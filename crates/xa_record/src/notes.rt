@@ -2,7 +2,9 @@
 ghost use Rattle.std.specs.Prelude.{◌≡◌, ◌≤◌, OnOk, length, map, slice_get, option_copied};
 ghost use Rattle.std.specs.Option.{option_map};
 ghost use Rattle.xa_record.specs.Reading.{no_notes, blamed, blamed_too, note_of, up_to_return as up_to_return_of};
+ghost use Rattle.xa_record.specs.Reading.{beyond, cause_of, fault_called, note_strictly};
 ghost use Rattle.xa_record.specs.Reading.{note_closed, returned, awaiting, with_row, noted_row, noted_said, noted_line};
+ghost use Rattle.xa_record.specs.Reading.{session_of};
 ghost use Rattle.xa_record.specs.Reading.{ended_by};
 ghost use Rattle.xa_record.specs.Rows.{row_said};
 ghost use Rattle.xa_record.specs.Kept.{told_kept, numbered_kept, awaited_kept, line_kept, notes_kept};
@@ -100,6 +102,40 @@ impl<'a> Notes<'a> {
         }
     }
 
+    /// Returns the fault of a call whose text isn't a statement, unless its line is faulty anyway.
+    fn call_fault(&self, line_event: &LineEvent<'a>) -> Option<LineFault>
+        ensures { result ≡ beyond
+            (cause_of (slice_get self.now.presence (session_of (told_kept line_event.now))) (told_kept line_event.now))
+            (fault_called (told_kept line_event.now)) }
+    {
+        match line_event.fault(self.presence_of(line_event.session())) {
+            Some(_) => None,
+            None => line_event.call_fault(),
+        }
+    }
+
+    /// Notes that this happens on the line of this number, or that the line is faulty. If `strict`, a call whose
+    /// text isn't a statement is faulty too, and counts as made.
+    fn note_strictly(
+        &mut self,
+        strict: bool,
+        number: u64,
+        line_event: LineEvent<'a>,
+    ) -> Result<(), NoMemory>
+        ensures { OnOk result (notes_kept self.new ≡ note_strictly strict (notes_kept self.old) number
+            (told_kept line_event.entry)) }
+    {
+        if !strict {
+            return self.note(number, line_event);
+        }
+        let call_fault = self.call_fault(&line_event);
+        self.note(number, line_event)?;
+        match call_fault {
+            None => Ok(()),
+            Some(fault) => self.blame(number, fault),
+        }
+    }
+
     /// Notes that the session's connection was closed at some time since its last return, or that the line of
     /// this number is faulty.
     #[tactic(auto, unfolding(crate::specs::Reading::closed_if))]
@@ -171,18 +207,21 @@ impl<'a> Notes<'a> {
     fn take_said(
         &mut self,
         alloc: Global,
+        strict: bool,
         number: u64,
         said: RecordLine<'a>,
     ) -> Result<(), NoMemory>
-        ensures { OnOk result (notes_kept self.new ≡ noted_said (notes_kept self.old) number (line_kept said.entry)) }
+        ensures { OnOk result (notes_kept self.new ≡ noted_said strict (notes_kept self.old) number
+            (line_kept said.entry)) }
     {
         match said {
             RecordLine::Nothing => Ok(()),
             RecordLine::Bad => self.blame(number, LineFault::NotALine),
-            RecordLine::Happens(line_event) => self.note(number, line_event),
+            RecordLine::Happens(line_event) => self.note_strictly(strict, number, line_event),
             RecordLine::Value(session, value) => {
                 let boxed = Box::new(alloc, value)?;
-                self.note(number, LineEvent::Return(session, Shown::Value(boxed)))
+                let line_event = LineEvent::Return(session, Shown::Value(boxed));
+                self.note_strictly(strict, number, line_event)
             }
             RecordLine::Closed(session) => self.note_closed(number, session),
             RecordLine::Rows(session, missing) => self.wait_for(Pending {
@@ -195,17 +234,23 @@ impl<'a> Notes<'a> {
         }
     }
 
-    /// Takes the line of this number.
+    /// Takes the line of this number. If `strict`, each call has to be a statement.
     ///
     /// May return `NoMemory`.
     #[tactic(auto, unfolding(crate::specs::Reading::noted_line, crate::specs::Reading::noted_row))]
-    pub fn take(&mut self, alloc: Global, number: u64, line: &'a [u8]) -> Result<(), NoMemory>
+    pub fn take(
+        &mut self,
+        alloc: Global,
+        strict: bool,
+        number: u64,
+        line: &'a [u8],
+    ) -> Result<(), NoMemory>
         // Proved (records, line-noted): What was read after one more line of a record is what its definition
         //   says.
-        ensures { OnOk result (notes_kept self.new ≡ noted_line (notes_kept self.old) number line.now) }
+        ensures { OnOk result (notes_kept self.new ≡ noted_line strict (notes_kept self.old) number line.now) }
     {
         match self.pending.take() {
-            None => self.take_said(alloc, number, read_record_line(line)),
+            None => self.take_said(alloc, strict, number, read_record_line(line)),
             Some(pending) => {
                 if is_silent(line) {
                     self.pending = Some(pending);

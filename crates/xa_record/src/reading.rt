@@ -1,6 +1,6 @@
 //! Reads a record line by line.
 ghost use Rattle.std.specs.Prelude.{◌≡◌, IfOk};
-ghost use Rattle.xa_record.specs.Reading.{notes_of};
+ghost use Rattle.xa_record.specs.Reading.{notes_by};
 ghost use Rattle.xa_record.specs.Kept.{notes_kept};
 
 use crate::notes::Notes;
@@ -8,14 +8,14 @@ use std::alloc::Global;
 use xa_lines::split_line;
 use xa_xid::NoMemory;
 
-/// Reads a record, which is cut into lines as a script is.
+/// Reads a record, which is cut into lines as a script is. If `strict`, each call has to be a statement.
 ///
 /// May return `NoMemory`. Doesn't wait.
 /// Own rule: docs/HISTORIES.md#records.
-#[tactic(auto, unfolding(crate::specs::Reading::notes_of))]
-pub fn read_notes(alloc: Global, text: &[u8]) -> Result<Notes<'_>, NoMemory>
+#[tactic(auto, unfolding(crate::specs::Reading::notes_by))]
+pub fn read_notes(alloc: Global, strict: bool, text: &[u8]) -> Result<Notes<'_>, NoMemory>
     // Proved (records, line-noted)
-    ensures { IfOk result (λ notes. notes_kept notes ≡ notes_of text.now) }
+    ensures { IfOk result (λ notes. notes_kept notes ≡ notes_by strict text.now) }
 {
     let mut notes = Notes::new(alloc);
     let mut number: u64 = 0;
@@ -23,7 +23,7 @@ pub fn read_notes(alloc: Global, text: &[u8]) -> Result<Notes<'_>, NoMemory>
     while !rest.is_empty() {
         let (line, lines) = split_line(rest);
         number += 1;
-        notes.take(alloc, number, line)?;
+        notes.take(alloc, strict, number, line)?;
         rest = lines;
     }
     notes.end()?;

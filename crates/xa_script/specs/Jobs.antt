@@ -1,6 +1,7 @@
 -- What each job writes, and how it ends. `old` is what the writer had got before, where that is known.
 --     WritesAs       what is written with `--json`, and without
---     HasRun, HasRaced, HasCame, HasJudged, HasExplored, HasStopped, HasAudited
+--     HasRun, HasRaced, HasCame, HasJudged, HasExplored, HasStopped, HasAudited,
+--     HasListed
 --                    how each of these jobs ends, and what it leaves in the writer
 --     IsFlushed      the same behind a flush
 --     HasDone        the same of any job that reads one input
@@ -29,6 +30,7 @@ use Rattle.xa_script.specs.declared.command.Job.{Job}
 use Rattle.xa_script.specs.declared.command.Job.TheVariants.{Run, Race, Coordinate, Serve, Show, Judge, Explore, Stops}
 use Rattle.xa_script.specs.declared.command.Job.TheVariants.{Audit}
 use Rattle.xa_script.specs.Status.{AppendsVerdict, AppendsOutcomes, AppendsRaceBy, AppendsCame, AppendsStopped}
+use Rattle.xa_script.specs.Several.{ListsAll, AfterListing}
 use Rattle.xa_script.specs.Status.{AppendsAuditBy, AfterAuditing, asked_of, end_of}
 
 -- how a job ended: with a status, or in a fault
@@ -107,6 +109,13 @@ HasAudited histories form old new done =
     MatchResult done (λ status. AppendsAuditBy histories form status old new)
     (λ fault. AfterAuditing histories form fault old new)
 
+-- several records were judged
+abbrev pub HasListed : State → List Allowance → Asked → (strict tap : Bool) → (names records : List (List ℕ))
+    → (old new : Option (List ℕ)) → End → Type 0
+HasListed base allowances asked strict tap names records old new done =
+    MatchResult done (λ status. ListsAll base allowances asked strict tap names records status old new)
+    (λ fault. AfterListing base allowances asked tap names records fault old new)
+
 -- a conversation that isn't ended by a fault ends with 0; what it writes is a promise of `serve` to its client
 abbrev pub HasConversed : End → Type 0
 HasConversed done = IfOk done (λ status. status ≡ 0)
@@ -132,8 +141,8 @@ HasDone contents (Race capacity schedule renews runs) json base allowances input
 HasDone contents (Coordinate stores capacity fixed) json base allowances input old new done = HasConversed done
 HasDone contents Serve json base allowances input old new done = HasConversed done
 HasDone contents Show json base allowances input old new done = HasConversed done
-HasDone contents (Judge limit explain object) json base allowances input old new done =
-    IsFlushed contents (HasJudged base allowances (asked_of limit explain object) input old) new done
+HasDone contents (Judge limit explain object strict) json base allowances input old new done =
+    IsFlushed contents (HasJudged base allowances (asked_of limit explain object strict) input old) new done
 HasDone contents (Explore limit) json base allowances input old new done =
     IsFlushed contents (HasExplored json limit input old) new done
 HasDone contents (Stops stores capacity) json base allowances input old new done =

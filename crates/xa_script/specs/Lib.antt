@@ -1,9 +1,13 @@
 pub mod CommandLine
+pub mod Foreign
 pub mod Jobs
 pub mod Lines
+pub mod Listing
 pub mod Manner
 pub mod Owing
+pub mod Several
 pub mod Status
+pub mod TextLines
 pub mod Texts
 pub mod Unread
 pub mod Wanted

@@ -2,12 +2,14 @@
 --     IsManner     the manner that the values of the options give
 --     HasManner    the manner that the words name
 --     HasHistories the histories that the words name
+--     HasRecords   the records that the words name, and how they are listed
 use Rattle.std.specs.Prelude.{◌≡◌, Option, List, [], codes, map, unwrap_or}
 use Rattle.std.specs.Option.{IsSomeAnd, option_map}
 use Rattle.clap.specs.Words.{Text, all_of, first_of, one_of, subcommand_of}
 use Rattle.xa_script.specs.CommandLine.{IsFlagOf, script_app}
 use Rattle.xa_script.specs.declared.histories.Histories.{Histories}
 use Rattle.xa_script.specs.declared.manner.Manner.{Manner}
+use Rattle.xa_script.specs.declared.records.Records.{Records}
 
 -- each file is the value of its option, and each flag is as its option says
 abbrev pub IsManner : (file allow from verbose strict text quiet json : Option Text) → Manner → Type 0
@@ -32,3 +34,10 @@ abbrev pub HasHistories : List Text → Histories → Type 0
 HasHistories words histories =
     IsSomeAnd (subcommand_of script_app words) (λ found. map (λ name. name.now) histories.names.items
     ≡ unwrap_or (all_of (codes "history") found.1) [])
+
+-- the names are all values of `RECORD..`, in their order, as `clap` matches the words, and TAP is as its option says;
+-- none, for a job that has no such argument
+abbrev pub HasRecords : List Text → Records → Type 0
+HasRecords words records =
+    IsSomeAnd (subcommand_of script_app words) (λ found. (map (λ name. name.now) records.names.items
+    ≡ unwrap_or (all_of (codes "record") found.1) []) × IsFlagOf (one_of (codes "tap") found.1) records.tap)

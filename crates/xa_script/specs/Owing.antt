@@ -1,16 +1,12 @@
 -- What a writer of texts has written, and has still to write.
 --     sent_of        what was written, and what is due
 --     known_of       the same, and what has come of the line
---     IsWrittenAs    what is written for a line
---     KeepsLine      which lines are written as they are
 --     Takes          what a writer of texts does with the bytes that it takes
-use Rattle.std.specs.Prelude.{◌≡◌, ℕ, Bool, true, false, List, ◌++◌, ◌⊎◌, drop, Option, ⊤}
+use Rattle.std.specs.Prelude.{◌≡◌, ◌≤◌, ◌<◌, ℕ, ◌+◌, true, false, not, List, [], ◌++◌, ◌⊎◌, length, take, drop, Option}
 use Rattle.std.specs.Io.KnownBytes.{Appends, append_known}
-use Rattle.xa_lines.specs.Script.{is_comment_line}
 use Rattle.xa_script.specs.declared.line_form.LineForm.{LineForm}
-use Rattle.xa_script.specs.declared.line_form.LineForm.TheVariants.{Answers, Shown, Verdict, Object}
-use Rattle.xa_script.specs.Texts.{with_texts}
 use Rattle.xa_script.specs.declared.texts.Texts.{Texts}
+use Rattle.xa_script.specs.TextLines.{unfed, is_fed, rows_after, ends_line, IsWrittenAs}
 
 -- what was written, and then what is due
 abbrev pub sent_of : {W : Type 0} → (W → Option (List ℕ)) → Texts W → Option (List ℕ)
@@ -20,28 +16,42 @@ sent_of contents texts = append_known (contents texts.inner) (drop texts.given t
 abbrev pub known_of : {W : Type 0} → (W → Option (List ℕ)) → Texts W → Option (List ℕ)
 known_of contents texts = append_known (contents texts.inner) (drop texts.given texts.due.items ++ texts.held.items)
 
--- a line is written as it stands, or with its literals as texts; of an object nothing is changed
-abbrev pub IsWrittenAs : LineForm → (line text : List ℕ) → Type 0
-IsWrittenAs Answers line text = (text ≡ line) ⊎ (text ≡ with_texts line)
-IsWrittenAs Shown line text = (text ≡ line) ⊎ (text ≡ with_texts line)
-IsWrittenAs Verdict line text = (text ≡ line) ⊎ (text ≡ with_texts line)
-IsWrittenAs Object line text = text ≡ line
-
--- whether a line is written as it is: a comment where stores are shown, and each object, but no answer
-abbrev pub KeepsLine : LineForm → (line : List ℕ) → (kept : Bool) → Type 0
-KeepsLine Answers line kept = kept ≡ false
-KeepsLine Shown line kept = kept ≡ is_comment_line line
-KeepsLine Verdict line kept = ⊤
-KeepsLine Object line kept = kept ≡ true
+-- a whole line, and what is written for it: a row stays as it is, and any other line says how many rows come next
+pub record IsEnded (form : LineForm) (rows : ℕ) (line text : List ℕ) (next : ℕ) : Type 0 where
+  pub as_row : 0 < rows → (text ≡ line) × (next + 1 ≡ rows)
+  pub as_line : rows ≡ 0 → IsWrittenAs form line text × (next ≡ rows_after form (unfed line))
 
 -- the bytes end a line, and what is written for it is due
 pub record Ends {W : Type 0} (contents : W → Option (List ℕ)) (old : Texts W) (bytes : List ℕ)
     (new : Texts W) : Type 0 where
   pub text : List ℕ
-  pub written : IsWrittenAs old.form (old.held.items ++ bytes) text
+  pub whole : ends_line old.rows (old.held.items ++ bytes) ≡ true
+  pub written : IsEnded old.form old.rows (old.held.items ++ bytes) text new.rows
   pub sent : Appends (sent_of contents old) (known_of contents new) text
+  pub held : new.held.items ≡ []
+  pub passes : new.passes ≡ false
 
--- the bytes that are taken come behind those that are known, or end a line
+-- the bytes come after those of a line that isn't whole yet
+pub record Comes {W : Type 0} (contents : W → Option (List ℕ)) (old : Texts W) (bytes : List ℕ)
+    (new : Texts W) : Type 0 where
+  pub known : Appends (known_of contents old) (known_of contents new) bytes
+  pub begun : (count : ℕ) → 0 < count → count ≤ length bytes
+      → ends_line old.rows (old.held.items ++ take count bytes) ≡ false
+  pub held : new.held.items ≡ old.held.items ++ bytes
+  pub rows : new.rows ≡ old.rows
+  pub passes : new.passes ≡ false
+
+-- the bytes pass unchanged, up to a line feed, since the line has more bytes than there is room for, or was cut off by
+-- a flush
+pub record Passes {W : Type 0} (contents : W → Option (List ℕ)) (old : Texts W) (bytes : List ℕ)
+    (new : Texts W) : Type 0 where
+  pub why : (old.passes ≡ true) ⊎ (length old.held.items ≡ 512)
+  pub known : Appends (known_of contents old) (known_of contents new) bytes
+  pub passes : new.passes ≡ not (is_fed bytes)
+  pub held : new.held.items ≡ []
+  pub rows : new.rows ≡ old.rows
+
+-- the bytes that are taken come after those of a line, end it, or pass
 abbrev pub Takes : {W : Type 0} → (W → Option (List ℕ)) → Texts W → List ℕ → Texts W → Type 0
 Takes contents old bytes new =
-    Appends (known_of contents old) (known_of contents new) bytes ⊎ Ends contents old bytes new
+    Comes contents old bytes new ⊎ (Ends contents old bytes new ⊎ Passes contents old bytes new)

@@ -2,7 +2,10 @@
 --     quoted          the text in quotes that stands for bytes
 --     word_text       what is written for a word
 --     with_texts      what is written for a line
-use Rattle.std.specs.Prelude.{ℕ, Bool, true, ◌==◌, ◌||◌, ◌&&◌, nat_le, if◌then◌else◌, List, [], ◌∷◌, ◌++◌, Ok, Err}
+--     IsTooLong       there is no room for so many bytes
+--     IsWithTexts     a line is written so wherever there is room
+use Rattle.std.specs.Prelude.{◌≡◌, ◌<◌, ◌⊎◌, ℕ, Bool, true, ◌==◌, ◌||◌, ◌&&◌, nat_le, if◌then◌else◌, List, [], ◌∷◌}
+use Rattle.std.specs.Prelude.{◌++◌, length, Ok, Err}
 use Rattle.xa_xid.specs.Literal.{Reading, literal_ahead}
 use Rattle.xa_xid.specs.Xid.{Text}
 
@@ -52,3 +55,11 @@ texts_from word (byte ∷ text) =
 -- each word as it is written
 abbrev pub with_texts : List ℕ → List ℕ
 with_texts line = texts_from [] line
+
+-- there is room for 512 bytes of a line
+abbrev pub IsTooLong : List ℕ → Type 0
+IsTooLong line = 512 < length line
+
+-- a line is written with its literals as texts, or as it stands if there is no room for that
+abbrev pub IsWithTexts : (line text : List ℕ) → Type 0
+IsWithTexts line text = (text ≡ with_texts line) ⊎ ((text ≡ line) × IsTooLong (with_texts line))

@@ -5,6 +5,7 @@ ghost use Rattle.xa_script.specs.Status.{IsAllowedBy};
 
 use crate::files::opened;
 use crate::manner::Manner;
+use crate::too_long::tell_file_too_long;
 use std::alloc::{AllocError, Global};
 use std::io::Read;
 use std::rt::Files;
@@ -61,8 +62,12 @@ pub fn allowed<R: Files + Eprint + Alloc<A = Global>>(
     match manner.allow {
         None => Ok(Some(Vec::new(rt.alloc()))),
         Some(name) => {
-            let mut file = opened(rt, name, manner.verbose)?;
-            allowances_in(rt, &mut file)
+            let mut file = opened(rt, name)?;
+            let allowed = allowances_in(rt, &mut file);
+            if manner.verbose {
+                tell_file_too_long(rt, "--allow", "1,048,576", &allowed);
+            }
+            allowed
         }
     }
 }

@@ -52,6 +52,8 @@ pub enum Job {
         explain: bool,
         /// Whether the verdict is a JSON object.
         json: bool,
+        /// Whether a call that isn't a statement is a faulty line.
+        strict_calls: bool,
     },
     /// Runs the script of the standard input in every order of its sessions.
     Explore {
@@ -215,7 +217,7 @@ fn stops_in(found: &ArgMatches<'_>) -> Option<Job>
 fn judge_in(found: &ArgMatches<'_>) -> Option<Job>
     ensures some { IfSome result
         (IsJudgeOf (one_text (found_of found.now) (codes "limit")) (one_text (found_of found.now) (codes "explain"))
-        (one_text (found_of found.now) (codes "json"))) }
+        (one_text (found_of found.now) (codes "json")) (one_text (found_of found.now) (codes "strict-calls"))) }
     ensures none { result ≡ None → (limit : ℕ) → IsSomeAnd (one_text (found_of found.now) (codes "limit"))
         (IsLimitText limit) → ⊥ }
 {
@@ -224,6 +226,7 @@ fn judge_in(found: &ArgMatches<'_>) -> Option<Job>
             limit,
             explain: flag_in(found, "explain"),
             json: flag_in(found, "json"),
+            strict_calls: flag_in(found, "strict-calls"),
         }),
         None => None,
     }

@@ -4,23 +4,19 @@ use std::io;
 use std::rt::Files;
 use xa_lines::ScriptFault;
 
-/// Reports that a file can't be opened, and returns that as a read fault.
-fn unopened<R: Eprint>(rt: &R, name: &str, error: &io::Error, speaks: bool) -> ScriptFault {
-    if speaks {
-        let _ = eprintln!(rt; "xa_script: can't open {name}: {error}");
-    } else {
-        let _ = eprintln!(rt; "xa_script: can't open {name}");
-    }
+/// Reports that a file can't be opened, and why, and returns that as a read fault.
+fn unopened<R: Eprint>(rt: &R, name: &str, error: &io::Error) -> ScriptFault {
+    let _ = eprintln!(rt; "xa_script: can't open {name}: {error}");
     ScriptFault::Read
 }
 
 /// Opens a file to read it.
 ///
-/// Errors: `Read` if it can't be opened. The standard error then names the file, and also the cause if
-/// `speaks`. Doesn't wait, unless the file does.
-pub fn opened<R: Files + Eprint>(rt: &R, name: &str, speaks: bool) -> Result<R::File, ScriptFault> {
+/// Errors: `Read` if it can't be opened. The standard error then names the file and the cause. Doesn't wait, unless
+/// the file does.
+pub fn opened<R: Files + Eprint>(rt: &R, name: &str) -> Result<R::File, ScriptFault> {
     match File::open(rt, name) {
         Ok(file) => Ok(file),
-        Err(error) => Err(unopened(rt, name, &error, speaks)),
+        Err(error) => Err(unopened(rt, name, &error)),
     }
 }

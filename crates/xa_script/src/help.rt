@@ -177,8 +177,8 @@ The verdicts are
   ILLEGAL line l           an order explains the record before this line, but none explains this line too; below
                            it are the answers that could be there; the status is 4
   UNDECIDED line l         more than N configurations have to be kept there; the status is 5; raise --limit
-If lines are faulty, each is named, as LINE l: CAUSE, and the status is 6. A record in which nothing happens is
-EMPTY, and the status is 7.
+If lines are faulty, each is named, as LINE l: CAUSE, and the status is 6. With --strict-calls a call whose text isn't a
+statement is faulty too. A record in which nothing happens is EMPTY, and the status is 7.
 A line of the file of --allow accepts another number for a refusal:
   1399 XA COMMIT: 1400     if the rules refuse such a statement with 1399, the server may return 1400
 The file of --from lists the store with which the record begins: all branches as show prints them, and then each row
@@ -192,6 +192,13 @@ With --explain an order that explains the lines before follows ILLEGAL, and then
   STATE
     ROW 0x6b VALUE 0x76
 The object of --json has the keys verdict, line, could_be, order, state and faulty.
+If several records are named, a line for each has its name and the first line of its verdict, and the status is the
+least that isn't 0. With --tap a record is ok if it is LEGAL, and its verdict is in comments:
+  TAP version 13
+  1..1
+  not ok 1 - server.record
+  # ILLEGAL line 4
+  # COULD BE NONE
 More: docs/COMMANDS.md#judge and docs/HISTORIES.md.";
 
 /// What `audit` reads and prints, as its help shows it.

@@ -2,19 +2,22 @@
 //!
 //! What a job writes depends on what it is asked for alone. `rt` and `speaks` are for the standard error.
 ghost use Rattle.std.specs.Prelude.{◌≡◌, ◌≤◌, ◌⊎◌, [], ℕ, List, Some, Err, IfOk, IfErr, IfSome, OnOk, length, map};
+ghost use Rattle.std.specs.Prelude.{option_map, unwrap_or};
 ghost use Rattle.std.specs.Io.KnownBytes.{Appends, Keeps};
 ghost use Rattle.std.specs.Io.Buffered.{writer_buffer, writer_contents, writer_inner};
 ghost use Rattle.decision_log.specs.Opens.{IsCapacity};
 ghost use Rattle.xa_lines.specs.Transcript.{transcript, AfterFault};
 ghost use Rattle.xa_script.specs.CommandLine.{IsLimit, IsStoreCount};
 ghost use Rattle.xa_script.specs.Jobs.{HasRun, HasRaced, HasCame, HasJudged, HasExplored, HasStopped, HasAudited};
-ghost use Rattle.xa_script.specs.Jobs.{HasConversed, IsFlushed};
+ghost use Rattle.xa_script.specs.Jobs.{HasConversed, HasListed, IsFlushed};
 
 use crate::advised::Advised;
 use crate::auditing::audit_within;
 use crate::exploring::explore_as;
-use crate::judging::judge_within;
+use crate::judging_each::list_within;
+use crate::judging_read::judge_read;
 use crate::line_form::LineForm;
+use crate::manner::Manner;
 use crate::racing::race_as;
 use crate::running::run_as;
 use crate::spoken::Spoken;
@@ -172,7 +175,30 @@ pub fn judge<I: Read, W: Write + Drop, R: Clock + Eprint + Alloc<A = Global>>(
 {
     let mut telling = Telling::new(rt, quiet);
     let telling = &mut telling;
-    let done = judge_within(rt.alloc(), base, input, output, allowances, asked, telling);
+    let done = judge_read(rt, base, input, output, allowances, asked, telling);
+    flushed(output, done)
+}
+
+/// Judges records, which begin with this server. If `tap`, what each came to is written in the Test Anything Protocol.
+pub fn judge_each<I: Read + Drop, W: Write + Drop, R: Clock + Eprint + Alloc<A = Global>>(
+    rt: &R,
+    inputs: Vec<Watch<'_, I, R>>,
+    output: &mut BufWriter<W>,
+    base: &Server,
+    allowances: &[Allowance],
+    asked: Asked,
+    manner: &Manner<'_>,
+    tap: bool,
+) -> Result<u8, ScriptFault>
+    requires limit { IsLimit asked.limit }
+    requires count { length inputs.items ≤ 1000 }
+    ensures { (records : List (List ℕ))
+        → map (λ input. I.remaining input.inner) inputs.entry.items ≡ map Some records
+        → IsFlushed W.contents (HasListed base.now allowances.now asked manner.now.strict tap
+        (map (λ input. unwrap_or (option_map (λ name. name.now) input.name) []) inputs.entry.items) records
+        (writer_contents W.contents output.old)) output.new result }
+{
+    let done = list_within(rt, base, inputs, output, allowances, asked, manner, tap);
     flushed(output, done)
 }
 

@@ -1,6 +1,11 @@
 //! The form of the lines that a job writes.
-ghost use Rattle.std.specs.Prelude.{◌≡◌};
-ghost use Rattle.xa_script.specs.Owing.{KeepsLine};
+ghost use Rattle.std.specs.Prelude.{◌≡◌, ◌≤◌, MatchOption, true, false, nat_eq, codes, drop};
+ghost use Rattle.std.specs.List.{starts_with};
+ghost use Rattle.xa_statement.specs.Reading.{read_of};
+ghost use Rattle.xa_lines.specs.Script.{line_of};
+ghost use Rattle.xa_script.specs.TextLines.{behind_first as after_first, first_number as number_first, could_be as is_answer};
+ghost use Rattle.xa_script.specs.TextLines.{has_form, is_given, is_own, rows_of as rows_said, past_number as after_number};
+ghost use Rattle.xa_script.specs.TextLines.{rows_after, keeps_line, is_whole_row as is_row_whole};
 
 use xa_lines::{ScriptLine, is_comment, number_in, read_line, split_word};
 use xa_statement::read_statement;
@@ -17,10 +22,14 @@ pub enum LineForm {
     Verdict,
     /// A verdict as a JSON object.
     Object,
+    /// Test points, and a verdict in the comments below each.
+    Noted,
 }
 
 /// Returns what comes after the first word and one more byte.
-fn behind_first(text: &[u8]) -> &[u8] {
+fn behind_first(text: &[u8]) -> &[u8]
+    ensures { result.now ≡ after_first text.now }
+{
     match split_word(text).1 {
         [] => &[],
         [_, rest @ ..] => rest,
@@ -28,17 +37,24 @@ fn behind_first(text: &[u8]) -> &[u8] {
 }
 
 /// Returns the number that the first word is.
-fn first_number(text: &[u8]) -> Option<u64> {
+fn first_number(text: &[u8]) -> Option<u64>
+    ensures { result ≡ number_first text.now }
+{
     number_in(split_word(text).0)
 }
 
 /// Returns what comes after `COULD BE ` in a line of a verdict.
-fn could_be(line: &[u8]) -> Option<&[u8]> {
+fn could_be(line: &[u8]) -> Option<&[u8]>
+    ensures { MatchOption result (is_answer line.now ≡ false)
+        (λ reply. (is_answer line.now ≡ true) × (reply.now ≡ drop 9 line.now)) }
+{
     line.strip_prefix(b"COULD BE ")
 }
 
 /// Returns whether the text is a statement with a canonical form, in which a verdict then writes it.
-fn is_statement(text: &[u8]) -> bool {
+fn is_statement(text: &[u8]) -> bool
+    ensures { result ≡ has_form (read_of text.now) }
+{
     match read_statement(text) {
         Ok(Statement::Unsupported) => false,
         Ok(_) => true,
@@ -47,7 +63,9 @@ fn is_statement(text: &[u8]) -> bool {
 }
 
 /// Whether a line of a verdict has a statement that isn't a client's own text.
-fn has_statement(line: &[u8]) -> bool {
+fn has_statement(line: &[u8]) -> bool
+    ensures { result ≡ is_given (line_of line.now) }
+{
     match read_line(line) {
         ScriptLine::Given(_, text) => is_statement(text),
         ScriptLine::Blank | ScriptLine::Bad => false,
@@ -55,28 +73,46 @@ fn has_statement(line: &[u8]) -> bool {
 }
 
 /// Whether a line of a verdict shows a branch or a row of the store.
-fn is_of_store(line: &[u8]) -> bool {
+fn is_of_store(line: &[u8]) -> bool
+    ensures { result ≡ starts_with nat_eq line.now (codes "  ") }
+{
     line.starts_with(b"  ")
 }
 
+/// Whether a line of a verdict has nothing that is written in literals of the job's own.
+fn is_said(line: &[u8]) -> bool
+    ensures { result ≡ is_own line.now }
+{
+    could_be(line).is_none() && !is_of_store(line) && !has_statement(line)
+}
+
 /// Returns how many rows a reply says that the next lines are.
-fn rows_of(reply: &[u8]) -> u64 {
+fn rows_of(reply: &[u8]) -> u64
+    ensures { result ≡ rows_said reply.now }
+{
     match reply.strip_prefix(b"ROWS ") {
         Some(count) => number_in(count).unwrap_or(0),
         None => 0,
     }
 }
 
-/// Returns the reply of an answer: what comes after its session and its place.
-fn reply_in(line: &[u8]) -> &[u8] {
-    let mut reply = line;
-    for _number in 0..2 {
-        // Not every answer has a place, and a comment has no session either.
-        if first_number(reply).is_some() {
-            reply = behind_first(reply);
-        }
+/// Returns what comes after the first word if that is a number, and else the text.
+fn past_number(text: &[u8]) -> &[u8]
+    ensures { result.now ≡ after_number text.now }
+{
+    if first_number(text).is_some() {
+        behind_first(text)
+    } else {
+        text
     }
-    reply
+}
+
+/// Returns the reply of an answer: what comes after its session and its place.
+fn reply_in(line: &[u8]) -> &[u8]
+    ensures { result.now ≡ after_number (after_number line.now) }
+{
+    // Not every answer has a place, and a comment has no session either.
+    past_number(past_number(line))
 }
 
 impl LineForm {
@@ -85,31 +121,37 @@ impl LineForm {
     ///
     /// The line is without its line feed. Takes no memory. Doesn't wait.
     pub fn keeps(self, line: &[u8]) -> bool
-        // Proved (scripts, text-kept-lines): Where `--text` changes literals, no answer is kept out for its form, and
-        //   every object is, and every comment among shown stores.
-        ensures { KeepsLine self line.now result }
+        // Proved (scripts, text-kept-lines): `--text` leaves just these lines as they are: every object, every comment
+        //   among shown stores, and a client's own text in a verdict.
+        ensures { result ≡ keeps_line self line.now }
     {
         match self {
             LineForm::Answers => false,
             LineForm::Shown => is_comment(line),
-            LineForm::Verdict => {
-                could_be(line).is_none() && !is_of_store(line) && !has_statement(line)
-            }
+            LineForm::Verdict => is_said(line),
             LineForm::Object => true,
+            LineForm::Noted => match line.strip_prefix(b"# ") {
+                Some(line) => is_said(line),
+                None => true,
+            },
         }
     }
 
     /// Returns how many rows a line says that the next lines are.
     ///
     /// The line is without its line feed. Takes no memory. Doesn't wait.
-    pub fn rows_behind(self, line: &[u8]) -> u64 {
+    pub fn rows_behind(self, line: &[u8]) -> u64
+        // Proved (scripts, text-rows): With `--text` the next lines are taken for rows only if a reply says so, and for as
+        //   many as it says.
+        ensures { result ≡ rows_after self line.now }
+    {
         match self {
             LineForm::Answers | LineForm::Shown => rows_of(reply_in(line)),
             LineForm::Verdict => match could_be(line) {
                 Some(reply) => rows_of(reply),
                 None => 0,
             },
-            LineForm::Object => 0,
+            LineForm::Object | LineForm::Noted => 0,
         }
     }
 }
@@ -118,7 +160,9 @@ impl LineForm {
 /// digits these hold no line feed.
 ///
 /// Takes no memory. Doesn't wait.
-pub fn is_whole_row(row: &[u8]) -> bool {
+pub fn is_whole_row(row: &[u8]) -> bool
+    ensures { result ≡ is_row_whole row.now }
+{
     let lengths = behind_first(row);
     let second = behind_first(lengths);
     let data = behind_first(second);

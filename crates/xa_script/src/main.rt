@@ -8,10 +8,11 @@
 //! has a contract. Read `src/jobs.rt` next, then `src/command.rt`, `src/subcommands.rt` and `src/help.rt`.
 #![tactic(auto)]
 
-ghost use Rattle.std.specs.Prelude.{◌≡◌, ◌≤◌, IfOk, length};
+ghost use Rattle.std.specs.Prelude.{◌≡◌, ◌≤◌, IfOk, IfSome, length};
 ghost use Rattle.std.specs.Io.Buffered.{writer_contents};
-ghost use Rattle.xa_script.specs.CommandLine.{CanBeDone, ReadsInput, audit_asked};
+ghost use Rattle.xa_script.specs.CommandLine.{CanBeDone, IsLimit, ReadsInput, audit_asked};
 ghost use Rattle.xa_script.specs.Jobs.{HasDone, IsLookedAt};
+ghost use Rattle.xa_script.specs.Several.{judging_asked};
 ghost use Rattle.xa_script.specs.Lines.{kind_of_lines, most_bytes, form_of_job, form_of_lines, form_of_texts};
 ghost use Rattle.xa_script.specs.Status.{status_after, status_of_job, strict_status, end_of};
 
@@ -21,18 +22,24 @@ mod auditing;
 mod command;
 mod exploring;
 mod files;
+mod foreign;
 mod help;
 mod hint;
 mod histories;
 mod jobs;
 mod judging;
+mod judging_each;
+mod judging_read;
 mod laws;
 mod line_fault;
 mod line_form;
 mod line_kind;
+mod listed;
+mod listing;
 mod manner;
 mod options;
 mod racing;
+mod records;
 mod running;
 mod schedule;
 mod spoken;
@@ -44,6 +51,8 @@ mod subcommands;
 mod telling;
 mod text_line;
 mod texts;
+mod too_long;
+mod verdict;
 mod wanted;
 mod watch;
 
@@ -59,6 +68,7 @@ pub use laws::texts_are_read_back;
 use line_form::LineForm;
 use line_kind::LineKind;
 pub use manner::{Manner, read_manner};
+pub use records::{Records, read_records};
 pub use schedule::Schedule;
 use starting::first_store;
 use std::alloc::Global;
@@ -69,13 +79,17 @@ use std::rt::{Clock, Files};
 use std::sync::Wait;
 use std::thread::Threads;
 use std::{env, io};
+use too_long::tell_too_long;
 use watch::Watch;
 use xa_audit::Form;
 use xa_lines::LINE_BYTES;
 pub use xa_lines::{CutReader, CutWriter, ScriptFault, run_script};
 pub use xa_races::{race_script, race_script_in_rounds};
-use xa_record::Allowance;
+use xa_record::{Allowance, Asked};
 use xa_server::Server;
+
+/// The name of the standard input in a list of verdicts.
+const STANDARD_INPUT: &str = "standard input";
 
 /// The status of a run that was done, and of help.
 const DONE: u8 = 0;
@@ -88,6 +102,9 @@ const COMMAND_FAULT: u8 = 2;
 
 /// The status if memory ran out, the log is full, a gate stopped a session, or a thread couldn't be started.
 const GAVE_OUT: u8 = 3;
+
+/// The status of judging and exploring if the limit was passed.
+const UNDECIDED: u8 = 5;
 
 /// The status of a job that was done if a line had a syntax fault, and `--strict` asks for that.
 const UNREAD: u8 = 8;
@@ -109,13 +126,17 @@ fn status<
         read_command(rt.alloc(), words),
         read_manner(rt.alloc(), words),
         read_histories(rt.alloc(), words),
+        read_records(rt.alloc(), words),
     ) {
-        (Ok(job), Ok(manner), Ok(histories)) => {
-            ended(rt, &manner, carry_out(rt, job, &manner, &histories))
-        }
-        (Err(error), _, _) => refuse(rt, &error),
-        (_, Err(error), _) => refuse(rt, &error),
-        (_, _, Err(error)) => refuse(rt, &error),
+        (Ok(job), Ok(manner), Ok(histories), Ok(records)) => ended(
+            rt,
+            &manner,
+            carry_out(rt, job, &manner, &histories, &records),
+        ),
+        (Err(error), _, _, _) => refuse(rt, &error),
+        (_, Err(error), _, _) => refuse(rt, &error),
+        (_, _, Err(error), _) => refuse(rt, &error),
+        (_, _, _, Err(error)) => refuse(rt, &error),
     }
 }
 
@@ -126,7 +147,15 @@ fn ended<R: Eprint>(rt: &R, manner: &Manner<'_>, done: Result<u8, ScriptFault>) 
     ensures { result ≡ status_of_job done }
 {
     match done {
-        Ok(status) => status,
+        Ok(status) => {
+            // Judging and exploring alone end so.
+            if status == UNDECIDED {
+                let _ = eprintln!(rt;
+                    "xa_script: more had to be kept than --limit allows; raise it, at most to 1,000,000"
+                );
+            }
+            status
+        }
         Err(fault) => {
             tell(rt, &fault);
             if manner.verbose && fault == ScriptFault::Full {
@@ -166,15 +195,36 @@ fn audit_in(job: Job) -> Option<bool>
     }
 }
 
-/// Does a job, and returns the exit status. Only `audit` reads the histories.
+/// Returns what is asked of judging, if the job is to judge.
+fn judging_in(job: Job) -> Option<Asked>
+    requires { CanBeDone job }
+    // Proved (scripts, judging-as-asked)
+    ensures asked { result ≡ judging_asked job }
+    ensures limit { IfSome result (λ asked. IsLimit asked.limit) }
+{
+    match job {
+        Job::Judge {
+            limit,
+            explain,
+            json,
+            strict_calls,
+        } => Some(asked(limit, explain, json, strict_calls)),
+        Job::Run | Job::Race { .. } | Job::Coordinate { .. } | Job::Serve | Job::Show => None,
+        Job::Explore { .. } | Job::Stops { .. } | Job::Audit { .. } => None,
+    }
+}
+
+/// Does a job, and returns the exit status. Only `audit` reads the histories, and only `judge` the records.
 fn carry_out<R: Files + Clock + Input + Print + Eprint + Alloc<A = Global> + Threads + Wait + Sync>(
     rt: &R,
     job: Job,
     manner: &Manner<'_>,
     histories: &Histories<'_>,
+    records: &Records<'_>,
 ) -> Result<u8, ScriptFault>
     requires done { CanBeDone job }
     requires histories { length histories.now.names.items ≤ 64 }
+    requires records { length records.now.names.items ≤ 1000 }
 {
     if let Some(json) = audit_in(job) {
         return carry_out_audit(rt, job, form_asked(json, manner.quiet), manner, histories);
@@ -186,31 +236,130 @@ fn carry_out<R: Files + Clock + Input + Print + Eprint + Alloc<A = Global> + Thr
         return Ok(COMMAND_FAULT);
     };
     let allowances = allowances.as_slice();
-    match manner.file {
+    if let Some(asked) = judging_in(job)
+        && records.are_listed()
+    {
+        return carry_out_records(rt, asked, manner, records, allowances, &base);
+    }
+    let done = match records.only_name().or(manner.file) {
         None => carry_out_on(rt, rt.reader(), job, manner, allowances, &base),
         Some(name) => {
-            let file = opened(rt, name, manner.verbose)?;
+            let file = opened(rt, name)?;
             carry_out_on(rt, file, job, manner, allowances, &base)
         }
+    };
+    if manner.verbose {
+        tell_too_long(rt, job, &done);
     }
+    done
 }
 
-/// Opens each history, the first store's first.
+/// Opens each history, the first store's first, or each record. Their lines are looked at if `speaks` or `counts`.
 ///
 /// Errors: `Read` if one can't be opened; the standard error then names it. `NoMemory`.
 fn opened_each<'r, R: Files + Eprint + Alloc<A = Global>>(
     rt: &'r R,
     names: &'r [&'r str],
+    kind: LineKind,
     speaks: bool,
+    counts: bool,
 ) -> Result<Vec<Watch<'r, R::File, R>>, ScriptFault>
     ensures { IfOk result (λ inputs. length inputs.items ≡ length names.now) }
 {
     let mut inputs = Vec::new(rt.alloc());
     for name in names {
-        let file = opened(rt, name, speaks)?;
-        inputs.push(Watch::of_history(rt, file, name, speaks))?;
+        let file = opened(rt, name)?;
+        inputs.push(Watch::of_file(rt, file, name, kind, speaks, counts))?;
     }
     Ok(inputs)
+}
+
+/// Judges records that readers hold, and returns the exit status that counts.
+fn carry_out_each<I: Read + Drop, R: Clock + Print + Eprint + Alloc<A = Global>>(
+    rt: &R,
+    inputs: Vec<Watch<'_, I, R>>,
+    asked: Asked,
+    manner: &Manner<'_>,
+    tap: bool,
+    allowances: &[Allowance],
+    base: &Server,
+) -> Result<u8, ScriptFault>
+    requires limit { IsLimit asked.limit }
+    requires count { length inputs.items ≤ 1000 }
+{
+    if manner.text && tap {
+        let mut output = jobs::text_output(rt, manner.verbose, LineForm::Noted)?;
+        return jobs::judge_each(
+            rt,
+            inputs,
+            &mut output,
+            base,
+            allowances,
+            asked,
+            manner,
+            tap,
+        );
+    }
+    let mut output = jobs::output(rt, manner.verbose)?;
+    jobs::judge_each(
+        rt,
+        inputs,
+        &mut output,
+        base,
+        allowances,
+        asked,
+        manner,
+        tap,
+    )
+}
+
+/// Judges the record of `--file`, or else of the standard input, lists what it came to, and returns the exit status.
+fn carry_out_alone<R: Files + Clock + Input + Print + Eprint + Alloc<A = Global>>(
+    rt: &R,
+    asked: Asked,
+    manner: &Manner<'_>,
+    tap: bool,
+    allowances: &[Allowance],
+    base: &Server,
+) -> Result<u8, ScriptFault>
+    requires { IsLimit asked.limit }
+{
+    let (kind, speaks, counts) = (LineKind::Record, manner.verbose, manner.strict);
+    match manner.file {
+        None => {
+            let mut inputs = Vec::new(rt.alloc());
+            let input = Watch::of_file(rt, rt.reader(), STANDARD_INPUT, kind, speaks, counts);
+            inputs.push(input)?;
+            carry_out_each(rt, inputs, asked, manner, tap, allowances, base)
+        }
+        Some(name) => {
+            let file = opened(rt, name)?;
+            let mut inputs = Vec::new(rt.alloc());
+            inputs.push(Watch::of_file(rt, file, name, kind, speaks, counts))?;
+            carry_out_each(rt, inputs, asked, manner, tap, allowances, base)
+        }
+    }
+}
+
+/// Judges the records that are named, or else a single one, writes what each came to, and returns the exit status that
+/// counts.
+fn carry_out_records<R: Files + Clock + Input + Print + Eprint + Alloc<A = Global>>(
+    rt: &R,
+    asked: Asked,
+    manner: &Manner<'_>,
+    records: &Records<'_>,
+    allowances: &[Allowance],
+    base: &Server,
+) -> Result<u8, ScriptFault>
+    requires limit { IsLimit asked.limit }
+    requires count { length records.now.names.items ≤ 1000 }
+{
+    if records.names.is_empty() {
+        return carry_out_alone(rt, asked, manner, records.tap, allowances, base);
+    }
+    let (kind, speaks, counts) = (LineKind::Record, manner.verbose, manner.strict);
+    let inputs = opened_each(rt, records.names.as_slice(), kind, speaks, counts)?;
+    carry_out_each(rt, inputs, asked, manner, records.tap, allowances, base)
 }
 
 /// Audits the histories, and returns the exit status.
@@ -223,8 +372,9 @@ fn carry_out_audit<R: Files + Print + Eprint + Alloc<A = Global>>(
 ) -> Result<u8, ScriptFault>
     requires { length histories.now.names.items ≤ 64 }
 {
-    let inputs = opened_each(rt, histories.names.as_slice(), manner.verbose)?;
-    match text_form(job, manner) {
+    let names = histories.names.as_slice();
+    let inputs = opened_each(rt, names, LineKind::Shown, manner.verbose, false)?;
+    let done = match text_form(job, manner) {
         Some(lines) => {
             let mut output = jobs::text_output(rt, manner.verbose, lines)?;
             jobs::audit(rt, inputs, &mut output, form)
@@ -233,7 +383,11 @@ fn carry_out_audit<R: Files + Print + Eprint + Alloc<A = Global>>(
             let mut output = jobs::output(rt, manner.verbose)?;
             jobs::audit(rt, inputs, &mut output, form)
         }
+    };
+    if manner.verbose {
+        tell_too_long(rt, job, &done);
     }
+    done
 }
 
 /// Returns how a job reads its lines, and how many bytes a line may have.
@@ -361,8 +515,8 @@ fn carry_out_to<
     requires done { CanBeDone job }
     requires input { ReadsInput job }
     // Proved (scripts, jobs-as-asked): `run`, `race`, `judge`, `explore` and `stops` write what the job and `--json`
-    //   ask for, of all that the input holds, and end with the status for that. No other option changes a byte.
-    //   `--strict` alone changes a status.
+    //   ask for, of all that the input holds, and end with the status for that. No other option changes a byte of it;
+    //   `--text` writes its literals as texts afterwards. `--strict` alone changes a status.
     ensures { IsLookedAt manner.now.strict (HasDone W.contents job manner.now.json base.now allowances.now
         (I.remaining input) (writer_contents W.contents output.old)) output.new result }
 {
@@ -423,8 +577,9 @@ fn carry_out_job<
             limit,
             explain,
             json,
+            strict_calls,
         } => {
-            let asked = asked(limit, explain, json);
+            let asked = asked(limit, explain, json, strict_calls);
             jobs::judge(rt, input, output, base, allowances, asked, manner.quiet)
         }
         Job::Explore { limit } => jobs::explore(rt, input, output, limit, json),

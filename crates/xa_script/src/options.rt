@@ -4,7 +4,7 @@ ghost use Rattle.clap.specs.Words.{rule_of};
 ghost use Rattle.xa_script.specs.CommandLine.{capacity_rule, together_rule, shuffle_rule, renew_rule, runs_rule};
 ghost use Rattle.xa_script.specs.CommandLine.{fixed_rule, stores_rule, limit_rule};
 ghost use Rattle.xa_script.specs.CommandLine.{number_rule, flag_rule, named_file_rule, verbose_rule, text_rule};
-ghost use Rattle.xa_script.specs.CommandLine.{history_rule, json_rule};
+ghost use Rattle.xa_script.specs.CommandLine.{history_rule, json_rule, record_rule};
 
 use clap::builder::ValueParser;
 use clap::{Arg, ArgAction, value_parser};
@@ -172,4 +172,15 @@ pub fn history_argument<'a>(alloc: Global) -> Arg<'a>
         .help("The files that are audited, from 1 to 64: each is the history of one store")
         .num_args(1..)
         .required(true)
+}
+
+/// Returns the argument `RECORD..`: the files that are judged, if they are named.
+pub fn record_argument<'a>(alloc: Global) -> Arg<'a>
+    ensures rule { rule_of result ≡ record_rule }
+    ensures global { result.global ≡ false }
+{
+    Arg::new(alloc, "record")
+        .value_name("RECORD")
+        .help("The files that are judged, at most 1000, instead of the standard input")
+        .num_args(1..)
 }

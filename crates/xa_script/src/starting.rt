@@ -5,6 +5,7 @@ ghost use Rattle.xa_record.specs.States.{IsStateOf};
 
 use crate::files::opened;
 use crate::manner::Manner;
+use crate::too_long::tell_file_too_long;
 use std::alloc::{AllocError, Global};
 use std::io::Read;
 use std::rt::Files;
@@ -72,8 +73,12 @@ pub fn first_store<R: Files + Eprint + Alloc<A = Global>>(
     match manner.from {
         None => Ok(Some(empty(rt))),
         Some(name) => {
-            let mut file = opened(rt, name, manner.verbose)?;
-            state_in(rt, &mut file)
+            let mut file = opened(rt, name)?;
+            let found = state_in(rt, &mut file);
+            if manner.verbose {
+                tell_file_too_long(rt, "--from", "16,777,216", &found);
+            }
+            found
         }
     }
 }

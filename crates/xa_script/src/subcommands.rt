@@ -9,8 +9,8 @@ use crate::help::{
 };
 use crate::options::{
     capacity_option, file_option, fixed_option, flag_option, history_argument, json_option,
-    limit_option, renew_option, runs_option, shuffle_option, stores_option, text_option,
-    together_option, verbose_option,
+    limit_option, record_argument, renew_option, runs_option, shuffle_option, stores_option,
+    text_option, together_option, verbose_option,
 };
 use clap::Command;
 use std::alloc::{AllocError, Global};
@@ -88,16 +88,21 @@ fn judge_command<'a>(alloc: Global) -> Result<Command<'a>, AllocError>
         "After ILLEGAL, prints an order that explains the lines before, and the store after it";
     let json = "Prints the verdict as one JSON object, in one line";
     let quiet = "Doesn't report on the standard error how far the judging is";
+    let strict = "Takes each call whose text isn't a statement as a faulty line";
     let allow = "Accepts the error numbers that FILE allows in place of others";
     let from =
         "Begins with the store that FILE lists, as show prints one, instead of an empty store";
+    let tap = "Lists the verdicts in the Test Anything Protocol, for prove and the like";
     plain_command(alloc, "judge", about, RECORDS)
+        .arg(record_argument(alloc))?
         .arg(limit_option(alloc, limit))?
         .arg(flag_option(alloc, "explain", explain))?
         .arg(flag_option(alloc, "json", json))?
         .arg(flag_option(alloc, "quiet", quiet))?
         .arg(file_option(alloc, "allow", allow))?
-        .arg(file_option(alloc, "from", from))
+        .arg(file_option(alloc, "from", from))?
+        .arg(flag_option(alloc, "tap", tap))?
+        .arg(flag_option(alloc, "strict-calls", strict))
 }
 
 /// Returns the subcommand that explores a script.

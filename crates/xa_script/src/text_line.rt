@@ -1,7 +1,7 @@
 //! A line whose literals are written as texts in quotes.
-ghost use Rattle.std.specs.Prelude.{◌≡◌, ◌++◌, ◌∷◌, [], ℕ, List, IsTrue, IfSome};
+ghost use Rattle.std.specs.Prelude.{◌≡◌, ◌≤◌, ◌+◌, ◌⊎◌, ◌++◌, ◌∷◌, [], ℕ, List, IsTrue, IfSome, IfNone, OnSome, length};
 ghost use Rattle.xa_script.specs.Texts.{is_printable, are_printable, between_quotes, quoted, word_text, is_between};
-ghost use Rattle.xa_script.specs.Texts.{texts_from, with_texts};
+ghost use Rattle.xa_script.specs.Texts.{texts_from, with_texts, IsTooLong};
 
 use arrayvec::ArrayVec;
 use xa_xid::literal_of;
@@ -38,7 +38,8 @@ fn are_plain(bytes: &[u8]) -> bool
 
 /// Appends a byte, if there is room.
 fn put(text: &mut Room, byte: u8) -> Option<()>
-    ensures { IfSome result (λ _. text.new.items ≡ text.old.items ++ byte ∷ []) }
+    ensures some { IfSome result (λ _. text.new.items ≡ text.old.items ++ byte ∷ []) }
+    ensures none { IfNone result (IsTooLong (text.old.items ++ byte ∷ [])) }
 {
     if text.is_full() {
         return None;
@@ -49,7 +50,8 @@ fn put(text: &mut Room, byte: u8) -> Option<()>
 
 /// Appends a word as it is, if there is room.
 fn put_word(text: &mut Room, word: &[u8]) -> Option<()>
-    ensures { IfSome result (λ _. text.new.items ≡ text.old.items ++ word.now) }
+    ensures some { IfSome result (λ _. text.new.items ≡ text.old.items ++ word.now) }
+    ensures none { IfNone result (IsTooLong (text.old.items ++ word.now)) }
 {
     match text.try_extend_from_slice(word) {
         Ok(()) => Some(()),
@@ -59,7 +61,8 @@ fn put_word(text: &mut Room, word: &[u8]) -> Option<()>
 
 /// Appends bytes as they are written between quotes, if there is room.
 fn put_between(text: &mut Room, bytes: &[u8]) -> Option<()>
-    ensures { IfSome result (λ _. text.new.items ≡ text.old.items ++ between_quotes bytes.now) }
+    ensures some { IfSome result (λ _. text.new.items ≡ text.old.items ++ between_quotes bytes.now) }
+    ensures none { IfNone result (IsTooLong (text.old.items ++ between_quotes bytes.now)) }
 {
     for byte in bytes {
         // Within quotes a quote and a backslash stand for themselves only if they are doubled.
@@ -73,7 +76,8 @@ fn put_between(text: &mut Room, bytes: &[u8]) -> Option<()>
 
 /// Appends bytes as a text in quotes, if there is room.
 fn put_text(text: &mut Room, bytes: &[u8]) -> Option<()>
-    ensures { IfSome result (λ _. text.new.items ≡ text.old.items ++ quoted bytes.now) }
+    ensures some { IfSome result (λ _. text.new.items ≡ text.old.items ++ quoted bytes.now) }
+    ensures none { IfNone result (IsTooLong (text.old.items ++ quoted bytes.now)) }
 {
     put(text, b'\'')?;
     put_between(text, bytes)?;
@@ -83,7 +87,8 @@ fn put_text(text: &mut Room, bytes: &[u8]) -> Option<()>
 /// Appends a word, if there is room: a literal of printable bytes as a text in quotes, any other word as it
 /// is.
 fn put_written(text: &mut Room, word: &[u8]) -> Option<()>
-    ensures { IfSome result (λ _. text.new.items ≡ text.old.items ++ word_text word.now) }
+    ensures some { IfSome result (λ _. text.new.items ≡ text.old.items ++ word_text word.now) }
+    ensures none { IfNone result (IsTooLong (text.old.items ++ word_text word.now)) }
 {
     match literal_of(word) {
         Ok((bytes, [])) => {
@@ -109,9 +114,12 @@ fn divides(byte: u8) -> bool
 impl TextLine {
     /// Takes a byte of the line, if there is room.
     fn take(&mut self, byte: u8) -> Option<()>
-        ensures { IfSome result (λ _. (rest : List ℕ)
+        ensures some { IfSome result (λ _. (rest : List ℕ)
             → self.new.text.items ++ texts_from self.new.word.items rest ≡ self.old.text.items
             ++ texts_from self.old.word.items (byte ∷ rest)) }
+        ensures word { OnSome result (length self.new.word.items ≤ length self.old.word.items + 1) }
+        ensures none { IfNone result (IsTooLong (self.old.word.items ++ byte ∷ []) ⊎ ((rest : List ℕ)
+            → IsTooLong (self.old.text.items ++ texts_from self.old.word.items (byte ∷ rest)))) }
     {
         if !divides(byte) {
             return put(&mut self.word, byte);
@@ -125,12 +133,14 @@ impl TextLine {
 
 /// Returns a line with its literals of printable bytes as texts in quotes.
 ///
-/// Returns `None` if the result has more than 512 bytes. Takes no memory. Doesn't wait.
+/// Returns `None` if the line or the result has more than 512 bytes. Takes no memory. Doesn't wait.
 /// Own rule: docs/COMMANDS.md#options-of-every-job.
 pub fn text_line(line: &[u8]) -> Option<Room>
     // Proved (scripts, text-lines): With `--text` each literal of printable bytes in a line becomes a text in
-    //   quotes, and all else stays.
-    ensures { IfSome result (λ text. text.items ≡ with_texts line.now) }
+    //   quotes, and all else stays. Only if the line has more than 512 bytes, before or after that, it isn't written so.
+    ensures some { IfSome result (λ text. text.items ≡ with_texts line.now) }
+    // Proved (scripts, text-lines)
+    ensures none { IfNone result (IsTooLong line.now ⊎ IsTooLong (with_texts line.now)) }
 {
     let mut so_far = TextLine {
         text: Room::new(),

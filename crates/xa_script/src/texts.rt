@@ -1,7 +1,8 @@
 //! A writer that writes the literals of its lines as texts.
-ghost use Rattle.std.specs.Prelude.{◌≡◌, ◌≤◌, ◌<◌, true, false, ⊤, [], length, take, drop, IfOk, OnOk, OnErr};
+ghost use Rattle.std.specs.Prelude.{◌≡◌, ◌≤◌, ◌<◌, ◌⊎◌, not, true, false, ⊤, [], length, take, drop, IfOk, OnOk, OnErr};
 ghost use Rattle.std.specs.Io.{WritesAtMost};
 ghost use Rattle.std.specs.Io.KnownBytes.{Keeps, WriteAppends};
+ghost use Rattle.xa_script.specs.TextLines.{unfed, is_fed, ends_line, IsWrittenAs};
 
 use crate::line_form::{LineForm, is_whole_row};
 use crate::text_line::{Room, text_line};
@@ -43,15 +44,18 @@ fn line_length(bytes: &[u8]) -> usize
 }
 
 /// Returns a line without its line feed.
-fn without_feed(line: &[u8]) -> &[u8] {
-    match line {
-        [front @ .., b'\n'] => front,
-        _ => line,
+fn without_feed(line: &[u8]) -> &[u8]
+    ensures { result.now ≡ unfed line.now }
+{
+    if line.ends_with(b"\n") {
+        &line[..line.len() - 1]
+    } else {
+        line
     }
 }
 
 impl<W: Write + Drop> Texts<W> {
-    ghost use Rattle.xa_script.specs.Owing.{sent_of, known_of, IsWrittenAs, Takes};
+    ghost use Rattle.xa_script.specs.Owing.{sent_of, known_of, IsEnded, Ends, Comes};
 
     /// Returns a writer to this one.
     ///
@@ -78,6 +82,7 @@ impl<W: Write + Drop> Texts<W> {
         ensures held { self.new.held ≡ self.old.held }
         ensures passes { self.new.passes ≡ self.old.passes }
         ensures form { self.new.form ≡ self.old.form }
+        ensures rows { self.new.rows ≡ self.old.rows }
         ensures due { self.new.due ≡ self.old.due }
         ensures more { OnOk result (self.old.given < self.new.given) }
     {
@@ -97,6 +102,7 @@ impl<W: Write + Drop> Texts<W> {
         ensures held { self.new.held ≡ self.old.held }
         ensures passes { self.new.passes ≡ self.old.passes }
         ensures form { self.new.form ≡ self.old.form }
+        ensures rows { self.new.rows ≡ self.old.rows }
         ensures all { OnOk result (drop self.new.given self.new.due.items ≡ []) }
     {
         while self.given < self.due.len() {
@@ -114,6 +120,7 @@ impl<W: Write + Drop> Texts<W> {
         ensures held { self.new.held ≡ self.old.held }
         ensures passes { self.new.passes ≡ self.old.passes }
         ensures form { self.new.form ≡ self.old.form }
+        ensures rows { self.new.rows ≡ self.old.rows }
     {
         self.given = 0;
         self.due = text;
@@ -126,6 +133,7 @@ impl<W: Write + Drop> Texts<W> {
         ensures held { self.new.held.items ≡ [] }
         ensures passes { self.new.passes ≡ true }
         ensures form { self.new.form ≡ self.old.form }
+        ensures rows { self.new.rows ≡ self.old.rows }
         ensures all { OnOk result (drop self.new.given self.new.due.items ≡ []) }
     {
         let held = mem::replace(&mut self.held, Room::new());
@@ -140,6 +148,8 @@ impl<W: Write + Drop> Texts<W> {
         ensures due { OnOk result (drop self.new.given self.new.due.items ≡ []) }
         ensures held { OnOk result (self.new.held.items ≡ []) }
         ensures form { self.new.form ≡ self.old.form }
+        ensures rows { self.new.rows ≡ self.old.rows }
+        ensures cut { self.new.passes ≡ true → (self.old.passes ≡ true) ⊎ (0 < length self.old.held.items) }
     {
         self.give()?;
         // Nothing of a line is held back, so its rest needn't pass unchanged.
@@ -157,6 +167,9 @@ impl<W: Write + Drop> Texts<W> {
             → Keeps (sent_of W.contents self.old) (sent_of W.contents self.new)) }
         ensures held { OnOk result (self.new.passes ≡ false → self.new.held ≡ self.old.held) }
         ensures form { self.new.form ≡ self.old.form }
+        ensures rows { self.new.rows ≡ self.old.rows }
+        ensures full { self.new.passes ≡ true → (self.old.passes ≡ true) ⊎ (length self.old.held.items ≡ 512) }
+        ensures open { self.new.passes ≡ false → self.old.passes ≡ false }
     {
         self.give()?;
         if self.held.is_full() {
@@ -165,10 +178,13 @@ impl<W: Write + Drop> Texts<W> {
         Ok(())
     }
 
-    /// Returns whether what has been taken, which ends in a line feed, is a whole line. A row may hold line
-    /// feeds itself.
-    fn is_whole(&self) -> bool {
-        self.rows == 0 || is_whole_row(without_feed(self.held.as_slice()))
+    /// Returns whether what has been taken is a whole line.
+    fn is_whole(&self) -> bool
+        ensures { result ≡ ends_line self.now.rows self.now.held.items }
+    {
+        let held = self.held.as_slice();
+        // A row may have line feeds in it.
+        held.ends_with(b"\n") && (self.rows == 0 || is_whole_row(without_feed(held)))
     }
 
     /// Returns what is written for a line, which ends in a line feed.
@@ -187,10 +203,12 @@ impl<W: Write + Drop> Texts<W> {
     /// Takes the line that is whole.
     fn end_line(&mut self)
         requires { drop self.old.given self.old.due.items ≡ [] }
-        ensures written { IsWrittenAs self.old.form self.old.held.items self.new.due.items }
+        ensures written { IsEnded self.old.form self.old.rows self.old.held.items self.new.due.items self.new.rows }
         ensures given { self.new.given ≡ 0 }
         ensures held { self.new.held.items ≡ [] }
         ensures inner { self.new.inner ≡ self.old.inner }
+        ensures passes { self.new.passes ≡ self.old.passes }
+        ensures form { self.new.form ≡ self.old.form }
     {
         let held = mem::replace(&mut self.held, Room::new());
         // A row of a list may hold any bytes, so it is left as it is.
@@ -208,14 +226,15 @@ impl<W: Write + Drop> Texts<W> {
         requires due { drop self.old.given self.old.due.items ≡ [] }
         requires passes { self.old.passes ≡ false }
         ensures bound { result ≤ length bytes.now }
-        ensures taken { Takes W.contents self.old (take result bytes.now) self.new }
+        ensures taken { Comes W.contents self.old (take result bytes.now) self.new
+            ⊎ Ends W.contents self.old (take result bytes.now) self.new }
+        ensures form { self.new.form ≡ self.old.form }
     {
         let mut taken = 0;
         while taken < bytes.len() && !self.held.is_full() {
-            let byte = bytes[taken];
-            self.held.push(byte);
+            self.held.push(bytes[taken]);
             taken += 1;
-            if byte == b'\n' && self.is_whole() {
+            if self.is_whole() {
                 self.end_line();
                 return taken;
             }
@@ -231,11 +250,15 @@ impl<W: Write + Drop> Texts<W> {
         ensures due { self.new.due ≡ self.old.due }
         ensures given { self.new.given ≡ self.old.given }
         ensures held { self.new.held ≡ self.old.held }
+        ensures rows { self.new.rows ≡ self.old.rows }
+        ensures form { self.new.form ≡ self.old.form }
+        ensures fed { IfOk result (λ count. self.new.passes ≡ not (is_fed (take count bytes.now))) }
+        ensures passes { OnErr result (self.new.passes ≡ true) }
     {
         let line = &bytes[..line_length(bytes)];
         let count = self.inner.write(line)?;
         // The line ends here, so the next one can be taken.
-        if count > 0 && bytes[count - 1] == b'\n' {
+        if bytes[..count].ends_with(b"\n") {
             self.passes = false;
         }
         Ok(count)
@@ -248,13 +271,21 @@ impl<W: Write + Drop> Write for Texts<W> {
     fn write(&mut self, buf: &[u8]) -> io::Result<usize>
         ensures bound { WritesAtMost result buf.now }
         ensures bytes { ⊤ }
-        // Proved (scripts, text-writer): With `--text` the writer keeps the bytes that it takes in order. A
-        //   whole line is written as it is, or with its literals of printable bytes as texts. Of objects nothing is
-        //   changed.
+        // Proved (scripts, text-writer): With `--text` the writer keeps the bytes that it takes in order. Each whole line
+        //   has its literals of printable bytes written as texts, if it isn't a row or one of the lines that stay as
+        //   they are, and the line has at most 512 bytes before and after that. A line that a flush cuts off passes
+        //   unchanged, and so does one with more bytes, each up to its line feed.
         ensures taken { IfOk result (λ count. Takes W.contents self.old (take count buf.now) self.new) }
+        // Proved (scripts, text-writer)
+        ensures form { self.new.form ≡ self.old.form }
         // Proved (scripts, text-writer-faults): After a fault of the `--text` writer nothing more was taken,
         //   and nothing is lost. A flush that succeeds has written all.
         ensures kept { OnErr result (Keeps (known_of W.contents self.old) (known_of W.contents self.new)) }
+        // Proved (scripts, text-writer-faults)
+        ensures rows { OnErr result (self.new.rows ≡ self.old.rows) }
+        // Proved (scripts, text-writer-faults)
+        ensures full { OnErr result (self.new.passes ≡ true → (self.old.passes ≡ true)
+            ⊎ (length self.old.held.items ≡ 512)) }
     {
         self.make_room()?;
         if self.passes {
@@ -270,6 +301,12 @@ impl<W: Write + Drop> Write for Texts<W> {
         ensures kept { OnErr result (Keeps (known_of W.contents self.old) (known_of W.contents self.new)) }
         // Proved (scripts, text-writer-faults)
         ensures all { OnOk result (Keeps (known_of W.contents self.old) (W.contents self.new.inner)) }
+        // Proved (scripts, text-writer)
+        ensures cut { self.new.passes ≡ true → (self.old.passes ≡ true) ⊎ (0 < length self.old.held.items) }
+        // Proved (scripts, text-writer)
+        ensures rows { self.new.rows ≡ self.old.rows }
+        // Proved (scripts, text-writer)
+        ensures form { self.new.form ≡ self.old.form }
     {
         self.settle()?;
         self.inner.flush()

@@ -1,5 +1,6 @@
 //! Looks at the lines that a job reads, for `--verbose` and `--strict`.
-ghost use Rattle.std.specs.Prelude.{◌≡◌, ◌≢◌, ◌||◌, [], false, true, is_some, IfOk, OnOk, OnErr};
+ghost use Rattle.std.specs.Prelude.{◌≡◌, ◌≢◌, ◌||◌, [], false, true, is_some, IfOk, OnOk, OnErr, Some};
+ghost use Rattle.std.specs.Prelude.{option_map, unwrap_or};
 ghost use Rattle.std.specs.Io.{ReadsAtMost};
 ghost use Rattle.std.specs.Io.KnownBytes.{ReadConsumes};
 ghost use Rattle.xa_script.specs.Unread.{is_unread, kind_after};
@@ -77,15 +78,36 @@ impl<'r, I: Read + Drop, R: Eprint + Alloc<A = Global>> Watch<'r, I, R> {
         }
     }
 
-    /// Returns a reader of a history, one of several, that looks at its lines if `speaks`.
+    /// Returns a reader of a file, one of several, that looks at its lines if `speaks` or `counts`. No line of it is
+    /// too long.
     ///
     /// Takes no memory. Doesn't wait.
-    pub fn of_history(rt: &'r R, inner: I, name: &'r str, speaks: bool) -> Watch<'r, I, R>
+    pub fn of_file(
+        rt: &'r R,
+        inner: I,
+        name: &'r str,
+        kind: LineKind,
+        speaks: bool,
+        counts: bool,
+    ) -> Watch<'r, I, R>
         ensures reader { result.inner ≡ inner }
+        ensures name { option_map (λ name. name.now) result.name ≡ Some name.now }
     {
-        let mut watch = Watch::new(rt, inner, LineKind::Shown, usize::MAX, speaks, false);
+        let mut watch = Watch::new(rt, inner, kind, usize::MAX, speaks, counts);
         watch.name = Some(name);
         watch
+    }
+
+    /// Returns the file's name, if it has one, and else an empty one.
+    ///
+    /// Takes no memory. Doesn't wait.
+    pub fn name(&self) -> &'r str
+        ensures { result.now ≡ unwrap_or (option_map (λ name. name.now) self.now.name) [] }
+    {
+        match self.name {
+            Some(name) => name,
+            None => "",
+        }
     }
 
     /// Returns whether a line had a syntax fault.

@@ -83,6 +83,21 @@ fn copy_goes_its_own_way(rt: HostRuntime) -> Result<(), Fail> {
 }
 
 #[test]
+fn servers_of_the_same_statements_are_the_same(rt: HostRuntime) -> Result<(), Fail> {
+    let mut server = Server::new(rt.alloc());
+    replies(&rt, rt.alloc(), &mut server, BEGUN);
+    let mut other = Server::new(rt.alloc());
+    replies(&rt, rt.alloc(), &mut other, BEGUN);
+    let copy = server.copy()?;
+    let is_same = server.is_same(&other) && server.is_same(&copy);
+    assert!(rt; is_same);
+    replies(&rt, rt.alloc(), &mut other, "2 PUT 'z','x' => OK\n");
+    let is_same = server.is_same(&other);
+    assert!(rt; !is_same);
+    Ok(())
+}
+
+#[test]
 fn no_rows_are_listed_of_no_branch(rt: HostRuntime) {
     let mut server = Server::new(rt.alloc());
     replies(&rt, rt.alloc(), &mut server, BEGUN);

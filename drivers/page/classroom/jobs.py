@@ -144,12 +144,13 @@ def stops(pool, question):
 
 
 def judge(pool, question):
-    """Judges a record, in a child that may use what its limit needs, and draws it where there is a verdict."""
+    """Judges a record, in a child that may use what its limit needs, and draws it where there is a verdict. A call that
+    isn't a statement is a mistake in a record that was typed, so it is a faulty line."""
     limit, record = number(question, "limit", 1, 1_000_000, 100_000), script(question, "record")
 
     def run(text):
-        return run_once(pool, ["judge", "--quiet", "--limit", str(limit)], text, pool.limits.judge_seconds,
-                        pool.limits.judge_kib(limit))
+        return run_once(pool, ["judge", "--quiet", "--strict-calls", "--limit", str(limit)], text,
+                        pool.limits.judge_seconds, pool.limits.judge_kib(limit))
 
     ran = run(record)
     return {**ran, "picture": picture(record, ran["output"].encode("latin-1"),

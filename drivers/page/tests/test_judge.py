@@ -95,7 +95,7 @@ class Verdicts(View):
         record = b"1 > PUT '\xff\xfe<b>','\x01'\n1 < OK\n# <script>window.hacked=1</script>"
         self.judge(record, b"LEGAL\n1 PUT 0xfffe3c623e,0x01\n", 0)
         given, words = self.judging.was_given()
-        self.assertEqual((given, words), (record, ["judge", "--quiet", "--limit", "100000"]))
+        self.assertEqual((given, words), (record, ["judge", "--quiet", "--strict-calls", "--limit", "100000"]))
         self.assertEqual(self.browser.texts("#record-lines li")[0], "1 > PUT 'fffe<b>','01'")
 
     def test_an_example_is_judged_by_keys_and_its_state_is_in_the_address(self):
@@ -107,7 +107,8 @@ class Verdicts(View):
         self.browser.replace("#limit", "7")
         self.browser.push('#judge-form button[type="submit"]')
         self.until(lambda: self.marked() == [3], "the verdict")
-        self.assertEqual(self.judging.was_given(), (RECORDS["handed_over"], ["judge", "--quiet", "--limit", "7"]))
+        self.assertEqual(self.judging.was_given(),
+                         (RECORDS["handed_over"], ["judge", "--quiet", "--strict-calls", "--limit", "7"]))
         self.reopen()
         self.until(lambda: self.marked() == [3], "the verdict again")
         self.assertEqual(self.browser.one("#limit").get_property("value"), "7")

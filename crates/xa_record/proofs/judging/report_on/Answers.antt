@@ -2,11 +2,12 @@ use Rattle.std.proofs.Common.{◌≡◌, ◌==◌, false, [], IfOk, List, length
 use Rattle.std.proofs.lemmas.Grind.{common_steps}
 use Rattle.xa_judge.specs.declared.event.Event.{Event}
 use Rattle.xa_record.specs.Events.{AreEvents, AreCalls}
-use Rattle.xa_record.specs.Judged.{IsJudgement, IsReported}
+use Rattle.xa_record.specs.Judged.{IsJudgement, IsReportedOfNotes}
 use Rattle.xa_record.specs.Kept.{numbered_kept, report_kept}
 use Rattle.xa_record.specs.Reading.{NumberedEvent, Notes, notes_of}
 use Rattle.xa_record.proofs.BareTexts.{notes-bare}
 use Rattle.xa_record.proofs.Reported.{reported, judged_with, no_fault}
+use Rattle.xa_record.proofs.StrictNotes.{told-same, clean-too}
 use Rattle.xa_record.proofs.judging.report_on.Goals as goal
 
 pub returns : goal.returns
@@ -14,7 +15,8 @@ returns g c =
     let notes = c.in_ok-notes.notes in
     let same = c.in_ok-notes.ensures in
     let told = (notes_of c.args.text.now).told in
-    let told_is : map numbered_kept notes.numbered.items ≡ told = ap (λ (n : Notes). n.told) same in
+    let told_is : map numbered_kept notes.numbered.items ≡ told =
+    ap (λ (n : Notes). n.told) same ∙ told-same c.args.asked.strict_calls c.args.text.now in
     let none : notes.faults.items ≡ [] = no_fault notes.faults.items (grind (arith, common_steps)) in
     let some : (length notes.numbered.items == 0) ≡ false = grind (arith, common_steps) in
     let are : AreEvents c.args.allowances.now told c.as_slice.result.now =
@@ -24,7 +26,7 @@ returns g c =
     let judged = judged_with c.verdict_on.result c.args.base.now c.args.allowances.now told c.args.asked
     c.as_slice.result.now c.verdict_on.ensures are in
     subst (λ (n : Notes). IfOk c.verdict_on.result
-    (λ report. IsReported c.args.base.now c.args.allowances.now n c.args.asked (report_kept report))) same
+    (λ report. IsReportedOfNotes c.args.base.now c.args.allowances.now n c.args.asked (report_kept report))) same
     (reported c.verdict_on.result c.args.base.now c.args.allowances.now notes.faults.items notes.numbered.items
     c.args.asked none some
     (subst (λ (l : List NumberedEvent). IfOk c.verdict_on.result
@@ -33,7 +35,8 @@ returns g c =
 
 pub verdict_on-requires-clause-calls : goal.verdict_on-requires-clause-calls
 verdict_on-requires-clause-calls g c =
-    let told_is = ap (λ (n : Notes). n.told) c.in_ok-notes.ensures in
+    let told_is =
+    ap (λ (n : Notes). n.told) c.in_ok-notes.ensures ∙ told-same c.args.asked.strict_calls c.args.text.now in
     subst (λ (l : List Event). AreCalls (notes_of c.args.text.now).told l) (sym c.as_slice.ensures.value)
     (subst (λ (l : List NumberedEvent). AreCalls l c.in_ok-events.events.items) told_is c.in_ok-events.ensures.calls)
 
@@ -41,4 +44,5 @@ pub verdict_on-requires-clause-bare : goal.verdict_on-requires-clause-bare
 verdict_on-requires-clause-bare g c =
     let notes = c.in_ok-notes.notes in
     let none : notes.faults.items ≡ [] = no_fault notes.faults.items (grind (arith, common_steps)) in
-    notes-bare c.args.text.now (ap (λ (n : Notes). n.faults) (sym c.in_ok-notes.ensures) ∙ none)
+    notes-bare c.args.text.now (clean-too c.args.asked.strict_calls c.args.text.now
+    (ap (λ (n : Notes). n.faults) (sym c.in_ok-notes.ensures) ∙ none))

@@ -6,7 +6,8 @@ use Rattle.xa_record.proofs.reading.read_notes.Given as goal
 
 abbrev pub invariant-loop-rest : goal.invariant-loop-rest
 invariant-loop-rest l = record {
-  read : noted_lines no_notes 1 (lines_of l.text) ≡ noted_lines (notes_kept l.notes) (l.number + 1) (lines_of l.rest);
+  read : noted_lines l.strict no_notes 1 (lines_of l.text)
+      ≡ noted_lines l.strict (notes_kept l.notes) (l.number + 1) (lines_of l.rest);
   short : l.number + length l.rest ≤ length l.text;
 }
 

@@ -9,6 +9,7 @@ invariant-loop-self g l = record {
   passes : l.self.passes ≡ l.fn.self.passes;
   held : l.self.held ≡ l.fn.self.held;
   form : l.self.form ≡ l.fn.self.form;
+  rows : l.self.rows ≡ l.fn.self.rows;
 }
 
 abbrev pub decreases-loop-self : goal.decreases-loop-self

@@ -1,4 +1,5 @@
-use Rattle.std.proofs.Common.{◌≡◌, ◌≤◌, ◌-◌, ◌++◌, false, length, take}
+use Rattle.std.proofs.Common.{◌≡◌, ◌<◌, ◌≤◌, ◌-◌, ◌++◌, ℕ, false, length, take}
+use Rattle.xa_script.specs.TextLines.{ends_line}
 use Rattle.xa_script.proofs.texts.Texts.take.Given as goal
 
 abbrev pub invariant-loop-taken : goal.invariant-loop-taken
@@ -9,6 +10,9 @@ invariant-loop-taken g l = record {
   inner : l.self.inner ≡ l.fn.self.inner;
   passes : l.self.passes ≡ false;
   form : l.self.form ≡ l.fn.self.form;
+  rows : l.self.rows ≡ l.fn.self.rows;
+  begun : (count : ℕ) → 0 < count → count ≤ l.taken
+      → ends_line l.fn.self.rows (l.fn.self.held.items ++ take count l.bytes) ≡ false;
   held : l.self.held.items ≡ l.fn.self.held.items ++ take l.taken l.bytes;
 }
 

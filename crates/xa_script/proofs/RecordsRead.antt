@@ -1,0 +1,63 @@
+-- A record that was read whole, and judged.
+use Rattle.std.proofs.Common.{◌≡◌, ℕ, Option, Some, None, Result, Ok, Err, List, inl, inr}
+use Rattle.std.specs.Prelude.{IfSome, IfOk, IfErr}
+use Rattle.std.specs.Io.KnownBytes.{Consumes, IsAtEnd}
+use Rattle.xa_lines.specs.declared.script_fault.ScriptFault.{ScriptFault}
+use Rattle.xa_lines.specs.declared.script_fault.ScriptFault.TheVariants.{Read, TooLong, Write, NoMemory, Full, GateShut}
+use Rattle.xa_lines.specs.declared.script_fault.ScriptFault.TheVariants.{ThreadRefused}
+use Rattle.xa_lines.specs.Transcript.{IsOfReading}
+use Rattle.xa_server.specs.State.{State}
+use Rattle.xa_record.specs.declared.allowance.Allowance.{Allowance}
+use Rattle.xa_record.specs.declared.asked.Asked.{Asked}
+use Rattle.xa_record.specs.Judged.{AppendsJudgedFrom, AppendsJudgedPrefix, AfterJudgeFaultFrom}
+use Rattle.xa_script.specs.Status.{AppendsVerdict}
+use Rattle.xa_script.proofs.Allowed.{read_whole}
+use Rattle.xa_script.proofs.Audited.{kept_all}
+
+-- a verdict on the bytes that were read up to the end is one on all that the reader had
+pub judged_whole : (base : State) (allowances : List Allowance) (asked : Asked) (result : Result ℕ ScriptFault)
+    (given : List ℕ) (input rest old new : Option (List ℕ)) → Consumes input rest given → IsAtEnd rest
+    → IfOk result (λ status. AppendsVerdict base allowances asked status (Some given) old new)
+    → IfOk result (λ status. AppendsVerdict base allowances asked status input old new)
+judged_whole base allowances asked (Err fault) given input rest old new read end verdict = tt
+judged_whole base allowances asked (Ok status) given input rest old new read end verdict = (
+  verdict.0,
+  verdict.1,
+  read_whole (λ text. AppendsJudgedFrom base allowances asked verdict.0 text old new) input rest given read end
+      verdict.2,
+)
+
+-- and so is what a fault of judging them leaves
+pub faulted_whole : (base : State) (allowances : List Allowance) (asked : Asked) (result : Result ℕ ScriptFault)
+    (given : List ℕ) (input rest old new : Option (List ℕ)) → Consumes input rest given → IsAtEnd rest
+    → IfErr result (λ fault. AfterJudgeFaultFrom base allowances asked fault (Some given) old new)
+    → IfErr result (λ fault. AfterJudgeFaultFrom base allowances asked fault input old new)
+faulted_whole base allowances asked (Ok status) given input rest old new read end left = tt
+faulted_whole base allowances asked (Err Read) given input rest old new read end left = left
+faulted_whole base allowances asked (Err TooLong) given input rest old new read end left = left
+faulted_whole base allowances asked (Err Write) given input rest old new read end left =
+    read_whole (λ text. AppendsJudgedPrefix base allowances asked text old new) input rest given read end left
+faulted_whole base allowances asked (Err NoMemory) given input rest old new read end left = left
+faulted_whole base allowances asked (Err Full) given input rest old new read end left = left
+faulted_whole base allowances asked (Err GateShut) given input rest old new read end left = left
+faulted_whole base allowances asked (Err ThreadRefused) given input rest old new read end left = left
+
+-- a fault of reading leaves the writer as it was
+pub unread : (base : State) (allowances : List Allowance) (asked : Asked) (fault : ScriptFault)
+    (input contents : Option (List ℕ)) → IsOfReading fault
+    → AfterJudgeFaultFrom base allowances asked fault input contents contents
+unread base allowances asked Read input contents of = kept_all contents
+unread base allowances asked TooLong input contents of = kept_all contents
+unread base allowances asked NoMemory input contents of = kept_all contents
+unread base allowances asked Write input contents (inl e) = cc
+unread base allowances asked Write input contents (inr (inl e)) = cc
+unread base allowances asked Write input contents (inr (inr e)) = cc
+unread base allowances asked Full input contents (inl e) = cc
+unread base allowances asked Full input contents (inr (inl e)) = cc
+unread base allowances asked Full input contents (inr (inr e)) = cc
+unread base allowances asked GateShut input contents (inl e) = cc
+unread base allowances asked GateShut input contents (inr (inl e)) = cc
+unread base allowances asked GateShut input contents (inr (inr e)) = cc
+unread base allowances asked ThreadRefused input contents (inl e) = cc
+unread base allowances asked ThreadRefused input contents (inr (inl e)) = cc
+unread base allowances asked ThreadRefused input contents (inr (inr e)) = cc

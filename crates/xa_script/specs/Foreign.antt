@@ -1,0 +1,29 @@
+-- Forms of a text that no record has. Every rule here is the project's own: docs/HISTORIES.md.
+--     foreign_of    in which of these forms a text is, if it is in one
+use Rattle.std.specs.Prelude.{ℕ, Bool, true, false, not, ◌==◌, ◌&&◌, ◌||◌, if◌then◌else◌, Option, Some, None}
+use Rattle.std.specs.Prelude.{List, [], ◌∷◌}
+use Rattle.std.specs.List.{list_any}
+use Rattle.xa_script.specs.declared.foreign.Foreign.{Foreign}
+use Rattle.xa_script.specs.declared.foreign.Foreign.TheVariants.{Marked, Utf16, Returns}
+
+-- the byte order mark of UTF-8
+abbrev pub begins_with_mark : List ℕ → Bool
+begins_with_mark (one ∷ two ∷ three ∷ rest) = one == 239 && two == 187 && three == 191
+begins_with_mark text = false
+
+-- a byte order mark of UTF-16, or two units of it whose greater halves, or whose smaller halves, are zero
+abbrev pub begins_as_utf16 : List ℕ → Bool
+begins_as_utf16 (one ∷ two ∷ three ∷ four ∷ rest) =
+    (one == 255 && two == 254 || one == 254 && two == 255) || (one == 0 && three == 0 || two == 0 && four == 0)
+begins_as_utf16 text = false
+
+-- a byte is in a text
+abbrev pub has_byte : ℕ → List ℕ → Bool
+has_byte byte text = list_any (λ other. other == byte) text
+
+-- in UTF-16, behind a byte order mark, or with carriage returns and no line feed
+abbrev pub foreign_of : List ℕ → Option Foreign
+foreign_of text =
+    if begins_as_utf16 text then Some Utf16
+    else (if begins_with_mark text then Some Marked
+    else (if has_byte 13 text && not (has_byte 10 text) then Some Returns else None))

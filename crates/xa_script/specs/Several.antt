@@ -1,0 +1,77 @@
+-- What is written for several records that are judged in one call, and how that ends.
+--     IsVerdictOn          a verdict is right for a record
+--     IsListing            a text is what is written for records, and a status is the one that counts
+--     AppendsListing       the writer got such a text
+--     ListsAll             the same, with what `--strict` makes of the status
+--     AfterListing         what a fault leaves in the writer
+--     judging_asked        what is asked of judging, if the job is to judge
+use Rattle.std.specs.Prelude.{◌≡◌, ◌++◌, ◌∷◌, [], ℕ, Bool, Option, Some, None, List, length, map}
+use Rattle.std.specs.Io.KnownBytes.{Keeps, Appends}
+use Rattle.xa_lines.specs.Transcript.{AppendsPrefix}
+use Rattle.xa_lines.specs.declared.script_fault.ScriptFault.{ScriptFault}
+use Rattle.xa_lines.specs.declared.script_fault.ScriptFault.TheVariants.{Write}
+use Rattle.xa_server.specs.State.{State}
+use Rattle.xa_record.specs.declared.allowance.Allowance.{Allowance}
+use Rattle.xa_record.specs.declared.asked.Asked.{Asked}
+use Rattle.xa_script.specs.Listing.{worst_from, pieces, heading}
+use Rattle.xa_script.specs.Status.{AppendsVerdict, asked_of, strict_status}
+use Rattle.xa_script.specs.declared.command.Job.{Job}
+use Rattle.xa_script.specs.declared.command.Job.TheVariants.{Run, Race, Coordinate, Serve, Show, Judge, Explore, Stops}
+use Rattle.xa_script.specs.declared.command.Job.TheVariants.{Audit}
+
+-- a status and a text are what judging this record alone comes to
+abbrev pub IsVerdictOn : State → List Allowance → Asked → (seen : List ℕ) → ℕ × List ℕ → Type 0
+IsVerdictOn base allowances asked seen verdict =
+    AppendsVerdict base allowances asked verdict.0 (Some seen) (Some []) (Some verdict.1)
+
+abbrev pub AreVerdicts : State → List Allowance → Asked → (records : List (List ℕ)) → List (ℕ × List ℕ) → Type 0
+AreVerdicts base allowances asked [] [] = Unit {0}
+AreVerdicts base allowances asked [] (verdict ∷ verdicts) = ⊥
+AreVerdicts base allowances asked (seen ∷ records) [] = ⊥
+AreVerdicts base allowances asked (seen ∷ records) (verdict ∷ verdicts) =
+    IsVerdictOn base allowances asked seen verdict × AreVerdicts base allowances asked records verdicts
+
+-- each record has a name and a right verdict; the text has a piece for each, behind what comes before the first; and
+-- the status is the one that counts
+pub record IsListing (base : State) (allowances : List Allowance) (asked : Asked) (tap : Bool) (before : List ℕ)
+    (names records : List (List ℕ)) (status : ℕ) (text : List ℕ) : Type 0 where
+  pub verdicts : List (ℕ × List ℕ)
+  pub named : length names ≡ length records
+  pub are : AreVerdicts base allowances asked records verdicts
+  pub counts : status ≡ worst_from 0 (map (λ verdict. verdict.0) verdicts)
+  pub text_is : text ≡ before ++ pieces tap 1 names verdicts
+
+-- the writer got what is written for the records, and the status is for that
+abbrev pub AppendsListing : State → List Allowance → Asked → (tap : Bool) → (names records : List (List ℕ))
+    → (status : ℕ) → Option (List ℕ) → Option (List ℕ) → Type 0
+AppendsListing base allowances asked tap names records status old new =
+    (text : List ℕ) × IsListing base allowances asked tap (heading tap (length names)) names records status text
+    × Appends old new text
+
+-- the same, and with `--strict` the status is 8 instead of 0 if a line was faulty
+abbrev pub ListsAll : State → List Allowance → Asked → (strict tap : Bool) → (names records : List (List ℕ))
+    → (status : ℕ) → Option (List ℕ) → Option (List ℕ) → Type 0
+ListsAll base allowances asked strict tap names records status old new =
+    (faulty : Bool) × (worst : ℕ) × (status ≡ strict_status strict faulty worst)
+    × AppendsListing base allowances asked tap names records worst old new
+
+-- a prefix of that if a write failed, else nothing
+abbrev pub AfterListing : State → List Allowance → Asked → (tap : Bool) → (names records : List (List ℕ)) → ScriptFault
+    → Option (List ℕ) → Option (List ℕ) → Type 0
+AfterListing base allowances asked tap names records Write old new =
+    (status : ℕ) × (text : List ℕ)
+    × IsListing base allowances asked tap (heading tap (length names)) names records status text
+    × AppendsPrefix old new text
+AfterListing base allowances asked tap names records fault old new = Keeps old new
+
+-- what is asked of judging, if the job is to judge
+abbrev pub judging_asked : Job → Option Asked
+judging_asked Run = None
+judging_asked (Race capacity schedule renews runs) = None
+judging_asked (Coordinate stores capacity fixed) = None
+judging_asked Serve = None
+judging_asked Show = None
+judging_asked (Judge limit explain json strict) = Some (asked_of limit explain json strict)
+judging_asked (Explore limit) = None
+judging_asked (Stops stores capacity) = None
+judging_asked (Audit json) = None

@@ -1,0 +1,106 @@
+-- Which lines `--text` changes, and which are rows.
+--     unfed          a line without its line feed
+--     rows_after     how many rows a line says that the next lines are
+--     is_whole_row   a row has all the bytes of its texts
+--     keeps_line     which lines are written as they are
+--     IsWrittenAs    what is written for a line that isn't a row
+--     ends_line      the bytes that have come are a whole line
+use Rattle.std.specs.Prelude.{◌≡◌, ℕ, ◌+◌, ◌-◌, Bool, true, false, not, ◌&&◌, ◌||◌, ◌==◌, if◌then◌else◌}
+use Rattle.std.specs.Prelude.{nat_le, nat_eq, List, [], ◌∷◌, length, take, drop, Option, Some, None, Result, Ok, Err}
+use Rattle.std.specs.Prelude.{codes, is_some}
+use Rattle.std.specs.List.{starts_with, ends_with}
+use Rattle.xa_xid.specs.declared.statement.Statement.{Statement}
+use Rattle.xa_xid.specs.declared.statement.Statement.TheVariants.{Unsupported}
+use Rattle.xa_statement.specs.Reading.{read_of}
+use Rattle.xa_lines.specs.Script.{is_comment_line, first_word, after_word, number_of_word, line_of}
+use Rattle.xa_lines.specs.Script.{Line, Blank, Bad, Given}
+use Rattle.xa_script.specs.declared.line_form.LineForm.{LineForm}
+use Rattle.xa_script.specs.declared.line_form.LineForm.TheVariants.{Answers, Shown, Verdict, Object, Noted}
+use Rattle.xa_script.specs.Texts.{IsWithTexts}
+
+-- the last byte is a line feed
+abbrev pub is_fed : List ℕ → Bool
+is_fed line = ends_with nat_eq line (10 ∷ [])
+
+-- the line without its line feed
+abbrev pub unfed : List ℕ → List ℕ
+unfed line = if is_fed line then take (length line - 1) line else line
+
+abbrev pub or_zero : Option ℕ → ℕ
+or_zero None = 0
+or_zero (Some number) = number
+
+-- how many rows a reply says that it has: `ROWS` and their number
+abbrev pub rows_of : List ℕ → ℕ
+rows_of reply = if starts_with nat_eq reply (codes "ROWS ") then or_zero (number_of_word (drop 5 reply)) else 0
+
+-- what comes after the first word and one more byte
+abbrev pub behind_first : List ℕ → List ℕ
+behind_first text = drop 1 (after_word text)
+
+-- the number that the first word is
+abbrev pub first_number : List ℕ → Option ℕ
+first_number text = number_of_word (first_word text)
+
+-- what comes after the first word if that is a number
+abbrev pub past_number : List ℕ → List ℕ
+past_number text = if is_some (first_number text) then behind_first text else text
+
+abbrev pub could_be : List ℕ → Bool
+could_be line = starts_with nat_eq line (codes "COULD BE ")
+
+-- how many rows a line says that the next lines are: an answer's reply comes after its session and its place
+abbrev pub rows_after : LineForm → (line : List ℕ) → ℕ
+rows_after Answers line = rows_of (past_number (past_number line))
+rows_after Shown line = rows_of (past_number (past_number line))
+rows_after Verdict line = if could_be line then rows_of (drop 9 line) else 0
+rows_after Object line = 0
+rows_after Noted line = 0
+
+abbrev pub holds_texts : Option ℕ → Option ℕ → (bytes : List ℕ) → Bool
+holds_texts (Some gtrid) (Some bqual) bytes = nat_le (gtrid + bqual) (length bytes)
+holds_texts gtrid bqual bytes = true
+
+-- a row has all the bytes of its two texts, whose lengths are its second and third word; other bytes are no row, and
+-- are whole at any line feed
+abbrev pub is_whole_row : (row : List ℕ) → Bool
+is_whole_row row =
+    let lengths = behind_first row in
+    let second = behind_first lengths in
+    holds_texts (first_number lengths) (first_number second) (behind_first second)
+
+abbrev pub has_form : Result Statement ℕ → Bool
+has_form (Ok Unsupported) = false
+has_form (Ok statement) = true
+has_form (Err place) = false
+
+abbrev pub is_given : Line → Bool
+is_given Blank = false
+is_given Bad = false
+is_given (Given session text) = has_form (read_of text)
+
+-- a line of a verdict is a client's own unless it is an answer, of the store, or a statement that has a canonical form
+abbrev pub is_own : (line : List ℕ) → Bool
+is_own line = not (could_be line) && (not (starts_with nat_eq line (codes "  ")) && not (is_given (line_of line)))
+
+-- a test point, or a line of a verdict in a comment that is a client's own
+abbrev pub is_point_or_own : (line : List ℕ) → Bool
+is_point_or_own line = if starts_with nat_eq line (codes "# ") then is_own (drop 2 line) else true
+
+-- whether a line is written as it is: a comment where stores are shown, a client's own text in a verdict, each test
+-- point, and each object, but no answer
+abbrev pub keeps_line : LineForm → (line : List ℕ) → Bool
+keeps_line Answers line = false
+keeps_line Shown line = is_comment_line line
+keeps_line Verdict line = is_own line
+keeps_line Object line = true
+keeps_line Noted line = is_point_or_own line
+
+-- what is written for a line that isn't a row
+abbrev pub IsWrittenAs : LineForm → (line text : List ℕ) → Type 0
+IsWrittenAs form line text =
+    (keeps_line form (unfed line) ≡ true → text ≡ line) × (keeps_line form (unfed line) ≡ false → IsWithTexts line text)
+
+-- the bytes that have come are a whole line, if so many rows are still to come; a row may have line feeds in it
+abbrev pub ends_line : (rows : ℕ) (bytes : List ℕ) → Bool
+ends_line rows bytes = is_fed bytes && (rows == 0 || is_whole_row (unfed bytes))

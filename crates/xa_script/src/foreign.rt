@@ -1,0 +1,86 @@
+//! Forms of a text that no record has: its lines aren't read as its writer meant them.
+ghost use Rattle.std.specs.Prelude.{◌≡◌};
+ghost use Rattle.xa_script.specs.Foreign.{begins_with_mark, begins_as_utf16, has_byte, foreign_of};
+
+/// The form of a text whose lines aren't read as its writer meant them.
+#[derive(Clone, Copy, Debug, PartialEq, Eq)]
+pub enum Foreign {
+    /// It begins with the byte order mark of UTF-8.
+    Marked,
+    /// It is UTF-16.
+    Utf16,
+    /// Its lines end in carriage returns alone.
+    Returns,
+}
+
+/// Returns whether a text begins with the byte order mark of UTF-8.
+fn is_marked(text: &[u8]) -> bool
+    ensures { result ≡ begins_with_mark text.now }
+{
+    match text {
+        [one, two, three, ..] => *one == 0xef && *two == 0xbb && *three == 0xbf,
+        _ => false,
+    }
+}
+
+/// Returns whether a text begins with a byte order mark of UTF-16, or with two characters of ASCII in UTF-16.
+fn is_utf16(text: &[u8]) -> bool
+    ensures { result ≡ begins_as_utf16 text.now }
+{
+    match text {
+        [one, two, three, four, ..] => {
+            let marked = (*one == 0xff && *two == 0xfe) || (*one == 0xfe && *two == 0xff);
+            // Either the greater halves of the units come first, or the smaller ones.
+            let plain = (*one == 0 && *three == 0) || (*two == 0 && *four == 0);
+            marked || plain
+        }
+        _ => false,
+    }
+}
+
+/// Returns whether a byte is in a text.
+fn contains(text: &[u8], byte: u8) -> bool
+    ensures { result ≡ has_byte byte text.now }
+{
+    text.contains(&byte)
+}
+
+/// Returns in which form a text is whose lines aren't read as its writer meant them, if it is in such a form.
+///
+/// Takes no memory. Doesn't wait.
+/// Own rule: docs/HISTORIES.md#records.
+pub fn foreign_in(text: &[u8]) -> Option<Foreign>
+    // Proved (scripts, foreign-records): A record is said to be in another form exactly if it begins with a byte order
+    //   mark, begins as UTF-16 does, or has carriage returns and no line feed.
+    ensures { result ≡ foreign_of text.now }
+{
+    if is_utf16(text) {
+        Some(Foreign::Utf16)
+    } else if is_marked(text) {
+        Some(Foreign::Marked)
+    } else if contains(text, b'\r') && !contains(text, b'\n') {
+        Some(Foreign::Returns)
+    } else {
+        None
+    }
+}
+
+impl Foreign {
+    /// Returns what the standard error says of such a record.
+    ///
+    /// Takes no memory. Doesn't wait.
+    pub fn advice(self) -> &'static str {
+        match self {
+            Foreign::Marked => {
+                "the record begins with a byte order mark; write it without, for example by: tail -c +4"
+            }
+            Foreign::Utf16 => {
+                "the record is in UTF-16; write it in UTF-8, for example by: iconv -f UTF-16 -t UTF-8"
+            }
+            Foreign::Returns => {
+                "the record has carriage returns and no line feed, so it is one line; end its lines in line feeds, \
+for example by: tr '\\r' '\\n'"
+            }
+        }
+    }
+}

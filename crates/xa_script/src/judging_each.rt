@@ -1,0 +1,148 @@
+//! Judges several records, and writes what each came to.
+ghost use Rattle.std.specs.Prelude.{◌≡◌, ◌≤◌, ◌<◌, ◌+◌, ◌++◌, [], ℕ, List, Some, IfOk, IfErr, OnOk};
+ghost use Rattle.std.specs.Prelude.{IfSome, map, length, option_map, unwrap_or};
+ghost use Rattle.xa_script.specs.CommandLine.{IsLimit};
+ghost use Rattle.xa_script.specs.Several.{IsVerdictOn, IsListing, ListsAll, AfterListing};
+ghost use Rattle.xa_script.specs.Listing.{heading as heading_of, piece, worse as worse_of};
+
+use crate::judging_read::judge_read;
+use crate::listed::Listed;
+use crate::listing::{heading, push_piece, worse};
+use crate::looked_at;
+use crate::manner::Manner;
+use crate::telling::Telling;
+use crate::verdict::Verdict;
+use crate::watch::Watch;
+use std::alloc::Global;
+use std::io::{Read, Write};
+use std::rt::Clock;
+use xa_lines::{ScriptFault, in_memory, write_whole};
+use xa_record::{Allowance, Asked};
+use xa_server::Server;
+
+/// Judges the next record. If it can't be read, the standard error names it.
+fn verdict_on<I: Read + Drop, R: Clock + Eprint + Alloc<A = Global>>(
+    rt: &R,
+    base: &Server,
+    input: &mut Watch<'_, I, R>,
+    allowances: &[Allowance],
+    asked: Asked,
+    quiet: bool,
+) -> Result<Verdict, ScriptFault>
+    requires { IsLimit asked.limit }
+    ensures verdict { IfOk result (λ verdict. IfSome (I.remaining input.old.inner)
+        (λ seen. IsVerdictOn base.now allowances.now asked seen (verdict.status, verdict.text.items))) }
+    ensures fault { IfErr result (λ fault. fault ≡ ScriptFault.Write → ⊥) }
+{
+    let mut telling = Telling::new(rt, quiet);
+    let mut text = Vec::new(rt.alloc());
+    let telling = &mut telling;
+    let done = in_memory(judge_read(rt, base, input, &mut text, allowances, asked, telling));
+    // Of any other fault the file isn't the cause.
+    if matches!(done, Err(ScriptFault::Read | ScriptFault::TooLong)) {
+        input.tell_unread();
+    }
+    let status = done?;
+    Ok(Verdict { status, text })
+}
+
+/// Judges the next record, and adds what is written for it.
+fn list_next<I: Read + Drop, R: Clock + Eprint + Alloc<A = Global>>(
+    rt: &R,
+    base: &Server,
+    listed: &mut Listed,
+    mut input: Watch<'_, I, R>,
+    allowances: &[Allowance],
+    asked: Asked,
+    quiet: bool,
+) -> Result<(), ScriptFault>
+    requires limit { IsLimit asked.limit }
+    requires room { listed.old.count < 1000 }
+    ensures count { OnOk result (listed.new.count ≡ listed.old.count + 1) }
+    ensures tap { OnOk result (listed.new.tap ≡ listed.old.tap) }
+    ensures taken { OnOk result (IfSome (I.remaining input.entry.inner)
+        (λ seen. (verdict : ℕ × List ℕ) × IsVerdictOn base.now allowances.now asked seen verdict
+        × (listed.new.status ≡ worse_of listed.old.status verdict.0)
+        × (listed.new.text.items ≡ listed.old.text.items
+        ++ piece listed.old.tap (listed.old.count + 1)
+        (unwrap_or (option_map (λ name. name.now) input.entry.name) []) verdict))) }
+    ensures fault { IfErr result (λ fault. fault ≡ ScriptFault.Write → ⊥) }
+{
+    let name = input.name();
+    let verdict = verdict_on(rt, base, &mut input, allowances, asked, quiet)?;
+    listed.count += 1;
+    push_piece(&mut listed.text, listed.tap, listed.count, name, &verdict)?;
+    listed.status = worse(listed.status, verdict.status);
+    listed.faulty |= input.has_faults()?;
+    Ok(())
+}
+
+/// Judges each record.
+fn list_each<I: Read + Drop, R: Clock + Eprint + Alloc<A = Global>>(
+    rt: &R,
+    base: &Server,
+    inputs: Vec<Watch<'_, I, R>>,
+    allowances: &[Allowance],
+    asked: Asked,
+    quiet: bool,
+    tap: bool,
+) -> Result<Listed, ScriptFault>
+    requires limit { IsLimit asked.limit }
+    requires count { length inputs.items ≤ 1000 }
+    ensures listed { IfOk result (λ listed. (records : List (List ℕ))
+        → map (λ input. I.remaining input.inner) inputs.entry.items ≡ map Some records
+        → IsListing base.now allowances.now asked tap (heading_of tap (length inputs.entry.items))
+        (map (λ input. unwrap_or (option_map (λ name. name.now) input.name) []) inputs.entry.items) records
+        listed.status listed.text.items) }
+    ensures fault { IfErr result (λ fault. fault ≡ ScriptFault.Write → ⊥) }
+{
+    let mut listed = Listed {
+        text: heading(rt.alloc(), tap, inputs.len() as u64)?,
+        tap,
+        count: 0,
+        status: 0,
+        faulty: false,
+    };
+    for input in inputs {
+        list_next(rt, base, &mut listed, input, allowances, asked, quiet)?;
+    }
+    Ok(listed)
+}
+
+/// Judges records, writes what each came to, and returns the exit status that counts. There are at most 1,000.
+///
+/// With `--strict` the status is 8 instead of 0 if a line had a syntax fault. The limit of `asked` is in
+/// `[1, 1_000_000]`.
+/// Errors: as `judge_read`, at the first record that ends so: nothing was written then. After `Write` a prefix was.
+/// May return `NoMemory`. Doesn't wait, unless a reader, the writer or the standard error does.
+/// Own rule: docs/COMMANDS.md#several-records.
+pub fn list_within<I: Read + Drop, W: Write, R: Clock + Eprint + Alloc<A = Global>>(
+    rt: &R,
+    base: &Server,
+    inputs: Vec<Watch<'_, I, R>>,
+    writer: &mut W,
+    allowances: &[Allowance],
+    asked: Asked,
+    manner: &Manner<'_>,
+    tap: bool,
+) -> Result<u8, ScriptFault>
+    requires limit { IsLimit asked.limit }
+    requires count { length inputs.items ≤ 1000 }
+    // Proved (scripts, several-records): For each of several records that are judged in one call, in their order, what
+    //   is written is made of the verdict that judging it alone writes. The status is the least of theirs that isn't 0,
+    //   and with `--strict` 8 instead of 0 if a line was faulty.
+    ensures listed { IfOk result (λ status. (records : List (List ℕ))
+        → map (λ input. I.remaining input.inner) inputs.entry.items ≡ map Some records
+        → ListsAll base.now allowances.now asked manner.now.strict tap
+        (map (λ input. unwrap_or (option_map (λ name. name.now) input.name) []) inputs.entry.items) records status
+        (W.contents writer.old) (W.contents writer.new)) }
+    ensures fault { IfErr result (λ fault. (records : List (List ℕ))
+        → map (λ input. I.remaining input.inner) inputs.entry.items ≡ map Some records
+        → AfterListing base.now allowances.now asked tap
+        (map (λ input. unwrap_or (option_map (λ name. name.now) input.name) []) inputs.entry.items) records fault
+        (W.contents writer.old) (W.contents writer.new)) }
+{
+    let listed = list_each(rt, base, inputs, allowances, asked, manner.quiet, tap)?;
+    write_whole(writer, listed.text.as_slice())?;
+    looked_at(manner.strict, Some(listed.faulty), Ok(listed.status))
+}

@@ -1,0 +1,83 @@
+//! Reads a record and judges it, and says so if its form isn't that of a record.
+ghost use Rattle.std.specs.Prelude.{IfOk, IfErr, OnOk};
+ghost use Rattle.std.specs.Io.KnownBytes.{Consumes, IsAtEnd};
+ghost use Rattle.xa_lines.specs.Transcript.{IsOfReading};
+ghost use Rattle.xa_record.specs.Judged.{AfterJudgeFaultFrom};
+ghost use Rattle.xa_script.specs.CommandLine.{IsLimit};
+ghost use Rattle.xa_script.specs.Status.{AppendsVerdict};
+
+use crate::foreign::foreign_in;
+use crate::judging::judge_within;
+use std::alloc::Global;
+use std::io::{Read, Write};
+use xa_judge::Progress;
+use xa_lines::{ScriptFault, read_within};
+use xa_record::{Allowance, Asked};
+use xa_server::Server;
+
+/// The greatest length of a record, in bytes.
+const RECORD_BYTES: usize = 16_777_216;
+
+/// The greatest number of reads for a record: two for each byte.
+const RECORD_READS: u64 = 33_554_432;
+
+/// Says on the standard error in which form a record is, if its lines aren't read as its writer meant them.
+fn tell_form<R: Eprint>(rt: &R, record: &[u8]) {
+    if let Some(form) = foreign_in(record) {
+        let _ = eprintln!(rt; "xa_script: {}", form.advice());
+    }
+}
+
+/// Reads a record, and says in which form it is if that isn't a record's.
+fn record_in<I: Read, R: Eprint + Alloc<A = Global>>(
+    rt: &R,
+    reader: &mut I,
+) -> Result<Vec<u8>, ScriptFault>
+    ensures all { IfOk result (λ text. Consumes (I.remaining reader.old) (I.remaining reader.new) text.items) }
+    ensures end { OnOk result (IsAtEnd (I.remaining reader.new)) }
+    ensures fault { IfErr result IsOfReading }
+{
+    let record = read_within(rt.alloc(), reader, RECORD_BYTES, RECORD_READS)?;
+    tell_form(rt, record.as_slice());
+    Ok(record)
+}
+
+/// Reads a record, judges it as `judge_within` does, and says on the standard error in which form it is, if that isn't
+/// a record's.
+///
+/// The limit of `asked` is in `[1, 1_000_000]`.
+/// Errors: `Read`, `TooLong` and `NoMemory` of reading, then as `judge_within`. After `Write` a prefix of the text was
+/// written, after any other error nothing.
+/// May return `NoMemory`. Doesn't wait, unless the reader, the writer, the receiver of the progress or the standard
+/// error does.
+/// Own rule: docs/HISTORIES.md#records.
+pub fn judge_read<I: Read, W: Write, R: Eprint + Alloc<A = Global>, P: Progress>(
+    rt: &R,
+    base: &Server,
+    reader: &mut I,
+    writer: &mut W,
+    allowances: &[Allowance],
+    asked: Asked,
+    progress: &mut P,
+) -> Result<u8, ScriptFault>
+    requires { IsLimit asked.limit }
+    // Proved (scripts, status-of-an-end)
+    ensures judged { IfOk result
+        (λ status. AppendsVerdict base.now allowances.now asked status (I.remaining reader.old)
+        (W.contents writer.old) (W.contents writer.new)) }
+    ensures fault { IfErr result
+        (λ fault. AfterJudgeFaultFrom base.now allowances.now asked fault (I.remaining reader.old)
+        (W.contents writer.old) (W.contents writer.new)) }
+{
+    let record_read = record_in(rt, reader)?;
+    let mut rest = record_read.as_slice();
+    judge_within(
+        rt.alloc(),
+        base,
+        &mut rest,
+        writer,
+        allowances,
+        asked,
+        progress,
+    )
+}

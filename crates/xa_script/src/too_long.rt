@@ -1,0 +1,49 @@
+//! Says on the standard error what is too long, and what to do about it.
+
+use crate::Job;
+use xa_lines::ScriptFault;
+
+/// Returns what a job reads that may be too long, and what to do about it. The jobs that answer line by line read
+/// any length.
+fn advice(job: Job) -> &'static str {
+    match job {
+        Job::Run =>
+            "the script has more than 1,048,576 bytes; split it, or give it to serve, which takes any length",
+        Job::Race { .. } | Job::Explore { .. } => {
+            "the script has more than 1,048,576 bytes; make it shorter"
+        }
+        Job::Stops { .. } => "the calls have more than 1,048,576 bytes; make them fewer",
+        Job::Judge { .. } => {
+            "the record has more than 16,777,216 bytes; record in pieces, and judge each with --from"
+        }
+        Job::Audit { .. } => "the history has more than 16,777,216 bytes; make it shorter",
+        Job::Coordinate { .. } | Job::Serve | Job::Show => "the input is too long; make it shorter",
+    }
+}
+
+/// Says what is too long if a job ended so.
+///
+/// Takes no memory. Doesn't wait, unless the standard error does.
+/// Own rule: docs/COMMANDS.md#messages.
+pub fn tell_too_long<R: Eprint>(rt: &R, job: Job, done: &Result<u8, ScriptFault>) {
+    if matches!(done, Err(ScriptFault::TooLong)) {
+        let _ = eprintln!(rt; "xa_script: {}", advice(job));
+    }
+}
+
+/// Says that the file of an option is too long, if reading it ended so.
+///
+/// Takes no memory. Doesn't wait, unless the standard error does.
+/// Own rule: docs/COMMANDS.md#messages.
+pub fn tell_file_too_long<R: Eprint, T>(
+    rt: &R,
+    option: &str,
+    most: &str,
+    read: &Result<T, ScriptFault>,
+) {
+    if matches!(read, Err(ScriptFault::TooLong)) {
+        let _ = eprintln!(rt;
+            "xa_script: the file of {option} has more than {most} bytes; make it shorter"
+        );
+    }
+}
