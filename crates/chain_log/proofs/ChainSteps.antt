@@ -1,4 +1,5 @@
 -- The loads of a chain keep the rule, and tell what their transitions say.
+-- Here `h` is a pass's view: what a seat of the log knows of that pass.
 use Rattle.std.proofs.Common.{◌≡◌, ◌≢◌, ℕ, ◌+◌, ◌<◌, List, [], ◌∷◌, length, set, get_or, refl, ap, sym, ◌∙◌, subst}
 use Rattle.std.proofs.Common.{Some, arith}
 use Rattle.std.specs.Prelude.{slice_get}
@@ -24,10 +25,11 @@ use Rattle.chain_log.specs.ChainRule.{own_cell, HasDraft, Knows, ChainRule}
 use Rattle.chain_log.specs.ChainTransitions.{with_look, Sees, Reads}
 use Rattle.chain_log.proofs.Names.{name_begins}
 
+-- what holds of the words of a chain and of all passes' views, between any two steps
 abbrev pub Rules : Sizes → State Entry SeatView → Type 0
 Rules sizes state = ChainRule sizes state.words state.views
 
--- a pass with no draft
+-- what a pass knows of words that it stored is true if it stored none
 pub blank : (words : List ℕ) (log : List Entry) (k : PassView) → k.draft ≡ [] → HasDraft words log k
 blank words log k empty = record {
   short = omega (arith, ap length empty);
@@ -65,6 +67,7 @@ module _ {sizes : Sizes} {words : List ℕ} {views : List SeatView} (r : ChainRu
       (omega (arith, slice_get_within h.known.seen row entry is)))
       ∙ ap (λ s. name_before s h.known.seen row) (sym k.sessions))
 
+-- a look: the load of the newest cell's name (word 0) keeps it, and tells what `Sees` says
 pub look_step : (sizes : Sizes) (slots id : ℕ) (h : PassView)
     → Allows (Rules sizes) slots id (seated h) 0 (λ n. n) (Tells (Sees 0 h))
 look_step sizes slots id h =
@@ -76,6 +79,7 @@ look_step sizes slots id h =
       (refl, r.log, refl, newest_by r h k.sessions, history r h k),
     ))
 
+-- the load of a cell's word keeps it, and tells what `Reads` says
 pub read_step : (sizes : Sizes) (slots id word : ℕ) (h : PassView) → word ≢ 0
     → Allows (Rules sizes) slots id (seated h) word (λ n. n) (Tells (Reads word h))
 read_step sizes slots id word h behind =

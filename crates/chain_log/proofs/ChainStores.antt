@@ -1,4 +1,5 @@
 -- The steps of a chain that change a word keep the rule.
+-- Here `h` is a pass's view: what a seat of the log knows of that pass.
 use Rattle.std.proofs.Common.{◌≡◌, ◌≢◌, ℕ, ◌+◌, ◌-◌, ◌<◌, ◌≤◌, List, [], ◌∷◌, ◌++◌, length, take, set, get_or, refl, ap}
 use Rattle.std.proofs.Common.{sym, ◌∙◌, subst, ⊎_elim, Some, arith}
 use Rattle.std.proofs.Common.{eqb, length-append}
@@ -247,6 +248,7 @@ module _ {sizes : Sizes} {words : List ℕ} {views : List SeatView} (r : ChainRu
       ∙ sym (newest_by r h k.sessions))))
       (λ longer. omega arith)
 
+-- a store into the pass's own cell, which isn't published yet, keeps the rule
 pub draft_step : (sizes : Sizes) (slots id word index new : ℕ) (h : PassView) → word ≡ own_cell h + index
     → index ≤ length h.draft → index < 22
     → length h.known.seen < h.capacity
@@ -280,6 +282,7 @@ find_step sizes slots id word index h at along below room =
     ))
     (λ other. (h, unmoved r id h here, (behind, (λ blank. absurd (other blank)), (λ _. refl)))))
 
+-- the exchange that publishes the cell, or fails since another was faster, keeps it, too
 pub exchange_step : (sizes : Sizes) (slots id old own : ℕ) (h : PassView) (entry : Entry)
     → old ≡ newest_of h.sessions h.known.seen
     → own ≡ name_at h.sessions (length h.known.seen) h.known.number

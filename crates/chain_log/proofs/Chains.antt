@@ -15,13 +15,14 @@ use Rattle.chain_log.specs.Chain.{Walk, Chain}
 use Rattle.chain_log.specs.ChainRule.{ChainRule}
 use Rattle.chain_log.proofs.Names.{name_zero, name_next, name_low}
 
--- the first of some words, and the others
+-- words that stand in a row: the first stands at the place itself
 holds_first : (words : List ℕ) (at word : ℕ) (rest : List ℕ) → HasWordsAt words at (word ∷ rest)
     → slice_index words at ≡ word
 holds_first words at word rest holds =
     let here : at ≡ at + 0 = omega arith in
     ap (λ n. get_or words n 0) here ∙ holds 0 (omega arith)
 
+-- words that stand in a row: those after the first stand a place further
 holds_rest : (words : List ℕ) (at word : ℕ) (rest : List ℕ) → HasWordsAt words at (word ∷ rest)
     → HasWordsAt words (at + 1) rest
 holds_rest words at word rest holds i below =
@@ -59,7 +60,7 @@ module _ (sizes : Sizes) (words : List ℕ) (views : List SeatView) (r : ChainRu
       (take_all (length r.log) r.log (omega arith))
       (walk_below (length r.log) (omega arith)))
 
--- a walk meets one list of entries
+-- two walks from the same name through the same words meet the same entries
 one_walk : (words : List ℕ) (name : ℕ) (one other : List Entry) → Walk words name one → Walk words name other
     → one ≡ other
 one_walk words name [] [] w v = refl
@@ -73,6 +74,7 @@ one_walk words name (x ∷ xs) (y ∷ ys) w v =
     let rest = one_walk words (slice_index words (cell_at name)) xs ys w.3 v.3 in
     λ i. first i ∷ rest i
 
+-- the same words are a chain of one history only
 pub one_chain : (words : List ℕ) (one other : List Entry) → Chain words one → Chain words other → one ≡ other
 one_chain words one other c d =
     sym (reverse-reverse one) ∙ ap reverse (one_walk words (slice_index words 0) (reverse one) (reverse other) c d)

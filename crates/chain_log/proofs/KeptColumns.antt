@@ -15,7 +15,7 @@ use Rattle.chain_log.specs.Cells.{name_at, session_at, name_before}
 use Rattle.chain_log.specs.Columns.{HasColumns}
 use Rattle.chain_log.proofs.Names.{session_there, ranged_all, get_end}
 
--- the column of a name
+-- the column of a cell is the rest of its name, counted from 0, by the number of sessions
 pub column_of_name : (sessions row session : ℕ) → 1 ≤ session → session ≤ sessions
     → (name_at sessions row session - 1) % sessions + 1 ≡ session
 column_of_name sessions row session low high =
@@ -26,14 +26,14 @@ column_of_name sessions row session low high =
     ap (λ n. n % sessions + 1) front ∙ ap (λ n. n + 1) (add-mul-mod_self_right (session - 1) row sessions ∙ rest)
     ∙ whole
 
--- the cell of a row by its column
+-- the name of the cell that has a row's entry is made of the row and the table's column
 pub name_by_column : (sessions : ℕ) (log : List Entry) (row column : ℕ) → column ≡ session_at log row
     → name_at sessions row column ≡ name_before sessions log (row + 1)
 unfolding name_before
 name_by_column sessions log row column is =
     ap (name_at sessions row) is ∙ sym (ap (name_before sessions log) (add-one row))
 
--- whose entry stands in a row that was seen
+-- the entry in a row that was seen is of a session from 1 to the number of sessions
 pub session_ranged : (sessions : ℕ) (log : List Entry) (row : ℕ) → AllOf sessions log → row < length log
     → (1 ≤ session_at log row) × (session_at log row ≤ sessions)
 session_ranged sessions log row all below =
@@ -57,7 +57,7 @@ columns_longer capacity xs ys columns begins is = record {
   filled = λ row below. is.filled row below ∙ session_begins xs ys row begins below;
 }
 
--- one entry more
+-- with one entry more in the history, the table of columns is right once its row has the entry's column
 pub columns_more : (capacity : ℕ) (xs : List Entry) (entry : Entry) (columns : List ℕ) (column : ℕ)
     → length xs < capacity → column ≡ entry.session
     → HasColumns capacity (length xs) xs columns
@@ -100,6 +100,7 @@ pub record IsFilling (capacity first row : ℕ) (history : List Entry) (columns 
   pub before : (k : ℕ) → k < first → slice_index columns k ≡ session_at history k
   pub behind : (k : ℕ) → row ≤ k → k < length history → slice_index columns k ≡ session_at history k
 
+-- the table of columns is filled from the newest row back: before the first step it is right up to `first`
 pub filling_first : (capacity first row : ℕ) (log : List Entry) (columns : List ℕ) → length log ≤ row
     → HasColumns capacity first log columns
     → IsFilling capacity first row log columns
@@ -109,6 +110,7 @@ filling_first capacity first row log columns all kept = record {
   behind = λ k from below. absurd (omega arith);
 }
 
+-- the step: this row's column is that of the session whose entry it has
 pub filling_next : (capacity first row column : ℕ) (log : List Entry) (columns : List ℕ) → first < row
     → row ≤ length log → length log ≤ capacity
     → column ≡ session_at log (row - 1)
@@ -126,6 +128,7 @@ filling_next capacity first row column log columns some within room is filling =
           (λ ne. get_or-set_other columns below k column 0 ne ∙ filling.behind k (omega arith) low);
     }
 
+-- at the end the table is right for the whole history
 pub filling_last : (capacity first row : ℕ) (log : List Entry) (columns : List ℕ) → row ≤ first
     → IsFilling capacity first row log columns
     → HasColumns capacity (length log) log columns

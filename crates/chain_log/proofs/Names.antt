@@ -51,12 +51,14 @@ one_cell sessions row above session other low high low' high' same =
     absurd
     (dite (dec_le row above) (λ le. a (omega arith)) (λ gt. b (omega arith))))
 
+-- a name is at least 1: 0 is the name of no cell
 pub name_low : (sessions row session : ℕ) → 1 ≤ session → 1 ≤ name_at sessions row session
 name_low sessions row session low =
     let x : ℕ = row * sessions in
     let goal : 1 ≤ x + session = omega arith in
     goal
 
+-- a name is at most 16,384: 1,024 rows of 16 columns
 pub name_high : (sessions row session : ℕ) → sessions ≤ 16 → row < 1024 → session ≤ sessions
     → name_at sessions row session ≤ 16384
 name_high sessions row session few low high =
@@ -67,7 +69,7 @@ name_high sessions row session few low high =
 
 -- words
 
--- two cells share no word
+-- cells with different names have no word in common
 pub words_apart : (name other i j : ℕ) → 1 ≤ name → 1 ≤ other → name ≢ other → i < 22 → j < 22
     → cell_at name + i ≢ cell_at other + j
 words_apart name other i j low low' apart below below' same = apart (omega arith)
@@ -83,7 +85,7 @@ within_words sessions capacity row session index below low high short =
     let goal : 1 + (x + session - 1) * 22 + index < 1 + y * 22 = omega arith in
     goal
 
--- the row of a name
+-- the row of a cell is its name, counted from 0, divided by the number of sessions
 pub row_of_name : (sessions row session : ℕ) → 1 ≤ session → session ≤ sessions
     → (name_at sessions row session - 1) / sessions ≡ row
 row_of_name sessions row session low high =
@@ -94,6 +96,7 @@ row_of_name sessions row session low high =
 
 -- names below a row
 
+-- session_at gives the session of the entry that is in a row
 pub session_there : (log : List Entry) (row : ℕ) (entry : Entry) → slice_get log row ≡ Some entry
     → session_at log row ≡ entry.session
 unfolding session_at
@@ -101,15 +104,18 @@ session_there [] row entry is = cc
 session_there (x ∷ xs) zero entry is = ap (λ e. e.session) (some_injective x entry is)
 session_there (x ∷ xs) (suc row) entry is = session_there xs row entry is
 
+-- the name before the first entry is 0, which is no cell's
 pub name_zero : (sessions : ℕ) (log : List Entry) → name_before sessions log zero ≡ 0
 unfolding name_before
 name_zero sessions log = refl
 
+-- the cell before a row's next is the one with the entry of that row
 pub name_next : (sessions : ℕ) (log : List Entry) (row : ℕ) (entry : Entry) → slice_get log row ≡ Some entry
     → name_before sessions log (suc row) ≡ name_at sessions row entry.session
 unfolding name_before
 name_next sessions log row entry is = ap (name_at sessions row) (session_there log row entry is)
 
+-- the cell before a row's next is the one with the entry of that row, with the next row written as row + 1
 pub name_next_one : (sessions : ℕ) (log : List Entry) (row : ℕ) (entry : Entry) → slice_get log row ≡ Some entry
     → name_before sessions log (row + 1) ≡ name_at sessions row entry.session
 name_next_one sessions log row entry is =
@@ -123,11 +129,12 @@ name_begins sessions xs ys (suc row) begins within =
     let e = there xs row (omega arith) in
     name_next sessions xs row e.0 e.1 ∙ sym (name_next sessions ys row e.0 (get_begins xs ys row e.0 begins e.1))
 
+-- the entry that was put behind a history stands at its end
 pub get_end : (log : List Entry) (entry : Entry) → slice_get (log ++ entry ∷ []) (length log) ≡ Some entry
 get_end [] entry = refl
 get_end (x ∷ xs) entry = get_end xs entry
 
--- the newest cell after an entry was added
+-- once an entry was added, the newest cell is that of its row and session
 pub newest_added : (sessions : ℕ) (log : List Entry) (entry : Entry)
     → newest_of sessions (log ++ entry ∷ []) ≡ name_at sessions (length log) entry.session
 newest_added sessions log entry =
@@ -139,6 +146,7 @@ abbrev pub Ranged : ℕ → List Entry → Type 0
 Ranged sessions log = (row : ℕ) (entry : Entry) → slice_get log row ≡ Some entry
     → (1 ≤ entry.session) × (entry.session ≤ sessions)
 
+-- entries of sessions up to a number have that session's column
 pub ranged_all : (sessions : ℕ) (log : List Entry) → AllOf sessions log → Ranged sessions log
 ranged_all sessions log all row entry is =
     subst (λ e. (1 ≤ e.session) × (e.session ≤ sessions)) (get_or_from_slice_get log row entry entry is)
@@ -188,18 +196,20 @@ length_by_newest sessions newest log all same some = by_length (length log) refl
         ∙ name_next sessions log row f.0 f.1)
         ∙ ap (λ n. n + 1) (row_of_name sessions row f.0.session a.0 a.1) ∙ add-one row ∙ e
 
+-- if the newest cell's name is 0, there is no entry
 pub length_by_zero : (sessions newest : ℕ) (log : List Entry) → AllOf sessions log → newest ≡ newest_of sessions log
     → newest ≡ 0 → 0 ≡ length log
 length_by_zero sessions newest log all same none =
     one_length sessions log 0 (length log) (ranged_all sessions log all) (omega arith) (omega arith)
     (name_zero sessions log ∙ sym none ∙ same)
 
--- where the cell of an entry that was seen lies
+-- the name is one of a cell of the log: its words are within the table
 pub record IsName (sessions capacity name : ℕ) : Type 0 where
   pub low : 1 ≤ name
   pub high : name ≤ 16384
   pub words : (index : ℕ) → index < 22 → cell_at name + index < word_count sessions capacity
 
+-- the name of a cell within the capacity is one that the code can have
 pub cell_fits : (sessions capacity row session name : ℕ) → sessions ≤ 16 → capacity ≤ 1024 → row < capacity
     → 1 ≤ session → session ≤ sessions
     → name ≡ name_at sessions row session → IsName sessions capacity name
@@ -211,6 +221,7 @@ cell_fits sessions capacity row session name few short below low high is =
       words = λ index less. within_words sessions capacity row session index below low high less;
     })
 
+-- so are the names of the cells that a pass has seen
 pub seen_fits : (sessions capacity row name : ℕ) (seen : List Entry) → sessions ≤ 16 → capacity ≤ 1024
     → AllOf sessions seen → length seen ≤ capacity
     → row < length seen → name ≡ name_before sessions seen (row + 1) → IsName sessions capacity name

@@ -1,4 +1,5 @@
 -- Names that a pass of the log computes are those of the log's cells.
+-- Here `h` is a pass's view: what a seat of the log knows of that pass.
 use Rattle.std.proofs.Common.{◌≡◌, ℕ, ◌+◌, ◌<◌, length, subst, arith}
 use Rattle.decision_log.specs.declared.view.PassView.{PassView}
 use Rattle.chain_log.specs.declared.chain.ChainLog.{ChainLog}
@@ -16,7 +17,7 @@ seen_name log h name ours n =
     (omega (arith, ours.sessions, log.high.0)) log.high.1 ours.among
     (omega (arith, ours.within, ours.capacity)) n.1 n.2)
 
--- the name of the own cell
+-- the name of a pass's own cell for the next entry is one of the log's names
 pub own_name : (log : ChainLog) (h : PassView) (name : ℕ) → IsOurs log h → length h.known.seen < h.capacity
     → name ≡ name_at h.sessions (length h.known.seen) h.known.number → IsName log.sessions log.capacity name
 own_name log h name ours room is =

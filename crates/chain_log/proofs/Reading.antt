@@ -18,7 +18,7 @@ pub record ReadsPart (from end : ℕ) (entry : Entry) (old new : List ℕ) : Typ
 abbrev pub Fills : ℕ → ℕ → Type 0
 Fills size words = (word : ℕ) → words ≤ word → word < 8 → size ≤ 8 * word
 
--- word by word
+-- the loop over an entry's words: one more was read
 one_read : (entry : Entry) (none head one all : List ℕ) (first second : ℕ)
     → ((word : ℕ) → word < 21 → get_or none word 0 ≡ 0) → ReadsPart 0 5 entry none head
     → ReadsPart 5 (5 + first) entry head one
@@ -52,7 +52,7 @@ one_read entry none head one all first second empty h f s short fills fills' wor
     (λ within. f.read word text (omega (arith, within))))
     (λ before. f.below word (omega (arith, before)) ∙ h.read word (omega arith) (omega (arith, before))))
 
--- and all of them
+-- the loop over an entry's words ends: all 21 were read
 pub all_read : (entry : Entry) (none head one all : List ℕ) (first second : ℕ)
     → ((word : ℕ) → word < 21 → get_or none word 0 ≡ 0) → ReadsPart 0 5 entry none head
     → ReadsPart 5 (5 + first) entry head one

@@ -1,4 +1,5 @@
 -- What the words of a ring say of the history.
+-- Here `h` is a pass's view: what a seat of the log knows of that pass.
 use Rattle.std.proofs.Common.{◌≡◌, ◌≢◌, ℕ, zero, suc, ◌+◌, ◌-◌, ◌<◌, ◌≤◌, List, [], ◌∷◌, ◌++◌, length, set, get_or}
 use Rattle.std.proofs.Common.{refl, ap, sym, ◌∙◌, subst, Some, None, arith}
 use Rattle.std.specs.Prelude.{slice_get}
@@ -129,7 +130,7 @@ module _ {sizes : Sizes} {words : List ℕ} {views views' : List SeatView} (p : 
       none (x ∷ xs) zero past = absurd (omega arith)
       none (x ∷ xs) (suc place) past = none xs place (omega arith)
 
--- who looks has seen the whole history, and it is as long as before
+-- a pass that looks has seen the whole history, which is as before
 pub look_sees : (sizes : Sizes) (words words' : List ℕ) (views views' : List SeatView) (r : RingRule sizes words views)
     (after : RingRule sizes words' views')
     (step : Atomic) (found id : ℕ) (old new : PassView) → Does step words found words'

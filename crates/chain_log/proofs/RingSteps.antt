@@ -1,4 +1,5 @@
 -- The loads of a ring keep the rule, and tell what their transitions say.
+-- Here `h` is a pass's view: what a seat of the log knows of that pass.
 use Rattle.std.proofs.Common.{◌≡◌, ◌≢◌, ℕ, ◌+◌, ◌-◌, ◌<◌, ◌≤◌, List, [], ◌∷◌, length, set, get_or, refl, ap, sym, ◌∙◌}
 use Rattle.std.proofs.Common.{subst, Some, arith}
 use Rattle.std.specs.Prelude.{slice_get}
@@ -30,19 +31,23 @@ use Rattle.chain_log.specs.RingRule.{own_cell, watched_word, watched_name, beyon
 use Rattle.chain_log.specs.RingRule.{HasNotes, Knows, RingRule}
 use Rattle.chain_log.specs.RingTransitions.{with_look, noted, Sees, Checks, Reads}
 
+-- what holds of the words of a ring and of all passes' views, between any two steps
 abbrev pub Rules : Sizes → State Entry SeatView → Type 0
 Rules sizes state = RingRule sizes state.words state.views
 
+-- the three cases of `Turn` (without a turn, won, fresh) are different
 pub without_won : Without ≡ Won → ⊥
 without_won is = cc
 
+-- a pass without a turn isn't one whose turn is fresh
 pub without_fresh : Without ≡ Fresh → ⊥
 without_fresh is = cc
 
+-- a pass whose turn is fresh isn't one that has won
 pub fresh_won : Fresh ≡ Won → ⊥
 fresh_won is = cc
 
--- a pass with no draft
+-- what a pass knows of words that it stored is true if it stored none
 pub blank : (words : List ℕ) (h : PassView) → h.draft ≡ [] → IsDraft words h
 blank words h empty = record {
   short = omega (arith, ap length empty);
@@ -51,12 +56,12 @@ blank words h empty = record {
   draft = holds_nothing words (own_cell h) h.draft empty;
 }
 
--- and which reads no cell
+-- a pass that stored no word and reads no cell has no notes to go with anything
 pub idle : (words : List ℕ) (log : List Entry) (h : PassView) → h.draft ≡ [] → h.turn ≡ Without → HasNotes words log h
 idle words log h empty without =
     record { notes = subst (λ turn. Notes words log h turn) (sym without) (blank words h empty) }
 
--- what a pass knows of the history's length
+-- the history is as long as a pass knows it to be at least
 least_by : (words : List ℕ) (log : List Entry) (h : PassView) (turn : Turn) → length h.known.seen ≤ length log
     → Notes words log h turn
     → length h.known.seen + beyond_in h turn ≤ length log
@@ -153,6 +158,7 @@ module _ {sizes : Sizes} {words : List ℕ} {views : List SeatView} (r : RingRul
       ∙ r.spelled.cells place entry there intact index (omega (arith, length-words_of entry))
       ∙ ap (λ list. get_or list index 0) (words_by h place entry k is)
 
+-- a look: the load of the newest entry's name (word 0) keeps the rule, and tells what `Sees` says
 pub look_step : (sizes : Sizes) (slots id : ℕ) (h : PassView)
     → Allows (Rules sizes) slots id (seated h) 0 (λ n. n) (Tells (Sees 0 h))
 look_step sizes slots id h =
@@ -164,11 +170,12 @@ look_step sizes slots id h =
       (refl, r.log, refl, newest_by r h k.sessions, history r h k, least_low r id h here),
     ))
 
--- what a pass that reads another's cell now knows
+-- a pass that read a cell which is another entry's now knows what follows for the history's length
 broken : (words : List ℕ) (log : List Entry) (h : PassView) → HasNotes words log h → h.turn ≡ Fresh → IsBroken words h
 broken words log h own fresh = let notes : Notes words log h Fresh =
     subst (λ turn. Notes words log h turn) fresh own.notes in notes.1
 
+-- the load of a cell's name, which shows whether the cell was overwritten, keeps it, and tells what `Checks` says
 pub check_step : (sizes : Sizes) (slots id word : ℕ) (h : PassView) → word ≢ 0
     → Allows (Rules sizes) slots id (seated h) word (λ n. n) (Tells (Checks word h))
 check_step sizes slots id word h behind =
@@ -190,6 +197,7 @@ check_step sizes slots id word h behind =
       ),
     ))
 
+-- the load of a cell's word keeps it, and tells what `Reads` says
 pub read_step : (sizes : Sizes) (slots id word : ℕ) (h : PassView) → word ≢ 0
     → Allows (Rules sizes) slots id (seated h) word (λ n. n) (Tells (Reads word h))
 read_step sizes slots id word h behind =

@@ -1,4 +1,5 @@
 -- The steps of a ring that change a word keep the rule.
+-- Here `h` is a pass's view: what a seat of the log knows of that pass.
 use Rattle.std.proofs.Common.{◌≡◌, ◌≢◌, ℕ, zero, suc, ◌+◌, ◌-◌, ◌<◌, ◌≤◌, List, [], ◌∷◌, ◌++◌, length, take, set}
 use Rattle.std.proofs.Common.{get_or, refl, ap, sym, ◌∙◌, subst, ⊎_elim, Some}
 use Rattle.std.proofs.Common.{arith, eqb, length-append}
@@ -36,7 +37,7 @@ use Rattle.chain_log.specs.RingTransitions.{won, lost, stored, Finds, Drafts, Ex
 use Rattle.chain_log.proofs.Turns.{same_row, cell_low, one_word, within_words}
 use Rattle.chain_log.proofs.RingSteps.{Rules, idle, newest_by, seen_keeps}
 
--- what is so of a pass that has a draft
+-- a pass that isn't reading a cell has its draft in its own cell
 draft_of : (words : List ℕ) (log : List Entry) (h : PassView) → HasNotes words log h → h.turn ≡ Without
     → IsDraft words h
 draft_of words log h own without = subst (λ turn. Notes words log h turn) without own.notes
@@ -382,7 +383,7 @@ module _ {sizes : Sizes} {words : List ℕ} {views : List SeatView} (r : RingRul
       ∙ sym (newest_by r h k.sessions))))
       (λ longer. omega arith)
 
--- a store into the own cell
+-- a store into the pass's own cell is allowed, if it keeps the rule of the ring
 draft_step : (sizes : Sizes) (slots id word index new : ℕ) (h : PassView) → word ≡ own_cell h + index
     → ((words : List ℕ) (views : List SeatView) → RingRule sizes words views → get_elem? views id ≡ some (Single h)
     → RingRule sizes (set words (own_cell h + index) new) (set views id (Single (stored h index new))))
@@ -399,6 +400,7 @@ draft_step sizes slots id word index new h is each state r homes here small =
       (stored h (word - own_cell h) new, refl, refl),
     )
 
+-- a store of the name into the pass's own cell keeps the rule
 pub name_step : (sizes : Sizes) (slots id word new : ℕ) (h : PassView) → word ≡ own_cell h + 0 → new ≡ own_name h
     → Allows (Rules sizes) slots id (seated h) word (λ n. new) (λ n. Tells (Drafts word new h) new)
 name_step sizes slots id word new h at is =
@@ -407,6 +409,7 @@ name_step sizes slots id word new h at is =
     subst (λ n. RingRule sizes (set words (own_cell h + 0) n) (set views id (Single (stored h 0 n)))) (sym is)
     (first_keeps r id h here).0)
 
+-- so does a store of another word of the cell, which isn't published yet
 pub word_step : (sizes : Sizes) (slots id word index new : ℕ) (h : PassView) → word ≡ own_cell h + index
     → h.turn ≡ Without → 0 < index
     → index ≤ length h.draft → index < 23
@@ -434,6 +437,7 @@ find_step sizes slots id word index h at without behind along below =
       (far, refl),
     ))
 
+-- and the exchange that publishes the cell, or fails since another was faster
 pub exchange_step : (sizes : Sizes) (slots id old own : ℕ) (h : PassView) (entry : Entry)
     → old ≡ newest_of h.sessions h.known.seen → own ≡ own_name h
     → IsEntry entry → entry.session ≡ h.known.number → h.turn ≡ Without → h.draft ≡ own ∷ old ∷ words_of entry

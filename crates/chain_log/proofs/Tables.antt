@@ -26,7 +26,7 @@ window_longer rows low xs ys columns begins is = record {
       is.filled place from below (omega arith) ∙ session_begins xs ys place begins below;
 }
 
--- one place more, below those that it has
+-- the table of columns with one place more, below those that it had
 pub window_lower : (rows place count column : ℕ) (log : List Entry) (columns : List ℕ) → 0 < rows → count ≤ length log
     → length log ≤ place + rows
     → column ≡ session_at log place
@@ -53,7 +53,7 @@ pub beside_set : (rows place other column : ℕ) (columns : List ℕ) → other 
 beside_set rows place other column columns apart near near' =
     get_or-set_other columns (place % rows) (other % rows) column 0 (rows_apart rows other place apart near near')
 
--- the last place alone
+-- a table of which only the newest entry's column was filled is right for that place alone
 pub window_top : (rows count column : ℕ) (log : List Entry) (columns : List ℕ) → 0 < rows → 0 < count
     → count ≡ length log → length columns ≡ rows
     → column ≡ session_at log (count - 1)
@@ -82,7 +82,7 @@ window_joined rows low first stop count column log before after some whole top r
       ∙ kept.filled place from less near);
 }
 
--- one entry more
+-- with one entry more in the history, the table of the latest rows is right once its row has the entry's column
 pub window_more : (rows low : ℕ) (xs : List Entry) (entry : Entry) (columns : List ℕ) (column : ℕ) → 0 < rows
     → column ≡ entry.session
     → HasWindow rows low (length xs) xs columns

@@ -19,7 +19,7 @@ further row above width low =
     let a : suc row * width ≤ above * width = mul-le-mul_right width low in
     omega (arith, suc-mul row width)
 
--- of two places that share a row the later comes so many places behind the other as there are rows, or more
+-- of two places that share a row, the later comes at least as many places behind the other as there are rows
 pub same_row : (rows place later : ℕ) → place % rows ≡ later % rows → place < later → place + rows ≤ later
 same_row rows place later same less =
     let p : ℕ = place / rows in
@@ -44,15 +44,16 @@ rows_apart rows place other apart near near' same =
     (λ le. let s = same_row rows place other same (omega arith) in omega arith)
     (λ gt. let s = same_row rows other place (sym same) (omega arith) in omega arith)
 
+-- a cell begins at word 1 at least: word 0 has the newest entry's name
 pub cell_low : (capacity place session : ℕ) → 1 ≤ cell_of capacity place session
 cell_low capacity place session = omega arith
 
--- two cells share no word
+-- different cells have no word in common
 words_apart : (cell other i j : ℕ) → 1 ≤ cell → 1 ≤ other → cell ≢ other → i < 23 → j < 23
     → cell_at cell + i ≢ cell_at other + j
 words_apart cell other i j low low' apart below below' same = apart (omega arith)
 
--- a word is of one cell
+-- if words of two cells are the same word, the cells are of the same row and session
 pub one_word : (capacity place session later other i j : ℕ) → 0 < rows_of capacity → 1 ≤ session → 1 ≤ other → i < 23
     → j < 23
     → cell_of capacity place session + i ≡ cell_of capacity later other + j

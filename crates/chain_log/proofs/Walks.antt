@@ -1,4 +1,5 @@
 -- Names, columns and cells that a pass of the log computes on its way back along the links.
+-- Here `h` is a pass's view: what a seat of the log knows of that pass.
 use Rattle.std.proofs.Common.{◌≡◌, ℕ, ◌+◌, ◌-◌, ◌<◌, ◌≤◌, length, refl, ap, sym, ◌∙◌, arith}
 use Rattle.decision_log.specs.declared.view.PassView.{PassView}
 use Rattle.chain_log.specs.Cells.{name_at, session_at, name_before, newest_of}
@@ -8,14 +9,14 @@ use Rattle.chain_log.specs.declared.ring.RingLog.{RingLog}
 use Rattle.chain_log.specs.Places.{cell_of}
 use Rattle.chain_log.specs.RingSeat.{IsOurs, KeepsPass}
 
--- whose entry stands at a place that was seen
+-- the entry at a place that was seen is of a session from 1 to the number of columns
 pub session_fits : (log : RingLog) (h : PassView) (place : ℕ) → IsOurs log h → place < length h.known.seen
     → (1 ≤ session_at h.known.seen place) × (session_at h.known.seen place ≤ log.columns)
 session_fits log h place ours below =
     let few = session_ranged h.sessions h.known.seen place ours.among below in
     (few.0, omega (arith, few.1, ours.sessions))
 
--- what the column of a name is
+-- the column of a name is the session whose cell has this name
 abbrev pub ColumnsBy : ℕ → ℕ → ℕ → Type 0
 ColumnsBy sessions name column = (place session : ℕ) → 1 ≤ session → session ≤ sessions
     → name ≡ name_at sessions place session → column ≡ session
@@ -45,7 +46,7 @@ cell_is log h g place start column ours keeps at is =
     at ∙ ap (cell_of log.capacity place) (is ∙ ap (λ known. session_at known.seen place) (sym keeps.known))
     ∙ (λ i. cell_of (sym (keeps.capacity ∙ ours.capacity) i) place (session_at g.known.seen place))
 
--- and the name
+-- the name of the cell of a place that was seen, by its entry's session
 pub name_is : (log : RingLog) (h g : PassView) (place name : ℕ) → IsOurs log h → KeepsPass h g
     → name ≡ name_at log.columns place (session_at h.known.seen place)
     → name ≡ name_at g.sessions place (session_at g.known.seen place)

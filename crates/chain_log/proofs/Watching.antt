@@ -1,4 +1,5 @@
 -- What a reader learns of a cell by its name, before and after.
+-- Here `h` is a pass's view: what a seat of the log knows of that pass.
 use Rattle.std.proofs.Common.{◌≡◌, ◌≢◌, ℕ, suc, ◌+◌, ◌<◌, ◌≤◌, List, ◌∷◌, length, get_or, refl, ap, sym, ◌∙◌, subst}
 use Rattle.std.proofs.Common.{Some, arith}
 use Rattle.std.specs.Prelude.{slice_get}
@@ -21,7 +22,7 @@ pub record IsLookedFor (start name place : ℕ) (entry : Entry) (h : PassView) :
   pub cell : start ≡ cell_of h.capacity place entry.session
   pub name_is : name ≡ name_at h.sessions place entry.session
 
--- by the place, whose entry's session is known
+-- a place that was seen has one entry that is looked for, in the cell of that entry's session
 pub looked_for : (start name place : ℕ) (h : PassView) → place < length h.known.seen
     → start ≡ cell_of h.capacity place (session_at h.known.seen place)
     → name ≡ name_at h.sessions place (session_at h.known.seen place)
@@ -38,6 +39,7 @@ looked_for start name place h below cell named =
       },
     )
 
+-- a pass that keeps what it knows still looks for the entry that it looked for
 pub still_for : (start name place : ℕ) (entry : Entry) (h k : PassView) → KeepsPass h k
     → IsLookedFor start name place entry h
     → IsLookedFor start name place entry k
@@ -57,9 +59,11 @@ check_keeps start found h k checks =
           (λ v. v.capacity) checks.2;
     }
 
+-- a pass that keeps what it watches keeps what it knows
 pub watch_keeps : (h k : PassView) → KeepsWatch h k → KeepsPass h k
 watch_keeps h k keeps = record { known = keeps.known; sessions = keeps.sessions; capacity = keeps.capacity }
 
+-- what a pass knows through two steps it knows through both: `h`, `k`, `v` are its views before, between and after
 pub keeps_through : (h k v : PassView) → KeepsPass h k → KeepsPass k v → KeepsPass h v
 keeps_through h k v first second = record {
   known = second.known ∙ first.known;
@@ -67,9 +71,12 @@ keeps_through h k v first second = record {
   capacity = second.capacity ∙ first.capacity;
 }
 
+-- a pass that takes no step keeps what it knows
 pub keeps_itself : (h : PassView) → KeepsPass h h
 keeps_itself h = record { known = refl; sessions = refl; capacity = refl }
 
+-- what a pass watches through two steps it watches through both: `h`, `k`, `v` are its views before, between and
+-- after
 pub watch_through : (h k v : PassView) → KeepsWatch h k → KeepsWatch k v → KeepsWatch h v
 watch_through h k v first second = record {
   known = second.known ∙ first.known;
@@ -81,6 +88,7 @@ watch_through h k v first second = record {
   whole = λ whole. first.whole (second.whole whole);
 }
 
+-- a pass that takes no step keeps what it watches
 pub watch_itself : (h : PassView) → KeepsWatch h h
 watch_itself h =
     record {
@@ -94,7 +102,7 @@ watch_itself h =
       whole = λ whole. whole;
     }
 
--- another name: so many entries follow the one that is looked for
+-- the cell has another name: so many entries came behind the one that is looked for that its cell was used again
 pub missed : (start found name place : ℕ) (entry : Entry) (h k : PassView) → Checks start h found k
     → IsLookedFor start name place entry h → found ≢ name
     → place + rows_of h.capacity ≤ least k
@@ -102,7 +110,7 @@ missed start found name place entry h k checks is other =
     subst (λ v. place + rows_of h.capacity ≤ least v) (sym checks.2)
     (checks.3 place entry is.seen is.cell (λ same. other (same ∙ sym is.name_is)))
 
--- its name: the pass reads its cell
+-- the cell has the name that is looked for: the pass reads that cell from now on
 pub watched : (start found name place : ℕ) (entry : Entry) (h k : PassView) → Checks start h found k
     → IsLookedFor start name place entry h → found ≡ name
     → ReadsCell start place entry k × (k.turn ≡ Won)
@@ -135,7 +143,7 @@ whole start found name place entry g h k reads won keeps is checks same =
     by_turn Fresh turn = absurd (never turn)
     by_turn Without turn = absurd (keeps.reads (λ without. without_won (sym without ∙ won)) turn)
 
--- the same of a look for an entry that came before
+-- a cell with another name, of a pass that looked for an entry before: so many entries came behind that one
 pub missed_later : (start found name place : ℕ) (entry : Entry) (h g k : PassView) → KeepsPass h g
     → Checks start g found k
     → IsLookedFor start name place entry h → found ≢ name
@@ -155,7 +163,7 @@ won_between start first second name place entry h g v k is before same keeps aft
     (watch_keeps g v keeps)) is in
     (w.0, whole start second name place entry g v k w.0 w.1 keeps on after same')
 
--- the word that was read
+-- a word that was read in a watched cell is the entry's
 pub word_there : (start place index word : ℕ) (entry : Entry) (h k : PassView) → ReadsCell start place entry h
     → Reads (start + index) h word k → k.turn ≡ Won
     → index < 23
@@ -163,7 +171,7 @@ pub word_there : (start place index word : ℕ) (entry : Entry) (h k : PassView)
 word_there start place index word entry h k is reads won below =
     reads.2 won place index entry is.seen (is.word ∙ is.cell) is.name (ap (λ n. n + index) (sym is.word)) below
 
--- the link that was read between two loads of the name, both of which found it, is that of the entry before
+-- a link that was read between two loads of the cell's name, both of which found it, is that of the entry before
 pub link_there : (start first second name place link : ℕ) (entry : Entry) (h g v k : PassView)
     → IsLookedFor start name place entry h → Checks start h first g
     → first ≡ name → Reads (start + 1) g link v → Checks start v second k → second ≡ name
@@ -181,7 +189,7 @@ behind_link name link index words =
     let next : 2 + index ≡ suc (suc index) = omega arith in
     ap (λ n. get_or (name ∷ link ∷ words) n 0) next
 
--- a pass that goes on reading the same cell
+-- a pass that goes on watching reads the same cell for the same place
 pub watched_on : (start place : ℕ) (entry : Entry) (h k : PassView) → KeepsWatch h k → ReadsCell start place entry h
     → ReadsCell start place entry k
 watched_on start place entry h k keeps is = record {

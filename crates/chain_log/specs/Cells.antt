@@ -12,7 +12,7 @@ use Rattle.xa_words.specs.Entry.{Entry}
 abbrev pub word_count : ℕ → ℕ → ℕ
 word_count sessions capacity = 1 + capacity * sessions * 22
 
--- row by row, session by session
+-- the name of a session's cell in a row; cells are numbered row by row, session by session
 abbrev pub name_at : ℕ → ℕ → ℕ → ℕ
 name_at sessions row session = row * sessions + session
 

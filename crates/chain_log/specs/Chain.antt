@@ -7,7 +7,7 @@ use Rattle.xa_words.specs.Words.{words_of}
 use Rattle.decision_log.specs.Draft.{HasWordsAt}
 use Rattle.chain_log.specs.Cells.{cell_at}
 
--- from a name on: nothing at 0, else the entry whose words the cell has, and then what its link leads to
+-- the walk from a cell's name: nothing at 0, else the entry whose words the cell has, and then what its link leads to
 abbrev pub Walk : List ℕ → ℕ → List Entry → Type 0
 Walk words name [] = name ≡ 0
 Walk words name (entry ∷ older) =

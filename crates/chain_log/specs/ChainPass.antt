@@ -8,7 +8,7 @@ use Rattle.decision_log.specs.Seats.{pass_view_of}
 use Rattle.chain_log.specs.declared.chain.ChainLog.{ChainLog}
 use Rattle.chain_log.specs.declared.pass.ChainPass.{ChainPass}
 
--- its table and its sizes
+-- what tells a log from others: its table and its sizes
 abbrev pub identity_of : ChainLog → LogIdentity
 identity_of log = record { table = log.table.inner.shared.table_id; sessions = log.sessions; capacity = log.capacity }
 
@@ -21,6 +21,6 @@ log_of pass =
       capacity = (pass_view_of pass.seat.me.0).capacity;
     }
 
--- what its seat knows of it
+-- what a pass knows of the chain, by what its seat knows
 abbrev pub known_of : ChainPass → Known
 known_of pass = (pass_view_of pass.seat.me.0).known

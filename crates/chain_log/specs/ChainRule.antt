@@ -16,7 +16,7 @@ use Rattle.decision_log.specs.Draft.{HasWordsAt}
 use Rattle.decision_log.specs.LogRule.{KnowsLog, LogRule}
 use Rattle.chain_log.specs.Cells.{word_count, name_at, cell_at, name_before, newest_of}
 
--- in the pass's own column, in the row after all that it has seen
+-- the pass's own cell, which it fills: in its own column, in the row after all that it has seen
 abbrev pub own_cell : PassView → ℕ
 own_cell pass_view = cell_at (name_at pass_view.sessions (length pass_view.known.seen) pass_view.known.number)
 
@@ -24,7 +24,7 @@ own_cell pass_view = cell_at (name_at pass_view.sessions (length pass_view.known
 abbrev pub try_word : ℕ
 try_word = 0
 
--- the name of the last cell that the pass has seen
+-- the name of the last cell that the pass has seen, which is the newest if it has seen the whole history
 abbrev pub newest_for : PassView → ℕ
 newest_for pass_view = newest_of pass_view.sessions pass_view.known.seen
 
@@ -43,7 +43,7 @@ pub record HasDraft (words : List ℕ) (log : List Entry) (pass_view : PassView)
   pub column : 0 < length pass_view.draft → pass_view.known.number ≤ pass_view.sessions
   pub draft : HasWordsAt words (own_cell pass_view) pass_view.draft
 
--- what a pass knows is true
+-- what a pass's view says of the chain is true
 abbrev pub Knows : Sizes → List ℕ → List Entry → PassView → Type 0
 Knows sizes words log pass_view = KnowsLog HasDraft sizes words log pass_view
 

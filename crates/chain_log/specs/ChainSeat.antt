@@ -10,11 +10,11 @@ use Rattle.decision_log.specs.Known.{AllOf}
 use Rattle.decision_log.specs.AtTable.{KnowsOne}
 use Rattle.chain_log.specs.declared.chain.ChainLog.{ChainLog}
 
--- it is a seat of this log, and knows one pass
+-- the seat is one of this log, and knows one pass
 abbrev pub IsSeat : ChainLog → Seat Entry SeatView → Type 0
 IsSeat log seat = KnowsOne log.table.inner.shared.table_id seat
 
--- what holds of each of the log's passes, also within a call
+-- what holds of the view of each of the log's passes, also within a call
 pub record IsOurs (log : ChainLog) (pass_view : PassView) : Type 0 where
   pub sessions : pass_view.sessions ≡ log.sessions
   pub capacity : pass_view.capacity ≡ log.capacity

@@ -2,6 +2,7 @@
 --     with_look, won, lost    the pass after a step
 --     Sees, Reads, Finds, Drafts, Exchanges      the steps, each by its word, its operands, the pass before, what was
 --                                                found and the pass after
+-- Here `h` is a pass's view: what a seat of the log knows of that pass.
 use Rattle.std.specs.Prelude.{◌≡◌, ◌≢◌, ◌<◌, ◌+◌, ◌-◌, ℕ, List, [], ◌∷◌, ◌++◌, length, slice_get, slice_index, Some}
 use mathlib.Core.Option.{Option, none, some}
 use Rattle.xa_words.specs.Entry.{Entry, IsEntry}
@@ -12,7 +13,7 @@ use Rattle.decision_log.specs.Observed.{HistoryIs}
 use Rattle.chain_log.specs.Cells.{name_at, cell_at, name_before, newest_of}
 use Rattle.chain_log.specs.ChainRule.{own_cell, try_word, newest_for}
 
--- after a look that saw this history: the own cell is another one now, and its draft is empty
+-- the pass after a look that saw this history: its own cell is another one now, and its draft is empty
 abbrev pub with_look : PassView → List Entry → PassView
 with_look h seen = record {
   known =
@@ -31,7 +32,7 @@ with_look h seen = record {
   turn = h.turn;
 }
 
--- after an exchange that won: the entry is appended
+-- the pass after an exchange that won: its entry is appended
 abbrev pub won : PassView → Entry → PassView
 won h entry = record {
   known =
@@ -49,7 +50,7 @@ won h entry = record {
   turn = h.turn;
 }
 
--- after an exchange that lost: this history was seen
+-- the pass after an exchange that lost: it has seen this history
 abbrev pub lost : PassView → List Entry → PassView
 lost h seen = record {
   known = record {

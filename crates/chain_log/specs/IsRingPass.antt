@@ -1,11 +1,12 @@
 -- A pass of a ring between two calls.
 --     IsRingPass      its number is one of the log's, and what it knows fits together
+-- Here `h` is a pass's view: what a seat of the log knows of that pass.
 use Rattle.std.specs.Prelude.{◌≡◌, ◌≤◌, ℕ, length}
 use Rattle.decision_log.specs.declared.view.PassView.{PassView}
 use Rattle.decision_log.specs.History.{entries_of}
 use Rattle.decision_log.specs.Known.{AllOf}
 
--- of a number, and with so many entries seen
+-- the view is of a pass with this number, that has seen so many entries
 pub record IsRingPass (number front : ℕ) (h : PassView) : Type 0 where
   pub numbered : number ≡ h.known.number
   pub measured : front ≡ length h.known.seen

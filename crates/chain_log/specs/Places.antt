@@ -16,7 +16,7 @@ use Rattle.chain_log.specs.Cells.{name_at, name_before}
 abbrev pub most : ℕ
 most = 576460752303423488
 
--- what a ring can have in addition to that
+-- how many rows a ring of this capacity has: what is beyond 2^59
 unfoldable pub rows_of : ℕ → ℕ
 rows_of capacity = capacity - most
 

@@ -16,7 +16,7 @@ resting_log_of pass =
       capacity = (pass_view_of pass.perch.view).capacity;
     }
 
--- what that seat knows of it
+-- what a pass at rest knows of the ring, by what its seat knew
 abbrev pub resting_known_of : RestingPass → Known
 resting_known_of pass = (pass_view_of pass.perch.view).known
 
@@ -29,6 +29,6 @@ resting_spare_log_of spare =
       capacity = (pass_view_of spare.perch.view).capacity;
     }
 
--- what that seat knows of it
+-- what a spare at rest knows of the ring, by what its seat knew
 abbrev pub resting_spare_known_of : RestingSpare → Known
 resting_spare_known_of spare = (pass_view_of spare.perch.view).known

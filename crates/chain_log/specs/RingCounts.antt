@@ -12,6 +12,7 @@ use Rattle.decision_log.specs.Counted.{IsCounted, leaves_counts, counts_at_load,
 use Rattle.chain_log.specs.RingRule.{try_word, newest_for}
 use Rattle.chain_log.specs.RingTransitions.{Sees, Checks, Reads, Finds, Drafts, Exchanges}
 
+-- the load that sees the newest entry is a look, and counts as one
 pub see_counts : IsCounted newest_for try_word (AtLoad Sees)
 see_counts =
     counts_at_load Sees
@@ -21,6 +22,7 @@ see_counts =
       since = ((λ _. ap (λ h. h.known.since) is.2), (λ never. absurd never), (λ other _. absurd (other is.0)));
     })
 
+-- the load that checks whether a cell was overwritten is no look and no try
 pub check_counts : IsCounted newest_for try_word (AtLoad Checks)
 check_counts =
     counts_at_load Checks
@@ -28,6 +30,7 @@ check_counts =
     (ap (λ h. h.known.tries) is.2) (ap (λ h. h.known.since) is.2) is.0
     (λ never. never))
 
+-- the load of a cell's word is no look and no try
 pub read_counts : IsCounted newest_for try_word (AtLoad Reads)
 read_counts =
     counts_at_load Reads
@@ -35,6 +38,7 @@ read_counts =
     (ap (λ k. k.tries) is.1.known) (ap (λ k. k.since) is.1.known) is.0
     (λ never. never))
 
+-- the load that finds what is behind what was seen is no look and no try
 pub find_counts : IsCounted newest_for try_word (AtLoad Finds)
 find_counts =
     counts_at_load Finds
@@ -42,12 +46,14 @@ find_counts =
     (ap (λ h. h.known.tries) is.1) (ap (λ h. h.known.since) is.1) is.0
     (λ never. never))
 
+-- storing a word of a cell that isn't published yet leaves the counts
 pub draft_counts : IsCounted newest_for try_word (AtStore Drafts)
 draft_counts =
     counts_at_store Drafts
     (λ word value old found new is.
     (ap (λ h. h.known.looks) is, ap (λ h. h.known.tries) is, ap (λ h. h.known.since) is))
 
+-- the exchange of the newest entry's name is a try, won or lost
 pub exchange_counts : IsCounted newest_for try_word (AtExchange Exchanges)
 exchange_counts = counts_at_exchange Exchanges counted
   where

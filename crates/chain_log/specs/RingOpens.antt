@@ -15,11 +15,11 @@ use Rattle.chain_log.specs.declared.spare.RingSpare.{RingSpare}
 use Rattle.chain_log.specs.RingPass.{identity_of, log_of, known_of}
 use Rattle.chain_log.specs.RingSpare.{spare_log_of, spare_known_of}
 
--- from 1 to 65,536 rows (own rule)
+-- a ring may have from 1 to 65,536 rows (own rule)
 abbrev pub AreRows : ℕ → Type 0
 AreRows rows = (1 ≤ rows) × (rows ≤ 65536)
 
--- from 0 to 4 spares (own rule)
+-- a ring may have from 0 to 4 spares, the passes that remember checkpoints' prefixes (own rule)
 abbrev pub AreSpares : ℕ → Type 0
 AreSpares spares = spares ≤ 4
 
@@ -50,7 +50,7 @@ pub record OpensRing (rows sessions spares : ℕ) (log : RingLog) (passes : List
   pub passes_are : OpensPasses sessions (identity_of log) passes
   pub spares_are : OpensSpares sessions spares (identity_of log) spare_list
 
--- in the order of test
+-- why a ring of these sizes isn't opened, in the order of test
 abbrev pub Refuses : ℕ → ℕ → ℕ → RingFault → Type 0
 Refuses rows sessions spares RowsOutOfRange = AreRows rows → ⊥
 Refuses rows sessions spares SessionsOutOfRange = AreRows rows × (IsCount sessions → ⊥)

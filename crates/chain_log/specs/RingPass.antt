@@ -11,7 +11,7 @@ use Rattle.chain_log.specs.declared.ring.RingLog.{RingLog}
 use Rattle.chain_log.specs.declared.ring_pass.RingPass.{RingPass}
 use Rattle.chain_log.specs.RingRule.{least}
 
--- its table, how many passes it has, spares included, and how many entries it can have
+-- what tells a ring from others: its table, how many passes it has, spares included, and how many entries it can have
 abbrev pub identity_of : RingLog → LogIdentity
 identity_of log = record { table = log.table.inner.shared.table_id; sessions = log.columns; capacity = log.capacity }
 
@@ -24,10 +24,10 @@ log_of pass =
       capacity = (pass_view_of pass.seat.me.0).capacity;
     }
 
--- what its seat knows of it
+-- what a pass knows of the ring, by what its seat knows
 abbrev pub known_of : RingPass → Known
 known_of pass = (pass_view_of pass.seat.me.0).known
 
--- what its seat knows of the history's length
+-- the length that the history has at least, by what the pass's seat knows
 abbrev pub least_of : RingPass → ℕ
 least_of pass = least (pass_view_of pass.seat.me.0)

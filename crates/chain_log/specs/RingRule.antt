@@ -11,6 +11,7 @@
 --     Notes, HasNotes what a pass knows of the words is so
 --     Knows           what a pass knows of the log is so
 --     RingRule        the rule
+-- Here `h` is a pass's view: what a seat of the log knows of that pass.
 use Rattle.std.specs.Prelude.{◌≡◌, ◌≢◌, ◌<◌, ◌≤◌, ◌+◌, ℕ, List, length, slice_get, slice_index, Some}
 use Rattle.xa_words.specs.Entry.{Entry}
 use Rattle.decision_log.specs.declared.view.PassView.{PassView}
@@ -23,11 +24,11 @@ use Rattle.decision_log.specs.LogRule.{KnowsLog, LogRule}
 use Rattle.chain_log.specs.Cells.{name_at, newest_of}
 use Rattle.chain_log.specs.Places.{rows_of, word_count, cell_of, cell_words}
 
--- of the place after all that it has seen, and of the pass's session
+-- the name of the pass's next entry: of the place after all that it has seen, and of its session
 abbrev pub own_name : PassView → ℕ
 own_name h = name_at h.sessions (length h.known.seen) h.known.number
 
--- in the pass's own column
+-- the pass's own cell, which it fills: in its own column, in the row of the place after all that it has seen
 abbrev pub own_cell : PassView → ℕ
 own_cell h = cell_of h.capacity (length h.known.seen) h.known.number
 
@@ -57,7 +58,7 @@ beyond_in h Without = 0
 beyond_in h Won = beyond h
 beyond_in h Fresh = beyond h
 
--- what it has seen, and those
+-- the length that the history has at least: what the pass has seen, and the entries that it noted beyond that
 abbrev pub least : PassView → ℕ
 least h = length h.known.seen + beyond_in h h.turn
 
@@ -94,14 +95,15 @@ Notes words log h Without = IsDraft words h
 Notes words log h Won = length h.known.seen + beyond h ≤ length log
 Notes words log h Fresh = (length h.known.seen + beyond h ≤ length log) × IsBroken words h
 
+-- what the pass notes of its own cell goes with how far it has come with its try
 pub record HasNotes (words : List ℕ) (log : List Entry) (h : PassView) : Type 0 where
   pub notes : Notes words log h h.turn
 
--- what a pass knows is so
+-- what a pass's view says of the ring is true
 abbrev pub Knows : Sizes → List ℕ → List Entry → PassView → Type 0
 Knows sizes words log h = KnowsLog HasNotes sizes words log h
 
--- the words spell the last entries of the log, whose entries are of sessions that were given out, and what all seats
--- know is so
+-- the rule: the words spell the last entries of the log, these are of sessions that were given out, and what all
+-- seats know is true
 abbrev pub RingRule : Sizes → List ℕ → List SeatView → Type 0
 RingRule sizes words views = LogRule HasCells HasNotes sizes words views

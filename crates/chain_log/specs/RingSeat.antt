@@ -4,6 +4,7 @@
 --     IsOurs          the pass has this log's sizes, one of its numbers, and has seen what it can have
 --     KeepsPass       a call leaves what the pass knows of the history
 --     ReadsCell       the pass reads the cell of an entry that it has seen
+-- Here `h` is a pass's view: what a seat of the log knows of that pass.
 use Rattle.std.specs.Prelude.{◌≡◌, ◌<◌, ◌≤◌, ◌+◌, ℕ, length, slice_get, Some}
 use Rattle.atomic_table.specs.declared.shared.Seat.{Seat}
 use Rattle.xa_words.specs.Entry.{Entry}
@@ -16,7 +17,7 @@ use Rattle.chain_log.specs.Places.{cell_of}
 use Rattle.chain_log.specs.RingRule.{watched_word, watched_name}
 use Rattle.chain_log.specs.declared.ring.RingLog.{RingLog}
 
--- it is a seat of this log, and knows one pass
+-- the seat is one of this ring, and knows one pass
 abbrev pub IsSeat : RingLog → Seat Entry SeatView → Type 0
 IsSeat log seat = KnowsOne log.table.inner.shared.table_id seat
 
@@ -25,7 +26,7 @@ pub record IsStart (log : RingLog) (start : ℕ) : Type 0 where
   pub behind : 1 ≤ start
   pub within : start + 22 < log.table.inner.shared.table_id.words
 
--- what is so of each of the log's passes, also within a call
+-- what holds of the view of each of the ring's passes, also within a call
 pub record IsOurs (log : RingLog) (pass_view : PassView) : Type 0 where
   pub sessions : pass_view.sessions ≡ log.columns
   pub capacity : pass_view.capacity ≡ log.capacity
@@ -40,7 +41,7 @@ pub record KeepsPass (old new : PassView) : Type 0 where
   pub sessions : new.sessions ≡ old.sessions
   pub capacity : new.capacity ≡ old.capacity
 
--- it found the entry's name in the cell that begins here
+-- the pass has found the entry's name in the entry's cell, which begins at this word
 pub record ReadsCell (start place : ℕ) (entry : Entry) (h : PassView) : Type 0 where
   pub seen : slice_get h.known.seen place ≡ Some entry
   pub cell : start ≡ cell_of h.capacity place entry.session

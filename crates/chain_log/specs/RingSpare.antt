@@ -15,6 +15,6 @@ spare_log_of spare =
       capacity = (pass_view_of spare.seat.me.0).capacity;
     }
 
--- what its seat knows of it
+-- what a spare knows of the ring, by what its seat knows
 abbrev pub spare_known_of : RingSpare → Known
 spare_known_of spare = (pass_view_of spare.seat.me.0).known

@@ -3,6 +3,7 @@
 --     KeepsWatch      what a load of a word leaves of a pass
 --     Sees, Checks, Reads, Finds, Drafts, Exchanges      the steps, each by its word, its operands, the pass before,
 --                                                        what was found and the pass after
+-- Here `h` is a pass's view: what a seat of the log knows of that pass.
 use Rattle.std.specs.Prelude.{◌≡◌, ◌≢◌, ◌<◌, ◌≤◌, ◌+◌, ◌-◌, ℕ, List, [], ◌∷◌, ◌++◌, length, take, slice_get}
 use Rattle.std.specs.Prelude.{slice_index, Some}
 use mathlib.Core.Option.{Option, none, some}
@@ -15,7 +16,7 @@ use Rattle.chain_log.specs.Cells.{name_at, newest_of}
 use Rattle.chain_log.specs.Places.{rows_of, cell_of, cell_words}
 use Rattle.chain_log.specs.RingRule.{own_name, own_cell, try_word, newest_for, watched_word, watched_name, least}
 
--- after a look that saw this history: the own cell is another now, and its draft is empty
+-- the pass after a look that saw this history: its own cell is another now, and its draft is empty
 abbrev pub with_look : PassView → List Entry → PassView
 with_look h seen = record {
   known =
@@ -34,7 +35,7 @@ with_look h seen = record {
   turn = Without;
 }
 
--- after an exchange that won: the entry is added
+-- the pass after an exchange that won: its entry is appended
 abbrev pub won : PassView → Entry → PassView
 won h entry = record {
   known =
@@ -52,7 +53,7 @@ won h entry = record {
   turn = Without;
 }
 
--- after an exchange that lost: one more try was made, and this history was seen; looks are counted anew since then
+-- the pass after an exchange that lost: one more try, this history seen, and looks counted anew since then
 abbrev pub lost : PassView → List Entry → PassView
 lost h seen = record {
   known = record {
@@ -70,16 +71,16 @@ lost h seen = record {
   turn = Without;
 }
 
--- with these words in its own cell
+-- the pass with these words stored in its own cell
 abbrev pub with_words : PassView → List ℕ → PassView
 with_words h words =
     record { known = h.known; sessions = h.sessions; capacity = h.capacity; draft = words; turn = Without }
 
--- after a store of a word of the draft, which forgets what was stored after it
+-- the pass after a store of a word of its draft, which forgets what was stored after it
 abbrev pub stored : PassView → ℕ → ℕ → PassView
 stored h index word = with_words h (take index h.draft ++ word ∷ [])
 
--- after it found a name in the first word of a cell, while there were so many entries more than it has seen
+-- the pass after it found a name in a cell's first word, when the history had so many entries more than it has seen
 abbrev pub noted : PassView → ℕ → ℕ → ℕ → Turn → PassView
 noted h word name more turn =
     record {

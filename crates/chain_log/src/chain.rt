@@ -17,8 +17,12 @@ pub struct ChainLog {
     pub(crate) sessions: u64,
     /// How many entries it can have, in `[1, 1024]`.
     pub(crate) capacity: u64,
+    // The table has the words of all cells, and the word of the newest one's name.
     ghost wide: { table.inner.shared.table_id.words ≡ word_count sessions capacity },
+    // The table was made for these sizes.
     ghost sizes: { table.inner.shared.key ≡ record { sessions = sessions; capacity = capacity } },
+    // There is a session, and room for an entry.
     ghost low: { (1 ≤ sessions) × (1 ≤ capacity) },
+    // Names of cells are at most 16 times 1,024.
     ghost high: { (sessions ≤ 16) × (capacity ≤ 1024) },
 }

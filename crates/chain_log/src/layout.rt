@@ -70,6 +70,7 @@ pub(crate) fn count_from(sessions: u64, known: u64, count: u64, newest: u64) -> 
         → count ≡ length seen }
     ensures { (seen : List Entry) → AllOf sessions seen → newest ≡ newest_of sessions seen → result ≡ length seen }
 {
+    // Mostly nothing has changed, and then the division by the number of sessions isn't needed.
     if newest == known {
         return count;
     }

@@ -22,12 +22,17 @@ pub struct RestingPass {
     pub(crate) count: u64,
     pub(crate) low: u64,
     pub(crate) columns: Vec<u8>,
+    // The perch keeps one pass, and no word that it stored.
     ghost held: { (perch.view, []) ≡ seated (pass_view_of perch.view) },
+    // That pass has this number, and has seen `count` entries.
     ghost state: { IsRingPass number count (pass_view_of perch.view) },
+    // `newest` is the name of the last entry that was seen.
     ghost named: { newest ≡ newest_of (pass_view_of perch.view).sessions (pass_view_of perch.view).known.seen },
+    // From place `low` on, the table has the columns of the last entries, as many as there are rows.
     ghost kept: { HasWindow (rows_of (pass_view_of perch.view).capacity) low
         (length (pass_view_of perch.view).known.seen) (pass_view_of perch.view).known.seen
         columns.items },
+    // The last place is one of these, unless nothing was seen.
     ghost bottom: { 0 < low → low < length (pass_view_of perch.view).known.seen },
 }
 
@@ -36,6 +41,8 @@ pub struct RestingPass {
 pub struct RestingSpare {
     pub(crate) perch: Perch<Entry, SeatView>,
     pub(crate) count: u64,
+    // The perch keeps one pass, and no word that it stored.
     ghost held: { (perch.view, []) ≡ seated (pass_view_of perch.view) },
+    // It has seen `count` entries.
     ghost counted: { count ≡ length (pass_view_of perch.view).known.seen },
 }

@@ -9,7 +9,7 @@ use crate::{RestingPass, RestingSpare, RingPass, RingSpare};
 use atomic_table::Perch;
 
 impl RingPass {
-    /// Lets the pass rest.
+    /// Lets the pass rest between two calls, as threads may share it then.
     ///
     /// Takes no memory. Doesn't wait.
     /// Own rule: docs/INTERNALS.md#the-ring.
@@ -75,7 +75,7 @@ impl RestingPass {
 }
 
 impl RingSpare {
-    /// Lets the spare rest.
+    /// Lets the spare rest between two calls, as threads may share it then.
     ///
     /// Takes no memory. Doesn't wait.
     /// Own rule: docs/INTERNALS.md#the-ring.

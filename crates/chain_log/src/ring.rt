@@ -22,11 +22,18 @@ pub struct RingLog {
     pub(crate) rows: u64,
     /// How many entries the log can have: 2^59 and as many more as it has rows.
     pub(crate) capacity: u64,
+    // The table has the words of all cells, and the word of the newest entry's name.
     ghost wide: { table.inner.shared.table_id.words ≡ word_count columns rows },
+    // The table was made for these sizes.
     ghost sizes: { table.inner.shared.key ≡ record { sessions = columns; capacity = capacity } },
+    // The number of rows follows from the capacity.
     ghost turns: { rows ≡ rows_of capacity },
+    // The history may have 2^59 entries, and as many more as there are rows; so names fit into 64 bits.
     ghost room: { capacity ≡ most + rows },
+    // There is a session, and a row.
     ghost low: { (1 ≤ sessions) × (1 ≤ rows) },
+    // No more sessions than entries can name, and no more rows than are allowed.
     ghost high: { (sessions ≤ 16) × (rows ≤ 65536) },
+    // The columns are those of the sessions and of at most 4 spares.
     ghost spares: { (sessions ≤ columns) × (columns ≤ 20) },
 }

@@ -124,6 +124,7 @@ impl RingLog {
             (pass_view seat.old).known.seen place) }
         ensures none { IfNone result (place + rows_of (pass_view seat.old).capacity ≤ least (pass_view seat.new)) }
     {
+        // The cell was used again already.
         if self.check_name(seat, start) != name {
             return None;
         }

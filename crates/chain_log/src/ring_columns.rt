@@ -15,7 +15,8 @@ use atomic_table::Seat;
 use decision_log::SeatView;
 use xa_words::Entry;
 
-/// How many places are filled at once at most.
+/// How many places are filled at once at most: each takes a load of a cell that may be far, and a session that
+/// goes on from a checkpoint never needs those below it.
 const MOST_FILLED: u64 = 64;
 
 impl RingLog {

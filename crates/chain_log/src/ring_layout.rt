@@ -13,13 +13,14 @@ pub(crate) const NEWEST: usize = 0;
 /// How many words a cell has: its entry's name, a link, and the entry's.
 pub(crate) const CELL: usize = 2 + WORDS;
 
-/// How many entries a ring can have in addition to its rows: 2^59.
+/// How many entries a ring can have in addition to its rows: 2^59. A name numbers a place and one of up to 20
+/// columns, so all names fit into 64 bits.
 pub(crate) const MOST: u64 = 576_460_752_303_423_488;
 
-/// How many rows a ring can have at most.
+/// How many rows a ring can have at most. With 20 columns of 23 words, 65,536 rows take 241 MB.
 pub const MOST_ROWS: u64 = 65_536;
 
-/// How many spares a ring can have at most.
+/// How many spares a ring can have at most. Each has a column of its own, as a session has.
 pub const MOST_SPARES: u64 = 4;
 
 /// How many words a ring has. It has a column for each pass, spares included, but a spare uses no cell of its own.
@@ -89,12 +90,14 @@ pub(crate) fn place_count(columns: u64, newest: u64) -> u64
     (newest - 1) / columns + 1
 }
 
-/// Returns the same as `place_count`. The count of another name is known, which most often is the same name.
+/// Returns how many entries there are up to the one of a name, as `place_count` does. The count of another name is
+/// known, which most often is the same name.
 pub(crate) fn count_from(columns: u64, known: u64, count: u64, newest: u64) -> u64
     requires columns { 1 ≤ columns }
     requires counted { (seen : List Entry) → AllOf columns seen → known ≡ newest_of columns seen → count ≡ length seen }
     ensures { (seen : List Entry) → AllOf columns seen → newest ≡ newest_of columns seen → result ≡ length seen }
 {
+    // Mostly nothing has changed, and then the division by the number of columns isn't needed.
     if newest == known {
         return count;
     }

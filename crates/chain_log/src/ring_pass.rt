@@ -30,16 +30,19 @@ pub struct RingPass {
     pub(crate) low: u64,
     /// A byte for each row.
     pub(crate) columns: Vec<u8>,
+    // The seat holds one pass: this one.
     ghost held: { seat.me ≡ seated (pass_view_of seat.me.0) },
     // Proved (log, ring-pass): Between any two calls the number of a ring's pass is one of the log's columns, and all
     //   that it has seen is of these. The entries of its number there are its own. It has seen no more entries than
     //   the log can have.
     ghost state: { IsRingPass number count (pass_view_of seat.me.0) },
+    // `newest` is the name of the last entry that was seen.
     ghost named: { newest ≡ newest_of (pass_view_of seat.me.0).sessions (pass_view_of seat.me.0).known.seen },
     // Proved (log, ring-table): Between any two calls a pass of a ring has a table with the session of each of the last
     //   entries that it has seen, back to the place `low`.
     ghost kept: { HasWindow (rows_of (pass_view_of seat.me.0).capacity) low (length (pass_view_of seat.me.0).known.seen)
         (pass_view_of seat.me.0).known.seen
         columns.items },
+    // The last place is one of these, unless nothing was seen.
     ghost bottom: { 0 < low → low < length (pass_view_of seat.me.0).known.seen },
 }

@@ -141,6 +141,8 @@ impl RingLog {
         ensures seat { IsSeat self.now seat.new }
         ensures put { pass_view seat.new ≡ stored (pass_view seat.old) index new }
     {
+        // A word that is there already isn't stored again: a load leaves the line of memory shared, a store takes it
+        // away.
         if self.find_word(seat, start, index) == new {
             return;
         }
@@ -195,6 +197,7 @@ impl RingLog {
             × HistoryIs (pass_view seat.old) seen
             × (length (pass_view seat.old).known.seen < length seen) }
     {
+        // The proof needs that the entry's session is one of 1 to 16.
         let _session = entry.session();
         // The exchange itself tests whether `old` is still the newest, and with it whether all that was seen is the
         // history.

@@ -16,6 +16,8 @@ pub struct RingSpare {
     pub(crate) seat: Seat<Entry, SeatView>,
     /// How many entries it remembers.
     pub(crate) count: u64,
+    // The seat holds one pass: this one.
     ghost held: { seat.me ≡ seated (pass_view_of seat.me.0) },
+    // It has seen `count` entries.
     ghost counted: { count ≡ length (pass_view_of seat.me.0).known.seen },
 }

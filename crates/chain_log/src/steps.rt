@@ -129,6 +129,8 @@ impl ChainLog {
         ensures seat { IsSeat self.now seat.new }
         ensures put { pass_view seat.new ≡ drafted (pass_view seat.old) index new }
     {
+        // Most words of an entry are 0, and most cells are used for the first time: then a load shows that 0 is
+        // there.
         if new != 0 {
             self.store_word(seat, name, index, new);
             return;
@@ -164,6 +166,7 @@ impl ChainLog {
             × HistoryIs (pass_view seat.old) seen
             × (length (pass_view seat.old).known.seen < length seen) }
     {
+        // The proof needs that the entry's session is one of 1 to 16.
         let _session = entry.session();
         // The exchange itself tests whether `old` is still the newest, and so whether what was seen is the
         // history.

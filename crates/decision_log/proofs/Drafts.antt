@@ -7,10 +7,11 @@ use native.Mathlib.Decide.{ℕ_discrete}
 use Rattle.std.proofs.lemmas.List.{get_or-set_same, get_or-set_other, length-take-le, get_or_push}
 use Rattle.decision_log.specs.Draft.{HasWordsAt}
 
+-- a draft of no word stands anywhere
 pub holds_nothing : (words : List ℕ) (at : ℕ) (draft : List ℕ) → draft ≡ [] → HasWordsAt words at draft
 holds_nothing words at draft blank = subst (λ d. HasWordsAt words at d) (sym blank) (λ i below. absurd (omega arith))
 
--- a word that isn't among them changes
+-- changing a word that isn't one of a draft's leaves the draft where it stands
 pub holds_beside : (words : List ℕ) (word new at : ℕ) (draft : List ℕ) → ((i : ℕ) → i < length draft → at + i ≢ word)
     → HasWordsAt words at draft
     → HasWordsAt (set words word new) at draft
@@ -37,7 +38,7 @@ holds_one_more words at index new draft along within holds i below =
     front ys (x ∷ xs) (suc n) zero less along = refl
     front ys (x ∷ xs) (suc n) (suc i) less along = front ys xs n i (omega arith) (omega arith)
 
--- one more word is read
+-- the loop over words: one more was read
 pub one_more : (words spelled : List ℕ) (index word : ℕ) → index < length words → word ≡ get_or spelled index 0
     → ((k : ℕ) → k < index → get_or words k 0 ≡ get_or spelled k 0) → (k : ℕ) → k < index + 1
     → get_or (set words index word) k 0 ≡ get_or spelled k 0

@@ -6,6 +6,7 @@
 --     appended            it is kept where they spell one entry more
 --     load_step, store_step      the steps of a pass on the table
 --     looked_log          who looks has seen the whole history
+-- Here `h` is a pass's view: what a seat of the log knows of that pass.
 use Rattle.std.proofs.Common.{◌≡◌, ◌≢◌, ℕ, ◌+◌, ◌-◌, ◌<◌, ◌≤◌, List, [], ◌∷◌, ◌++◌, length, set, get_or, refl, ap, sym}
 use Rattle.std.proofs.Common.{◌∙◌, subst, ⊎_elim, Some, arith}
 use Rattle.std.proofs.Common.{length-append}

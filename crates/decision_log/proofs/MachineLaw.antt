@@ -9,14 +9,18 @@ use Rattle.decision_log.specs.Machine.{Seen, Machine, Event, Look, Add, Looks, A
 use Rattle.decision_log.specs.Machine.{IsState}
 use Rattle.decision_log.proofs.Histories.{begins_itself, begins_more, own_last, own_other}
 
+-- what a session knows: a prefix of the history, in which and in all of which its own entries are those that it has
+-- noted
 pub record Knows (history : List Entry) (session : ℕ) (known : Seen) : Type 0 where
   pub begins : Begins known.seen history
   pub own : entries_of session history ≡ known.mine
   pub part : entries_of session known.seen ≡ known.mine
 
+-- what every session of the machine knows is right for the machine's history
 abbrev pub Sound : Machine → Type 0
 Sound machine = (session : ℕ) → Knows machine.history session (machine.knows session)
 
+-- a sound machine with room is in a state that the definition allows
 pub state_of : (machine : Machine) → length machine.history ≤ machine.capacity → Sound machine → IsState machine
 state_of machine room is = record {
   room = room;
@@ -25,6 +29,7 @@ state_of machine room is = record {
   part = λ session. (is session).part;
 }
 
+-- a look keeps the machine sound
 after_look : (session : ℕ) (old new : Machine) → Looks session old new → Sound old → Sound new
 after_look session old new is sound other =
     dite (ℕ_discrete other session)
@@ -37,6 +42,7 @@ after_look session old new is sound other =
     })))
     (λ n. rw (is.history, is.others other n) (sound other))
 
+-- an entry that is added keeps the machine sound
 after_add : (session : ℕ) (entry : Entry) (old new : Machine) → Appends session entry old new → Sound old → Sound new
 after_add session entry old new is sound other =
     dite (ℕ_discrete other session)
@@ -63,34 +69,41 @@ after_add session entry old new is sound other =
       part = (sound other).part;
     }))
 
+-- each event keeps the machine sound
 after_event : (event : Event) (old new : Machine) → Happens event old new → Sound old → Sound new
 after_event (Look session) old new is sound = after_look session old new is sound
 after_event (Add session entry) old new is sound = after_add session entry old new is sound
 
+-- events, one after another, keep the machine sound
 after_events : (events : List Event) (old new : Machine) → Runs events old new → Sound old → Sound new
 after_events [] old new is sound = subst Sound (sym is) sound
 after_events (event ∷ events) old new is sound =
     after_events events is.0 new is.2 (after_event event old is.0 is.1 sound)
 
+-- the machine is sound at the beginning
 at_start : (capacity : ℕ) → Sound (opening_machine capacity)
 at_start capacity session = record { begins = refl; own = refl; part = refl }
 
 -- the history never gets longer than the capacity
 
+-- the history isn't longer than the capacity
 Fits : Machine → Type 0
 Fits machine = length machine.history ≤ machine.capacity
 
+-- each event keeps the history no longer than the capacity
 room_after : (event : Event) (old new : Machine) → Happens event old new → Fits old → Fits new
 unfolding Fits
 room_after (Look session) old new is fits = omega (arith, ap length is.history, is.capacity, fits)
 room_after (Add session entry) old new is fits =
     omega (arith, ap length is.history, length-append old.history (entry ∷ []), is.capacity, is.room)
 
+-- events, one after another, make the history no longer than the capacity
 room_after_all : (events : List Event) (old new : Machine) → Runs events old new → Fits old → Fits new
 room_after_all [] old new is fits = subst Fits (sym is) fits
 room_after_all (event ∷ events) old new is fits =
     room_after_all events is.0 new is.2 (room_after event old is.0 is.1 fits)
 
+-- whatever events come, the machine ends in a state that the definition allows
 pub runs_end_in_states : (capacity : ℕ) (events : List Event) (machine : Machine)
     → Runs events (opening_machine capacity) machine → IsState machine
 unfolding Fits
@@ -98,6 +111,7 @@ runs_end_in_states capacity events machine is =
     state_of machine (room_after_all events (opening_machine capacity) machine is (omega arith))
     (after_events events (opening_machine capacity) machine is (at_start capacity))
 
+-- whatever events come, what a session notes as its own entries are those of its number
 pub mine_is_own : (capacity : ℕ) (events : List Event) (machine : Machine)
     → Runs events (opening_machine capacity) machine → (session : ℕ)
     → entries_of session (machine.knows session).seen ≡ (machine.knows session).mine

@@ -17,10 +17,12 @@ use Rattle.decision_log.proofs.Histories.{later_other}
 
 -- events one after another
 
+-- two lists of events, one after another, are one
 runs_append : (xs ys : List Event) (a b c : Machine) → Runs xs a b → Runs ys b c → Runs (xs ++ ys) a c
 runs_append [] ys a b c p q = subst (λ m. Runs ys m c) p q
 runs_append (x ∷ xs) ys a b c p q = (p.0, p.1, runs_append xs ys p.0 b c p.2 q)
 
+-- events of sessions up to a number, one after another
 events_append : (sessions : ℕ) (xs ys : List Event) → EventsOf sessions xs → EventsOf sessions ys
     → EventsOf sessions (xs ++ ys)
 events_append sessions [] ys p q = q
@@ -28,6 +30,7 @@ events_append sessions (x ∷ xs) ys p q = (p.0, p.1, events_append sessions xs 
 
 -- the machine after a look, and after an add
 
+-- the machine after a session has looked
 abbrev after_look : ℕ → Machine → Machine
 after_look session old = record {
   history = old.history;
@@ -35,6 +38,7 @@ after_look session old = record {
   knows = λ n. cond (nat_eq n session) (record { seen = old.history; mine = (old.knows session).mine }) (old.knows n);
 }
 
+-- a look can always happen
 look_happens : (session : ℕ) (old : Machine) → Looks session old (after_look session old)
 look_happens session old = record {
   history = refl;
@@ -44,6 +48,7 @@ look_happens session old = record {
   others = λ other apart. rw (ne_eqb other session apart) refl;
 }
 
+-- the machine after a session has added an entry
 abbrev after_add : ℕ → Entry → Machine → Machine
 after_add session entry old = record {
   history = old.history ++ entry ∷ [];
@@ -53,6 +58,7 @@ after_add session entry old = record {
       (old.knows n);
 }
 
+-- an entry can be added by a session that has seen everything, if there is room
 add_happens : (session : ℕ) (entry : Entry) (old : Machine) → entry.session ≡ session
     → (old.knows session).seen ≡ old.history
     → length old.history < old.capacity
@@ -70,6 +76,7 @@ add_happens session entry old own whole room = record {
 
 -- of sessions 1 to a number those look that are due
 
+-- of the sessions up to `last`, those that are due have looked, and nothing else has changed
 record LookedTo (due : ℕ → Bool) (last : ℕ) (old new : Machine) : Type 0 where
   pub history : new.history ≡ old.history
   pub capacity : new.capacity ≡ old.capacity
@@ -78,6 +85,7 @@ record LookedTo (due : ℕ → Bool) (last : ℕ) (old new : Machine) : Type 0 w
       → (new.knows session).seen ≡ cond (due session) old.history (old.knows session).seen
   pub above : (session : ℕ) → last < session → (new.knows session).seen ≡ (old.knows session).seen
 
+-- events that come to that: a round of looks
 record Round (sessions : ℕ) (due : ℕ → Bool) (last : ℕ) (old : Machine) : Type 0 where
   pub events : List Event
   pub own : EventsOf sessions events
@@ -85,6 +93,7 @@ record Round (sessions : ℕ) (due : ℕ → Bool) (last : ℕ) (old : Machine) 
   pub runs : Runs events old new
   pub looked : LookedTo due last old new
 
+-- one session more, which looks if it is due
 one_more : (sessions : ℕ) (due : ℕ → Bool) (last : ℕ) (old : Machine) → suc last ≤ sessions
     → Round sessions due last old → (now : Bool) → due (suc last) ≡ now
     → Round sessions due (suc last) old
@@ -134,6 +143,7 @@ one_more sessions due last old within r true is =
       };
     }
 
+-- each machine can have a round of looks of those sessions, up to any number, that are due
 look_round : (sessions : ℕ) (due : ℕ → Bool) (old : Machine) (last : ℕ) → last ≤ sessions → Round sessions due last old
 look_round sessions due old zero within = record {
   events = [];

@@ -1,4 +1,5 @@
 -- What is true of all seats stays true when one steps, is split, or takes in another, whatever the words are.
+-- Here `h` is a pass's view: what a seat of the log knows of that pass.
 use Rattle.std.proofs.Common.{◌≡◌, ◌≢◌, ◌⊎◌, ℕ, zero, suc, ◌+◌, ◌<◌, cond, nat_eq, List, [], ◌∷◌, ◌++◌, length, set}
 use Rattle.std.proofs.Common.{refl, ap, sym, ◌∙◌, subst, inl, inr}
 use Rattle.std.proofs.Common.{⊎_elim, arith, eq-eqb, ne_eqb}
@@ -11,14 +12,16 @@ use Rattle.decision_log.specs.declared.view.SeatView.{SeatView}
 use Rattle.decision_log.specs.declared.view.SeatView.TheVariants.{Empty, Single, Pair, Unissued}
 use Rattle.decision_log.specs.Seats.{Placed, Fits, Seats, following}
 
--- a number has moved to another seat
+-- the seats of all numbers, once this number has moved to the seat id
 unfoldable pub moved : (ℕ → ℕ) → ℕ → ℕ → ℕ → ℕ
 moved home number id n = cond (nat_eq n number) id (home n)
 
+-- a pass that moved to a seat is at it
 pub moved_here : (home : ℕ → ℕ) (number id : ℕ) → moved home number id number ≡ id
 unfolding moved
 moved_here home number id = rw (eq-eqb number number refl) refl
 
+-- a pass that moves to a seat leaves the others where they are
 pub moved_else : (home : ℕ → ℕ) (number id n : ℕ) → n ≢ number → moved home number id n ≡ home n
 unfolding moved
 moved_else home number id n apart = rw (ne_eqb n number apart) refl

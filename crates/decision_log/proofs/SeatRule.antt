@@ -3,6 +3,7 @@
 --     HasWords        what a log has to show of its own words
 --     seats_kept      seats may then be split and joined, and passes meet
 --     opens_seats     and the log can begin
+-- Here `h` is a pass's view: what a seat of the log knows of that pass.
 use Rattle.std.proofs.Common.{◌≡◌, ℕ, zero, suc, ◌+◌, ◌<◌, ◌≤◌, List, [], ◌∷◌, ◌++◌, length, set, refl, sym, subst}
 use Rattle.std.proofs.Common.{Some, None, arith}
 use Rattle.std.specs.Prelude.{slice_index}

@@ -1,5 +1,6 @@
 -- The words of a log with a turn spell one history: what stores a word keeps it, and what stores the count puts one
 -- entry behind it.
+-- Here `h` is a pass's view: what a seat of the log knows of that pass.
 use Rattle.std.proofs.Common.{◌≡◌, ◌≢◌, ℕ, suc, ◌+◌, ◌<◌, ◌≤◌, List, [], ◌∷◌, ◌++◌, length, set, ap, sym, ◌∙◌, subst}
 use Rattle.std.proofs.Common.{refl, arith, Some}
 use Rattle.std.specs.Prelude.{slice_get, slice_index}
@@ -29,7 +30,7 @@ Spelled words from list =
     (place : ℕ) (entry : Entry) → slice_get list place ≡ Some entry
     → IsEntry entry × HasWordsAt words (row_at (from + place)) (words_of entry)
 
--- from the first place on
+-- the words from the first place on spell the entries whose words stand at each place
 first_rows : (words : List ℕ) (place : ℕ) (entry : Entry)
     → IsEntry entry × HasWordsAt words (row_at place) (words_of entry)
     → IsEntry entry × HasWordsAt words (row_at (0 + place)) (words_of entry)
@@ -48,6 +49,7 @@ one_row words from x y xs ys s t =
     (ext_get_or 0 (words_of x) (words_of y) (length-words_of x ∙ sym (length-words_of y))
     (λ k below. sym (left.1 k below) ∙ right.1 k (omega (arith, below, length-words_of x, length-words_of y))))
 
+-- the words that spell a history: those after the first entry's spell the rest
 spelled_rest : (words : List ℕ) (from : ℕ) (x : Entry) (xs : List Entry) → Spelled words from (x ∷ xs)
     → Spelled words (from + 1) xs
 unfolding Spelled
@@ -72,7 +74,7 @@ module _ (sizes : Sizes) (words : List ℕ) (views : List SeatView) (r : TurnRul
   unfolding Spelled
   spelled place entry is = first_rows words place entry ((r.entries place entry is).0, r.spelled.rows place entry is)
 
--- words spell one history
+-- the words of a log spell one history only
 one_log : (sizes : Sizes) (words : List ℕ) (views views' : List SeatView) (p : TurnRule sizes words views)
     (q : TurnRule sizes words views') → p.log ≡ q.log
 one_log sizes words views views' p q =

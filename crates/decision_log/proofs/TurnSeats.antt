@@ -19,11 +19,11 @@ has_words = record {
   newest_is = λ sizes words log h rows same. rows.count;
 }
 
--- seats may be split and joined, and passes meet
+-- splitting and joining seats keeps the rule, and so does a meeting of two passes
 pub keeps_seats : KeepsSeats Rules count_for
 keeps_seats = seats_kept has_words
 
--- a log can begin
+-- a log of any sizes can begin: all its words are 0, and the rule holds
 pub opens : (sizes : Sizes) → OpensSeats Rules all_passes count_for sizes (row_at sizes.capacity)
 opens sizes =
     opens_seats has_words sizes (row_at sizes.capacity) (omega arith)

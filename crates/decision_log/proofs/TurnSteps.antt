@@ -1,4 +1,5 @@
 -- The loads of a log with a turn keep the rule, and tell what their transitions say.
+-- Here `h` is a pass's view: what a seat of the log knows of that pass.
 use Rattle.std.proofs.Common.{◌≢◌, ℕ, List, get_or, refl, ap, ◌∙◌, arith}
 use Rattle.atomic_table.specs.Table.{State, Allows}
 use Rattle.xa_words.specs.Entry.{Entry}
@@ -15,15 +16,18 @@ use Rattle.decision_log.specs.TurnTransitions.{looked_turn, with_look, Sees, Rea
 use Rattle.decision_log.proofs.Histories.{begins_itself, get_begins}
 use Rattle.decision_log.proofs.LogRules.{known, history, stepped, unmoved, load_step}
 
+-- what holds of the words of the log and of all passes' views, between any two steps
 abbrev pub Rules : Sizes → State Entry SeatView → Type 0
 Rules sizes state = TurnRule sizes state.words state.views
 
+-- a pass that has looked still has the turn, if it had it
 looked_has : (words : List ℕ) (log : List Entry) (h : PassView) (turn : Turn) → HasTurn words log h turn
     → HasTurn words log (with_look h log) (looked_turn turn)
 looked_has words log h Without has = has
 looked_has words log h Won has = (refl, has.1)
 looked_has words log h Fresh has = (refl, has.1)
 
+-- a look: the load of the count of entries (word 0) keeps it, and tells what `Sees` says
 pub look_step : (sizes : Sizes) (slots id : ℕ) (h : PassView)
     → Allows (Rules sizes) slots id (seated h) 0 (λ n. n) (Tells (Sees 0 h))
 look_step sizes slots id h =
@@ -37,6 +41,7 @@ look_step sizes slots id h =
       (refl, r.log, refl, r.spelled.count, history r h k),
     ))
 
+-- the load of an entry's word keeps it, and tells what `Reads` says
 pub read_step : (sizes : Sizes) (slots id word : ℕ) (h : PassView) → word ≢ 0
     → Allows (Rules sizes) slots id (seated h) word (λ n. n) (Tells (Reads word h))
 read_step sizes slots id word h behind =

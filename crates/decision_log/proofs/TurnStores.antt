@@ -1,4 +1,5 @@
 -- The steps of a log with a turn that change a word keep the rule.
+-- Here `h` is a pass's view: what a seat of the log knows of that pass.
 use Rattle.std.proofs.Common.{◌≡◌, ◌≢◌, ℕ, ◌+◌, ◌<◌, ◌≤◌, List, [], ◌∷◌, ◌++◌, length, set, get_or, refl, ap, sym, ◌∙◌}
 use Rattle.std.proofs.Common.{subst, ⊎_elim}
 use Rattle.std.proofs.Common.{arith, eqb, length-append}
@@ -31,7 +32,7 @@ use Rattle.decision_log.proofs.Drafts.{holds_nothing, holds_beside, holds_one_mo
 use Rattle.decision_log.proofs.LogRules.{RuleOf, known, stepped, appended, loaded, store_step}
 use Rattle.decision_log.proofs.TurnSteps.{Rules}
 
--- who isn't named by the turn word is without the turn
+-- a pass whose number isn't in the turn's word doesn't have the turn
 without : (words words' : List ℕ) (log log' : List Entry) (g : PassView) (turn : Turn)
     → slice_index words 1 ≢ g.known.number → HasTurn words log g turn
     → HasTurn words' log' g turn × (g.draft ≡ [])
@@ -39,14 +40,14 @@ without words words' log log' g Without other has = (has, has)
 without words words' log log' g Won other has = absurd (other has.1)
 without words words' log log' g Fresh other has = absurd (other has.1)
 
--- who is without the turn knows what it knew, whatever becomes of the words and of the history
+-- a pass that doesn't have the turn knows what it knew, whatever becomes of the words and of the history
 aside : (words words' : List ℕ) (log log' : List Entry) (g : PassView) → slice_index words 1 ≢ g.known.number
     → HasDraft words log g → HasDraft words' log' g
 aside words words' log log' g other own =
     let w = without words words' log log' g g.turn other own.turn in
     record { draft = holds_nothing words' (row_at (length log')) g.draft w.1; turn = w.0 }
 
--- a pass with no draft
+-- what a pass knows of words that it stored is true if it stored none
 blank : (words : List ℕ) (log : List Entry) (k : PassView) → k.draft ≡ [] → HasTurn words log k k.turn
     → HasDraft words log k
 blank words log k empty turn = record { draft = holds_nothing words (row_at (length log)) k.draft empty; turn = turn }
@@ -160,10 +161,12 @@ module _ {sizes : Sizes} {words : List ℕ} {views : List SeatView} (r : TurnRul
       })
       (λ g apart low other. aside words words' r.log log' g (λ e. apart (sym e ∙ mine)) other.own)
 
+-- a pass that has the turn, and has looked since, has seen the whole history
 pub fresh_has : (words : List ℕ) (log : List Entry) (h : PassView) → h.turn ≡ Fresh → HasTurn words log h h.turn
     → (h.known.seen ≡ log) × (slice_index words 1 ≡ h.known.number)
 fresh_has words log h fresh has = subst (λ t. HasTurn words log h t) fresh has
 
+-- the exchange of word 1, which takes the turn if it is free, keeps the rule
 pub take_step : (sizes : Sizes) (slots id : ℕ) (h : PassView)
     → Allows (Rules sizes) slots id (seated h) 1 (λ n. either (eqb n 0) h.known.number n)
     (Tells (Takes 1 0 h.known.number none h))
@@ -189,12 +192,14 @@ take_step sizes slots id h state r homes here small =
       (tried h Without, refl, (refl, refl, refl, (λ f. absurd (ne f)), (λ f. refl))),
     ))
 
+-- the store of 0 into word 1, which gives the turn back, keeps the rule
 pub release_step : (sizes : Sizes) (slots id : ℕ) (h : PassView) → h.turn ≡ Fresh
     → Allows (Rules sizes) slots id (seated h) 1 (λ n. 0) (λ n. Tells (Releases 1 0 h) 0)
 release_step sizes slots id h fresh state r homes here small =
     let f = fresh_has state.words r.log h fresh (known r id h here).fact_is.own.turn in
     (Single (released h), keeps, tt, release_keeps r id h here f.1, (released h, refl, (refl, refl, refl)))
 
+-- a store into the words of the next entry, which isn't published yet, keeps the rule
 pub draft_step : (sizes : Sizes) (slots id word index new : ℕ) (h : PassView)
     → word ≡ row_at (length h.known.seen) + index → h.turn ≡ Fresh
     → index ≤ length h.draft → index < 21 → length h.known.seen < h.capacity
@@ -209,6 +214,7 @@ draft_step sizes slots id word index new h at fresh along below room =
     subst (λ n. TurnRule sizes (set words (row_at n + index) new) (set views id (Single (drafted h index new)))) lengths
     (draft_keeps r id h index new here f.0 f.1 fresh along below (omega arith)).0)
 
+-- the store of the count, which makes these words an entry of the history, keeps the rule
 pub publish_step : (sizes : Sizes) (slots id new : ℕ) (h : PassView) (entry : Entry) → new ≡ length h.known.seen + 1
     → h.turn ≡ Fresh → IsEntry entry
     → entry.session ≡ h.known.number → h.draft ≡ words_of entry → length h.known.seen < h.capacity

@@ -25,19 +25,19 @@ pub data Atomic : Type 0 where
   Store : ℕ → ℕ → Atomic
   Exchange : ℕ → ℕ → ℕ → Option Entry → Atomic
 
--- a transition of loads
+-- a transition of which every step is a load
 abbrev pub AtLoad : (ℕ → PassView → ℕ → PassView → Type 0) → Atomic → PassView → ℕ → PassView → Type 0
 AtLoad tells (Load word) old found new = tells word old found new
 AtLoad tells (Store word value) old found new = ⊥
 AtLoad tells (Exchange word from to said) old found new = ⊥
 
--- a transition of stores
+-- a transition of which every step is a store
 abbrev pub AtStore : (ℕ → ℕ → PassView → ℕ → PassView → Type 0) → Atomic → PassView → ℕ → PassView → Type 0
 AtStore tells (Load word) old found new = ⊥
 AtStore tells (Store word value) old found new = tells word value old found new
 AtStore tells (Exchange word from to said) old found new = ⊥
 
--- a transition of exchanges
+-- a transition of which every step is an exchange
 abbrev pub AtExchange : (ℕ → ℕ → ℕ → Option Entry → PassView → ℕ → PassView → Type 0) → Atomic → PassView → ℕ → PassView
     → Type 0
 AtExchange tells (Load word) old found new = ⊥

@@ -16,6 +16,7 @@ IsCounted newest tried then = (step : Atomic) (old : PassView) (found : ℕ) (ne
     → Counts newest tried step found old new
 
 module _ {newest : PassView → ℕ} {tried : ℕ} where
+  -- a step that is no look and no try may leave looks, tries and what it knows to be new as they are
   pub leaves_counts : (step : Atomic) (found : ℕ) (old new : PassView) → new.known.looks ≡ old.known.looks
       → new.known.tries ≡ old.known.tries
       → new.known.since ≡ old.known.since → (IsLoad 0 step → ⊥) → (IsTry tried step → ⊥)
@@ -26,6 +27,7 @@ module _ {newest : PassView → ℕ} {tried : ℕ} where
     since = ((λ look. absurd (no_look look)), (λ try. absurd (no_try try)), (λ a b. since));
   }
 
+  -- a transition whose steps are all loads raises the counts if each of its loads does
   pub counts_at_load : (tells : ℕ → PassView → ℕ → PassView → Type 0)
       → ((word : ℕ) (old : PassView) (found : ℕ) (new : PassView) → tells word old found new
       → Counts newest tried (Load word) found old new)
@@ -45,6 +47,7 @@ module _ {newest : PassView → ℕ} {tried : ℕ} where
       leaves_counts (Store word value) found old new same.0 same.1 same.2 (λ never. never) (λ never. never)
   counts_at_store tells each (Exchange word from to said) old found new is = absurd is
 
+  -- the same for a transition whose steps are all exchanges
   pub counts_at_exchange : (tells : ℕ → ℕ → ℕ → Option Entry → PassView → ℕ → PassView → Type 0)
       → ((word from to : ℕ) (said : Option Entry) (old : PassView) (found : ℕ) (new : PassView)
       → tells word from to said old found new

@@ -2,6 +2,7 @@
 --     HasWordsAt      the words from a place on begin with a draft
 --     with_draft      a pass with these words stored
 --     drafted         a pass after one more store
+-- Here `h` is a pass's view: what a seat of the log knows of that pass.
 use Rattle.std.specs.Prelude.{◌≡◌, ◌<◌, ◌+◌, ℕ, List, [], ◌∷◌, ◌++◌, length, take, slice_index}
 use Rattle.decision_log.specs.declared.view.PassView.{PassView}
 
@@ -14,7 +15,7 @@ abbrev pub with_draft : PassView → List ℕ → PassView
 with_draft h words =
     record { known = h.known; sessions = h.sessions; capacity = h.capacity; draft = words; turn = h.turn }
 
--- after a store of a word of the draft, which forgets the words stored after it
+-- the pass after a store of a word of its draft, which forgets the words stored after it
 abbrev pub drafted : PassView → ℕ → ℕ → PassView
 drafted h index word = record {
   known = h.known;

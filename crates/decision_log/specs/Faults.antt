@@ -7,13 +7,13 @@ use Rattle.decision_log.specs.declared.fault.OpenFault.TheVariants.{CapacityOutO
 use Rattle.decision_log.specs.declared.fault.AddFault.{AddFault}
 use Rattle.decision_log.specs.declared.fault.AddFault.TheVariants.{Overtaken, Full, Busy}
 
--- in the order of test
+-- the number of a fault of opening, in the order of test
 abbrev pub number_of_open_fault : OpenFault → ℕ
 number_of_open_fault CapacityOutOfRange = 1
 number_of_open_fault SessionsOutOfRange = 2
 number_of_open_fault NoMemory = 3
 
--- overtaken, full, or busy
+-- a number for why an entry wasn't added: overtaken, full, or busy
 abbrev pub number_of_add_fault : AddFault → ℕ
 number_of_add_fault (Overtaken front) = 1
 number_of_add_fault Full = 2

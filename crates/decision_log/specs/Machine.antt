@@ -45,17 +45,17 @@ pub record Appends (session : ℕ) (entry : Entry) (old new : Machine) : Type 0 
   pub mine : (new.knows session).mine ≡ (old.knows session).mine ++ entry ∷ []
   pub others : (other : ℕ) → other ≢ session → new.knows other ≡ old.knows other
 
--- one event
+-- what one event does to the machine
 abbrev pub Happens : Event → Machine → Machine → Type 0
 Happens (Look session) old new = Looks session old new
 Happens (Add session entry) old new = Appends session entry old new
 
--- events one after another
+-- what events, one after another, do to the machine
 abbrev pub Runs : List Event → Machine → Machine → Type 0
 Runs [] old new = new ≡ old
 Runs (event ∷ events) old new = (next : Machine) × Happens event old next × Runs events next new
 
--- nothing has happened
+-- the machine before the first event: no entry, and nothing known
 abbrev pub opening_machine : ℕ → Machine
 opening_machine capacity =
     record { history = []; capacity = capacity; knows = λ session. record { seen = []; mine = [] } }

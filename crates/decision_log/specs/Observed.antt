@@ -2,6 +2,7 @@
 --     HistoryIs       what a pass learns of a history that it sees
 --     MetAt           the same of two passes that meet
 --     met             a pass after a meeting
+-- Here `h` is a pass's view: what a seat of the log knows of that pass.
 use Rattle.std.specs.Prelude.{◌≡◌, ◌≤◌, List, [], length}
 use Rattle.xa_words.specs.Entry.{Entry}
 use Rattle.decision_log.specs.declared.view.PassView.{PassView}
@@ -27,7 +28,7 @@ pub record MetAt (g h : PassView) (seen : List Entry) : Type 0 where
   pub all : AllOf h.sessions seen
   pub part : entries_of h.known.number seen ≡ h.known.mine
 
--- after a meeting
+-- a pass after it met another, and so has seen this history
 abbrev pub met : PassView → List Entry → PassView
 met h seen = record {
   known = record {

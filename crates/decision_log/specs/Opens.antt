@@ -9,15 +9,15 @@ use Rattle.decision_log.specs.declared.fault.OpenFault.TheVariants.{CapacityOutO
 use Rattle.decision_log.specs.declared.sizes.Sizes.{Sizes}
 use Rattle.decision_log.specs.Known.{LogIdentity, newcomer}
 
--- from 1 to 1024 entries (own rule)
+-- a log may have from 1 to 1024 entries (own rule)
 abbrev pub IsCapacity : ℕ → Type 0
 IsCapacity capacity = (1 ≤ capacity) × (capacity ≤ 1024)
 
--- from 1 to 16 sessions (own rule)
+-- a log may have from 1 to 16 sessions (own rule)
 abbrev pub IsCount : ℕ → Type 0
 IsCount sessions = (1 ≤ sessions) × (sessions ≤ 16)
 
--- both are in range
+-- capacity and number of sessions are in range
 pub record AreSizes (sizes : Sizes) : Type 0 where
   pub capacity : IsCapacity sizes.capacity
   pub sessions : IsCount sizes.sessions
@@ -34,7 +34,7 @@ pub record Opens {Pass : Type 0} (belongs_to : Pass → LogIdentity) (known : Pa
   pub belongs : All (λ pass. belongs_to pass ≡ identity) passes
   pub numbers : (index : ℕ) (pass : Pass) → slice_get passes index ≡ Some pass → known pass ≡ newcomer (index + 1)
 
--- in the order of test
+-- why a log of these sizes isn't opened, in the order of test
 abbrev pub Refuses : ℕ → ℕ → OpenFault → Type 0
 Refuses capacity sessions CapacityOutOfRange = IsCapacity capacity → ⊥
 Refuses capacity sessions SessionsOutOfRange = IsCapacity capacity × (IsCount sessions → ⊥)

@@ -15,8 +15,7 @@ abbrev pub EventsOf : ℕ → List Event → Type 0
 EventsOf sessions [] = Unit {0}
 EventsOf sessions (event ∷ events) = (1 ≤ session_of event) × (session_of event ≤ sessions) × EventsOf sessions events
 
--- events of sessions 1 to a number lead from the start to a machine that has the same history, and whose sessions 1 to
--- the number know the same
+-- the machine's history, and what its sessions 1 to a number know, come of events of these sessions from the start
 pub record IsReached (sessions : ℕ) (machine : Machine) : Type 0 where
   pub events : List Event
   pub own : EventsOf sessions events

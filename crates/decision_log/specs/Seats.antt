@@ -84,7 +84,7 @@ left_of (Single pass_view) = Single pass_view
 left_of (Pair first second) = Single first
 left_of (Unissued pass_view) = Unissued (following pass_view)
 
--- what the new seat gets
+-- the passes that the new seat gets where a seat is divided
 abbrev pub right_of : SeatView → SeatView
 right_of Empty = Empty
 right_of (Single pass_view) = Empty

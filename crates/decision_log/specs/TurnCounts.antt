@@ -14,6 +14,7 @@ use Rattle.decision_log.specs.Counted.{IsCounted, leaves_counts, counts_at_load,
 use Rattle.decision_log.specs.TurnRule.{turn_word, count_for}
 use Rattle.decision_log.specs.TurnTransitions.{tried, Sees, Reads, Takes, Drafts, Publishes, Releases}
 
+-- the load that sees the newest count is a look, and counts as one
 pub see_counts : IsCounted count_for turn_word (AtLoad Sees)
 see_counts =
     counts_at_load Sees
@@ -23,6 +24,7 @@ see_counts =
       since = ((λ _. ap (λ h. h.known.since) is.2), (λ never. absurd never), (λ other _. absurd (other is.0)));
     })
 
+-- the load of an entry's word is no look and no try
 pub read_counts : IsCounted count_for turn_word (AtLoad Reads)
 read_counts =
     counts_at_load Reads
@@ -30,7 +32,7 @@ read_counts =
     (ap (λ h. h.known.tries) is.1) (ap (λ h. h.known.since) is.1) is.0
     (λ never. never))
 
--- a try, won or lost
+-- an exchange of the turn's word counts as a try, won or lost
 tried_counts : (word from to : ℕ) (said : Option Entry) (old : PassView) (found : ℕ) (new : PassView) {turn : Turn}
     → word ≡ turn_word → new ≡ tried old turn
     → Counts count_for turn_word (Exchange word from to said) found old new
@@ -40,6 +42,7 @@ tried_counts word from to said old found new at is = record {
   since = ((λ never. absurd never), (λ _. ap (λ h. h.known.since) is), (λ _ other. absurd (other at)));
 }
 
+-- the exchange of the turn's word is a try, whether it takes the turn (it finds 0) or loses it
 pub take_counts : IsCounted count_for turn_word (AtExchange Takes)
 take_counts =
     counts_at_exchange Takes
@@ -47,18 +50,21 @@ take_counts =
     (λ free. tried_counts word from to said old found new is.0 (is.3 free))
     (λ taken. tried_counts word from to said old found new is.0 (is.4 taken)))
 
+-- storing a word of an entry that isn't published yet leaves the counts: a store neither looks nor tries
 pub draft_counts : IsCounted count_for turn_word (AtStore Drafts)
 draft_counts =
     counts_at_store Drafts
     (λ word value old found new is.
     (ap (λ h. h.known.looks) is, ap (λ h. h.known.tries) is, ap (λ h. h.known.since) is))
 
+-- the store of the count, which publishes an entry, leaves the counts: a store neither looks nor tries
 pub publish_counts : IsCounted count_for turn_word (AtStore Publishes)
 publish_counts =
     counts_at_store Publishes
     (λ word value old found new is.
     (ap (λ h. h.known.looks) is.5, ap (λ h. h.known.tries) is.5, ap (λ h. h.known.since) is.5))
 
+-- the store that gives the turn back leaves the counts
 pub release_counts : IsCounted count_for turn_word (AtStore Releases)
 release_counts =
     counts_at_store Releases

@@ -8,7 +8,7 @@ use Rattle.decision_log.specs.declared.turn_log.pass.TurnPass.{TurnPass}
 use Rattle.decision_log.specs.Known.{LogIdentity}
 use Rattle.decision_log.specs.Seats.{pass_view_of}
 
--- its table and its sizes
+-- what tells a log from others: its table and its sizes
 abbrev pub identity_of : TurnLog → LogIdentity
 identity_of log = record { table = log.table.inner.shared.table_id; sessions = log.sessions; capacity = log.capacity }
 
@@ -21,6 +21,6 @@ log_of pass =
       capacity = (pass_view_of pass.seat.me.0).capacity;
     }
 
--- what its seat knows of it
+-- what a pass knows of the log, by what its seat knows
 abbrev pub known_of : TurnPass → Known
 known_of pass = (pass_view_of pass.seat.me.0).known

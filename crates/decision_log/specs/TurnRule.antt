@@ -22,11 +22,11 @@ use Rattle.decision_log.specs.LogRule.{KnowsLog, LogRule}
 abbrev pub row_at : ℕ → ℕ
 row_at place = 2 + place * 21
 
--- the word after the count
+-- the word of the turn, which comes after the count
 abbrev pub turn_word : ℕ
 turn_word = 1
 
--- as many as the pass has seen
+-- the count of entries if the pass has seen the whole history
 abbrev pub count_for : PassView → ℕ
 count_for pass_view = length pass_view.known.seen
 
@@ -48,7 +48,7 @@ pub record HasDraft (words : List ℕ) (log : List Entry) (pass_view : PassView)
   pub draft : HasWordsAt words (row_at (length log)) pass_view.draft
   pub turn : HasTurn words log pass_view pass_view.turn
 
--- what a pass knows is true
+-- what a pass's view says of the log is true
 abbrev pub Knows : Sizes → List ℕ → List Entry → PassView → Type 0
 Knows sizes words log pass_view = KnowsLog HasDraft sizes words log pass_view
 

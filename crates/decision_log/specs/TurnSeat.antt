@@ -6,6 +6,6 @@ use Rattle.decision_log.specs.declared.view.SeatView.{SeatView}
 use Rattle.decision_log.specs.declared.turn_log.TurnLog.{TurnLog}
 use Rattle.decision_log.specs.AtTable.{KnowsOne}
 
--- it is a seat of this log, and knows one pass
+-- the seat is one of this log, and knows one pass
 abbrev pub IsSeat : TurnLog → Seat Entry SeatView → Type 0
 IsSeat log seat = KnowsOne log.table.inner.shared.table_id seat

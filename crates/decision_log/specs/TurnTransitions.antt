@@ -2,6 +2,7 @@
 --     with_look, tried, published, released   the pass after a step
 --     Sees, Reads, Takes, Drafts, Publishes, Releases     the steps, each by its word, its operands, the pass before,
 --                                                         what was found and the pass after
+-- Here `h` is a pass's view: what a seat of the log knows of that pass.
 use Rattle.std.specs.Prelude.{◌≡◌, ◌≢◌, ◌<◌, ◌+◌, ◌-◌, ℕ, List, [], ◌∷◌, ◌++◌, length, slice_get, slice_index, Some}
 use mathlib.Core.Option.{Option}
 use Rattle.xa_words.specs.Entry.{Entry, IsEntry}
@@ -19,7 +20,7 @@ looked_turn Without = Without
 looked_turn Won = Fresh
 looked_turn Fresh = Fresh
 
--- after a look that saw this history
+-- the pass after a look that saw this history
 abbrev pub with_look : PassView → List Entry → PassView
 with_look h seen = record {
   known =
@@ -38,7 +39,7 @@ with_look h seen = record {
   turn = looked_turn h.turn;
 }
 
--- after a try
+-- the pass after a try, with the turn or without it
 abbrev pub tried : PassView → Turn → PassView
 tried h turn = record {
   known =
@@ -56,7 +57,7 @@ tried h turn = record {
   turn = turn;
 }
 
--- after the entry was appended
+-- the pass after its entry was appended
 abbrev pub published : PassView → Entry → PassView
 published h entry = record {
   known =
@@ -74,7 +75,7 @@ published h entry = record {
   turn = Fresh;
 }
 
--- after the turn was given back
+-- the pass after it gave the turn back
 abbrev pub released : PassView → PassView
 released h = record { known = h.known; sessions = h.sessions; capacity = h.capacity; draft = []; turn = Without }
 

@@ -19,6 +19,7 @@ use xa_words::Entry;
 pub struct LogTable<R: LogWords> {
     /// The words. Only this module takes steps on them.
     inner: Table<Entry, SeatView, Sizes, R, Global>,
+    // There is word 0, at which passes look.
     ghost some: { 0 < inner.shared.table_id.words },
 }
 

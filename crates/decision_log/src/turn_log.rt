@@ -27,8 +27,12 @@ pub struct TurnLog {
     sessions: u64,
     /// How many entries it can have, in `[1, 1024]`.
     capacity: u64,
+    // The table has the count, the turn's word, and the words of all entries.
     ghost wide: { table.inner.shared.table_id.words ≡ row_at capacity },
+    // The table was made for these sizes.
     ghost sizes: { table.inner.shared.key ≡ record { sessions = sessions; capacity = capacity } },
+    // There is a session, and room for an entry.
     ghost low: { (1 ≤ sessions) × (1 ≤ capacity) },
+    // No more of them than a log may have.
     ghost high: { (sessions ≤ 16) × (capacity ≤ 1024) },
 }

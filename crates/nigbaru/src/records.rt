@@ -2,9 +2,10 @@
 
 pub use xa_judge::{
     Act, Answer, ErrorNumbers, Event, Move, Progress, Request, Seen, SharedAnswer, SharedRequest,
-    SharedSeen, Silent, Verdict, judge, judge_telling,
+    SharedSeen, Silent, SoFar, Verdict, judge, judge_telling,
 };
 pub use xa_record::{
-    AllowFault, Allowance, Asked, Form, Judged, Outcome, StateFault, StatementKind, judge_record,
-    judge_record_from, judge_text, judge_text_from, read_allowances, read_state,
+    AllowFault, Allowance, Asked, Form, Judged, LineGap, LineWanted, Outcome, StateFault,
+    StatementKind, judge_record, judge_record_from, judge_text, judge_text_from, read_allowances,
+    read_state, wanted_in,
 };

@@ -38,6 +38,7 @@ use Rattle.nigbaru_c.proofs.chair.Chair.TheLaws as chair
 use Rattle.nigbaru_c.proofs.chair.Chair.TheSendSync.{the_send as sent}
 use Rattle.nigbaru_c.specs.contracts.handle.Handle as handle
 
+-- the machine value of a handle: a structure with one pointer
 abbrev pub word : Ptr → Val
 word p = vstruct (vcons (ptr_val p) vnil)
 
@@ -71,14 +72,17 @@ module _ {M : Type 1} {𝓤 : Ura M} {𝓛 : Logic 𝓤} {K : Type 0} {Γ : List
       use1 𝓛 (given (Testable (block_ptr b o)) (‵ (boxed (block_ptr b o) x))) (tested 𝓛 (block_ptr b o) x) $ learn t
       (λ k. one b o x e refl k))
 
+-- a value that may be sent to another thread lies behind a pointer without a key of this thread
 lies : (R : RattleType) → IsSend R → (p : Ptr) (x : R.Denot) → Keyless (lies_at R full_share p x)
 lies R s (block_ptr b o) x = part_keyless R s full_share x b o
 lies R s null_ptr x = tt
 
+-- an exit that does nothing further still doesn't when its value is hidden
 pub quiet : {D X : Type 0} (to : D → X) (e : Exit X) → Quiet e → Quiet (hidden (under to e))
 quiet to unchanged q = λ x w. tt
 quiet to (leaves L l S s r₀) q = λ d. q (to d)
 
+-- so a handle holds nothing of the thread that made it, with a session or without one
 pub keyless : (p : Ptr) (h : Option Chair.the_row.Denot) → Keyless (holds p h)
 keyless p None = λ _. tt
 keyless p (Some x) = (lies Chair.the_row sent p x, frees.frees the_heap (bare (lone Chair.the_row.mir)) p)

@@ -21,11 +21,11 @@ status_of_next (Some End) = 2
 status_of_next (Some (Lost count)) = 16
 status_of_next None = 9
 
--- from 1 to 16, as the numbers of sessions are
+-- the number is a session's, 1 to 16
 abbrev pub IsNumber : ℕ → Type 0
 IsNumber number = (1 ≤ number) × (number ≤ 16)
 
--- from 1 to 304, which is the room for a text
+-- the length is from 1 to 304, which is the room for a text
 abbrev pub IsLength : ℕ → Type 0
 IsLength count = (1 ≤ count) × (count ≤ 304)
 

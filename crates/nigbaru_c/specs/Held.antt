@@ -11,7 +11,7 @@ use Rattle.std.specs.Global.{Global}
 use Rattle.std.specs.contracts.impls.GlobalAllocator.TheImpl.{ghosts}
 use Rattle.nigbaru_c.specs.contracts.chair.Chair.{the_row}
 
--- the C library's heap, of which there is one
+-- the C library's heap; a program has only this one
 abbrev pub heap : Global
 heap = record { memory = record { seal = tt } }
 

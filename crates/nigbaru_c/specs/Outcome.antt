@@ -22,7 +22,7 @@ use Rattle.xa_endless.specs.declared.session.EndlessSession.{EndlessSession}
 use Rattle.nigbaru_c.specs.declared.outcome.Outcome.{Outcome}
 use Rattle.nigbaru_c.specs.declared.outcome.Outcome.TheVariants.{Vacant, Misspelled, OutOfRange, Answered, Unanswered}
 
--- the status of a reply
+-- the status that C gets for a reply
 abbrev pub status_of_reply : Reply → ℕ
 status_of_reply Accepted = 0
 status_of_reply (Value (Some value)) = 1
@@ -30,13 +30,13 @@ status_of_reply (Value None) = 2
 status_of_reply (Recovered xids) = 3
 status_of_reply (Refused error) = 4
 
--- the status of a fault
+-- the status that C gets for a fault
 abbrev pub status_of_fault : EndlessFault → ℕ
 status_of_fault (Overtaken front) = 5
 status_of_fault NoMemory = 7
 status_of_fault Behind = 16
 
--- the status that C gets
+-- the status that C gets for what a call returned
 abbrev pub status_of : Outcome → ℕ
 status_of (Answered answer) = status_of_reply answer.reply
 status_of (Unanswered fault) = status_of_fault fault
@@ -44,7 +44,7 @@ status_of (Misspelled fault) = 8
 status_of Vacant = 9
 status_of OutOfRange = 10
 
--- a formatID is below 2^63
+-- the formatID of a statement about a branch is below 2^63, as C's type has it
 abbrev pub Fits : Statement → Type 0
 Fits (Start xid) = xid.format_id < 2 ^ 63
 Fits (End xid) = xid.format_id < 2 ^ 63
@@ -85,7 +85,7 @@ abbrev pub Goes : List ℕ → Outcome → EndlessSession → EndlessSession →
 Goes text (Misspelled fault) old new = FaultAt text fault.at × (new ≡ old)
 Goes text outcome old new = (statement : Statement) × Spells text statement × Tried statement outcome old new
 
--- the same for what a handle holds; without a session nothing changes
+-- what a call comes to, by what its handle holds; without a session nothing changes
 abbrev pub Comes : List ℕ → Outcome → Option EndlessSession → Option EndlessSession → Type 0
 Comes text Vacant None None = Unit {0}
 Comes text outcome (Some old) (Some new) = Goes text outcome old new

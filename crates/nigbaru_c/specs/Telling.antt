@@ -57,7 +57,7 @@ ListsReply Accepted old new = new ≡ old
 ListsReply (Value value) old new = new ≡ old
 ListsReply (Refused error) old new = new ≡ old
 
--- the same for an outcome
+-- after an answer the caller's parts have its identifiers, if it is a list; after anything else they are as before
 abbrev pub Lists : Outcome → List XidPart → List XidPart → Type 0
 Lists (Answered answer) old new = ListsReply answer.reply old new
 Lists (Misspelled fault) old new = new ≡ old

@@ -19,7 +19,7 @@ impl<T, A: Allocator> Model for Parts<T, A> {
 }
 
 impl<T, A: Allocator> Parts<T, A> {
-    /// Splits a box.
+    /// Splits a box into its pointer and its allocator.
     pub(crate) fn of(b: Box<T, A>) -> Parts<T, A>
     where
         T: Drop,
@@ -29,7 +29,7 @@ impl<T, A: Allocator> Parts<T, A> {
         Parts { ptr, alloc }
     }
 
-    /// Makes the box again.
+    /// Makes the box of its pointer and its allocator again.
     pub(crate) fn into_box(self) -> Box<T, A>
         ensures { result.value ≡ self.value }
     {

@@ -16,6 +16,7 @@ fn small_digits(bytes: &[u8]) -> ArrayVec<u8, 128>
 {
     let mut digits = ArrayVec::from([0; 128]);
     digits.truncate(2 * bytes.len());
+    // It fails only if the lengths don't fit, and they do.
     let _ = hex::encode_to_slice(bytes, digits.as_mut_slice());
     digits
 }
@@ -45,6 +46,7 @@ fn spell_pair(first: &[u8], second: &[u8]) -> ArrayVec<u8, 261>
 {
     let first = spell_part(first);
     let second = spell_part(second);
+    // Twice 130 bytes and a comma, so nothing here can be refused.
     let mut text = ArrayVec::<u8, 261>::new();
     text.try_extend_from_slice(first.as_slice()).unwrap();
     text.push(b',');
@@ -58,6 +60,7 @@ fn spell_xid(xid: &Xid) -> ArrayVec<u8, 282>
 {
     let pair = spell_pair(xid.gtrid.as_slice(), xid.bqual.as_slice());
     let mut buffer = Buffer::new();
+    // 261 bytes, a comma and 20 digits, so nothing here can be refused.
     let mut text = ArrayVec::<u8, 282>::new();
     text.try_extend_from_slice(pair.as_slice()).unwrap();
     text.push(b',');
@@ -73,6 +76,7 @@ fn between(before: &[u8], text: &[u8], after: &[u8]) -> ArrayVec<u8, 304>
     requires after { length after.now ≤ 10 }
     ensures { result.items ≡ before.now ++ (text.now ++ after.now) }
 {
+    // 304 is the sum of the three bounds, so nothing here can be refused.
     let mut whole = ArrayVec::<u8, 304>::new();
     whole.try_extend_from_slice(before).unwrap();
     whole.try_extend_from_slice(text).unwrap();
@@ -80,7 +84,7 @@ fn between(before: &[u8], text: &[u8], after: &[u8]) -> ArrayVec<u8, 304>
     whole
 }
 
-/// Words and an identifier.
+/// The text of a statement about a branch: words, its identifier, and more words.
 fn with_xid(before: &[u8], xid: &Xid, after: &[u8]) -> ArrayVec<u8, 304>
     requires before { length before.now ≤ 12 }
     requires after { length after.now ≤ 10 }
@@ -90,7 +94,7 @@ fn with_xid(before: &[u8], xid: &Xid, after: &[u8]) -> ArrayVec<u8, 304>
     between(before, xid.as_slice(), after)
 }
 
-/// Words and a key.
+/// The text of a statement about a row: words and its key.
 fn with_key(before: &[u8], key: &[u8]) -> ArrayVec<u8, 304>
     requires before { length before.now ≤ 12 }
     requires key { length key.now ≤ text_bytes }

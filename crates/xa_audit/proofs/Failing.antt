@@ -32,40 +32,48 @@ Tells : Option Life → List End → List Deed → Type 0
 Tells None over deeds = last_end over ≡ Some RolledBack → DropsWrites deeds
 Tells (Some life) over deeds = GoesOn life.wrote deeds
 
+-- if two tests hold, both hold together
 and_true : (a b : Bool) → a ≡ true → b ≡ true → (a && b) ≡ true
 and_true true b p q = q
 and_true false b p q = absurd (true≢false (sym p))
 
+-- if both hold, the first does
 and_left : (a b : Bool) → (a && b) ≡ true → a ≡ true
 and_left true b p = refl
 and_left false b p = absurd (true≢false (sym p))
 
+-- if both of two tests hold, the second does
 and_right : (a b : Bool) → (a && b) ≡ true → b ≡ true
 and_right true b p = p
 and_right false b p = absurd (true≢false (sym p))
 
+-- a test whose negation holds fails
 not_false : (a : Bool) → not a ≡ true → a ≡ false
 not_false true p = absurd (true≢false (sym p))
 not_false false p = refl
 
+-- one of two tests holds if the second is true
 or_true : (a : Bool) → (a || true) ≡ true
 or_true true = refl
 or_true false = refl
 
+-- the first of two tests decides if the second is false
 or_false : (a : Bool) → (a || false) ≡ a
 or_false true = refl
 or_false false = refl
 
+-- a life of one deed that is within it has only deeds within it
 one_within : (deed : Deed) → is_within deed ≡ true → list_all is_within (deed ∷ []) ≡ true
 one_within deed is = and_true (is_within deed) true is refl
 
+-- a life goes on by a deed within it
 within_more : (life : List Deed) (deed : Deed) → list_all is_within life ≡ true → is_within deed ≡ true
     → list_all is_within (life ++ deed ∷ []) ≡ true
 within_more life deed all is =
     list_all-append is_within life (deed ∷ []) ∙ and_true (list_all is_within life) (list_all is_within (deed ∷ [])) all
     (one_within deed is)
 
--- a deed more within a life that goes on
+-- one deed more within a life goes on with it: it has written if it had, or if this deed is a write
 on_more : (wrote now : Bool) (deeds : List Deed) (deed : Deed) → is_within deed ≡ true
     → (wrote || (is_write deed || false)) ≡ now → GoesOn wrote deeds
     → GoesOn now (deeds ++ deed ∷ [])
@@ -105,17 +113,19 @@ now_dropped deeds on = record {
   last = refl;
 }
 
--- the last life didn't end so
+-- a life that ended otherwise than by a rollback isn't the last one, if the last one was rolled back
 other_last : (over : List End) (end : End) (deeds : List Deed) → (Some end ≡ Some RolledBack → ⊥)
     → last_end (over ++ end ∷ []) ≡ Some RolledBack → DropsWrites deeds
 other_last over end deeds apart is = absurd (apart (sym (last_more over end) ∙ is))
 
+-- what a going life and the ends before it tell of the deeds, after one deed more: a write
 writes_step : (going : Option Life) (over : List End) (deeds : List Deed) → Tells going over deeds
     → Tells (option_map written_life going) over (deeds ++ Writes ∷ [])
 unfolding Tells
 writes_step None over deeds tells = λ is. drops_more deeds Writes refl (tells is)
 writes_step (Some life) over deeds tells = on_more life.wrote true deeds Writes refl (or_true life.wrote) tells
 
+-- what a going life and the ends before it tell of the deeds, after one deed more: a prepare
 prepares_step : (going : Option Life) (over : List End) (deeds : List Deed) → Tells going over deeds
     → Tells (option_map prepared_life going) over (deeds ++ Prepares ∷ [])
 unfolding Tells
@@ -123,19 +133,21 @@ prepares_step None over deeds tells = λ is. drops_more deeds Prepares refl (tel
 prepares_step (Some life) over deeds tells =
     on_more life.wrote life.wrote deeds Prepares refl (or_false life.wrote) tells
 
+-- a rollback that ends a life which wrote drops its writes
 by_wrote : (wrote : Bool) (over : List End) (deeds : List Deed) → GoesOn wrote deeds
     → last_end (over ++ dropped_by wrote ∷ []) ≡ Some RolledBack
     → DropsWrites (deeds ++ RollsBack ∷ [])
 by_wrote true over deeds on is = now_dropped deeds on
 by_wrote false over deeds on is = other_last over Empty (deeds ++ RollsBack ∷ []) (λ e. absurd (cc)) is
 
+-- a deed of rolling back ends the life that is going: it is over, and its writes were dropped
 rolls_step : (going : Option Life) (over : List End) (deeds : List Deed) → Tells going over deeds
     → Tells None (over ++ dropped going ∷ []) (deeds ++ RollsBack ∷ [])
 unfolding Tells
 rolls_step None over deeds tells = λ is. other_last over Empty (deeds ++ RollsBack ∷ []) (λ e. absurd (cc)) is
 rolls_step (Some life) over deeds tells = λ is. by_wrote life.wrote over deeds tells is
 
--- one more deed
+-- one more deed of any kind: the lives still tell what the deeds say
 step : (lives : Lives) (deeds : List Deed) (deed : Deed) → Tells lives.going lives.over deeds
     → Tells (noted lives deed).going (noted lives deed).over (deeds ++ deed ∷ [])
 unfolding Tells
@@ -145,9 +157,11 @@ step lives deeds Prepares tells = prepares_step lives.going lives.over deeds tel
 step lives deeds Commits tells = λ is. other_last lives.over Committed (deeds ++ Commits ∷ []) (λ e. absurd (cc)) is
 step lives deeds RollsBack tells = rolls_step lives.going lives.over deeds tells
 
+-- the lives, if there are any, tell what the deeds say
 TellsAll : Option Lives → List Deed → Type 0
 TellsAll lives deeds = Tells (unwrap_or lives no_lives).going (unwrap_or lives no_lives).over deeds
 
+-- after any deeds the lives still tell what the deeds say
 steps : (deeds before : List Deed) (lives : Option Lives) → TellsAll lives before
     → TellsAll (lives_after lives deeds) (before ++ deeds)
 unfolding lives_after TellsAll
@@ -158,15 +172,18 @@ steps (deed ∷ deeds) before lives tells =
     (steps deeds (before ++ deed ∷ []) (Some (noted (unwrap_or lives no_lives) deed))
     (step (unwrap_or lives no_lives) before deed tells))
 
+-- before the first deed there is no life
 from_none : TellsAll None []
 unfolding TellsAll Tells
 from_none = λ is. absurd (cc)
 
+-- the lives that deeds come to tell what these deeds say
 tells_of : (deeds : List Deed) (lives : Lives) → lives_after None deeds ≡ Some lives
     → Tells lives.going lives.over deeds
 unfolding TellsAll
 tells_of deeds lives is = subst (λ (l : Option Lives). TellsAll l deeds) is (steps deeds [] None from_none)
 
+-- an end that tests as rolled back is that
 rolled : (end : Option End) → option_map_or is_rolled_back end false ≡ true → end ≡ Some RolledBack
 rolled None is = absurd (true≢false (sym is))
 rolled (Some Committed) is = absurd (true≢false (sym is))
@@ -175,10 +192,12 @@ rolled (Some Empty) is = absurd (true≢false (sym is))
 rolled (Some InDoubt) is = absurd (true≢false (sym is))
 rolled (Some Open) is = absurd (true≢false (sym is))
 
+-- a life that is left open or in doubt wasn't rolled back
 left_apart : (prepared : Bool) → Some (left_by prepared) ≡ Some RolledBack → ⊥
 left_apart true e = absurd (cc)
 left_apart false e = absurd (cc)
 
+-- if the last end is a rollback, the deeds end in one that drops writes
 drops_by : (going : Option Life) (over : List End) (deeds : List Deed) → Tells going over deeds
     → last_end (over ++ left_going going) ≡ Some RolledBack
     → DropsWrites deeds
@@ -187,7 +206,7 @@ drops_by None over deeds tells is = tells (ap last_end (sym (append-nil over)) �
 drops_by (Some life) over deeds tells is =
     absurd (left_apart life.prepared (sym (last_more over (left_by life.prepared)) ∙ is))
 
--- a branch that failed
+-- a branch that failed by its lives failed by its deeds: its last life wrote and was dropped
 pub fails_by : (deeds : List Deed) (lives : Lives) → lives_after None deeds ≡ Some lives
     → (not (list_any is_committed (ends_in lives)) && option_map_or is_rolled_back (last_end (ends_in lives)) false)
     ≡ true → FailsBy deeds
@@ -198,7 +217,7 @@ fails_by deeds lives is failed = (
       (rolled (last_end (ends_in lives)) (and_right _ _ failed)),
 )
 
--- The other way.
+-- the lives after two lists of deeds are those after the second, from where the first ends
 after_more : (lives : Option Lives) (xs ys : List Deed)
     → lives_after lives (xs ++ ys) ≡ lives_after (lives_after lives xs) ys
 unfolding lives_after
@@ -210,22 +229,25 @@ Goes : Bool → Option Life → Type 0
 Goes wrote None = ⊥
 Goes wrote (Some life) = life.wrote ≡ wrote
 
+-- a life after a write has written
 wrote_now : (wrote : Bool) (going : Option Life) → Goes wrote going → Goes true (option_map written_life going)
 unfolding Goes
 wrote_now wrote None goes = goes
 wrote_now wrote (Some life) goes = refl
 
+-- a life after a prepare has written if it had before
 prepared_now : (wrote : Bool) (going : Option Life) → Goes wrote going → Goes wrote (option_map prepared_life going)
 unfolding Goes
 prepared_now wrote None goes = goes
 prepared_now wrote (Some life) goes = goes
 
--- lives after the deeds of one of them
+-- these deeds lead from some lives to others, in which the life that is going has written or not
 record Lived (lives : Lives) (wrote : Bool) (deeds : List Deed) : Type 0 where
   now : Lives
   after : lives_after (Some lives) deeds ≡ Some now
   goes : Goes wrote now.going
 
+-- a life after deeds within it has written if it had, or if one of them is a write
 lived : (life : List Deed) (lives : Lives) (wrote : Bool) → Goes wrote lives.going → list_all is_within life ≡ true
     → Lived lives (wrote || list_any is_write life) life
 unfolding lives_after
@@ -246,6 +268,7 @@ lived (Prepares ∷ life) lives wrote goes within =
 lived (Commits ∷ life) lives wrote goes within = absurd (true≢false (sym within))
 lived (RollsBack ∷ life) lives wrote goes within = absurd (true≢false (sym within))
 
+-- a life that wrote and is dropped is rolled back
 dropped_then : (going : Option Life) → Goes true going → dropped going ≡ RolledBack
 unfolding Goes
 dropped_then None goes = absurd goes
@@ -258,6 +281,7 @@ record Ended (lives : Option Lives) : Type 0 where
   going : now.going ≡ None
   last : last_end now.over ≡ Some RolledBack
 
+-- deeds within a life, without one, begin none: the last end stays a rollback
 still : (later : List Deed) (lives : Lives) → lives.going ≡ None → last_end lives.over ≡ Some RolledBack
     → list_all is_within later ≡ true
     → Ended (lives_after (Some lives) later)
@@ -289,6 +313,7 @@ ended_after deeds drops =
     ∙ ap (λ l. lives_after l (RollsBack ∷ drops.later)) life.after))
     ended
 
+-- equal lives that were found are equal
 ended_is : (lives now : Lives) → Some lives ≡ Some now → lives ≡ now
 ended_is lives now is = cc
 
@@ -310,16 +335,18 @@ failed_by deeds lives is (none, drops) =
     (option_map_or is_rolled_back (last_end (ends_in lives)) false)
     (ap not untaken) (ap (λ e. option_map_or is_rolled_back e false) last)
 
--- whether the branch failed, by its lives
+-- whether the branch failed: none of its lives was committed, and its last one was rolled back
 abbrev has_failed : Lives → Bool
 has_failed lives =
     not (list_any is_committed (ends_in lives)) && option_map_or is_rolled_back (last_end (ends_in lives)) false
 
+-- a branch whose lives end in a rollback failed by its deeds
 fails_of : (deeds : List Deed) (lives : Option Lives) → lives_after None deeds ≡ lives
     → option_map_or has_failed lives false ≡ true → FailsBy deeds
 fails_of deeds None is failed = absurd (true≢false (sym failed))
 fails_of deeds (Some lives) is failed = fails_by deeds lives is failed
 
+-- a branch that failed by its deeds has lives that say so
 failed_of : (deeds : List Deed) (lives : Option Lives) → lives_after None deeds ≡ lives → FailsBy deeds
     → option_map_or has_failed lives false ≡ true
 failed_of deeds None is (none, drops) = absurd (cc (sym is ∙ (ended_after deeds drops).is))

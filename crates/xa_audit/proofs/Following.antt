@@ -22,7 +22,7 @@ use Rattle.xa_audit.specs.Deeds.{deed_by, deed_of, deeds_from, deeds_about}
 use Rattle.xa_audit.specs.Lives.{no_lives, noted, lives_after}
 use Rattle.xa_audit.specs.Following.{state_said, deed_said, Notes}
 
--- the lives of a branch after a deed, and then these
+-- the lives after a deed was noted, and then after these deeds, are those after all of them
 told_more : (told : Xid × Deed) (deeds : List (Xid × Deed)) (m n : BTreeMap Xid Lives) → Notes (Some told) m n
     → (xid : Xid)
     → lives_after (get xid_cmp n xid) (deeds_about xid deeds)
@@ -52,7 +52,7 @@ told_more told deeds m n notes xid = elim (same_or_apart xids_total exact_xids x
     itself : same_xid told.0 told.0 ≡ true
     itself = same_itself xids_total exact_xids told.0
 
--- the same of a statement, which may do nothing
+-- noting the deed of a statement, if it has one, gives the lives with that deed
 deed_more : (deed : Option (Xid × Deed)) (deeds : List (Xid × Deed)) (m n : BTreeMap Xid Lives) → Notes deed m n
     → (xid : Xid)
     → lives_after (get xid_cmp n xid) (deeds_about xid deeds)
@@ -60,7 +60,7 @@ deed_more : (deed : Option (Xid × Deed)) (deeds : List (Xid × Deed)) (m n : BT
 deed_more None deeds m n same xid = ap (λ map. lives_after (get xid_cmp map xid) (deeds_about xid deeds)) same
 deed_more (Some told) deeds m n notes xid = told_more told deeds m n notes xid
 
--- what a line says, and then these statements
+-- noting what a line says, and then the statements behind it, is noting all of them
 pub said_more : (said : Said) (state : State) (m n : BTreeMap Xid Lives) (rest : List (ℕ × Statement))
     → Notes (deed_said state said) m n → (xid : Xid)
     → lives_after (get xid_cmp n xid) (deeds_about xid (deeds_from (state_said state said) rest))
@@ -86,14 +86,14 @@ line_more line lines left state new m n whole xid cut now notes before =
     ∙ ap (λ l. lives_after (get xid_cmp m xid) (deeds_about xid (deeds_from state (statements_in l)))) (sym cut)
     ∙ before
 
--- no line is left
+-- the loop over lines ends: no line is left, and the lives are those of all deeds
 pub lines_end : (left : List (List ℕ)) (state : State) (found whole : Option Lives) (xid : Xid) → left ≡ []
     → lives_after found (deeds_about xid (deeds_from state (statements_in left))) ≡ whole → found ≡ whole
 unfolding lives_after deeds_about deeds_from statements_in
 lines_end left state found whole xid none before =
     ap (λ l. lives_after found (deeds_about xid (deeds_from state (statements_in l)))) (sym none) ∙ before
 
--- what is kept after a statement that was refused
+-- a statement that was refused leaves what is kept of lives
 pub refused_notes : (state : State) (session : ℕ) (statement : Statement) (lives : BTreeMap Xid Lives)
     → is_refused (reply_to state session statement) ≡ true
     → Notes (deed_of state session statement) lives lives
@@ -101,7 +101,7 @@ unfolding deed_of
 refused_notes state session statement lives refused =
     subst (λ (b : Bool). Notes (cond b None (deed_by (own_xid state session) statement)) lives lives) (sym refused) refl
 
--- and after one that was accepted
+-- after an accepted statement the noted lives are those with its deed
 pub accepted_notes : (state : State) (session : ℕ) (statement : Statement) (own : Option Xid)
     (old new : BTreeMap Xid Lives)
     → is_refused (reply_to state session statement) ≡ false → own ≡ own_xid state session

@@ -9,13 +9,14 @@ use Rattle.xa_audit.specs.declared.ends.End.{End}
 use Rattle.xa_audit.specs.declared.verdict.Verdict.{Verdict}
 use Rattle.xa_audit.specs.Globals.{Global, last_end, verdict_of, same_verdict, count_of}
 
--- one place more, without a value
+-- one place more without a value changes nothing that is read
 pub one_more_place : {A : Type 0} (d : A) (xs : List A) (i : ℕ) → get_or (xs ++ d ∷ []) i d ≡ get_or xs i d
 one_more_place d [] zero = refl
 one_more_place d [] (suc i) = refl
 one_more_place d (x ∷ xs) zero = refl
 one_more_place d (x ∷ xs) (suc i) = one_more_place d xs i
 
+-- filtering a list with one element in front and one behind keeps each if it passes
 keeps_first : {A : Type 0} (b c : Bool) (y x : A) (ys : List A)
     → cond b (y ∷ cond c (ys ++ x ∷ []) ys) (cond c (ys ++ x ∷ []) ys)
     ≡ cond c (cond b (y ∷ ys) ys ++ x ∷ []) (cond b (y ∷ ys) ys)
@@ -24,7 +25,7 @@ keeps_first true false y x ys = refl
 keeps_first false true y x ys = refl
 keeps_first false false y x ys = refl
 
--- one more to filter
+-- filtering several elements and one more keeps that one if it passes
 pub filter_more : {A : Type 0} (p : A → Bool) (xs : List A) (x : A)
     → filter p (xs ++ x ∷ []) ≡ cond (p x) (filter p xs ++ x ∷ []) (filter p xs)
 filter_more p [] x = refl
@@ -37,6 +38,7 @@ last_more [] end = refl
 last_more (first ∷ []) end = refl
 last_more (first ∷ next ∷ ends) end = last_more (next ∷ ends) end
 
+-- counting one element more stays below a bound that is one greater
 bounded : (b : Bool) (n m : ℕ) → n ≤ m → cond b 1 0 + n ≤ m + 1
 bounded true n m h = omega arith
 bounded false n m h = omega arith
@@ -50,7 +52,7 @@ count_le verdict (global ∷ globals) =
     (count_le verdict globals) in
     omega (arith, h)
 
--- one more is counted, of what is left
+-- the loop that counts verdicts: this one has the wanted verdict
 pub count_in : (verdict : Verdict) (left rest : List Global) (global : Global) (count whole : ℕ) → left ≡ global ∷ rest
     → true ≡ same_verdict verdict (verdict_of global.1) → count + count_of verdict left ≡ whole
     → count + 1 + count_of verdict rest ≡ whole
@@ -60,7 +62,7 @@ count_in verdict left rest global count whole cut is before =
     ap (count_of verdict) cut ∙ ap (λ b. cond b 1 0 + count_of verdict rest) (sym is) in
     omega (arith, e, before)
 
--- or isn't
+-- the loop that counts verdicts: this one has another verdict
 pub count_out : (verdict : Verdict) (left rest : List Global) (global : Global) (count whole : ℕ) → left ≡ global ∷ rest
     → false ≡ same_verdict verdict (verdict_of global.1) → count + count_of verdict left ≡ whole
     → count + count_of verdict rest ≡ whole
@@ -70,6 +72,7 @@ count_out verdict left rest global count whole cut is before =
     ap (count_of verdict) cut ∙ ap (λ b. cond b 1 0 + count_of verdict rest) (sym is) in
     omega (arith, e, before)
 
+-- when nothing is left to count, the count is the whole one
 pub count_done : (verdict : Verdict) (left : List Global) (count whole : ℕ) → left ≡ []
     → count + count_of verdict left ≡ whole → count ≡ whole
 unfolding count_of
@@ -77,12 +80,13 @@ count_done verdict left count whole none before =
     let e : count_of verdict left ≡ 0 = ap (count_of verdict) none in
     omega (arith, e, before)
 
+-- of two settings of one place the second counts
 twice : {A : Type 0} (b : Bool) (value : Option A) (found : Option A)
     → cond b value (cond b None found) ≡ cond b value found
 twice true value found = refl
 twice false value found = refl
 
--- what was at the key is taken out, and a value put there
+-- taking the value at a key out and putting another one there is setting it
 pub put_again : {K V : Type 0} (cmp : K → K → Ordering) (old mid new : BTreeMap K V) (key : K) (value wanted : V)
     → ((other : K) → get cmp mid other ≡ cond (is_at (cmp key) other) None (get cmp old other))
     → PutsAt cmp mid key value new → value ≡ wanted

@@ -38,38 +38,48 @@ record IsFound (test : Xid × Lives → Bool) (histories : List (List ℕ)) : Ty
   has : lives_in history xid ≡ Some lives
   passes : test (xid, lives) ≡ true
 
+-- if one of two tests holds, it is the first or the second
 or_cases : (a b : Bool) → (a || b) ≡ true → (a ≡ true) ⊎ (b ≡ true)
 or_cases true b p = inl refl
 or_cases false b p = inr p
 
+-- one of two tests holds if the first does
 or_left : (a b : Bool) → a ≡ true → (a || b) ≡ true
 or_left a b p = ap (λ x. x || b) p
 
+-- one of two tests holds if the second does
 or_right : (a b : Bool) → b ≡ true → (a || b) ≡ true
 or_right true b p = refl
 or_right false b p = p
 
+-- if two tests hold, both hold together
 and_true : (a b : Bool) → a ≡ true → b ≡ true → (a && b) ≡ true
 and_true a b p q = ap (λ x. x && b) p ∙ q
 
+-- if both hold, the first does
 and_left : (a b : Bool) → (a && b) ≡ true → a ≡ true
 and_left true b p = refl
 and_left false b p = absurd (true≢false (sym p))
 
+-- if both of two tests hold, the second does
 and_right : (a b : Bool) → (a && b) ≡ true → b ≡ true
 and_right true b p = p
 and_right false b p = absurd (true≢false (sym p))
 
+-- the first element is in the list
 here : {X : Type 0} (x : X) (xs : List X) → Contains (x ∷ xs) x
 here x xs = Contains-append_left (x ∷ []) xs x (0, (let e : 0 < length (x ∷ []) = omega arith in e), refl)
 
+-- what is in the rest of a list is in the list
 later : {X : Type 0} (y : X) (xs : List X) (x : X) → Contains xs x → Contains (y ∷ xs) x
 later y xs x among = Contains-append_right (y ∷ []) xs x among
 
+-- what is in a list of one is that one
 single : {X : Type 0} (y x : X) → Contains (y ∷ []) x → y ≡ x
 single y x (zero, below, at) = at
 single y x (suc k, below, at) = absurd (omega (arith, below))
 
+-- what is in a list is the first or in the rest
 cons_cases : {X : Type 0} (y : X) (xs : List X) (x : X) → Contains (y ∷ xs) x → (y ≡ x) ⊎ Contains xs x
 cons_cases y xs x among = elim (Contains-append_cases (y ∷ []) xs x among) [
   | inl first ↦ inl (single y x first)
@@ -86,6 +96,7 @@ record Passing (test : Xid × Lives → Bool) (entries : List (Xid × Lives)) : 
 abbrev IsOfLives : (Branch → Bool) → (Xid × Lives → Bool) → Type 0
 IsOfLives test of_lives = (store : ℕ) (entry : Xid × Lives) → test (branch_in store entry) ≡ of_lives entry
 
+-- if a branch of a store passes, there is an entry whose lives pass
 passing : (test : Branch → Bool) (of_lives : Xid × Lives → Bool) → IsOfLives test of_lives
     → (store : ℕ) (entries : List (Xid × Lives))
     → list_any test (map (branch_in store) entries) ≡ true → Passing of_lives entries
@@ -98,6 +109,7 @@ passing test of_lives same store (entry ∷ entries) any =
           record { entry = it.entry; one = later entry entries it.entry it.one; passes = it.passes }
     ]
 
+-- if the lives of an entry pass, its branch among the store's passes
 passed : (test : Branch → Bool) (of_lives : Xid × Lives → Bool) → IsOfLives test of_lives
     → (store : ℕ) (entries : List (Xid × Lives)) (entry : Xid × Lives)
     → Contains entries entry → of_lives entry ≡ true → list_any test (map (branch_in store) entries) ≡ true
@@ -111,9 +123,11 @@ passed test of_lives same store (first ∷ entries) entry among passes = elim (c
       (passed test of_lives same store entries entry rest passes)
 ]
 
+-- identifiers that compare as equal are the same
 same_xids : (x y : Xid) → eq_by_cmp xid_cmp x y ≡ true → x ≡ y
 same_xids = same_is xids_total exact_xids
 
+-- an entry of the index has the lives that the history tells of its branch
 told_of : (history : List ℕ) (entries : List (Xid × Lives)) (entry : Xid × Lives)
     → IsIndex xid_cmp (lives_in history) entries → Contains entries entry
     → lives_in history entry.0 ≡ Some entry.1
@@ -122,12 +136,13 @@ told_of history entries entry index among =
     ∙ lookup-from_Contains (eq_by_cmp_equiv xids_total) entry.0 entry.1 entries
     (IsDistinct-from_sorted xid_cmp (keys_of entries) index.ascending) among
 
+-- a branch with lives in a history has an entry in its index
 listed : (history : List ℕ) (entries : List (Xid × Lives)) (xid : Xid) (lives : Lives)
     → IsIndex xid_cmp (lives_in history) entries
     → lives_in history xid ≡ Some lives → Contains entries (xid, lives)
 listed history entries xid lives index has = Contains-from_lookup same_xids xid lives entries (index.found xid ∙ has)
 
--- of the branches of every store
+-- if some branch of the listed ones passes, there is a history with a branch whose lives pass
 found : (test : Branch → Bool) (of_lives : Xid × Lives → Bool) → IsOfLives test of_lives
     → (store : ℕ) (histories : List (List ℕ)) (branches : List Branch)
     → AreBranches store histories branches → list_any test branches ≡ true → IsFound of_lives histories
@@ -157,6 +172,7 @@ found test of_lives same store (history ∷ histories) branches (first, rest, (e
           }
     ]
 
+-- a branch of some history passes if, and only if, its lives in that history do
 finds : (test : Branch → Bool) (of_lives : Xid × Lives → Bool) → IsOfLives test of_lives
     → (store : ℕ) (histories : List (List ℕ)) (branches : List Branch)
     → AreBranches store histories branches → IsFound of_lives histories → list_any test branches ≡ true
@@ -182,7 +198,7 @@ finds test of_lives same store (history ∷ histories) branches (first, rest, (e
           }))
     ])
 
--- a test of those that a filter lets through
+-- a test of the branches that a filter lets through is a test of those that pass both
 filtered : (p test : Branch → Bool) (branches : List Branch)
     → list_any test (filter p branches) ≡ list_any (λ branch. p branch && test branch) branches
 filtered p test [] = refl
@@ -194,7 +210,7 @@ filtered p test (branch ∷ branches) =
     by true c = refl
     by false c = refl
 
--- the branches of a global transaction of an account
+-- the branches of a global transaction are those of the account that have its name
 own_branches : (histories : List (List ℕ)) (globals : List Global) (account : IsAccount histories globals)
     (global : Global) → Contains globals global
     → global.1 ≡ filter (is_of global.0) account.branches
@@ -212,18 +228,22 @@ own_branches histories globals account global among =
 own_and : GlobalName → (Branch → Bool) → Xid × Lives → Bool
 own_and name test entry = is_of name (branch_in 1 entry) && test (branch_in 1 entry)
 
+-- a name that compares as equal is that of the branch's global transaction
 own_name : (name : GlobalName) (xid : Xid) → eq_by_cmp global_cmp name (global_of xid) ≡ true → global_of xid ≡ name
 own_name name xid is = sym (same_is globals_total exact_globals name (global_of xid) is)
 
+-- a branch's own global transaction compares as equal with its name
 name_own : (name : GlobalName) (xid : Xid) → global_of xid ≡ name → eq_by_cmp global_cmp name (global_of xid) ≡ true
 name_own name xid is = ap (λ n. eq_by_cmp global_cmp name n) is ∙ same_itself globals_total exact_globals name
 
+-- the branch took effect if, and only if, its deeds have an accepted XA COMMIT
 some_took : (history : List ℕ) (xid : Xid) (lives : Lives) → lives_in history xid ≡ Some lives
     → took (branch_in 1 (xid, lives)) ≡ list_any is_commit (deeds_about xid (deeds_in history))
 some_took history xid lives has =
     sym (ap (λ l. option_map_or (λ (x : Lives). took (branch_in 1 (xid, x))) l false) has)
     ∙ took_by (deeds_about xid (deeds_in history))
 
+-- a branch failed by its lives if, and only if, it did by the branch as it is listed
 some_failed : (history : List ℕ) (xid : Xid) (lives : Lives) → lives_in history xid ≡ Some lives
     → failed_in 1 history xid ≡ failed (branch_in 1 (xid, lives))
 some_failed history xid lives has = ap (λ l. option_map_or (λ (x : Lives). failed (branch_in 1 (xid, x))) l false) has
@@ -234,6 +254,7 @@ any_told : (lives : Option Lives) (test : Lives → Bool) → option_map_or test
 any_told None test passes = absurd (true≢false (sym passes))
 any_told (Some lives) test passes = (lives, refl)
 
+-- a branch of the name that was committed, in some history
 committed_of : (histories : List (List ℕ)) (name : GlobalName) → IsFound (own_and name took) histories
     → HasCommitted histories name
 unfolding own_and
@@ -245,6 +266,7 @@ committed_of histories name it = record {
   committed = sym (some_took it.history it.xid it.lives it.has) ∙ and_right _ _ it.passes;
 }
 
+-- a name of which a history committed a branch has a branch that took effect
 of_committed : (histories : List (List ℕ)) (name : GlobalName) → HasCommitted histories name
     → IsFound (own_and name took) histories
 unfolding own_and
@@ -260,6 +282,7 @@ of_committed histories name it =
       passes = and_true _ _ (name_own name it.xid it.own) (some_took it.history it.xid known.0 known.1 ∙ it.committed);
     }
 
+-- a branch of the name whose writes were dropped, in some history
 dropped_of : (histories : List (List ℕ)) (name : GlobalName) → IsFound (own_and name failed) histories
     → HasDropped histories name
 unfolding own_and
@@ -272,6 +295,7 @@ dropped_of histories name it = record {
       (some_failed it.history it.xid it.lives it.has ∙ and_right _ _ it.passes);
 }
 
+-- a name of which a history dropped a branch's writes has a branch that failed
 of_dropped : (histories : List (List ℕ)) (name : GlobalName) → HasDropped histories name
     → IsFound (own_and name failed) histories
 unfolding own_and

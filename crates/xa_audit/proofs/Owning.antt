@@ -33,6 +33,7 @@ use Rattle.xa_server.proofs.Others.{accepted_rollback_own, others_left}
 use Rattle.xa_audit.specs.declared.owned.Owned.{Owned}
 use Rattle.xa_audit.specs.Following.{own_after, owned_at, IsFollowed}
 
+-- a test can't hold and fail
 never : {A : Type 0} (b : Bool) → b ≡ false → b ≡ true → A
 never b e f = absurd (true≢false (sym f ∙ e))
 
@@ -60,7 +61,7 @@ owned_then state session statement at accepted =
     ap (λ s. owns s session at) (accepted_done state session statement accepted)
     ∙ ap (is_owned session) (effect-branch state session (association_of state session) statement at)
 
--- what it owns then it owned before, or has just started
+-- what a session owns after its accepted statement it owned before, or has just started
 before_then : (state : State) (session : ℕ) (statement : Statement) (at : Xid)
     → is_refused (reply_to state session statement) ≡ false →
     owns (after state session statement) session at ≡ true
@@ -76,6 +77,7 @@ before_then state session statement at accepted e =
 abbrev Leaves : (Branch → Branch) → Type 0
 Leaves change = (branch : Branch) → (change branch).owner ≡ branch.owner
 
+-- a change that leaves the owner leaves the session's branch its own
 left_owned : (session : ℕ) (change : Branch → Branch) → Leaves change → (b : Bool) (found : Option Branch)
     → is_owned session found ≡ true
     → is_owned session (cond b (option_map change found) found) ≡ true
@@ -99,6 +101,7 @@ IsQuiet (Put key value) = Unit {0}
 IsQuiet (Del key) = Unit {0}
 IsQuiet Disconnect = ⊥
 
+-- a quiet statement, which neither starts, detaches nor ends a branch, leaves the session's branch its own
 still_owned : (session : ℕ) (association : Association) (statement : Statement) → IsQuiet statement
     → (at : Xid) (found : Option Branch)
     → is_owned session found ≡ true → is_owned session (branch_after session association statement at found) ≡ true
@@ -125,9 +128,11 @@ still_owned session (Active own) (Del key) quiet at found e =
 still_owned session (Idle own) (Del key) quiet at found e = e
 still_owned session association Disconnect quiet at found e = absurd quiet
 
+-- a quiet statement isn't XA START
 quiet_starts : (session : ℕ) (statement : Statement) (at : Xid) → IsQuiet statement → statement ≡ Start at → ⊥
 quiet_starts session statement at quiet is = subst IsQuiet is quiet
 
+-- after a quiet statement a session owns what it owned
 quiet_own : (state : State) (session : ℕ) (statement : Statement) → LockLaw state
     → LockLaw (after state session statement) → IsQuiet statement
     → is_refused (reply_to state session statement) ≡ false
@@ -149,6 +154,7 @@ quiet_own state session statement law later quiet accepted = by (own_xid state s
 
 -- ---- XA START
 
+-- after an XA START it owns that branch
 started_own : (state : State) (session : ℕ) (xid : Xid) → LockLaw (after state session (Start xid))
     → is_refused (reply_to state session (Start xid)) ≡ false
     → own_xid (after state session (Start xid)) session ≡ Some xid
@@ -172,6 +178,7 @@ LeavesNone state session statement =
     → is_owned session (branch_after session (association_of state session) statement xid (map.get state.branches xid))
     ≡ false
 
+-- after an accepted statement that leaves none it owns none
 none_own : (state : State) (session : ℕ) (statement : Statement) → ((xid : Xid) → statement ≢ Start xid)
     → is_refused (reply_to state session statement) ≡ false → LeavesNone state session statement
     → own_xid (after state session statement) session ≡ None
@@ -182,25 +189,29 @@ none_own state session statement unstarted accepted leaves =
       | inr started ↦ unstarted xid started.0
     ])
 
+-- a detached branch is nobody's
 detached_owned : (session : ℕ) (found : Option Branch) → is_owned session (option_map detached found) ≡ false
 unfolding is_owned detached
 detached_owned session None = refl
 detached_owned session (Some branch) = refl
 
+-- a branch that is gone is nobody's
 gone_owned : (session : ℕ) → is_owned session None ≡ false
 unfolding is_owned
 gone_owned session = refl
 
--- what is there at the branch itself
+-- a branch that a statement takes from its session isn't owned by it afterwards
 at_itself : (session : ℕ) (new found : Option Branch) (at xid : Xid) → xid ≡ at → is_owned session new ≡ false
     → is_owned session (cond (same_xid at xid) new found) ≡ false
 at_itself session new found at xid is e =
     ap (λ x. is_owned session (cond (same_xid at x) new found)) is
     ∙ ap (λ b. is_owned session (cond b new found)) (same_itself xids_total exact_xids at) ∙ e
 
+-- a session with an ACTIVE branch isn't free
 no_active : (x : Xid) → Active x ≡ Free → ⊥
 no_active x f = cc
 
+-- a session with an IDLE branch isn't free
 no_idle : (x : Xid) → Idle x ≡ Free → ⊥
 no_idle x f = cc
 
@@ -234,13 +245,14 @@ free_owns state session law free xid e = by (map.get state.branches xid) refl
             (sym (law.detached xid (ap (λ f. option_map_or is_prepared_phase f false) (at_phase PhasePrepared p)))
             ∙ owner)
 
--- the branch that it rolls back or commits is its own, or it owns none
+-- a branch that a session's statement finishes is the session's own, or the session owns none
 finished_none : (state : State) (session : ℕ) (xid : Xid) → LockLaw state → IsFinishable state session xid
     → (is_prepared state xid ≡ true → association_of state session ≡ Free) → (at : Xid) → owns state session at ≡ true
     → xid ≡ at
 finished_none state session xid law (inl e) free at f = law.one_branch session xid at e f
 finished_none state session xid law (inr e) free at f = absurd (free_owns state session law (free e) at f)
 
+-- an XA COMMIT of a PREPARED branch is accepted only of a free session
 commit_free : (state : State) (association : Association) (xid : Xid) (one_phase : Bool) → IsOpen state association
     → is_refused (table state association (Commit xid one_phase)) ≡ false → is_prepared state xid ≡ true
     → association ≡ Free
@@ -253,6 +265,7 @@ commit_free state (Idle own) xid true is e prepared =
     absurd (true≢false (sym prepared ∙ ap (is_prepared state) (own_is xid own _ e)
     ∙ ap (λ f. option_map_or is_prepared_phase f false) is))
 
+-- an XA ROLLBACK of a PREPARED branch is accepted only of a free session
 rollback_free : (state : State) (association : Association) (xid : Xid) → IsOpen state association
     → is_refused (table state association (Rollback xid)) ≡ false → is_prepared state xid ≡ true → association ≡ Free
 unfolding table
@@ -262,6 +275,7 @@ rollback_free state (Idle own) xid is e prepared =
     absurd (true≢false (sym prepared ∙ ap (is_prepared state) (own_is xid own _ e)
     ∙ ap (λ f. option_map_or is_prepared_phase f false) is))
 
+-- after a DISCONNECT the session owns no branch
 disconnected : (state : State) (session : ℕ) → LockLaw state → (association : Association)
     → association_of state session ≡ association → (xid : Xid)
     → owns state session xid ≡ true → is_owned session (branch_after session association Disconnect xid
@@ -279,15 +293,19 @@ disconnected state session law (Idle own) is xid e =
 
 -- ---- every statement
 
+-- an XA PREPARE isn't an XA START
 prepares_starts : (at xid : Xid) → Prepare at ≢ Start xid
 prepares_starts at xid e = cc
 
+-- an XA COMMIT isn't an XA START
 commits_starts : (at xid : Xid) (one_phase : Bool) → Commit at one_phase ≢ Start xid
 commits_starts at xid one_phase e = cc
 
+-- an XA ROLLBACK isn't an XA START
 rolls_back_starts : (at xid : Xid) → Rollback at ≢ Start xid
 rolls_back_starts at xid e = cc
 
+-- a DISCONNECT isn't an XA START
 disconnects_starts : (xid : Xid) → Disconnect ≢ Start xid
 disconnects_starts xid e = cc
 
@@ -340,7 +358,7 @@ unfolding no_state is_owned
 nobody_owns session =
     none_found no_state session (λ xid e. true≢false (sym e ∙ ap (is_owned session) (get-empty xid_cmp xid)))
 
--- what is kept for sessions, after one of them was accepted a statement
+-- what is kept of what sessions own stays right after an accepted statement of one of them
 pub followed_then : (state : State) (session : ℕ) (statement : Statement) (old new : Owned) → LockLaw state
     → LockLaw (after state session statement)
     → is_refused (reply_to state session statement) ≡ false → IsFollowed old state
@@ -358,6 +376,6 @@ followed_then state session statement old new law later accepted followed set at
         followed at ∙ sym ((others_left state law session at statement
         (λ same. true≢false (sym (eq-eqb at session (sym same)) ∙ is))).own)
 
--- after one that was refused
+-- what is known of owners stays right if a statement changes nothing, because it was refused
 pub followed_still : (state new : State) (owned : Owned) → new ≡ state → IsFollowed owned state → IsFollowed owned new
 followed_still state new owned same followed at = followed at ∙ ap (λ s. own_xid s at) (sym same)

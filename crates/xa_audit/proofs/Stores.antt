@@ -9,6 +9,7 @@ use Rattle.xa_audit.specs.Histories.{faults_in, faults_from, faults_of}
 use Rattle.xa_audit.specs.Branches.{AreBranchesOf, AreBranches}
 use Rattle.xa_audit.specs.Audits.{IsAuditOf}
 
+-- one history more adds its faults behind the others', under the next store's number
 pub faults_more : (store : ℕ) (histories : List (List ℕ)) (history : List ℕ)
     → faults_from store (histories ++ history ∷ []) ≡ faults_from store histories
     ++ faults_in (store + length histories) 1 (lines_of history)
@@ -24,6 +25,7 @@ faults_more store (first ∷ histories) history =
     ++ faults_in n 1 (lines_of history))
     (let e : store + 1 + length histories ≡ store + length (first ∷ histories) = omega arith in e)
 
+-- one history more: its branches are those of the next store
 pub branches_more : (store : ℕ) (histories : List (List ℕ)) (history : List ℕ) (branches more : List Branch)
     → AreBranches store histories branches
     → AreBranchesOf (store + length histories) history more
@@ -45,12 +47,14 @@ branches_more store (first ∷ histories) history branches more (here, later, ar
   ap (λ l. l ++ more) is ∙ append_assoc here later more,
 )
 
+-- one history more makes the list longer by one
 longer : (histories : List (List ℕ)) (history : List ℕ) → length histories + 1 ≡ length (histories ++ history ∷ [])
 longer histories history =
     let e = length-append histories (history ∷ []) in
     let one : length (history ∷ []) ≡ 1 = refl in
     omega (arith, e, one)
 
+-- the faults of an audit, and those of one history more, are the faults of all these histories
 with_history : (histories : List (List ℕ)) (history : List ℕ) (old : Audit) → IsAuditOf histories old
     → old.faults.items ++ faults_in (old.stores + 1) 1 (lines_of history) ≡ faults_of (histories ++ history ∷ [])
 with_history histories history old is =
@@ -59,10 +63,12 @@ with_history histories history old is =
     (ap (λ n. n + 1) is.stores ∙ (let e : length histories + 1 ≡ 1 + length histories = omega arith in e))
     ∙ sym (faults_more 1 histories history)
 
+-- if both texts together are empty, so is the first
 none_before : (xs ys : List ℕ) → xs ++ ys ≡ [] → xs ≡ []
 none_before [] ys e = refl
 none_before (x ∷ xs) ys e = absurd (cc)
 
+-- a text whose length isn't 0 isn't empty
 none_empty : (xs : List ℕ) → (length xs == 0) ≡ false → xs ≡ [] → ⊥
 none_empty xs filled e = true≢false (sym (ap (λ (l : List ℕ). length l == 0) e) ∙ filled)
 

@@ -11,18 +11,22 @@ use Rattle.xa_audit.specs.Globals.{is_committed}
 use Rattle.xa_audit.specs.Laws.{is_commit}
 use Rattle.xa_audit.specs.Lives.{no_lives, noted, dropped, dropped_by, left_by, left_going, ends_in, lives_after}
 
+-- of three tests, it doesn't matter which two are taken first
 or_assoc : (a b c : Bool) → (a || (b || c)) ≡ ((a || b) || c)
 or_assoc true b c = refl
 or_assoc false b c = refl
 
+-- one of two tests holds, the second of which fails, if the first does
 or_false : (a : Bool) → (a || false) ≡ a
 or_false true = refl
 or_false false = refl
 
+-- some element of two lists passes if one of either does
 any_append : {A : Type 0} (p : A → Bool) (xs ys : List A) → list_any p (xs ++ ys) ≡ (list_any p xs || list_any p ys)
 any_append p [] ys = refl
 any_append p (x ∷ xs) ys = ap (λ b. p x || b) (any_append p xs ys) ∙ or_assoc (p x) (list_any p xs) (list_any p ys)
 
+-- how a life is left at the end of a history is no commit
 left_none : (going : Option Life) → list_any is_committed (left_going going) ≡ false
 left_none None = refl
 left_none (Some life) = by life.prepared
@@ -31,6 +35,7 @@ left_none (Some life) = by life.prepared
     by true = refl
     by false = refl
 
+-- how a life ends that is dropped is no commit
 dropped_none : (going : Option Life) → list_any is_committed (dropped going ∷ []) ≡ false
 dropped_none None = refl
 dropped_none (Some life) = by life.wrote
@@ -46,6 +51,7 @@ ends_over lives =
     ∙ ap (λ b. list_any is_committed lives.over || b) (left_none lives.going)
     ∙ or_false (list_any is_committed lives.over)
 
+-- one deed more: some life was committed if one was, or if this is a commit
 noted_over : (lives : Lives) (deed : Deed)
     → list_any is_committed (noted lives deed).over ≡ (list_any is_committed lives.over || is_commit deed)
 noted_over lives Starts = sym (or_false (list_any is_committed lives.over))
@@ -55,15 +61,18 @@ noted_over lives Commits = any_append is_committed lives.over _
 noted_over lives RollsBack =
     any_append is_committed lives.over _ ∙ ap (λ b. list_any is_committed lives.over || b) (dropped_none lives.going)
 
+-- some life of these was committed
 has : Option Lives → Bool
 has None = false
 has (Some lives) = list_any is_committed lives.over
 
+-- whether a life was committed, of lives or of none yet
 or_none : (lives : Option Lives) → list_any is_committed (unwrap_or lives no_lives).over ≡ has lives
 unfolding has
 or_none None = refl
 or_none (Some lives) = refl
 
+-- after deeds: if one was, or if one of the deeds is a commit
 has_after : (lives : Option Lives) (deeds : List Deed)
     → has (lives_after lives deeds) ≡ (has lives || list_any is_commit deeds)
 unfolding has lives_after
@@ -74,12 +83,14 @@ has_after lives (deed ∷ deeds) =
     (noted_over (unwrap_or lives no_lives) deed ∙ ap (λ b. b || is_commit deed) (or_none lives))
     ∙ sym (or_assoc (has lives) (is_commit deed) (list_any is_commit deeds))
 
+-- a life that is still going on doesn't count
 has_is : (lives : Option Lives) → option_map_or (λ (l : Lives). list_any is_committed (ends_in l)) lives false
     ≡ has lives
 unfolding has
 has_is None = refl
 has_is (Some lives) = ends_over lives
 
+-- a branch took effect if, and only if, its deeds have an accepted XA COMMIT
 pub took_by : (deeds : List Deed)
     → option_map_or (λ (l : Lives). list_any is_committed (ends_in l)) (lives_after None deeds) false
     ≡ list_any is_commit deeds

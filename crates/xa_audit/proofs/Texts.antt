@@ -7,7 +7,7 @@ use Rattle.xa_audit.specs.Histories.{said_on, fault_said, faults_in}
 use Rattle.std.proofs.lemmas.List.{drop_more, drop_all}
 use Rattle.xa_audit.specs.Written.{each_text, comma_unless, comma_before, each_json}
 
--- one more was written, of what is left
+-- the loop over elements: the text of one more is written, and those behind it are left
 pub each_next : {A : Type 0} (text : A → List ℕ) (left rest : List A) (x : A) (whole old new : List ℕ) → left ≡ x ∷ rest
     → new ≡ old ++ text x
     → whole ≡ old ++ each_text text left → whole ≡ new ++ each_text text rest
@@ -16,7 +16,7 @@ each_next text left rest x whole old new cut put before =
     before ∙ ap (λ l. old ++ each_text text l) cut ∙ sym (append_assoc old (text x) (each_text text rest))
     ∙ ap (λ l. l ++ each_text text rest) (sym put)
 
--- the same, of a list by its places
+-- the loop over elements by index: the text of one more is written
 pub each_step : {A : Type 0} (text : A → List ℕ) (xs : List A) (i : ℕ) (x d : A) (whole old new : List ℕ)
     → i < length xs → x ≡ get_or xs i d
     → new ≡ old ++ text x → whole ≡ old ++ each_text text (drop i xs) → whole ≡ new ++ each_text text (drop (i + 1) xs)
@@ -24,13 +24,14 @@ each_step text xs i x d whole old new below at put before =
     each_next text (drop i xs) (drop (i + 1) xs) x whole old new
     (drop_more xs i d below ∙ ap (λ y. y ∷ drop (i + 1) xs) (sym at)) put before
 
--- nothing is left
+-- the loop over elements ends: none is left, and all are written
 pub each_done : {A : Type 0} (text : A → List ℕ) (left : List A) (whole old : List ℕ) → left ≡ []
     → whole ≡ old ++ each_text text left → old ≡ whole
 unfolding each_text
 each_done text left whole old none before =
     sym (append-nil old) ∙ ap (λ l. old ++ each_text text l) (sym none) ∙ sym before
 
+-- past the last element nothing more is written
 pub each_end : {A : Type 0} (text : A → List ℕ) (xs : List A) (i : ℕ) (whole old : List ℕ) → length xs ≤ i
     → whole ≡ old ++ each_text text (drop i xs)
     → old ≡ whole
@@ -41,14 +42,17 @@ abbrev pub lead : {A : Type 0} → Bool → List A → List ℕ
 lead true xs = []
 lead false xs = comma_before xs
 
+-- a comma stands before an element that isn't the first
 lead_some : {A : Type 0} (first : Bool) (x : A) (xs : List A) → lead first (x ∷ xs) ≡ comma_unless first
 lead_some true x xs = refl
 lead_some false x xs = refl
 
+-- no comma stands where no element is
 lead_none : {A : Type 0} (first : Bool) (xs : List A) → xs ≡ [] → lead first xs ≡ []
 lead_none true xs none = refl
 lead_none false xs none = ap comma_before none
 
+-- the loop's step: a comma if it is needed, and the next element
 pub json_next : {A : Type 0} (json : A → List ℕ) (first : Bool) (left rest : List A) (x : A)
     (whole old one new : List ℕ) → left ≡ x ∷ rest
     → one ≡ old ++ comma_unless first → new ≡ one ++ json x
@@ -64,6 +68,7 @@ json_next json first left rest x whole old one new cut led put before =
     regroup : (a b c d : List ℕ) → a ++ ((b ++ c) ++ d) ≡ ((a ++ b) ++ c) ++ d
     regroup a b c d = simp append_assoc
 
+-- the loop over elements of an array, by index: a comma if it is needed, and the next element
 pub json_step : {A : Type 0} (json : A → List ℕ) (first : Bool) (xs : List A) (i : ℕ) (x d : A)
     (whole old one new : List ℕ) → i < length xs
     → x ≡ get_or xs i d → one ≡ old ++ comma_unless first → new ≡ one ++ json x
@@ -73,6 +78,7 @@ json_step json first xs i x d whole old one new below at led put before =
     json_next json first (drop i xs) (drop (i + 1) xs) x whole old one new
     (drop_more xs i d below ∙ ap (λ y. y ∷ drop (i + 1) xs) (sym at)) led put before
 
+-- past the last element nothing more is written
 pub json_done : {A : Type 0} (json : A → List ℕ) (first : Bool) (left : List A) (whole old : List ℕ) → left ≡ []
     → whole ≡ (old ++ lead first left) ++ each_json json left → old ≡ whole
 unfolding each_json
@@ -81,18 +87,19 @@ json_done json first left whole old none before =
     ∙ sym (append-nil (old ++ lead first left))
     ∙ ap (λ l. (old ++ lead first left) ++ each_json json l) (sym none) ∙ sym before
 
+-- the loop over elements of an array ends, by index: none is left
 pub json_end : {A : Type 0} (json : A → List ℕ) (first : Bool) (xs : List A) (i : ℕ) (whole old : List ℕ)
     → length xs ≤ i
     → whole ≡ (old ++ lead first (drop i xs)) ++ each_json json (drop i xs) → old ≡ whole
 json_end json first xs i whole old past before = json_done json first (drop i xs) whole old (drop_all i xs past) before
 
--- no line is left
+-- an empty text has no lines
 pub no_lines : (text : List ℕ) → (length text == 0) ≡ true → lines_of text ≡ []
 unfolding lines_of
 no_lines [] empty = refl
 no_lines (byte ∷ text) empty = absurd (let none : length (byte ∷ text) ≡ 0 = grind (arith, common_steps) in omega arith)
 
--- a line of faults more
+-- the loop over lines: what is written for the fault of one more, if it has one
 pub faults_cut : (store number : ℕ) (text line rest old new whole : List ℕ) → lines_of text ≡ line ∷ lines_of rest
     → new ≡ old ++ fault_said store number (said_on line) → whole ≡ old ++ faults_in store number (lines_of text)
     → whole ≡ new ++ faults_in store (number + 1) (lines_of rest)
@@ -102,13 +109,14 @@ faults_cut store number text line rest old new whole cut put before =
     ∙ sym (append_assoc old (fault_said store number (said_on line)) (faults_in store (number + 1) (lines_of rest)))
     ∙ ap (λ l. l ++ faults_in store (number + 1) (lines_of rest)) (sym put)
 
+-- no line is left: no fault is written
 pub faults_end : (store number : ℕ) (text old whole : List ℕ) → (length text == 0) ≡ true
     → whole ≡ old ++ faults_in store number (lines_of text) → old ≡ whole
 unfolding faults_in
 faults_end store number text old whole empty before =
     sym (append-nil old) ∙ ap (λ l. old ++ faults_in store number l) (sym (no_lines text empty)) ∙ sym before
 
--- four words with numbers, one after another
+-- the step by step writing of four words, each with its number, gives all of them
 pub four_counts : (old one two three four a b c d : List ℕ) (words others more last : List ℕ)
     → one ≡ old ++ (words ++ a) → two ≡ one ++ (others ++ b)
     → three ≡ two ++ (more ++ c) → four ≡ three ++ (last ++ d)

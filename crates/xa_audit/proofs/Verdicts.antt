@@ -7,6 +7,7 @@ use Rattle.xa_audit.specs.declared.branch.Branch.{Branch}
 use Rattle.xa_audit.specs.declared.verdict.Verdict.TheVariants.{Atomic, Mixed, InDoubt, Open}
 use Rattle.xa_audit.specs.Globals.{took, failed, ends_as, is_in_doubt, is_open, verdict_of}
 
+-- a verdict that is MIXED comes from its two conditions
 by_parts : (a b c d : Bool) → (if a && b then Mixed else (if c then InDoubt else (if d then Open else Atomic))) ≡ Mixed
     → (a ≡ true) × (b ≡ true)
 by_parts true true c d e = (refl, refl)
@@ -17,12 +18,14 @@ by_parts false b true d e = absurd (cc)
 by_parts false b false true e = absurd (cc)
 by_parts false b false false e = absurd (cc)
 
+-- if its two conditions hold, a verdict is MIXED
 parts_by : (a b c d : Bool) → a ≡ true → b ≡ true → (if a
     && b then Mixed else (if c then InDoubt else (if d then Open else Atomic))) ≡ Mixed
 parts_by true true c d p q = refl
 parts_by true false c d p q = absurd (true≢false (sym q))
 parts_by false b c d p q = absurd (true≢false (sym p))
 
+-- MIXED stands if, and only if, one branch took effect and another failed
 pub mixed_iff : (branches : List Branch) → (verdict_of branches ≡ Mixed)
     ↔ ((list_any took branches ≡ true) × (list_any failed branches ≡ true))
 mixed_iff branches = (

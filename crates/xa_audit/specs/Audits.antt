@@ -25,6 +25,7 @@ use Rattle.xa_audit.specs.Written.{text_in}
 abbrev pub history_bytes : ℕ
 history_bytes = 16777216
 
+-- two for each byte, so that a reader that gives little at a time still comes to an end
 abbrev pub history_reads : ℕ
 history_reads = 33554432
 
@@ -39,10 +40,11 @@ abbrev pub ended_by : Bool → Ended
 ended_by true = AllAtomic
 ended_by false = SomeNotAtomic
 
+-- how an audit ends: whether every global transaction is atomic
 unfoldable pub ended_of : List Global → Ended
 ended_of globals = ended_by (count_of Atomic globals == length globals)
 
--- if a line isn't read, only such lines are written; else the global transactions
+-- if some line isn't read, only the faults of lines are written; else the global transactions are
 abbrev pub IsAuditedWith : List ℕ → List (List ℕ) → Form → Ended → List ℕ → Type 0
 IsAuditedWith [] histories form ended text =
     (globals : List Global) × IsAccount histories globals × (ended ≡ ended_of globals) × (text ≡ text_in form globals)
@@ -56,7 +58,7 @@ IsAudited histories form ended text = IsAuditedWith (faults_of histories) histor
 abbrev pub AppendsAudit : List (List ℕ) → Form → Ended → Option (List ℕ) → Option (List ℕ) → Type 0
 AppendsAudit histories form ended old new = (text : List ℕ) × IsAudited histories form ended text × Appends old new text
 
--- the writer got a prefix of that
+-- the writer got a prefix of what an audit of the histories writes, however the audit ends
 abbrev pub AppendsAuditPrefix : List (List ℕ) → Form → Option (List ℕ) → Option (List ℕ) → Type 0
 AppendsAuditPrefix histories form old new =
     (ended : Ended) × (text : List ℕ) × IsAudited histories form ended text × AppendsPrefix old new text

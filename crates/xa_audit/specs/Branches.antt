@@ -15,7 +15,7 @@ use Rattle.xa_audit.specs.Lives.{lives_after, ends_in}
 use Rattle.xa_audit.specs.declared.lives.Lives.{Lives}
 use Rattle.xa_audit.specs.declared.branch.Branch.{Branch}
 
--- the keys ascend, and a key is there if something is told of it, with what is told
+-- the keys of the entries ascend, and looking up a key finds what is told of it, or nothing
 pub record IsIndex {K V : Type 0} (cmp : K → K → Ordering) (told : K → Option V) (entries : List (K × V)) : Type 0 where
   pub ascending : IsStrictlySortedBy cmp (keys_of entries)
   pub found : (key : K) → lookup (is_at (cmp key)) entries ≡ told key

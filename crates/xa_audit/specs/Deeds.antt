@@ -47,7 +47,7 @@ deeds_from state (entry ∷ entries) =
 abbrev pub deeds_in : List ℕ → List (Xid × Deed)
 deeds_in history = deeds_from no_state (statements_in (lines_of history))
 
--- those that are about this branch
+-- the deeds that are about this branch
 unfoldable pub deeds_about : Xid → List (Xid × Deed) → List Deed
 deeds_about xid [] = []
 deeds_about xid (told ∷ deeds) = cond (same_xid xid told.0) (told.1 ∷ deeds_about xid deeds) (deeds_about xid deeds)

@@ -53,7 +53,7 @@ deed_said state (Unread place) = None
 abbrev pub owned_at : Owned → ℕ → Option Xid
 owned_at owned session = slice_index_or owned.places.items session None
 
--- each session owns the branch that is kept for it
+-- for each session, the branch that is kept as its own is the one that it owns in the state
 abbrev pub IsFollowed : Owned → State → Type 0
 IsFollowed owned state = (session : ℕ) → owned_at owned session ≡ own_xid state session
 

@@ -20,7 +20,7 @@ use Rattle.xa_audit.specs.declared.verdict.Verdict.{Verdict}
 use Rattle.xa_audit.specs.declared.verdict.Verdict.TheVariants.{Atomic, Mixed, InDoubt as LeftInDoubt, Open as LeftOpen}
 use Rattle.xa_audit.specs.Branches.{IsIndex, AreBranches}
 
--- by formatID, then gtrid
+-- the order of global transactions: by formatID, then gtrid
 abbrev pub global_cmp : GlobalName → GlobalName → Ordering
 global_cmp a b = ordering_then (nat_cmp a.format_id b.format_id) (bytes_cmp a.gtrid.items b.gtrid.items)
 
@@ -47,18 +47,22 @@ pub record IsAccount (histories : List (List ℕ)) (globals : List Global) : Typ
   pub all : AreBranches 1 histories branches
   pub index : IsIndex global_cmp (λ name. if_any (filter (is_of name) branches)) globals
 
+-- the life ended in a commit
 abbrev pub is_committed : End → Bool
 is_committed Committed = true
 is_committed end = false
 
+-- whether a life ended in a rollback of its writes
 abbrev pub is_rolled_back : End → Bool
 is_rolled_back RolledBack = true
 is_rolled_back end = false
 
+-- the life is left PREPARED
 abbrev pub is_in_doubt : End → Bool
 is_in_doubt InDoubt = true
 is_in_doubt end = false
 
+-- the life is left open
 abbrev pub is_open : End → Bool
 is_open Open = true
 is_open end = false
@@ -69,7 +73,7 @@ last_end [] = None
 last_end (end ∷ []) = Some end
 last_end (end ∷ next ∷ ends) = last_end (next ∷ ends)
 
--- the last life ends so
+-- whether the branch's last life ends in a way that passes the test
 abbrev pub ends_as : (End → Bool) → Branch → Bool
 ends_as test branch = option_map_or test (last_end branch.ends) false
 
@@ -77,7 +81,7 @@ ends_as test branch = option_map_or test (last_end branch.ends) false
 abbrev pub took : Branch → Bool
 took branch = list_any is_committed branch.ends
 
--- no life of the branch is, and its last is ROLLED BACK
+-- no life of the branch was committed, and its last is ROLLED BACK
 abbrev pub failed : Branch → Bool
 failed branch = not (took branch) && ends_as is_rolled_back branch
 
@@ -88,6 +92,7 @@ verdict_of branches =
     else (if list_any (ends_as is_in_doubt) branches then LeftInDoubt else (if list_any
     (ends_as is_open) branches then LeftOpen else Atomic))
 
+-- whether two verdicts are the same
 abbrev pub same_verdict : Verdict → Verdict → Bool
 same_verdict Atomic Atomic = true
 same_verdict Mixed Mixed = true

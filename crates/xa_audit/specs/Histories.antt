@@ -12,6 +12,7 @@ use Rattle.xa_lines.specs.Printed.{syntax_text}
 use Rattle.xa_audit.specs.declared.said.Said.{Said}
 use Rattle.xa_audit.specs.declared.said.Said.TheVariants.{Nothing, Given as Gives, Unread}
 
+-- what a line says, by how its text was read
 abbrev pub said_by : ℕ → Result Statement ℕ → Said
 said_by session (Ok statement) = Gives session statement
 said_by session (Err place) = Unread place
@@ -44,12 +45,12 @@ fault_said store number (Gives session statement) = []
 fault_said store number (Unread place) =
     codes "STORE " ++ decimal store ++ codes " LINE " ++ decimal number ++ codes " " ++ syntax_text place ++ codes "\n"
 
--- the same of these lines, the first of which has this number
+-- what is written for the faulty ones of these lines of a store's history, the first of which has this number
 unfoldable pub faults_in : ℕ → ℕ → List (List ℕ) → List ℕ
 faults_in store number [] = []
 faults_in store number (line ∷ lines) = fault_said store number (said_on line) ++ faults_in store (number + 1) lines
 
--- the same of these histories, the first of which is of the store of this number
+-- what is written for the faulty lines of these histories, the first of which is of the store of this number
 unfoldable pub faults_from : ℕ → List (List ℕ) → List ℕ
 faults_from store [] = []
 faults_from store (history ∷ histories) = faults_in store 1 (lines_of history) ++ faults_from (store + 1) histories

@@ -16,6 +16,7 @@ use Rattle.xa_audit.specs.Deeds.{deeds_in, deeds_about}
 use Rattle.xa_audit.specs.Globals.{is_committed, failed, global_of}
 use Rattle.xa_audit.specs.Lives.{ends_in}
 
+-- the deed is a commit
 abbrev pub is_commit : Deed → Bool
 is_commit Starts = false
 is_commit Writes = false
@@ -27,6 +28,7 @@ is_commit RollsBack = false
 abbrev pub took_in : List ℕ → Xid → Bool
 took_in history xid = option_map_or (λ lives. list_any is_committed (ends_in lives)) (lives_in history xid) false
 
+-- the deed is a write
 abbrev pub is_write : Deed → Bool
 is_write Starts = false
 is_write Writes = true

@@ -24,6 +24,7 @@ abbrev pub dropped_by : Bool → End
 dropped_by true = RolledBack
 dropped_by false = Empty
 
+-- how a life ends that is rolled back, by whether it wrote; without a life nothing was there to drop
 abbrev pub dropped : Option Life → End
 dropped None = Empty
 dropped (Some life) = dropped_by life.wrote
@@ -32,7 +33,7 @@ dropped (Some life) = dropped_by life.wrote
 abbrev pub over_by : End → Lives → Lives
 over_by end lives = record { over = lives.over ++ end ∷ []; going = None }
 
--- a life after it wrote
+-- the life once it has written
 abbrev pub written_life : Life → Life
 written_life life = record life { wrote = true }
 
@@ -48,11 +49,12 @@ noted lives Prepares = record lives { going = option_map prepared_life lives.goi
 noted lives Commits = over_by Committed lives
 noted lives RollsBack = over_by (dropped lives.going) lives
 
--- the lives after these deeds
+-- the lives of a branch after these deeds
 unfoldable pub lives_after : Option Lives → List Deed → Option Lives
 lives_after lives [] = lives
 lives_after lives (deed ∷ deeds) = lives_after (Some (noted (unwrap_or lives no_lives) deed)) deeds
 
+-- how a life is left at the history's end, by whether it was prepared
 abbrev pub left_by : Bool → End
 left_by true = InDoubt
 left_by false = Open

@@ -16,6 +16,7 @@ use Rattle.xa_audit.specs.declared.form.Form.{Form}
 use Rattle.xa_audit.specs.declared.form.Form.TheVariants.{Lines, LastLine, Json}
 use Rattle.xa_audit.specs.Globals.{Global, verdict_of, count_of}
 
+-- the words for an end
 abbrev pub end_text : End → List ℕ
 end_text Committed = codes "COMMITTED"
 end_text RolledBack = codes "ROLLED BACK"
@@ -23,6 +24,7 @@ end_text Empty = codes "EMPTY"
 end_text InDoubt = codes "IN DOUBT"
 end_text Open = codes "OPEN"
 
+-- the words for a verdict
 abbrev pub verdict_text : Verdict → List ℕ
 verdict_text Atomic = codes "ATOMIC"
 verdict_text Mixed = codes "MIXED"
@@ -59,6 +61,7 @@ last_text globals =
     ++ codes " IN DOUBT " ++ decimal (count_of LeftInDoubt globals)
     ++ codes " OPEN " ++ decimal (count_of LeftOpen globals) ++ codes "\n"
 
+-- the lines of all global transactions, and the last line
 abbrev pub lines_text : List Global → List ℕ
 lines_text globals = each_text global_text globals ++ last_text globals
 
@@ -81,9 +84,11 @@ unfoldable pub each_json : {A : Type 0} → (A → List ℕ) → List A → List
 each_json json [] = []
 each_json json (x ∷ xs) = json x ++ comma_before xs ++ each_json json xs
 
+-- an end as a string of JSON
 abbrev pub end_json : End → List ℕ
 end_json end = string_text (end_text end)
 
+-- a branch as an object of JSON
 abbrev pub branch_json : Branch → List ℕ
 branch_json branch =
     codes "{\"store\":" ++ decimal branch.store ++ codes ",\"bqual\":" ++ string_text (part_text branch.xid.bqual.items)
@@ -95,23 +100,27 @@ head_json name =
     codes "{\"format\":" ++ decimal name.format_id ++ codes ",\"gtrid\":" ++ string_text (part_text name.gtrid.items)
     ++ codes ",\"branches\":["
 
--- and behind them
+-- what stands behind the branches of a global transaction: its verdict
 abbrev pub tail_json : List Branch → List ℕ
 tail_json branches = codes "],\"verdict\":" ++ string_text (verdict_text (verdict_of branches)) ++ codes "}"
 
+-- a global transaction as an object of JSON
 abbrev pub global_json : Global → List ℕ
 global_json global = head_json global.0 ++ each_json branch_json global.1 ++ tail_json global.1
 
+-- how many have each verdict, as members of an object
 unfoldable pub counts_json : List Global → List ℕ
 counts_json globals =
     codes "\"atomic\":" ++ decimal (count_of Atomic globals) ++ codes ",\"mixed\":" ++ decimal (count_of Mixed globals)
     ++ codes ",\"in_doubt\":" ++ decimal (count_of LeftInDoubt globals) ++ codes ",\"open\":"
     ++ decimal (count_of LeftOpen globals)
 
+-- all of it as one object of JSON
 abbrev pub json_text : List Global → List ℕ
 json_text globals =
     codes "{\"globals\":[" ++ each_json global_json globals ++ codes "]," ++ counts_json globals ++ codes "}\n"
 
+-- what is written in each form
 abbrev pub text_in : Form → List Global → List ℕ
 text_in Lines globals = lines_text globals
 text_in LastLine globals = last_text globals

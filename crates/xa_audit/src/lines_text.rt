@@ -17,11 +17,12 @@ use std::mem;
 use xa_lines::push_number;
 use xa_xid::{NoMemory, with_part};
 
-/// Appends a gtrid or a bqual.
+/// Appends a gtrid or a bqual (a *part* of an identifier), as it is spelled in an identifier's text.
 pub fn push_part(alloc: Global, text: &mut Vec<u8>, part: &[u8]) -> Result<(), NoMemory>
     requires { length part.now ≤ text_bytes }
     ensures { OnOk result (text.new.items ≡ text.old.items ++ part_text part.now) }
 {
+    // `with_part` takes the text and gives it back longer. If it fails, an empty text is left.
     let before = mem::replace(text, Vec::new(alloc));
     *text = with_part(before, part)?;
     Ok(())
@@ -123,6 +124,7 @@ fn push_globals(
 pub fn count(verdict: Verdict, globals: &BTreeMap<GlobalName, Branches>) -> u64
     ensures { result ≡ count_of verdict globals.now.entries }
 {
+    // A map has fewer than 2^64 entries, so the sum below can't overflow.
     let _size = globals.len();
     let mut count: u64 = 0;
     for (_, branches) in globals {

@@ -94,7 +94,8 @@ impl Store {
             ((at : ℕ) → owned_at self.new.owned at
             ≡ cond (at == session) (own_after (owned_at self.old.owned session) statement.now)
             (owned_at self.old.owned at)) }
-        ensures lives { OnOk result (Notes (deed_of_statement (owned_at self.old.owned session) statement.now) self.old.lives self.new.lives) }
+        ensures lives { OnOk result (Notes (deed_of_statement (owned_at self.old.owned session) statement.now)
+            self.old.lives self.new.lives) }
     {
         let own = self.owned.of(session);
         let next = own_by(self.owned.of(session), statement);
@@ -115,7 +116,8 @@ impl Store {
         requires { IsFollowed self.old.owned self.old.server }
         ensures server { OnOk result (self.new.server ≡ after self.old.server session statement.now) }
         ensures owned { OnOk result (IsFollowed self.new.owned self.new.server) }
-        ensures lives { OnOk result (Notes (deed_of self.old.server session statement.now) self.old.lives self.new.lives) }
+        ensures lives { OnOk result (Notes (deed_of self.old.server session statement.now) self.old.lives
+            self.new.lives) }
     {
         let (reply, _) = self.server.reply(session, statement)?;
         if reply.is_refused() {
@@ -132,7 +134,8 @@ impl Store {
         requires { IsFollowed self.old.owned self.old.server }
         ensures server { OnOk result (self.new.server ≡ state_said self.old.server (said_on line.now)) }
         ensures owned { OnOk result (IsFollowed self.new.owned self.new.server) }
-        ensures lives { OnOk result (Notes (deed_said self.old.server (said_on line.now)) self.old.lives self.new.lives) }
+        ensures lives { OnOk result (Notes (deed_said self.old.server (said_on line.now)) self.old.lives
+            self.new.lives) }
     {
         match read_said(line) {
             Said::Nothing => Ok(()),

@@ -71,7 +71,7 @@ fn is_open_at_last(branch: &Branch) -> bool
     matches!(last_of(branch.ends.as_slice()), Some(End::Open))
 }
 
-/// Whether a branch took.
+/// Whether some branch took effect: a life of it was committed.
 fn any_took(branches: &[Branch]) -> bool
     ensures { result ≡ list_any took_by branches.now }
 {
@@ -83,7 +83,7 @@ fn any_took(branches: &[Branch]) -> bool
     false
 }
 
-/// Whether a branch failed.
+/// Whether some branch failed: no life of it was committed, and its last one's writes were dropped.
 fn any_failed(branches: &[Branch]) -> bool
     ensures { result ≡ list_any failed_by branches.now }
 {

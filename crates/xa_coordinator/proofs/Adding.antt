@@ -1,5 +1,5 @@
 -- How many entries the session of a store has added, before and after it was used.
-use Rattle.std.proofs.Common.{◌≡◌, ◌<◌, ◌≤◌, ◌+◌, ℕ, List, [], ◌∷◌, length, get_or, map, ap, sym, ◌∙◌, inl, inr, Result}
+use Rattle.std.proofs.Common.{◌≡◌, ◌<◌, ◌≤◌, ◌+◌, ℕ, List, length, get_or, map, ap, sym, ◌∙◌, inl, inr, Result}
 use Rattle.std.proofs.Common.{Ok, Err, Some, arith, length-append}
 use Rattle.std.specs.Prelude.{IfOk, IfErr, slice_get, slice_set}
 use Rattle.std.proofs.lemmas.List.{length-map}
@@ -14,7 +14,7 @@ use Rattle.xa_coordinator.specs.Recovery.{IsDisconnected}
 use Rattle.xa_coordinator.specs.Work.{MayBe}
 use Rattle.xa_coordinator.proofs.Places.{get_set_same}
 
--- so many statements were added
+-- a session has at most as many entries more as statements were added
 pub adds_so_many : (statements : List Statement) (old new : SessionView) → AddsStatements statements old new
     → length new.known.mine ≤ length old.known.mine + length statements
 adds_so_many statements old new is =
@@ -22,16 +22,17 @@ adds_so_many statements old new is =
     ap length is.mine ∙ length-append old.known.mine (map (entry_of old.known.number) statements) in
     omega (arith, whole, length-map statements (entry_of old.known.number))
 
+-- what disconnecting adds is one statement or none
 at_most_one : (statements : List Statement) → MayBe Disconnect statements → length statements ≤ 1
 at_most_one statements (inl none) = omega (arith, ap length none)
 at_most_one statements (inr one) = omega (arith, ap length one)
 
--- at most DISCONNECT was
+-- disconnecting adds at most one entry, that of DISCONNECT
 pub disconnect_adds : (old new : SessionView) → IsDisconnected old new
     → length new.known.mine ≤ length old.known.mine + 1
 disconnect_adds old new is = omega (arith, adds_so_many is.statements old new is.adds, at_most_one is.statements is.is)
 
--- whatever was answered
+-- what follows from an Ok and from an Err follows from a result
 pub either_way : {A E : Type 0} (P : Type 0) (result : Result A E) (ok : A → Type 0) (err : E → Type 0)
     → ((a : A) → ok a → P) → ((e : E) → err e → P)
     → IfOk result ok → IfErr result err → P

@@ -105,12 +105,12 @@ module _ (decisions : List Decision) (name : List ℕ) (store : ℕ) where
   pub voted_agrees : (xid : Xid) (takes : Bool) (old new : SessionView) → IsVoted xid takes old new
       → Agrees decisions name store old new
   voted_agrees xid false old new is = subst (λ s. Agrees decisions name store old s) (sym is) (nothing_agrees old)
-  voted_agrees xid true old new is = two_agree (End xid) (Prepare xid) old new tt tt is
+  voted_agrees xid true old new is = two_agree (End xid) (Prepare xid) old new tt tt is.adds
 
   pub ends_agrees : (xid : Xid) (takes : Bool) (old new : SessionView) → IsEnded xid takes old new
       → Agrees decisions name store old new
   ends_agrees xid false old new is = subst (λ s. Agrees decisions name store old s) (sym is) (nothing_agrees old)
-  ends_agrees xid true old new is = one_agrees (End xid) old new tt is
+  ends_agrees xid true old new is = one_agrees (End xid) old new tt is.adds
 
   -- the statement that finishes a branch agrees with the decisions that allow it
   pub closing_agrees : (number : ℕ) → number < 2 ^ 64 → (closing : Closing) → Allows decisions number closing
@@ -122,8 +122,8 @@ module _ (decisions : List Decision) (name : List ℕ) (store : ℕ) where
   closed_agrees : (ends : Bool) (statement : Statement) (xid : Xid) → AgreesWith decisions name store statement
       → (old new : SessionView)
       → IsClosed ends statement xid old new → Agrees decisions name store old new
-  closed_agrees false statement xid agrees old new is = one_agrees statement old new agrees is
-  closed_agrees true statement xid agrees old new is = two_agree (End xid) statement old new tt agrees is
+  closed_agrees false statement xid agrees old new is = one_agrees statement old new agrees is.adds
+  closed_agrees true statement xid agrees old new is = two_agree (End xid) statement old new tt agrees is.adds
 
   pub settled_agrees : (ends : Bool) (statement : Statement) (xid : Xid) → AgreesWith decisions name store statement
       → (takes listed : Bool) (old new : SessionView) → Settles ends statement xid takes listed old new →

@@ -9,18 +9,19 @@ use Rattle.xa_coordinator.specs.declared.closing.Closing.{Closing}
 use Rattle.xa_coordinator.specs.declared.closing.Closing.TheVariants.{InTwoPhases, InOnePhase, RollBack}
 use Rattle.xa_coordinator.specs.declared.closing.Found.{Found}
 use Rattle.xa_coordinator.specs.declared.closing.Found.TheVariants.{Closed, Missing}
-use Rattle.xa_coordinator.specs.Agreement.{AddsStatements}
+use Rattle.xa_coordinator.specs.Agreement.{AddsEach}
 use Rattle.xa_coordinator.specs.Outcomes.{ends_first}
 use Rattle.xa_coordinator.specs.Parts.{SaysAs, ClosesAs, PreparesAs, IsToldAs}
 use Rattle.xa_coordinator.specs.Told.{IsDone}
-use Rattle.xa_coordinator.proofs.Telling.{adds_then}
+use Rattle.xa_coordinator.proofs.Telling.{each_then, each_alone}
 
--- XA END and then XA PREPARE
+-- an XA END and then an XA PREPARE that were carried out added these two entries
 pub ended_prepared : (xid : Xid) (old mid new : SessionView) → IsDone (End xid) old mid → IsDone (Prepare xid) mid new
-    → AddsStatements (End xid ∷ Prepare xid ∷ []) old new
-ended_prepared xid old mid new one two = adds_then (End xid ∷ []) (Prepare xid ∷ []) old mid new one.adds two.adds
+    → AddsEach (End xid ∷ Prepare xid ∷ []) old new
+ended_prepared xid old mid new one two =
+    each_then (End xid) (Prepare xid ∷ []) old mid new one (each_alone (Prepare xid) mid new two)
 
--- the statement alone
+-- a branch whose work has ended is finished by its finishing statement alone
 pub said_alone : (statement : Statement) (xid : Xid) (found : Result Found Cause) (old new : SessionView)
     → SaysAs statement found old new
     → ClosesAs false statement xid found old new
@@ -28,12 +29,12 @@ said_alone statement xid (Ok Closed) old new is = is
 said_alone statement xid (Ok Missing) old new is = is
 said_alone statement xid (Err cause) old new is = is
 
--- behind XA END
+-- a branch that is still ACTIVE is finished by XA END and then the finishing statement
 pub said_behind : (statement : Statement) (xid : Xid) (found : Result Found Cause) (old mid new : SessionView)
     → IsDone (End xid) old mid
     → SaysAs statement found mid new → ClosesAs true statement xid found old new
 said_behind statement xid (Ok Closed) old mid new ends is =
-    adds_then (End xid ∷ []) (statement ∷ []) old mid new ends.adds is
+    each_then (End xid) (statement ∷ []) old mid new ends is
 said_behind statement xid (Ok Missing) old mid new ends is = record { mid = mid; ends = ends; undone = is }
 said_behind statement xid (Err cause) old mid new ends is = inr (is.0, record { mid = mid; ends = ends; undone = is.1 })
 

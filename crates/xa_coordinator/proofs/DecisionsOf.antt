@@ -19,12 +19,14 @@ pub record HasPlace (decisions : List Decision) (number : ℕ) : Type 0 where
   pub first : 0 < number
   pub within : number - 1 < length decisions
 
+-- a place that has a decision which isn't closed is within the list
 in_list : (decisions : List Decision) (place : ℕ) (found : Option Decision) → slice_get decisions place ≡ found
     → is_not_closed found ≡ true
     → place < length decisions
 in_list decisions place None is given = absurd (cc)
 in_list decisions place (Some decision) is given = slice_get_within decisions place decision is
 
+-- a number that may be decided was given: it has a place
 pub given : (decisions : List Decision) (number : ℕ) → may_be_decided decisions number ≡ true
     → HasPlace decisions number
 unfolding decision_of
@@ -41,7 +43,7 @@ given decisions number is = by (number == 0) refl is
               (slice_get decisions (number - 1)) refl there;
         }
 
--- once it is decided, it is
+-- a number that is recorded as decided is decided
 pub decided_after : (decisions : List Decision) (place number : ℕ) → place + 1 ≡ number → place < length decisions
     → is_decided (slice_set decisions place Decided) number ≡ true
 unfolding decision_of
@@ -51,18 +53,20 @@ decided_after decisions place number is below =
     ∙ ap (λ at. decides (slice_get (slice_set decisions place Decided) at)) (omega arith)
     ∙ ap decides (get_set_same decisions place Decided below)
 
+-- number n stands at place n - 1, and recording a decision sets it there
 pub with_decided-at : (decisions : List Decision) (place number : ℕ) → place + 1 ≡ number
     → slice_set decisions place Decided ≡ with_decided decisions number
 unfolding with_decided
 with_decided-at decisions place number is = ap (λ at. slice_set decisions at Decided) (omega arith)
 
--- what was decided stays so
+-- recording a decision leaves decided what was
 decided_in : (decisions : List Decision) (place : ℕ) (found : Option Decision) → slice_get decisions place ≡ found
     → decides found ≡ true
     → place < length decisions
 decided_in decisions place None is decided = absurd (cc)
 decided_in decisions place (Some decision) is decided = slice_get_within decisions place decision is
 
+-- recording one decision keeps the others
 pub decided_kept : (decisions : List Decision) (place other : ℕ) → is_decided decisions other ≡ true
     → is_decided (slice_set decisions place Decided) other ≡ true
 unfolding decision_of
@@ -80,7 +84,7 @@ decided_kept decisions place other is = by (other == 0) is
       | inr (_, apart) ↦ ap decides (get_set_other decisions place (other - 1) Decided apart) ∙ was
     ]
 
--- one number more is closed, where a list is closed from its head on
+-- the loop that closes undecided numbers, from the head of the list on: one more is closed
 pub closed_next : (xs now : List Decision) (place : ℕ) (d : Decision)
     → now ≡ map closed_of (take place xs) ++ drop place xs → place < length now →
     slice_set now place (closed_of (get_or now place d)) ≡ map closed_of (take (place + 1) xs) ++ drop (place + 1) xs
@@ -98,6 +102,7 @@ closed_next xs now place d is below =
     by (y ∷ ys) zero less = refl
     by (y ∷ ys) (suc n) less = ap (λ rest. closed_of y ∷ rest) (by ys n (omega arith))
 
+-- the loop that closes undecided numbers has closed all at its end
 pub closed_all : (xs now : List Decision) (place : ℕ) → now ≡ map closed_of (take place xs) ++ drop place xs
     → length xs ≤ place → now ≡ map closed_of xs
 closed_all xs now place is whole =
@@ -113,12 +118,14 @@ closed_all xs now place is whole =
 
 -- ---- what closing makes of how numbers stand
 
+-- closing every decision of a list closes the one at each place
 get_closed : (xs : List Decision) (place : ℕ) → slice_get (map closed_of xs) place
     ≡ option_map closed_of (slice_get xs place)
 get_closed [] place = refl
 get_closed (x ∷ xs) zero = refl
 get_closed (x ∷ xs) (suc place) = get_closed xs place
 
+-- closing undecided numbers, seen at one number
 closed_decision : (decisions : List Decision) (number : ℕ)
     → decision_of (map closed_of decisions) number ≡ option_map closed_of (decision_of decisions number)
 unfolding decision_of
@@ -131,6 +138,7 @@ closed_decision decisions number = by (number == 0) (get_closed decisions (numbe
     by true e = refl
     by false e = e
 
+-- a recovery closes undecided numbers, and decides none
 pub closed_decides : (decisions : List Decision) (number : ℕ)
     → is_decided (map closed_of decisions) number ≡ is_decided decisions number
 closed_decides decisions number = ap decides (closed_decision decisions number) ∙ by (decision_of decisions number)
@@ -141,6 +149,7 @@ closed_decides decisions number = ap decides (closed_decision decisions number) 
     by (Some Decided) = refl
     by (Some Closed) = refl
 
+-- after a recovery closed them, no number is undecided
 pub closed_none : (decisions : List Decision) (number : ℕ)
     → decision_of (map closed_of decisions) number ≢ Some Undecided
 closed_none decisions number is = by (decision_of decisions number) (sym (closed_decision decisions number) ∙ is)

@@ -7,9 +7,10 @@ use Rattle.xa_coordinator.specs.Participants.{takes_part, OnlyTakesPart}
 use Rattle.xa_coordinator.specs.Stores.{AtStore, EachStore, ChangesAt}
 use Rattle.xa_coordinator.specs.Told.{IsDone}
 use Rattle.xa_coordinator.specs.Outcomes.{branch_of, IsEnded}
+use Rattle.xa_coordinator.proofs.Telling.{each_alone}
 use Rattle.xa_coordinator.proofs.Walk.{at_weaker, only_at}
 
--- another store doesn't take part
+-- if only one store takes part, another doesn't
 others_out : (transaction : Transaction) (store other : ℕ) → OnlyTakesPart transaction.participants store
     → other ≢ store
     → takes_part transaction.participants other ≡ false
@@ -19,6 +20,7 @@ others_out transaction store other only apart = by (takes_part transaction.parti
     by true is = absurd (apart (only.others other is))
     by false is = refl
 
+-- if only one store takes part and its branch has ended, each participant's branch has ended
 pub ended_each : {S : Type 0} (view : S → SessionView) (transaction : Transaction) (store : ℕ) (old new : List S)
     → OnlyTakesPart transaction.participants store
     → ChangesAt store old new →
@@ -31,6 +33,6 @@ ended_each view transaction store old new only changes is =
     (at_weaker view store (IsDone (End (branch_of transaction store)))
     (IsEnded (branch_of transaction store) (takes_part transaction.participants store))
     (λ a b done. subst (λ takes. IsEnded (branch_of transaction store) takes a b)
-    (sym only.in_it) done.adds) old new is)
+    (sym only.in_it) (each_alone (End (branch_of transaction store)) a b done)) old new is)
     (λ other apart a. subst (λ takes. IsEnded (branch_of transaction other) takes a a)
     (sym (others_out transaction store other only apart)) refl)

@@ -18,13 +18,14 @@ use Rattle.xa_coordinator.specs.Parts.{ClosesNext}
 use Rattle.xa_coordinator.specs.declared.branches.OpenBranch.{OpenBranch}
 use Rattle.xa_coordinator.proofs.Walk.{Reached, reached_skip, reached_next, reached_weaker, at_weaker}
 
--- participants below a number, ascending
+-- the stores listed so far: participants below this place, ascending
 pub record IsListed (participants : Participants) (place : ℕ) (stores : List ℕ) : Type 0 where
   pub below : All (λ store. store < place) stores
   pub ascending : Ascends stores
   pub participate : All (λ store. takes_part participants store ≡ true) stores
   pub short : length stores ≤ place
 
+-- before the first store none is listed
 pub listed_none : (participants : Participants) → IsListed participants 0 []
 listed_none participants =
     record {
@@ -35,6 +36,7 @@ listed_none participants =
       short = omega arith;
     }
 
+-- the loop over stores: one that isn't listed
 pub listed_skip : (participants : Participants) (place : ℕ) (stores : List ℕ) → IsListed participants place stores
     → IsListed participants (place + 1) stores
 listed_skip participants place stores is = record {
@@ -44,6 +46,7 @@ listed_skip participants place stores is = record {
   short = omega (arith, is.short);
 }
 
+-- a greater store's number behind an ascending list
 ascends_last : (stores : List ℕ) (last : ℕ) → Ascends stores → All (λ store. store < last) stores
     → Ascends (stores ++ last ∷ [])
 ascends_last [] last ascending below = (All-nil (λ later. last < later), tt)
@@ -52,6 +55,7 @@ ascends_last (store ∷ stores) last ascending below = (
   ascends_last stores last ascending.1 (All-tail (λ s. s < last) store stores below),
 )
 
+-- the loop over stores: a participant whose branch wasn't known is listed
 pub listed_more : (participants : Participants) (place : ℕ) (stores : List ℕ) → IsListed participants place stores
     → takes_part participants place ≡ true
     → IsListed participants (place + 1) (stores ++ place ∷ [])
@@ -74,6 +78,7 @@ not_listed participants place stores is =
     (All-weaker (λ store. store < place) (λ store. nat_eq place store ≡ false)
     (λ store less. ne_eqb place store (λ same. absurd (omega arith))) stores is.below)
 
+-- the store that was listed last is listed
 last_listed : (stores : List ℕ) (place : ℕ) → lists_store (stores ++ place ∷ []) place ≡ true
 unfolding lists_store
 last_listed stores place =
@@ -88,6 +93,7 @@ last_listed stores place =
     or_true true = refl
     or_true false = refl
 
+-- listing a store changes nothing about which earlier ones are listed
 same_listed : (stores : List ℕ) (place store : ℕ) → store < place
     → lists_store (stores ++ place ∷ []) store ≡ lists_store stores store
 unfolding lists_store
@@ -192,12 +198,13 @@ module _ {S : Type 0} (view : S → SessionView) (branches : List (Option OpenBr
             is,
       )
 
--- where none is listed
+-- an empty list of stores lists no store
 pub none_listed : (stores : List ℕ) (store : ℕ) → length stores ≡ 0 → lists_store stores store ≡ false
 unfolding lists_store
 none_listed [] store none = refl
 none_listed (x ∷ stores) store none = absurd (omega arith)
 
+-- if no store is listed as a hazard, every participant's branch was finished as the transaction closes
 pub settled_none : {S : Type 0} (view : S → SessionView) (branches : List (Option OpenBranch))
     (transaction : Transaction) (closing : Closing) (stores : List ℕ)
     (old new : List S) → length stores ≡ 0 →

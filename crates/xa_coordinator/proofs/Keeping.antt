@@ -69,7 +69,7 @@ module _ {S : Type 0} (view : S → SessionView) (name : List ℕ) where
       let P : S → S → Type 0 = λ b a. fact (view b) (view a) in
       subst (λ b. P b after) (sym is_old) (subst (P old) is_new is)
 
--- the sessions of other stores weren't used
+-- setting one store's session leaves the sessions of other stores as they were
 pub changes_at : {S : Type 0} (stores : List S) (store : ℕ) (session : S)
     → ChangesAt store stores (slice_set stores store session)
 changes_at stores store session =

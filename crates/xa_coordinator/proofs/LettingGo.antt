@@ -10,7 +10,7 @@ use Rattle.decision_log.specs.History.{entries_of}
 use Rattle.std.specs.Prelude.{Result, Ok, Err, IfOk, IfErr}
 use Rattle.decision_log.specs.declared.known.Known.{Known}
 use Rattle.xa_session.specs.declared.fault.Fault.{Fault}
-use Rattle.xa_session.specs.View.{SessionView, StaysOfLog}
+use Rattle.xa_session.specs.View.{SessionView, StaysOfLog, Takes, TakesBy}
 use Rattle.xa_session.proofs.Entering.{recover_outside, recover_reply}
 use Rattle.xa_session.proofs.OwnAssociations.{let_go, outside_free}
 use Rattle.xa_session.proofs.Associations.{law_seen, association_unanswered, state_entered, state_outside}
@@ -22,10 +22,10 @@ use Rattle.xa_session.specs.declared.answer.Answer.{Answer}
 use Rattle.xa_coordinator.specs.OpenBranches.{association_seen}
 use Rattle.xa_coordinator.specs.Recovery.{IsDisconnected, ListsPrepared}
 
--- what DISCONNECT comes to
+-- after an answered DISCONNECT its session has nothing open, and added at most that
 pub disconnected_as : (answer : Answer) (old new : SessionView) → LockLaw new.base → StaysOfLog old new
-    → IsAnswered old.base Disconnect answer old.known new.known → IsDisconnected old new
-disconnected_as answer old new law stays is = by (enters there old.known.number Disconnect) refl
+    → IsAnswered old.base Disconnect answer old.known new.known → Takes 1 old.left new.left → IsDisconnected old new
+disconnected_as answer old new law stays is takes = by (enters there old.known.number Disconnect) refl
   where
     there : State
     there = state_at old.base new.known.seen answer.place
@@ -47,6 +47,7 @@ disconnected_as answer old new law stays is = by (enters there old.known.number 
           association_is ∙ ap (λ state. association_of state old.known.number)
           (state_entered old.base Disconnect answer old.known new.known is entering)
           ∙ let_go there law_there old.known.number;
+      takes = takes;
     }
     by false outside = record {
       statements = [];
@@ -57,13 +58,15 @@ disconnected_as answer old new law stays is = by (enters there old.known.number 
           association_is ∙ ap (λ state. association_of state old.known.number)
           (state_outside old.base Disconnect answer old.known new.known is outside)
           ∙ outside_free there old.known.number outside;
+      takes = takes;
     }
 
--- what XA RECOVER comes to
+-- what an answered XA RECOVER says: the list of prepared branches, and nothing added
 pub listed_as : (convert : Bool) (answer : Answer) (xids : List Xid) (old new : SessionView) → StaysOfLog old new
-    → IsAnswered old.base (Recover convert) answer old.known new.known → answer.reply ≡ Recovered xids →
-    ListsPrepared xids answer.place old new
-listed_as convert answer xids old new stays is reply =
+    → IsAnswered old.base (Recover convert) answer old.known new.known → Takes 1 old.left new.left
+    → answer.reply ≡ Recovered xids
+    → ListsPrepared xids answer.place old new
+listed_as convert answer xids old new stays is takes reply =
     let there : State = state_at old.base new.known.seen answer.place in
     let outside : enters there old.known.number (Recover convert) ≡ false =
     recover_outside there old.known.number convert in
@@ -78,16 +81,17 @@ listed_as convert answer xids old new stays is reply =
       looked = is.looked;
       front = sym (is.outside outside).whole;
       list = list ∙ ap prepared_xids (sym whole ∙ ap (λ b. state_after b new.known.seen) (sym stays.base));
+      takes = takes;
     }
 
--- it adds nothing
+-- XA RECOVER adds nothing to the history
 pub listed_quietly : (base : State) (convert : Bool) (answer : Answer) (old new : Known)
     → IsAnswered base (Recover convert) answer old new
     → new.mine ≡ old.mine
 listed_quietly base convert answer old new is =
     (is.outside (recover_outside (state_at base new.seen answer.place) old.number convert)).mine
 
--- it leaves what the session has open
+-- after an answered XA RECOVER the session has open what it had open
 pub listed_association : (convert : Bool) (answer : Answer) (old new : SessionView) → LockLaw new.base
     → StaysOfLog old new
     → entries_of old.known.number old.known.seen ≡ old.known.mine
@@ -103,17 +107,17 @@ listed_association convert answer old new law stays own_old own_new is =
     ap (λ b. association_of (state_after b new.known.seen) new.known.number) stays.base
     ∙ association_unanswered old.base (subst LockLaw stays.base law) old.known new.known nothing own_old own_new
 
--- whatever the session answered
+-- whatever XA RECOVER was answered, the session has open what it had open
 pub listed_still : (convert : Bool) (result : Result Answer Fault) (old new : SessionView) → LockLaw new.base
     → StaysOfLog old new
     → entries_of old.known.number old.known.seen ≡ old.known.mine
     → entries_of new.known.number new.known.seen ≡ new.known.mine →
     IfOk result (λ answer. IsAnswered old.base (Recover convert) answer old.known new.known)
     → IfErr result (λ fault. Fails old.turns old.identity.capacity old.base (Recover convert) fault old.known new.known)
-    → IfErr result IsFinal →
-    association_seen new ≡ association_seen old
-listed_still convert (Ok answer) old new law stays own_old own_new answered fails final =
+    → IfErr result IsFinal → TakesBy result old new
+    → association_seen new ≡ association_seen old
+listed_still convert (Ok answer) old new law stays own_old own_new answered fails final takes =
     listed_association convert answer old new law stays own_old own_new answered
-listed_still convert (Err fault) old new law stays own_old own_new answered fails final =
+listed_still convert (Err fault) old new law stays own_old own_new answered fails final takes =
     association_refused (Recover convert) (Session fault) old new law own_old own_new
-    (is_undone (Recover convert) (Session fault) old new stays (fails, final))
+    (is_undone (Recover convert) (Session fault) old new stays (fails, final, takes))

@@ -21,7 +21,7 @@ use Rattle.xa_session.specs.View.{SessionView}
 use Rattle.xa_coordinator.specs.Branch.{branch_xid, IsBranchOf}
 use Rattle.xa_coordinator.specs.Recovery.{IsNamed, ListsPrepared, NoneLeft}
 
--- the prefix with one more
+-- the first place + 1 identifiers are the first and the one at the place
 pub take_next : (xs : List Xid) (place : ℕ) (x : Xid) → slice_get xs place ≡ Some x
     → take (place + 1) xs ≡ take place xs ++ x ∷ []
 take_next xs place x is = ap (λ n. take n xs) (add-one place) ∙ by xs place is
@@ -31,11 +31,12 @@ take_next xs place x is = ap (λ n. take n xs) (add-one place) ∙ by xs place i
     by (y ∷ ys) zero e = let same : y ≡ x = cc in ap (λ z. z ∷ []) same
     by (y ∷ ys) (suc n) e = ap (λ rest. y ∷ rest) (by ys n e)
 
+-- what the program reads at an index within the list stands there
 pub at_index : (xs : List Xid) (place : ℕ) (x : Xid) → x ≡ get_or xs place x → place < length xs
     → slice_get xs place ≡ Some x
 at_index xs place x is below = slice_get-get_or xs place x below ∙ ap Some (sym is)
 
--- one that is there is found
+-- an identifier of a list that passes a test is found by it
 pub any_there : (p : Xid → Bool) (xs : List Xid) (place : ℕ) (x : Xid) → slice_get xs place ≡ Some x → p x ≡ true
     → list_any p xs ≡ true
 any_there p [] place x there is = absurd (cc)
@@ -46,11 +47,13 @@ any_there p (y ∷ ys) (suc place) x there is = ap (λ b. p y || b) (any_there p
     or_true true = refl
     or_true false = refl
 
+-- a branch of the coordinator's naming is the one that it names so
 pub same_branch : (name : List ℕ) (number store : ℕ) (xid : Xid) → IsBranchOf name number store xid
     → same_xid (branch_xid name number store) xid ≡ true
 same_branch name number store xid is = ap (same_xid (branch_xid name number store)) is.is
     ∙ same_itself xids_total exact_xids (branch_xid name number store)
 
+-- an identifier that isn't of its naming is none of its branches
 apart_branch : (name : List ℕ) (number store : ℕ) → number < 2 ^ 64 → (xid : Xid) → (IsNamed name store xid → ⊥)
     → same_xid (branch_xid name number store) xid ≡ false
 apart_branch name number store fits xid out =
@@ -59,7 +62,7 @@ apart_branch name number store fits xid out =
       | inr apart ↦ apart
     ]
 
--- where none is named so, no branch of the naming is in the list
+-- if no identifier of a list is of a coordinator's naming, none of its branches is in the list
 pub none_named_in : (name : List ℕ) (store : ℕ) (xids : List Xid) → All (λ xid. IsNamed name store xid → ⊥) xids
     → (number : ℕ) → number < 2 ^ 64
     → list_any (same_xid (branch_xid name number store)) xids ≡ false
@@ -68,6 +71,7 @@ none_named_in name store xids none number fits =
     (All-weaker (λ xid. IsNamed name store xid → ⊥) (λ xid. same_xid (branch_xid name number store) xid ≡ false)
     (apart_branch name number store fits) xids none)
 
+-- if one identifier more isn't of the coordinator's naming, none up to there is
 pub none_more : (name : List ℕ) (store : ℕ) (xids : List Xid) (place : ℕ) (xid : Xid) → slice_get xids place ≡ Some xid
     → (IsNamed name store xid → ⊥)
     → All (λ x. IsNamed name store x → ⊥) (take place xids) →
@@ -83,6 +87,7 @@ pub listed_prepared : (xids : List Xid) (place : ℕ) (old new : SessionView) �
 listed_prepared xids place old new is xid =
     sym (ap (list_any (same_xid xid)) is.list ∙ prepared_exactly (state_after new.base new.known.seen) xid)
 
+-- a store whose XA RECOVER lists none of its branches has none of them prepared
 pub none_left_there : (name : List ℕ) (store : ℕ) (xids : List Xid) (place : ℕ) (old new : SessionView)
     → ListsPrepared xids place old new
     → ((number : ℕ) → number < 2 ^ 64 → list_any (same_xid (branch_xid name number store)) xids ≡ false) →
@@ -92,14 +97,14 @@ none_left_there name store xids place old new is none =
 
 -- ---- reading the number of a name
 
--- one of three tests fails
+-- if three tests don't hold together, one of them fails
 pub one_fails : (x y z : Bool) → (x && (y && z)) ≡ false → (x ≡ false) ⊎ ((y ≡ false) ⊎ (z ≡ false))
 one_fails true true true is = absurd (cc)
 one_fails true true false is = inr (inr refl)
 one_fails true false z is = inr (inl refl)
 one_fails false y z is = inl refl
 
--- the number stands behind the name
+-- in the identifier of a transaction's branch, the 8 bytes behind the name spell the transaction's number
 pub number_behind_is : (name : List ℕ) (number store : ℕ) (xid : Xid) → IsBranchOf name number store xid
     → (length xid.gtrid.items ≡ length name + 8) × (from_be_bytes w64 (drop (length name) xid.gtrid.items) ≡ number)
 unfolding branch_xid

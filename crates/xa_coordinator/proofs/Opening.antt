@@ -10,6 +10,7 @@ use Rattle.xa_coordinator.specs.Participants.{takes_part}
 use Rattle.xa_coordinator.specs.Stores.{ChangesAt}
 use Rattle.xa_coordinator.specs.OpenBranches.{is_active, works_for, has_working_branch, IsWorking, KeepsOpen}
 
+-- what a coordinator keeps of a branch that it has open: its transaction's number and its phase
 abbrev branch_with : ℕ → Phase → OpenBranch
 branch_with number phase = record { number = number; phase = phase }
 
@@ -37,11 +38,12 @@ pub working_kept : (old new : List (Option OpenBranch)) (store number : ℕ) →
 unfolding has_working_branch
 working_kept old new store number same = ap (works_for number) same
 
+-- before the first store everything that is open is as before
 pub keeps_none : (participants : Participants) (branches : List (Option OpenBranch)) (place : ℕ)
     → KeepsOpen participants place branches branches
 keeps_none participants branches place = record { apart = λ store out. refl; behind = λ store from. refl }
 
--- as far as a later store
+-- what is as before up to a store is so up to each later one that wasn't spoken to
 pub keeps_farther : (participants : Participants) (place farther : ℕ) (old new : List (Option OpenBranch))
     → place ≤ farther
     → KeepsOpen participants place old new → KeepsOpen participants farther old new

@@ -2,6 +2,7 @@
 use Rattle.std.proofs.Common.{◌≡◌, ◌≢◌, ◌<◌, ◌≤◌, ◌+◌, ◌-◌, ℕ, zero, suc, Bool, true, false, List, Option, Some, None}
 use Rattle.std.proofs.Common.{length, refl, ap, ◌∙◌, sym, arith, cond, ne_eqb, subst, get_or}
 use Rattle.std.proofs.Common.{inl, inr}
+use Rattle.std.proofs.Math.Nat.{lt_of_not-le}
 use Rattle.std.proofs.lemmas.Bool.{cases_eq}
 use Rattle.std.proofs.lemmas.Option.{slice_get-get_or, slice_get_within}
 use Rattle.std.specs.Prelude.{◌==◌, slice_get}
@@ -9,14 +10,17 @@ use Rattle.xa_coordinator.specs.declared.decisions.Decision.{Decision}
 use Rattle.xa_coordinator.specs.declared.decisions.Decision.TheVariants.{Undecided, Closed}
 use Rattle.xa_coordinator.specs.Decisions.{decision_of, IsOvertaken}
 
--- so many numbers were looked at
+-- the first `count` numbers were looked at: `undecided` is the first undecided one, and none behind it is closed
 pub record Walked (decisions : List Decision) (count : ℕ) (undecided : Option ℕ) : Type 0 where
   pub first : (number : ℕ) → undecided ≡ Some number → (decision_of decisions number ≡ Some Undecided)
       × (number ≤ count)
+  pub least : (number earlier : ℕ) → undecided ≡ Some number → decision_of decisions earlier ≡ Some Undecided
+      → number ≤ earlier
   pub none : undecided ≡ None → (number : ℕ) → number ≤ count → decision_of decisions number ≢ Some Undecided
   pub behind : (number later : ℕ) → number < later → later ≤ count → decision_of decisions number ≡ Some Undecided
       → decision_of decisions later ≢ Some Closed
 
+-- place n has number n + 1
 at_place : (decisions : List Decision) (place : ℕ) (found : Option Decision) → slice_get decisions place ≡ found
     → decision_of decisions (place + 1) ≡ found
 unfolding decision_of
@@ -24,15 +28,19 @@ at_place decisions place found is =
     ap (λ b. cond b None (slice_get decisions (place + 1 - 1))) (ne_eqb (place + 1) 0 (λ same. absurd (omega arith)))
     ∙ ap (slice_get decisions) (omega arith) ∙ is
 
+-- equal numbers that were found are equal
 some_number : (one other : ℕ) → Some one ≡ Some other → one ≡ other
 some_number one other is = cc
 
+-- something isn't nothing
 pub some_is_none : (one : ℕ) → Some one ≢ None
 some_is_none one is = cc
 
+-- equal decisions that were found are equal
 some_same : (one other : Decision) → Some one ≡ Some other → one ≡ other
 some_same one other is = cc
 
+-- a number that has a decision is at most the length of the list
 within_list : (decisions : List Decision) (number : ℕ) (decision : Decision)
     → decision_of decisions number ≡ Some decision → number ≤ length decisions
 unfolding decision_of
@@ -43,11 +51,12 @@ within_list decisions number decision is = by (number == 0) refl is
     by true zeroth none = absurd (cc)
     by false other there = omega (arith, slice_get_within decisions (number - 1) decision there)
 
--- nothing was looked at
+-- before the walk no number was looked at
 pub walked_none : (decisions : List Decision) → Walked decisions 0 None
 unfolding decision_of
 walked_none decisions = record {
   first = λ number is. absurd (cc);
+  least = λ number earlier is given. absurd (cc);
   none = λ is number within given. absurd (no number within given);
   behind = λ number later less within. absurd (omega arith);
 }
@@ -71,9 +80,11 @@ module _ (decisions : List Decision) (place : ℕ) (undecided : Option ℕ)
   -- one number more was looked at
   step : (decision : Decision) (now : Option ℕ) → slice_get decisions place ≡ Some decision
       → ((number : ℕ) → now ≡ Some number → (decision_of decisions number ≡ Some Undecided) × (number ≤ place + 1))
+      → ((number earlier : ℕ) → now ≡ Some number → decision_of decisions earlier ≡ Some Undecided → number ≤ earlier)
       → (now ≡ None → (undecided ≡ None) × (decision ≢ Undecided))
       → (decision ≡ Closed → undecided ≡ None) → Walked decisions (place + 1) now
-  step decision now is kept lacks closed = record { first = kept; none = none_now; behind = behind_now }
+  step decision now is kept least lacks closed =
+      record { first = kept; least = least; none = none_now; behind = behind_now }
     where
       none_now : now ≡ None → (number : ℕ) → number ≤ place + 1 → decision_of decisions number ≢ Some Undecided
       none_now none number within given = elim (cases_eq number (place + 1)) [
@@ -116,7 +127,15 @@ module _ (decisions : List Decision) (place : ℕ) (undecided : Option ℕ)
               (at_place decisions place (Some Undecided) (read Undecided is)),
           omega (arith, some_number _ _ same),
         ))
+        (λ number earlier same given. subst (λ n. n ≤ earlier) (some_number _ _ same) (behind earlier given))
         (λ lacks. absurd (cc)) (λ closed. absurd (cc))
+      where
+        behind : (earlier : ℕ) → decision_of decisions earlier ≡ Some Undecided → place + 1 ≤ earlier
+        behind earlier given = omega (
+          arith,
+          lt_of_not-le {n = earlier} {m = place}
+              (λ within. walked.none none earlier within given),
+        )
 
     -- any other
     pub step_on : (decision : Decision) → get_or decisions place fallback ≡ decision
@@ -124,4 +143,5 @@ module _ (decisions : List Decision) (place : ℕ) (undecided : Option ℕ)
         → Walked decisions (place + 1) undecided
     step_on decision is one other = step decision undecided (read decision is)
         (λ number same. ((walked.first number same).0, omega (arith, (walked.first number same).1)))
+        walked.least
         (λ lacks. (lacks, λ same. one same lacks)) other

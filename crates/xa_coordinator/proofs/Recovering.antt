@@ -34,9 +34,11 @@ pub record FreesOpen (place : ℕ) (old new : List (Option OpenBranch)) : Type 0
   pub below : (store : ℕ) → store < place → slice_get new store ≡ Some None
   pub behind : (store : ℕ) → place ≤ store → slice_get new store ≡ slice_get old store
 
+-- before the first store nothing was freed
 pub frees_none : (branches : List (Option OpenBranch)) → FreesOpen 0 branches branches
 frees_none branches = record { below = λ store none. absurd (omega arith); behind = λ store from. refl }
 
+-- the loop over stores: in one more nothing is open
 pub frees_next : (place : ℕ) (old now next : List (Option OpenBranch)) → FreesOpen place old now
     → ChangesAt place now next → slice_get next place ≡ Some None
     → FreesOpen (place + 1) old next
@@ -49,23 +51,27 @@ frees_next place old now next frees changes free = record {
   behind = λ store from. changes.others store (omega arith) ∙ frees.behind store (omega arith);
 }
 
+-- in the stores up to the one that was just recovered nothing is open
 pub frees_below : (place : ℕ) (old now next : List (Option OpenBranch)) → FreesOpen place old now
     → ChangesAt place now next → (store : ℕ) → store < place
     → slice_get next store ≡ Some None
 frees_below place old now next frees changes store less = changes.others store (omega arith) ∙ frees.below store less
 
+-- in the stores behind the one that was just recovered, what is open is as before
 pub frees_behind : (place : ℕ) (old now next : List (Option OpenBranch)) → FreesOpen place old now
     → ChangesAt place now next → (store : ℕ) → place + 1 ≤ store
     → slice_get next store ≡ slice_get old store
 frees_behind place old now next frees changes store from =
     changes.others store (omega arith) ∙ frees.behind store (omega arith)
 
+-- putting an element behind a list leaves what stood in it
 found_there : {A : Type 0} (xs : List A) (y : A) (store : ℕ) (one : A) → slice_get xs store ≡ Some one
     → slice_get (xs ++ y ∷ []) store ≡ Some one
 found_there [] y store one is = absurd (cc)
 found_there (x ∷ xs) y zero one is = is
 found_there (x ∷ xs) y (suc store) one is = found_there xs y store one is
 
+-- at the place behind a list stands the element that is put there
 found_last : {A : Type 0} (xs : List A) (y : A) → slice_get (xs ++ y ∷ []) (length xs) ≡ Some y
 found_last [] y = refl
 found_last (x ∷ xs) y = found_last xs y

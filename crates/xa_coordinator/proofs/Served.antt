@@ -1,18 +1,18 @@
 -- What serving a statement makes of what the sessions of a store know.
-use Rattle.std.proofs.Common.{◌≡◌, ◌≢◌, inl, inr, ◌≤◌, ◌+◌, ℕ, zero, suc, Bool, true, false, List, [], ◌∷◌, ◌++◌}
+use Rattle.std.proofs.Common.{◌≡◌, inl, inr, ◌≤◌, ◌+◌, ℕ, zero, suc, Bool, true, false, List, [], ◌∷◌, ◌++◌}
 use Rattle.std.proofs.Common.{length, take, refl, ap, sym, ◌∙◌, subst, arith}
-use Rattle.std.proofs.Common.{append-nil, length-append}
+use Rattle.std.proofs.Common.{length-append}
 use Rattle.std.proofs.lemmas.List.{take_all, take-append-le}
-use Rattle.std.specs.Prelude.{Result, Ok, Err, IfOk, OnErr, slice_get, Some}
+use Rattle.std.specs.Prelude.{Result, Ok, Err, IfOk, OnErr}
 use Rattle.xa_words.specs.Entry.{Entry}
 use Rattle.xa_xid.specs.declared.statement.Statement.{Statement}
 use Rattle.xa_server.specs.State.{State}
 use Rattle.xa_server.specs.Replies.{reply_to}
 use Rattle.xa_server.specs.Step.{enters, after}
-use Rattle.decision_log.specs.History.{Begins, is_of, entries_of}
+use Rattle.decision_log.specs.History.{Begins, entries_of}
 use Rattle.decision_log.specs.Calls.{Looked, IsAdded}
 use Rattle.decision_log.specs.declared.known.Known.{Known}
-use Rattle.decision_log.proofs.Histories.{begins_itself, begins_append, get_last}
+use Rattle.decision_log.proofs.Histories.{begins_append, get_last}
 use Rattle.xa_session.specs.Answer.{entry_of, IsAnswered}
 use Rattle.xa_session.specs.Replay.{state_after, state_at}
 use Rattle.xa_session.specs.declared.answer.Answer.{Answer}
@@ -28,6 +28,7 @@ abbrev known_from : ℕ → List Entry → List Entry → ℕ → Known
 known_from session seen mine looks =
     record { number = session; seen = seen; mine = mine; looks = looks; tries = length mine; since = looks }
 
+-- what a session knows is made of four parts: equal parts make it equal
 known_same : (session : ℕ) (seen seen' mine mine' : List Entry) (looks looks' : ℕ) → seen ≡ seen' → mine ≡ mine'
     → looks ≡ looks'
     → known_from session seen mine looks ≡ known_from session seen' mine' looks'
@@ -35,25 +36,29 @@ known_same session seen seen' mine mine' looks looks' same_seen same_mine same_l
     ap (λ s. known_from session s mine looks) same_seen ∙ ap (λ m. known_from session seen' m looks) same_mine
     ∙ ap (λ n. known_from session seen' mine' n) same_looks
 
+-- a list begins with each front of it
 begins_take : (count : ℕ) (xs : List Entry) → Begins (take count xs) xs
 begins_take zero xs = refl
 begins_take (suc count) [] = refl
 begins_take (suc count) (x ∷ xs) = ap (λ rest. x ∷ rest) (begins_take count xs)
 
+-- a front as long as the list is the list
 whole_taken : (count : ℕ) (xs : List Entry) → count ≡ length xs → take count xs ≡ xs
 whole_taken count xs is = take_all count xs (omega (arith, is))
 
--- with no entry the state is the first, and nothing was seen
+-- with no entry the state is the base, and nothing was seen
 pub starts : (base : State) → state_after base [] ≡ base
 starts base = state_after-nil base
 
+-- a session that has seen nothing has no entry of its own among what it has seen
 pub none_seen : (session : ℕ) (watch : Watch) → watch.seen ≡ 0 → HasSeenOwn session watch []
 none_seen session watch is = record { within = omega (arith, is); own = ap (λ n. entries_of session (take n [])) is }
 
+-- all entries of an empty history have entered
 pub none_entered : (base : State) → AllEntered base []
 none_entered base = record { entered = λ place entry is. absurd (cc); two = λ place entry is. absurd (cc) }
 
--- one entry more, which entered
+-- a history of entries that all have entered, and one more that has
 entered_more : (base : State) (history : List Entry) (last : Entry)
     → enters (state_after base history) last.session last.statement ≡ true
     → (1 ≤ last.session) × (last.session ≤ 2) → AllEntered base history → AllEntered base (history ++ last ∷ [])

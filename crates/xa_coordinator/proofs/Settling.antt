@@ -15,7 +15,7 @@ use Rattle.xa_coordinator.specs.declared.closing.Found.{Found}
 use Rattle.xa_coordinator.specs.declared.closing.Found.TheVariants.{Closed, Missing}
 use Rattle.xa_coordinator.specs.declared.decisions.Decision.{Decision}
 use Rattle.xa_coordinator.specs.declared.report.Tally.{Tally}
-use Rattle.xa_coordinator.specs.Agreement.{AddsStatements, AgreesWith, Agrees}
+use Rattle.xa_coordinator.specs.Agreement.{AddsEach, AgreesWith, Agrees}
 use Rattle.xa_coordinator.specs.Branch.{branch_xid, IsBranchOf}
 use Rattle.xa_coordinator.specs.Decisions.{is_decided}
 use Rattle.xa_coordinator.specs.Outcomes.{finish_statement}
@@ -38,6 +38,7 @@ IsBroken decisions name store (Session fault) old new =
     IsUndone Disconnect (Session fault) old new ⊎ IsCutOff decisions name store old (Session fault) new
 IsBroken decisions name store (RefusedBy error) old new = IsCutOff decisions name store old (RefusedBy error) new
 
+-- if two calls, one after the other, add only what agrees with the decisions, so do both together
 pub two_agreements : (decisions : List Decision) (name : List ℕ) (store : ℕ) (old mid new : SessionView)
     → Agrees decisions name store old mid
     → Agrees decisions name store mid new → Agrees decisions name store old new
@@ -55,9 +56,9 @@ module _ (decisions : List Decision) (name : List ℕ) (store : ℕ) where
       SaysAs (finish_statement (finish_decided decided) (branch_xid name number store)) (Ok found) old new
       → SettlesOne decisions name store xid tally old (counted tally decided found) new
   settles number xid named tally true is Closed old new said =
-      committed number named is new (subst (λ x. AddsStatements (Commit x false ∷ []) old new) (sym named.is) said)
+      committed number named is new (subst (λ x. AddsEach (Commit x false ∷ []) old new) (sym named.is) said)
   settles number xid named tally false is Closed old new said =
-      rolled_back number named is new (subst (λ x. AddsStatements (Rollback x ∷ []) old new) (sym named.is) said)
+      rolled_back number named is new (subst (λ x. AddsEach (Rollback x ∷ []) old new) (sym named.is) said)
   settles number xid named tally true is Missing old new said =
       missing number named new
       (subst (λ (b : Bool). IsUndone (finish_statement (finish_decided b) xid) (RefusedBy Nota) old new) (sym is)
@@ -89,9 +90,9 @@ module _ (decisions : List Decision) (name : List ℕ) (store : ℕ) where
       → Agrees decisions name store old new
   one_settled_agrees xid before same old here (foreign out) = nothing_agrees decisions name store old
   one_settled_agrees xid before after old end (committed number named decided new adds) =
-      one_agrees decisions name store (Commit xid false) old new (number, named, decided) adds
+      one_agrees decisions name store (Commit xid false) old new (number, named, decided) adds.adds
   one_settled_agrees xid before after old end (rolled_back number named decided new adds) =
-      one_agrees decisions name store (Rollback xid) old new (number, named, decided) adds
+      one_agrees decisions name store (Rollback xid) old new (number, named, decided) adds.adds
   one_settled_agrees xid before after old end (missing number named new undone) =
       undone_agrees decisions name store (finish_statement (finish_decided (is_decided decisions number)) xid)
       (RefusedBy Nota) old new undone

@@ -1,6 +1,6 @@
 -- What an answered statement adds, and what it leaves open.
-use Rattle.std.proofs.Common.{◌≡◌, ℕ, true, false, List, [], ◌++◌, take, refl, ap, sym, ◌∙◌, subst, append-nil}
-use Rattle.std.proofs.Common.{append_assoc}
+use Rattle.std.proofs.Common.{◌≡◌, ℕ, true, false, List, [], ◌∷◌, ◌++◌, length, arith, take, refl, ap, sym, ◌∙◌, subst}
+use Rattle.std.proofs.Common.{append-nil, append_assoc}
 use Rattle.std.specs.Prelude.{not, ◌&&◌, map}
 use Rattle.std.proofs.lemmas.List.{map-append}
 use Rattle.xa_xid.specs.declared.xid.Xid.{Xid}
@@ -22,11 +22,11 @@ use Rattle.xa_session.specs.Replay.{state_after, state_at}
 use Rattle.xa_session.specs.declared.answer.Answer.{Answer}
 use Rattle.xa_session.proofs.Answering.{accepted_there, refused_unanswered, advances_through, fails_unanswered}
 use Rattle.xa_session.proofs.Answering.{unanswered_itself}
-use Rattle.xa_session.proofs.Views.{stays_itself, stays_through}
-use Rattle.xa_session.specs.View.{SessionView, StaysOfLog}
+use Rattle.xa_session.proofs.Views.{stays_itself, stays_through, takes_through}
+use Rattle.xa_session.specs.View.{SessionView, StaysOfLog, Takes}
 use Rattle.xa_session.proofs.OwnAssociations.{started, ended}
 use Rattle.xa_session.proofs.Associations.{law_seen, association_at, association_unanswered, state_entered}
-use Rattle.xa_coordinator.specs.Agreement.{AddsStatements}
+use Rattle.xa_coordinator.specs.Agreement.{AddsStatements, AddsEach}
 use Rattle.xa_coordinator.specs.Told.{IsDone, IsUndone, HasCause}
 use Rattle.xa_coordinator.specs.Parts.{IsOfBranch, statement_into}
 use Rattle.xa_coordinator.specs.OpenBranches.{association_seen, association_in}
@@ -52,6 +52,7 @@ enters_unrefused state session (Put key value) is accepted = absurd is
 enters_unrefused state session (Del key) is accepted = absurd is
 enters_unrefused state session Disconnect is accepted = absurd is
 
+-- a statement about a branch that wasn't refused entered the history at its answer's place
 pub entering_there : (base : State) (statement : Statement) (answer : Answer) (old new : Known) → IsOfBranch statement
     → IsAnswered base statement answer old new → is_refused answer.reply ≡ false →
     enters (state_at base new.seen answer.place) old.number statement ≡ true
@@ -59,12 +60,13 @@ entering_there base statement answer old new kind is accepted =
     enters_unrefused (state_at base new.seen answer.place) old.number statement kind
     (accepted_there base statement answer old new is accepted)
 
--- it was carried out
+-- a statement about a branch whose answer isn't a refusal was carried out: it is the session's next entry
 pub is_done : (statement : Statement) (answer : Answer) (old new : SessionView) → IsOfBranch statement
     → StaysOfLog old new
-    → IsAnswered old.base statement answer old.known new.known → is_refused answer.reply ≡ false
+    → IsAnswered old.base statement answer old.known new.known → Takes 1 old.left new.left
+    → is_refused answer.reply ≡ false
     → IsDone statement old new
-is_done statement answer old new kind stays is accepted = record {
+is_done statement answer old new kind stays is takes accepted = record {
   answer = answer;
   answered = is;
   accepted = accepted;
@@ -75,11 +77,12 @@ is_done statement answer old new kind stays is accepted = record {
         mine = (is.entered
             (entering_there old.base statement answer old.known new.known kind is accepted)).mine;
       };
+  takes = takes;
 }
 
 -- ---- what the session has open
 
--- after XA START or XA END
+-- after an XA START or XA END that was carried out the session has that branch open, in that phase
 pub association_done : (old new : SessionView) (phase : Phase) (xid : Xid) → LockLaw new.base
     → entries_of old.known.number old.known.seen ≡ old.known.mine
     → entries_of new.known.number new.known.seen ≡ new.known.mine →
@@ -143,6 +146,7 @@ cause_unanswered statement (RefusedBy error) old new is =
     refused_unanswered old.base statement (record { place = is.place; reply = Refused error }) old.known new.known
     is.answered refl
 
+-- a statement whose answer has a cause of failing, over a store that stays of its log, is undone
 pub is_undone : (statement : Statement) (cause : Cause) (old new : SessionView) → StaysOfLog old new
     → HasCause statement cause old new
     → IsUndone statement cause old new
@@ -158,17 +162,21 @@ is_undone statement cause old new stays why =
       why = why;
     }
 
+-- a statement that was refused is undone: it added nothing
 pub refused : (statement : Statement) (answer : Answer) (error : XaError) (old new : SessionView) → StaysOfLog old new
-    → IsAnswered old.base statement answer old.known new.known → answer.reply ≡ Refused error
+    → IsAnswered old.base statement answer old.known new.known → Takes 1 old.left new.left
+    → answer.reply ≡ Refused error
     → IsUndone statement (RefusedBy error) old new
-refused statement answer error old new stays is reply =
+refused statement answer error old new stays is takes reply =
     is_undone statement (RefusedBy error) old new stays
     (record {
       place = answer.place;
       answered = subst (λ r. IsAnswered old.base statement
           (record { place = answer.place; reply = r }) old.known new.known) reply is;
+      takes = takes;
     })
 
+-- after a statement that is undone the session has open what it had open before
 pub association_refused : (statement : Statement) (cause : Cause) (old new : SessionView) → LockLaw new.base
     → entries_of old.known.number old.known.seen ≡ old.known.mine
     → entries_of new.known.number new.known.seen ≡ new.known.mine →
@@ -180,6 +188,7 @@ association_refused statement cause old new law own_old own_new is =
 
 -- ---- one statement after another
 
+-- what two calls add is what the first adds and then what the second adds
 pub adds_then : (first second : List Statement) (old mid new : SessionView) → AddsStatements first old mid
     → AddsStatements second mid new
     → AddsStatements (first ++ second) old new
@@ -194,9 +203,25 @@ adds_then first second old mid new one two = record {
       ∙ ap (λ list. old.known.mine ++ list) (sym (map-append (entry_of old.known.number) first second));
 }
 
+-- a session that isn't used adds nothing
 pub adds_nothing : (session : SessionView) → AddsStatements [] session session
 adds_nothing session = record {
   log = stays_itself session;
   advances = (unanswered_itself session.known).advances;
   mine = sym (append-nil session.known.mine);
 }
+
+-- a statement that was carried out, and some more
+pub each_then : (statement : Statement) (more : List Statement) (old mid new : SessionView) → IsDone statement old mid
+    → AddsEach more mid new
+    → AddsEach (statement ∷ more) old new
+each_then statement more old mid new one rest = record {
+  adds = adds_then (statement ∷ []) more old mid new one.adds rest.adds;
+  takes = subst (λ count. Takes count old.left new.left) (omega arith)
+      (takes_through 1 (length more) old.left mid.left new.left one.takes rest.takes);
+}
+
+-- alone
+pub each_alone : (statement : Statement) (old new : SessionView) → IsDone statement old new
+    → AddsEach (statement ∷ []) old new
+each_alone statement old new is = record { adds = is.adds; takes = is.takes }

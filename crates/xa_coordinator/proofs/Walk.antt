@@ -15,15 +15,17 @@ pub record Reached {S : Type 0} (view : S → SessionView) (fact : ℕ → Sessi
   pub below : (store : ℕ) → store < place → AtStore view store (fact store) old now
   pub behind : (store : ℕ) → place ≤ store → slice_get now store ≡ slice_get old store
 
--- two changes of one store
+-- two calls that change only one store change only that store together
 pub changes_then : {S : Type 0} (store : ℕ) (old mid new : List S) → ChangesAt store old mid → ChangesAt store mid new
     → ChangesAt store old new
 changes_then store old mid new one two =
     record { count = two.count ∙ one.count; others = λ other apart. two.others other apart ∙ one.others other apart }
 
+-- stores to which nothing is said are as before, but for one of them in which anything may have changed
 pub unchanged : {S : Type 0} (store : ℕ) (old : List S) → ChangesAt store old old
 unchanged store old = record { count = refl; others = λ other apart. refl }
 
+-- what is found at a place is one thing
 pub same_one : {S : Type 0} (found : _) (a b : S) → found ≡ Some a → found ≡ Some b → a ≡ b
 same_one found a b is_a is_b = cc
 

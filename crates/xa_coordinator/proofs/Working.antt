@@ -13,7 +13,7 @@ use Rattle.xa_server.specs.Step.{enters, may_enter, is_refused, after}
 use Rattle.decision_log.specs.History.{entries_of}
 use Rattle.std.specs.Prelude.{Result, Ok, Err, IfOk, IfErr}
 use Rattle.xa_session.specs.declared.fault.Fault.{Fault}
-use Rattle.xa_session.specs.View.{SessionView, StaysOfLog}
+use Rattle.xa_session.specs.View.{SessionView, StaysOfLog, TakesBy}
 use Rattle.xa_session.proofs.OwnAssociations.{read, written, deleted}
 use Rattle.xa_session.proofs.Associations.{law_seen, association_at, state_entered, state_outside}
 use Rattle.xa_coordinator.specs.declared.fault.Cause.TheVariants.{Session}
@@ -24,6 +24,7 @@ use Rattle.xa_session.specs.declared.answer.Answer.{Answer}
 use Rattle.xa_coordinator.specs.OpenBranches.{association_seen}
 use Rattle.xa_coordinator.specs.Work.{IsRow}
 
+-- if a test that needs another one to fail holds, that one fails
 unrefused : (refused may : Bool) → (not refused && may) ≡ true → refused ≡ false
 unrefused true may is = absurd (cc)
 unrefused false may is = refl
@@ -92,7 +93,7 @@ module _ (statement : Statement) (answer : Answer) (xid : Xid) (old new : Sessio
           ap (λ state. association_of state old.known.number)
           (state_outside old.base statement answer old.known new.known is outside) ∙ there
 
--- and whatever the session answered
+-- after a row statement, answered or not, the branch is still open and ACTIVE
 pub active_still : (statement : Statement) (result : Result Answer Fault) (xid : Xid) (old new : SessionView)
     → LockLaw new.base → StaysOfLog old new
     → entries_of old.known.number old.known.seen ≡ old.known.mine
@@ -100,10 +101,10 @@ pub active_still : (statement : Statement) (result : Result Answer Fault) (xid :
     association_seen old ≡ Active xid → IsRow statement → IfOk result
     (λ answer. IsAnswered old.base statement answer old.known new.known) →
     IfErr result (λ fault. Fails old.turns old.identity.capacity old.base statement fault old.known new.known)
-    → IfErr result IsFinal
+    → IfErr result IsFinal → TakesBy result old new
     → association_seen new ≡ association_seen old
-active_still statement (Ok answer) xid old new law stays own_old own_new association row answered fails final =
+active_still statement (Ok answer) xid old new law stays own_old own_new association row answered fails final takes =
     active_after statement answer xid old new law stays own_old own_new association row answered ∙ sym association
-active_still statement (Err fault) xid old new law stays own_old own_new association row answered fails final =
+active_still statement (Err fault) xid old new law stays own_old own_new association row answered fails final takes =
     association_refused statement (Session fault) old new law own_old own_new
-    (is_undone statement (Session fault) old new stays (fails, final))
+    (is_undone statement (Session fault) old new stays (fails, final, takes))

@@ -38,11 +38,13 @@ use Rattle.xa_coordinator.proofs.Walk.{at_then, at_weaker, at_same, only_at}
 
 -- ---- at most two statements
 
+-- starting the branch, or finding it open, adds XA START or nothing
 may_start_adds : (xid : Xid) (old mid : SessionView) → MayStart xid old mid → AddsAtMost (Start xid) old mid
 may_start_adds xid old there (was_open association) = record { statements = []; is = inl refl; adds = adds_nothing old }
 may_start_adds xid old there (was_started mid done) =
     record { statements = Start xid ∷ []; is = inr refl; adds = done.adds }
 
+-- an answered row statement adds itself or nothing
 replied_adds : (row : Statement) (reply : Reply) (xid : Xid) (old new : SessionView) → IsReplied row reply xid old new
     → AddsAtMost row old new
 replied_adds row reply xid old new is =
@@ -69,6 +71,7 @@ replied_adds row reply xid old new is =
           };
         }
 
+-- starting a branch and then giving a row statement add at most XA START and the statement
 both : (xid : Xid) (row : Statement) (old mid new : SessionView) → AddsAtMost (Start xid) old mid
     → AddsAtMost row mid new → AddsWork xid row old new
 both xid row old mid new one two =
@@ -80,19 +83,23 @@ both xid row old mid new one two =
       adds = adds_then one.statements two.statements old mid new one.adds two.adds;
     }
 
+-- a session that adds nothing adds at most any statement
 none : (statement : Statement) (old new : SessionView) → AddsStatements [] old new → AddsAtMost statement old new
 none statement old new adds = record { statements = []; is = inl refl; adds = adds }
 
+-- work that was answered added at most XA START and the row statement
 worked_adds : (row : Statement) (reply : Reply) (xid : Xid) (old new : SessionView) → IsWorked row reply xid old new
     → AddsWork xid row old new
 worked_adds row reply xid old new is = both xid row old is.mid new (may_start_adds xid old is.mid is.opened)
     (replied_adds row reply xid is.mid new is.replied)
 
+-- work whose row statement wasn't answered added at most its XA START
 cut_adds : (row : Statement) (cause : Cause) (xid : Xid) (old new : SessionView) → IsCut row cause xid old new
     → AddsWork xid row old new
 cut_adds row cause xid old new is =
     both xid row old is.mid new (may_start_adds xid old is.mid is.opened) (none row is.mid new is.undone.adds)
 
+-- work whose branch couldn't be started added no statement
 unstarted_adds : (row : Statement) (cause : Cause) (xid : Xid) (old new : SessionView)
     → IsUndone (Start xid) cause old new → AddsWork xid row old new
 unstarted_adds row cause xid old new is =
@@ -100,6 +107,7 @@ unstarted_adds row cause xid old new is =
 
 -- ---- agreement
 
+-- a row statement decides nothing, so it agrees with any decisions
 row_agrees : (decisions : List Decision) (name : List ℕ) (store : ℕ) (row : Statement) → IsRow row
     → AgreesWith decisions name store row
 row_agrees decisions name store (Start xid) is = tt
@@ -114,11 +122,13 @@ row_agrees decisions name store (Put key value) is = tt
 row_agrees decisions name store (Del key) is = tt
 row_agrees decisions name store Disconnect is = tt
 
+-- what holds of a statement holds of it or of nothing
 maybe_all : (P : Statement → Type 0) (statement : Statement) (list : List Statement) → MayBe statement list
     → P statement → All P list
 maybe_all P statement list (inl is) holds = subst (All P) (sym is) (All-nil P)
 maybe_all P statement list (inr is) holds = subst (All P) (sym is) (All-cons P statement [] holds (All-nil P))
 
+-- all that work adds agrees with the decisions, whatever they are: it finishes no branch
 pub work_agrees : (decisions : List Decision) (name : List ℕ) (store : ℕ) (xid : Xid) (row : Statement) → IsRow row
     → (old new : SessionView)
     → AddsWork xid row old new → Agrees decisions name store old new

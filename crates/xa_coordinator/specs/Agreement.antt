@@ -1,12 +1,13 @@
 -- What a call may add to the histories of stores.
 --     AddsStatements   the statements that a session added
+--     AddsEach         those that it was given, each of which it added
 --     AgreesWith       a statement doesn't go against the decisions
 --     Agrees           a call added only statements that agree with the decisions
-use Rattle.std.specs.Prelude.{◌≡◌, ◌++◌, ℕ, true, false, List, map, All}
+use Rattle.std.specs.Prelude.{◌≡◌, ◌++◌, ℕ, true, false, List, length, map, All}
 use Rattle.xa_xid.specs.declared.statement.Statement.{Statement}
 use Rattle.xa_xid.specs.declared.statement.Statement.TheVariants.{Commit, Rollback}
 use Rattle.xa_session.specs.Answer.{Advances, entry_of}
-use Rattle.xa_session.specs.View.{SessionView, StaysOfLog}
+use Rattle.xa_session.specs.View.{SessionView, StaysOfLog, Takes}
 use Rattle.xa_coordinator.specs.Branch.{IsBranchOf}
 use Rattle.xa_coordinator.specs.Decisions.{is_decided}
 use Rattle.xa_coordinator.specs.declared.decisions.Decision.{Decision}
@@ -16,6 +17,11 @@ pub record AddsStatements (statements : List Statement) (old new : SessionView) 
   pub log : StaysOfLog old new
   pub advances : Advances old.known new.known
   pub mine : new.known.mine ≡ old.known.mine ++ map (entry_of old.known.number) statements
+
+-- the session was given these statements, in this order, and no other, and added each
+pub record AddsEach (statements : List Statement) (old new : SessionView) : Type 0 where
+  pub adds : AddsStatements statements old new
+  pub takes : Takes (length statements) old.left new.left
 
 -- XA COMMIT is of a decided number's branch, with ONE PHASE of any number's; XA ROLLBACK is of a branch whose
 -- number isn't decided (presumed abort); every other statement agrees

@@ -1,19 +1,28 @@
 -- Two sessions of a store in one value.
 --     IsLeftAlone      the session got no statement
+--     HoldsAsBefore    the sessions that a value holds beside its own got none
 --     IsAnsweredSo     the session answered a statement, or failed, with this result
-use Rattle.std.specs.Prelude.{◌≡◌, Result, Ok, Err}
+use Rattle.std.specs.Prelude.{◌≡◌, true, Result, Ok, Err}
 use Rattle.xa_xid.specs.declared.statement.Statement.{Statement}
 use Rattle.xa_session.specs.Answer.{IsAnswered, Fails}
 use Rattle.xa_session.specs.View.{SessionView, StaysOfLog}
 use Rattle.xa_session.specs.declared.answer.Answer.{Answer}
 use Rattle.xa_session.specs.declared.fault.Fault.{Fault}
 
--- it knows what it knew, in the log that it was of
+-- a session that was left alone: it knows what it knew, in the log that it was of
+-- it knows what it knew, in the log that it was of, and takes as many more statements; what was refused stays noted
 pub record IsLeftAlone (old new : SessionView) : Type 0 where
   pub identity : new.identity ≡ old.identity
   pub turns : new.turns ≡ old.turns
   pub base : new.base ≡ old.base
   pub known : new.known ≡ old.known
+  pub left : new.left ≡ old.left
+  pub starved : old.starved ≡ true → new.starved ≡ true
+
+-- the history begins in the same state, and the sessions that are held know what they knew
+pub record HoldsAsBefore (old new : SessionView) : Type 0 where
+  pub base : new.base ≡ old.base
+  pub beside : new.beside ≡ old.beside
 
 -- the session answered the statement, or failed, with this result
 abbrev pub AnswersSo : Statement → Result Answer Fault → SessionView → SessionView → Type 0
@@ -21,7 +30,7 @@ AnswersSo statement (Ok answer) old new = IsAnswered old.base statement answer o
 AnswersSo statement (Err fault) old new =
     Fails old.turns old.identity.capacity old.base statement fault old.known new.known
 
--- it was given the statement, in the log that it was of, and this is the result
+-- the session was given the statement, in the log that it was of, and this is the result
 pub record IsAnsweredSo (statement : Statement) (answered : Result Answer Fault) (old new : SessionView) : Type 0 where
   pub log : StaysOfLog old new
   pub answers : AnswersSo statement answered old new

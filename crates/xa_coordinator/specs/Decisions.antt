@@ -7,6 +7,7 @@
 --     closed_of        the state of a number after a recovery has closed the undecided ones
 --     IsOvertaken      a number is undecided, and a later one closed
 --     CanStand         a list can be decisions
+--     IsFirstOvertaken the first such number of a list that isn't too long
 --     IsNoList         why a list can't be taken as decisions
 use Rattle.std.specs.Prelude.{ℕ, ◌≡◌, ◌<◌, ◌≤◌, Bool, true, false, Option, Some, None, if◌then◌else◌, ◌==◌, ◌-◌, List}
 use Rattle.std.specs.Prelude.{length, slice_get, slice_set}
@@ -31,13 +32,15 @@ is_not_closed None = false
 is_not_closed (Some Closed) = false
 is_not_closed decision = true
 
+-- the number was given, and its commit is recorded
 abbrev pub is_decided : List Decision → ℕ → Bool
 is_decided decisions number = decides (decision_of decisions number)
 
+-- the number was given, and no recovery has closed it
 abbrev pub may_be_decided : List Decision → ℕ → Bool
 may_be_decided decisions number = is_not_closed (decision_of decisions number)
 
--- this number is decided, the others have the states that they had
+-- the decisions with this number decided; the others have the states that they had
 unfoldable pub with_decided : List Decision → ℕ → List Decision
 with_decided decisions number = slice_set decisions (number - 1) Decided
 
@@ -53,13 +56,19 @@ pub record IsOvertaken (decisions : List Decision) (number : ℕ) : Type 0 where
   pub behind : number < later
   pub closed : decision_of decisions later ≡ Some Closed
 
--- so many numbers can be given, and what closes a number closes every undecided one
+-- decisions as they can stand: no more numbers than can be given, and none of them is overtaken
 pub record CanStand (decisions : List Decision) : Type 0 where
   pub most : length decisions ≤ most_numbers
   pub none : (number : ℕ) → IsOvertaken decisions number → ⊥
 
+-- the list isn't too long, and of the numbers in it that are overtaken this is the first
+pub record IsFirstOvertaken (decisions : List Decision) (number : ℕ) : Type 0 where
+  pub most : length decisions ≤ most_numbers
+  pub overtaken : IsOvertaken decisions number
+  pub first : (other : ℕ) → IsOvertaken decisions other → number ≤ other
+
 -- the fault's cause holds; only for a list that can be decisions memory is wanted
 abbrev pub IsNoList : List Decision → DecisionsFault → Type 0
 IsNoList decisions TooMany = most_numbers < length decisions
-IsNoList decisions (Overtaken number) = IsOvertaken decisions number
+IsNoList decisions (Overtaken number) = IsFirstOvertaken decisions number
 IsNoList decisions NoMemory = CanStand decisions

@@ -22,38 +22,38 @@ use Rattle.xa_coordinator.specs.declared.vote.Vote.TheVariants.{Ready, OnePhase,
 use Rattle.xa_coordinator.specs.declared.ending.Ending.{Ending}
 use Rattle.xa_coordinator.specs.declared.ending.Ending.TheVariants.{Committed, RolledBack, Hazard, Unfinished}
 
--- in the order of docs/COORDINATOR.md#faults
+-- the number of a fault of decisions, in the order of docs/COORDINATOR.md#faults
 abbrev pub number_of_decisions_fault : DecisionsFault → ℕ
 number_of_decisions_fault TooMany = 1
 number_of_decisions_fault (Overtaken number) = 2
 number_of_decisions_fault DecisionsNoMemory = 3
 
--- in the order of docs/COORDINATOR.md#faults
+-- the number of a fault of beginning, in the order of docs/COORDINATOR.md#faults
 abbrev pub number_of_begin_fault : BeginFault → ℕ
 number_of_begin_fault NumbersSpent = 1
 number_of_begin_fault NoMemory = 2
 
--- in the order of docs/COORDINATOR.md#faults
+-- the number of a fault of work, in the order of docs/COORDINATOR.md#faults
 abbrev pub number_of_work_fault : WorkFault → ℕ
 number_of_work_fault (Session fault) = 1
 number_of_work_fault (Refused error) = 2
 number_of_work_fault Lost = 3
 
--- in the order of docs/COORDINATOR.md#faults
+-- the number of a fault of recovery, in the order of docs/COORDINATOR.md#faults
 abbrev pub number_of_recover_fault : RecoverFault → ℕ
 number_of_recover_fault (RecoverSession store fault) = 1
 number_of_recover_fault (StillPrepared store) = 2
 number_of_recover_fault RecoverNoMemory = 3
 number_of_recover_fault (RecoverRefused store error) = 4
 
--- in the order of docs/COORDINATOR.md#votes
+-- the number of a vote, in the order of docs/COORDINATOR.md#votes
 abbrev pub number_of_vote : Vote → ℕ
 number_of_vote (Ready prepared) = 1
 number_of_vote (OnePhase prepared) = 2
 number_of_vote (No prepared store cause) = 3
 number_of_vote Nothing = 4
 
--- in the order of docs/COORDINATOR.md#finishing
+-- the number of an ending, in the order of docs/COORDINATOR.md#finishing
 abbrev pub number_of_ending : Ending → ℕ
 number_of_ending Committed = 1
 number_of_ending RolledBack = 2

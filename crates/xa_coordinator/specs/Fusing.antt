@@ -1,6 +1,9 @@
 -- How a session answers that fails from a certain call on.
 --     AnswersAsWithin     as the session within, as long as it passes calls on, and then out of memory
-use Rattle.std.specs.Prelude.{◌≡◌, ◌≢◌, ◌+◌, Result, Err}
+--     may_starve          whether the session within may return out of memory
+--     limited             the session within, with the limit
+use Rattle.std.specs.Prelude.{◌≡◌, ◌≢◌, ◌+◌, ◌||◌, ℕ, zero, suc, Bool, true, false, Option, Some, None, Result, Err}
+use Rattle.xa_session.specs.View.{SessionView}
 use Rattle.xa_xid.specs.declared.statement.Statement.{Statement}
 use Rattle.xa_session.specs.declared.answer.Answer.{Answer}
 use Rattle.xa_session.specs.declared.fault.Fault.{Fault}
@@ -14,3 +17,17 @@ pub record AnswersAsWithin {S : Type 0} (gives : S → Statement → Result Answ
     (result : Result Answer Fault) (new : Fused S) : Type 0 where
   pub passed : old.left ≢ 0 → (new.left + 1 ≡ old.left) × gives old.inner statement result new.inner
   pub spent : old.left ≡ 0 → (result ≡ Err NoMemory) × (new.left ≡ 0) × (new.inner ≡ old.inner)
+
+-- no more statements are taken
+abbrev pub is_spent : Option ℕ → Bool
+is_spent None = false
+is_spent (Some zero) = true
+is_spent (Some (suc left)) = false
+
+-- memory may have been refused for a statement, or no more are taken
+abbrev pub may_starve : SessionView → Bool
+may_starve session = is_spent session.left || session.starved
+
+-- the session within takes as many more statements as are passed on
+abbrev pub limited : {S : Type 0} → (S → SessionView) → Fused S → SessionView
+limited view fused = record (view fused.inner) { left = Some fused.left; starved = may_starve (view fused.inner) }

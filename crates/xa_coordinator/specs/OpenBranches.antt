@@ -44,7 +44,7 @@ pub record HasOpen (branches : List (Option OpenBranch)) (store number : ℕ) : 
   pub there : slice_get branches store ≡ Some (Some branch)
   pub is : branch.number ≡ number
 
--- the phase is ACTIVE
+-- whether the phase is ACTIVE
 abbrev pub is_active : Phase → Bool
 is_active Active = true
 is_active Idle = false

@@ -23,7 +23,7 @@ use Rattle.xa_xid.specs.declared.statement.Statement.TheVariants.{End, Prepare, 
 use Rattle.xa_session.specs.View.{SessionView}
 use Rattle.xa_coordinator.specs.declared.closing.Closing.{Closing}
 use Rattle.xa_coordinator.specs.declared.closing.Closing.TheVariants.{InTwoPhases, InOnePhase, RollBack}
-use Rattle.xa_coordinator.specs.Agreement.{AddsStatements}
+use Rattle.xa_coordinator.specs.Agreement.{AddsEach}
 use Rattle.xa_coordinator.specs.declared.transaction.VoteKind.{VoteKind}
 use Rattle.xa_coordinator.specs.Branch.{branch_xid}
 use Rattle.xa_coordinator.specs.Stores.{EachStore, EndsAt}
@@ -55,8 +55,8 @@ ends_first closing working = false
 
 -- the branch was finished: the statement was added, after XA END if that comes before it
 abbrev pub IsClosed : (ends : Bool) → Statement → Xid → SessionView → SessionView → Type 0
-IsClosed false statement xid old new = AddsStatements (statement ∷ []) old new
-IsClosed true statement xid old new = AddsStatements (End xid ∷ statement ∷ []) old new
+IsClosed false statement xid old new = AddsEach (statement ∷ []) old new
+IsClosed true statement xid old new = AddsEach (End xid ∷ statement ∷ []) old new
 
 -- the store is in the list
 unfoldable pub lists_store : List ℕ → ℕ → Bool
@@ -71,19 +71,19 @@ Settles ends statement xid true true old new = IsMissing ends statement xid old 
 -- a participant's branch was ended and prepared; another store's session is as it was
 abbrev pub IsVoted : Xid → (takes_part : Bool) → SessionView → SessionView → Type 0
 IsVoted xid false old new = new ≡ old
-IsVoted xid true old new = AddsStatements (End xid ∷ Prepare xid ∷ []) old new
+IsVoted xid true old new = AddsEach (End xid ∷ Prepare xid ∷ []) old new
 
 -- a participant's branch was ended; another store's session is as it was
 abbrev pub IsEnded : Xid → (takes_part : Bool) → SessionView → SessionView → Type 0
 IsEnded xid false old new = new ≡ old
-IsEnded xid true old new = AddsStatements (End xid ∷ []) old new
+IsEnded xid true old new = AddsEach (End xid ∷ []) old new
 
--- each is less than all after it
+-- the numbers of stores ascend: each is less than all after it
 abbrev pub Ascends : List ℕ → Type 0
 Ascends [] = Unit {0}
 Ascends (store ∷ stores) = All (λ later. store < later) stores × Ascends stores
 
--- some of the participants, ascending
+-- the stores of a Hazard: some of the participants, ascending
 pub record IsHazard (participants : Participants) (stores : List ℕ) : Type 0 where
   pub some : 0 < length stores
   pub ascending : Ascends stores
@@ -140,7 +140,7 @@ asked_by_vote (No prepared store cause) = store + 1
 asked_by_vote Nothing = 0
 asked_by_vote vote = 16
 
--- what the stores voted
+-- what a vote says of the transaction, and what PREPARE did in each store
 abbrev pub VotesAs : {S : Type 0} → (S → SessionView) → Transaction → Vote → List S → List S → Type 0
 VotesAs view transaction (Ready prepared) old new =
     (prepared ≡ record { transaction = transaction; vote_kind = VoteKindReady })
@@ -169,7 +169,7 @@ KeepsMark transaction (OnePhase prepared) old new =
 KeepsMark transaction (No prepared store cause) old new = IsAsBeforeOrEnded store transaction.number old new
 KeepsMark transaction vote old new = Unit {0}
 
--- the same of the store that an Unfinished names
+-- in the store that an Unfinished names, what is open is as before, or the branch has ended its work
 abbrev pub KeepsUnfinished : (number : ℕ) → Ending → List (Option OpenBranch) → List (Option OpenBranch) → Type 0
 KeepsUnfinished number (Unfinished store cause) old new = IsAsBeforeOrEnded store number old new
 KeepsUnfinished number ending old new = Unit {0}

@@ -4,11 +4,11 @@
 use Rattle.std.specs.Prelude.{◌≡◌, ◌<◌, ℕ, Bool, true, false, unwrap_or, slice_get}
 use Rattle.xa_coordinator.specs.declared.participants.Participants.{Participants}
 
--- the store takes part
+-- whether the store takes part in the transaction
 unfoldable pub takes_part : Participants → ℕ → Bool
 takes_part participants store = unwrap_or (slice_get participants.members store) false
 
--- two stores take part
+-- at least two stores take part
 pub record TwoTakePart (participants : Participants) : Type 0 where
   pub first : ℕ
   pub second : ℕ

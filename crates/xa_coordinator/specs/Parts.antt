@@ -17,7 +17,7 @@
 --     added_at         how many entries the session of a store has added
 use Rattle.std.specs.Prelude.{◌≡◌, ◌≢◌, ◌+◌, ◌⊎◌, ℕ, Bool, true, false, List, [], ◌∷◌, ◌++◌, length, slice_get, Option}
 use Rattle.std.specs.Prelude.{Some, None, Result, Ok, Err}
-use Rattle.xa_coordinator.specs.Agreement.{AddsStatements}
+use Rattle.xa_coordinator.specs.Agreement.{AddsEach}
 use Rattle.xa_coordinator.specs.Branch.{branch_xid}
 use Rattle.xa_coordinator.specs.Outcomes.{IsClosed, IsVoted, branch_of}
 use Rattle.xa_coordinator.specs.Participants.{OnlyTakesPart, TwoTakePart, takes_part}
@@ -48,7 +48,7 @@ use Rattle.xa_xid.specs.declared.statement.Statement.{Statement}
 use Rattle.xa_xid.specs.declared.statement.Statement.TheVariants.{Commit, End, Prepare, Rollback, Start}
 use Rattle.xa_xid.specs.declared.xid.Xid.{Xid}
 
--- XA START, XA END, XA PREPARE, XA COMMIT and XA ROLLBACK
+-- the statement is about a branch: XA START, XA END, XA PREPARE, XA COMMIT or XA ROLLBACK
 abbrev pub IsOfBranch : Statement → Type 0
 IsOfBranch (Start xid) = Unit {0}
 IsOfBranch (End xid) = Unit {0}
@@ -73,13 +73,13 @@ LeavesOpen name store statement None = Unit {0}
 LeavesOpen name store statement (Some branch) =
     statement ≡ statement_into branch.phase (branch_xid name branch.number store)
 
--- one statement that was to finish a branch
+-- what a statement that was to finish a branch did, by its result
 abbrev pub SaysAs : Statement → Result Found Cause → SessionView → SessionView → Type 0
-SaysAs statement (Ok Closed) old new = AddsStatements (statement ∷ []) old new
+SaysAs statement (Ok Closed) old new = AddsEach (statement ∷ []) old new
 SaysAs statement (Ok Missing) old new = IsUndone statement (CauseRefused Nota) old new
 SaysAs statement (Err cause) old new = (cause ≢ CauseRefused Nota) × IsUndone statement cause old new
 
--- a branch that was to be finished
+-- what finishing a branch did, by its result: it was closed, it was missing, or it stays, for this cause
 abbrev pub ClosesAs : (ends : Bool) → Statement → Xid → Result Found Cause → SessionView → SessionView → Type 0
 ClosesAs ends statement xid (Ok Closed) old new = IsClosed ends statement xid old new
 ClosesAs ends statement xid (Ok Missing) old new = IsMissing ends statement xid old new
@@ -87,7 +87,7 @@ ClosesAs ends statement xid (Err cause) old new = IsUnfinished ends statement xi
 
 -- a branch that was to be ended and prepared
 abbrev pub PreparesAs : Xid → Result (Unit {0}) Cause → SessionView → SessionView → Type 0
-PreparesAs xid (Ok _) old new = AddsStatements (End xid ∷ Prepare xid ∷ []) old new
+PreparesAs xid (Ok _) old new = AddsEach (End xid ∷ Prepare xid ∷ []) old new
 PreparesAs xid (Err cause) old new = IsStopped true (Prepare xid) xid cause old new
 
 -- the branch of a store was finished, or wasn't known there and the store was listed
@@ -127,7 +127,7 @@ WorksWithin view xid store row (Err (Session fault)) before after =
 WorksWithin view xid store row (Err (Refused error)) before after = ⊥
 WorksWithin view xid store row (Err Lost) before after = ⊥
 
--- all that was counted
+-- how many branches a recovery counted, of all kinds
 abbrev pub total : Tally → ℕ
 total tally = tally.committed + tally.rolled_back + tally.missing
 

@@ -23,7 +23,7 @@ use Rattle.xa_server.specs.State.{is_prepared, prepared_xids}
 use Rattle.xa_server.specs.declared.association.Association.TheVariants.{Free}
 use Rattle.xa_server.specs.declared.xa_error.XaError.TheVariants.{Nota}
 use Rattle.xa_session.specs.Replay.{state_after}
-use Rattle.xa_session.specs.View.{SessionView}
+use Rattle.xa_session.specs.View.{SessionView, Takes}
 use Rattle.xa_session.specs.declared.fault.Fault.{Fault}
 use Rattle.xa_coordinator.specs.declared.fault.Cause.{Cause}
 use Rattle.xa_coordinator.specs.declared.fault.Cause.TheVariants.{Session as CauseSession, Refused as CauseRefused}
@@ -34,7 +34,7 @@ use Rattle.xa_coordinator.specs.declared.report.Tally.{Tally}
 use Rattle.xa_coordinator.specs.declared.report.Report.{Report}
 use Rattle.xa_coordinator.specs.declared.fault.RecoverFault.{RecoverFault}
 use Rattle.xa_coordinator.specs.declared.fault.RecoverFault.TheVariants.{Session, StillPrepared, NoMemory, Refused}
-use Rattle.xa_coordinator.specs.Agreement.{AddsStatements}
+use Rattle.xa_coordinator.specs.Agreement.{AddsStatements, AddsEach}
 use Rattle.xa_coordinator.specs.Branch.{branch_xid, IsBranchOf}
 use Rattle.xa_coordinator.specs.Decisions.{is_decided}
 use Rattle.xa_coordinator.specs.OpenBranches.{association_seen}
@@ -50,6 +50,7 @@ pub record IsDisconnected (old new : SessionView) : Type 0 where
   pub is : MayBe Disconnect statements
   pub adds : AddsStatements statements old new
   pub free : association_seen new ≡ Free
+  pub takes : Takes 1 old.left new.left
 
 -- the list is that of the prepared branches at this place, the end of all that the session sees then, and it has looked
 pub record ListsPrepared (xids : List Xid) (place : ℕ) (old new : SessionView) : Type 0 where
@@ -57,6 +58,7 @@ pub record ListsPrepared (xids : List Xid) (place : ℕ) (old new : SessionView)
   pub looked : old.known.looks < new.known.looks
   pub front : place ≡ length new.known.seen
   pub list : xids ≡ prepared_xids (state_after new.base new.known.seen)
+  pub takes : Takes 1 old.left new.left
 
 -- the branch is of a coordinator of this name, in this store
 abbrev pub IsNamed : List ℕ → ℕ → Xid → Type 0
@@ -73,11 +75,11 @@ pub data SettlesOne (decisions : List Decision) (name : List ℕ) (store : ℕ) 
     (old : SessionView) : Tally → SessionView → Type 0 where
   foreign : (IsNamed name store xid → ⊥) → SettlesOne decisions name store xid tally old tally old
   committed : (number : ℕ) → IsBranchOf name number store xid → is_decided decisions number ≡ true → (new : SessionView)
-      → AddsStatements (Commit xid false ∷ []) old new →
+      → AddsEach (Commit xid false ∷ []) old new →
       SettlesOne decisions name store xid tally old (record tally { committed = tally.committed + 1 }) new
   rolled_back : (number : ℕ) → IsBranchOf name number store xid → is_decided decisions number ≡ false
       → (new : SessionView)
-      → AddsStatements (Rollback xid ∷ []) old new →
+      → AddsEach (Rollback xid ∷ []) old new →
       SettlesOne decisions name store xid tally old (record tally { rolled_back = tally.rolled_back + 1 }) new
   missing : (number : ℕ) → IsBranchOf name number store xid → (new : SessionView)
       → IsUndone (finish_statement (finish_decided (is_decided decisions number)) xid) (CauseRefused Nota) old new →

@@ -15,7 +15,7 @@ use Rattle.xa_server.specs.declared.xa_error.XaError.TheVariants.{Nota}
 use Rattle.xa_server.specs.Step.{is_refused}
 use Rattle.xa_session.specs.Answer.{IsAnswered, Fails, IsFinal}
 use Rattle.xa_session.specs.declared.answer.Answer.{Answer}
-use Rattle.xa_session.specs.View.{SessionView}
+use Rattle.xa_session.specs.View.{SessionView, Takes, TakesUnanswered}
 use Rattle.xa_coordinator.specs.declared.fault.Cause.{Cause}
 use Rattle.xa_coordinator.specs.declared.fault.Cause.TheVariants.{Session, Refused as RefusedBy}
 use Rattle.xa_coordinator.specs.Agreement.{AddsStatements}
@@ -26,16 +26,19 @@ pub record IsDone (statement : Statement) (old new : SessionView) : Type 0 where
   pub answered : IsAnswered old.base statement answer old.known new.known
   pub accepted : is_refused answer.reply ≡ false
   pub adds : AddsStatements (statement ∷ []) old new
+  pub takes : Takes 1 old.left new.left
 
 -- the statement was answered, at a place not before what had been seen, with this refusal
 pub record IsRefused (statement : Statement) (error : XaError) (old new : SessionView) : Type 0 where
   pub place : ℕ
   pub answered : IsAnswered old.base statement (record { place = place; reply = Refused error }) old.known new.known
+  pub takes : Takes 1 old.left new.left
 
--- the session's fault, or the refusal that the statement was answered
+-- the session's fault, which has its cause by what the session takes, or the refusal that the statement was answered
 abbrev pub HasCause : Statement → Cause → SessionView → SessionView → Type 0
 HasCause statement (Session fault) old new =
     Fails old.turns old.identity.capacity old.base statement fault old.known new.known × IsFinal fault
+    × TakesUnanswered fault old new
 HasCause statement (RefusedBy error) old new = IsRefused statement error old new
 
 -- the statement wasn't carried out, for this cause, and nothing was added

@@ -18,7 +18,7 @@ use Rattle.xa_server.specs.declared.association.Association.TheVariants.{Active}
 use Rattle.xa_server.specs.declared.reply.Reply.{Reply}
 use Rattle.xa_session.specs.Answer.{IsAnswered}
 use Rattle.xa_session.specs.Replay.{state_at}
-use Rattle.xa_session.specs.View.{SessionView, StaysOfLog}
+use Rattle.xa_session.specs.View.{SessionView, StaysOfLog, Takes}
 use Rattle.xa_coordinator.specs.declared.fault.Cause.{Cause}
 use Rattle.xa_coordinator.specs.declared.fault.Cause.TheVariants.{Session as CauseSession, Refused as CauseRefused}
 use Rattle.xa_coordinator.specs.declared.fault.WorkFault.{WorkFault}
@@ -32,18 +32,18 @@ use Rattle.xa_coordinator.specs.Participants.{takes_part}
 use Rattle.xa_coordinator.specs.Stores.{AtStore}
 use Rattle.xa_coordinator.specs.Told.{IsDone, IsUndone}
 
--- GET, PUT and DEL
+-- the statement is GET, PUT or DEL
 abbrev pub IsRow : Statement → Type 0
 IsRow (Get key) = Unit {0}
 IsRow (Put key value) = Unit {0}
 IsRow (Del key) = Unit {0}
 IsRow statement = ⊥
 
--- this statement, or none
+-- the list has this statement alone, or is empty
 abbrev pub MayBe : Statement → List Statement → Type 0
 MayBe statement statements = (statements ≡ []) ⊎ (statements ≡ statement ∷ [])
 
--- this statement was added, or nothing
+-- the session added this statement, or nothing
 pub record AddsAtMost (statement : Statement) (old new : SessionView) : Type 0 where
   pub statements : List Statement
   pub is : MayBe statement statements
@@ -69,6 +69,7 @@ pub record IsReplied (row : Statement) (reply : Reply) (xid : Xid) (old new : Se
   pub place : ℕ
   pub answered : IsAnswered old.base row (record { place = place; reply = reply }) old.known new.known
   pub active : association_of (state_at old.base new.known.seen place) old.known.number ≡ Active xid
+  pub takes : Takes 1 old.left new.left
 
 -- the row statement was answered within the branch, which was open before or was started
 pub record IsWorked (row : Statement) (reply : Reply) (xid : Xid) (old new : SessionView) : Type 0 where

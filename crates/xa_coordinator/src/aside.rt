@@ -46,7 +46,8 @@ impl<S: Beside> Coordinator<Fused<S>> {
         // Proved (coordinator, other-client)
         ensures others { ChangesAt store self.old.stores.items self.new.stores.items }
         // Proved (coordinator, other-client)
-        ensures alone { AtStore (λ session. S.view session.inner) store IsLeftAlone self.old.stores.items self.new.stores.items }
+        ensures alone { AtStore (λ session. S.view session.inner) store IsLeftAlone self.old.stores.items
+            self.new.stores.items }
         // Proved (coordinator, other-client)
         ensures given { AtStore (λ session. S.other session.inner) store
             (IsAnsweredSo statement.now result) self.old.stores.items self.new.stores.items }
@@ -69,7 +70,7 @@ impl<S: Beside> Fused<S> {
 impl<S: Beside> Beside for Fused<S> {
     ghost other = { λ fused. S.other fused.inner };
 
-    ghost steady = { λ old new stays. S.steady old.inner new.inner stays };
+    ghost steady = { λ old new same. S.steady old.inner new.inner (record { base = same.base; beside = same.beside }) };
 
     fn execute_other<R: Wait>(&mut self, rt: &R, statement: &Statement) -> Result<Answer, Fault> {
         self.inner.execute_other(rt, statement)

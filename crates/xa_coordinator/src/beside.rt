@@ -1,7 +1,7 @@
 //! Two sessions of a store in one value.
 ghost use Rattle.std.specs.Prelude.{◌≡◌};
-ghost use Rattle.xa_session.specs.View.{SessionView, StaysOfLog};
-ghost use Rattle.xa_coordinator.specs.Beside.{IsLeftAlone, IsAnsweredSo};
+ghost use Rattle.xa_session.specs.View.{SessionView};
+ghost use Rattle.xa_coordinator.specs.Beside.{IsLeftAlone, HoldsAsBefore, IsAnsweredSo};
 
 use crate::Speak;
 use std::sync::Wait;
@@ -22,5 +22,5 @@ pub trait Beside: Speak {
         ensures alone { IsLeftAlone (Self.view self.old) (Self.view self.new) };
 
     // a call of the session itself leaves the other client's session as it was
-    ghost steady: { (old new : Self) → StaysOfLog (Self.view old) (Self.view new) → other new ≡ other old };
+    ghost steady: { (old new : Self) → HoldsAsBefore (Self.view old) (Self.view new) → other new ≡ other old };
 }

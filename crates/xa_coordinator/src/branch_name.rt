@@ -6,7 +6,8 @@ ghost use Rattle.std.specs.Int.{w64, from_be_bytes};
 
 use xa_xid::{Bytes, Xid, copy_of};
 
-/// The formatID of every branch that a coordinator starts.
+/// The formatID of every branch that a coordinator starts: the letters XA as two bytes, 0x5841. It tells them from
+/// branches of others, which have 1 if a statement names no formatID.
 pub const FORMAT_ID: u64 = 22593;
 
 /// Returns the identifier of the branch that a transaction has in a store.
@@ -40,6 +41,7 @@ fn number_behind(place: usize, bytes: &[u8]) -> Option<u64>
     ensures some { IfSome result (λ number. number ≡ from_be_bytes w64 (drop place bytes.now)) }
     ensures none { IfNone result (length bytes.now ≢ place + 8) }
 {
+    // Too short to be a name with a number behind it.
     if bytes.len() < place {
         return None;
     }

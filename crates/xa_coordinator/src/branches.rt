@@ -1,4 +1,8 @@
 //! The branch of a transaction in one store, from its start to its end.
+//!
+//! Of the contracts' clauses, `frame` says that no other store's session changes, `marks` and `mark` what the
+//! coordinator then has open in its stores, `says` what became of the statement, and `unsaid` that after an error
+//! everything that was open still is.
 ghost use Rattle.std.specs.Prelude.{◌≡◌, ◌<◌, ◌≤◌, ◌+◌, Some, None, Err, true, false, IfErr, OnOk, OnErr, slice_get};
 ghost use Rattle.std.specs.Prelude.{vec_len};
 ghost use Rattle.xa_session.specs.View.{SessionView};
@@ -130,7 +134,8 @@ impl<S: Speak> Coordinator<S> {
         ensures marks { ChangesAt store self.old.branches self.new.branches }
         ensures unsaid { OnErr result (self.new.branches ≡ self.old.branches) }
         ensures free { slice_get self.old.branches store ≡ Some None → slice_get self.new.branches store ≡ Some None }
-        ensures finishes { AtStore S.view store (SaysAs (finish_statement closing (branch_xid self.old.name.items number store)) result) self.old.stores.items
+        ensures finishes { AtStore S.view store (SaysAs
+            (finish_statement closing (branch_xid self.old.name.items number store)) result) self.old.stores.items
             self.new.stores.items }
         ensures few { added_at S.view self.new.stores.items store ≤ added_at S.view self.old.stores.items store + 1 }
     {

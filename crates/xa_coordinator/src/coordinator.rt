@@ -19,7 +19,9 @@ pub struct Coordinator<S: Speak> {
     pub(crate) stores: Vec<S>,
     /// The branch that it has open in each store, by the store's number.
     pub(crate) branches: [Option<OpenBranch>; 16],
+    // With a number of 8 bytes behind it the name is a gtrid, which has at most 64.
     ghost named: { (1 ≤ array_vec_len name) × (array_vec_len name ≤ 56) },
+    // A store's number fits into one byte, as branches are named.
     ghost sized: { (1 ≤ vec_len stores) × (vec_len stores ≤ 16) },
     // Proved (coordinator, open-there): Whatever a coordinator has open in a store, the session there has
     //   open.

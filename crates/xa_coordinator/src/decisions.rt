@@ -52,6 +52,7 @@ fn close_each(by_number: &mut [Decision])
 /// The first number that is undecided, if a later one is closed.
 fn overtaken(list: &[Decision]) -> Option<u64>
     ensures some { IfSome result (IsOvertaken list.now) }
+    ensures first { IfSome result (λ number. (other : ℕ) → IsOvertaken list.now other → number ≤ other) }
     ensures none { IfNone result ((number : ℕ) → IsOvertaken list.now number → ⊥) }
 {
     let mut undecided = None;
@@ -86,7 +87,8 @@ impl Decisions {
     ///
     /// `list`: the states of the numbers 1, 2, .., all of which are given. Errors, in the order of test:
     /// `TooMany` if there are more than 1,000,000; `Overtaken` if a number is undecided and a later one
-    /// closed, which no call of a coordinator leads to; `NoMemory` if an allocation fails.
+    /// closed, which no call of a coordinator leads to, with the first such number; `NoMemory` if an
+    /// allocation fails.
     /// May return `NoMemory`. Doesn't wait.
     /// Own rule: docs/COORDINATOR.md#decisions.
     pub fn of(alloc: Global, list: &[Decision]) -> Result<Decisions, DecisionsFault>
@@ -97,7 +99,8 @@ impl Decisions {
         // Proved (coordinator, decisions-of)
         ensures stands { OnOk result (CanStand list.now) }
         // Proved (coordinator, decisions-refused): A list is refused as decisions only for the cause that the fault
-        //   names. Of `NoMemory` only that is known that the list can be decisions.
+        //   names. The length is tested first: `Overtaken` is returned only of a list that isn't too long, and names
+        //   the first number that is overtaken. Of `NoMemory` only that is known that the list can be decisions.
         ensures fault { IfErr result (IsNoList list.now) }
     {
         if Self::MOST < list.len() {

@@ -1,4 +1,7 @@
 //! Giving one statement to a session, or to the session of one store.
+//!
+//! Of the contracts' clauses, `says` says what became of the statement, `frame` that no other store's session
+//! changes, and `unsaid` that after an error everything that was open still is.
 ghost use Rattle.std.specs.Prelude.{◌≡◌, false, MatchOption, ◌<◌, ◌≤◌, ◌+◌, Some, OnOk, OnErr, slice_get, vec_len};
 ghost use Rattle.xa_server.specs.Locks.{LockLaw};
 ghost use Rattle.xa_server.specs.Step.{is_refused};
@@ -74,7 +77,8 @@ impl<S: Speak> Coordinator<S> {
         ensures marks { ChangesAt store self.old.branches self.new.branches }
         ensures mark { OnOk result (slice_get self.new.branches store ≡ Some then) }
         ensures unsaid { OnErr result (self.new.branches ≡ self.old.branches) }
-        ensures says { AtStore S.view store (IsToldAs statement.now result) self.old.stores.items self.new.stores.items }
+        ensures says { AtStore S.view store (IsToldAs statement.now result) self.old.stores.items
+            self.new.stores.items }
         ensures few { added_at S.view self.new.stores.items store ≤ added_at S.view self.old.stores.items store + 1 }
     {
         execute_on(rt, &mut self.stores[store as usize], statement)?;

@@ -1,4 +1,7 @@
 //! The second phase: finishing the branches of a transaction.
+//!
+//! Of the contracts' clauses, `count` says that there are as many stores, `elsewhere` that what is open stays in
+//! stores that weren't spoken to, and `cut` what is open in the store at which the call ended, if one failed.
 ghost use Rattle.std.specs.Prelude.{◌≡◌, ◌<◌, List, false, OnOk, OnErr, IfErr, vec_len};
 ghost use Rattle.xa_coordinator.specs.Agreement.{Agrees};
 ghost use Rattle.xa_coordinator.specs.Decisions.{is_decided};
@@ -140,6 +143,7 @@ impl<S: Speak> Coordinator<S> {
         //   session's fault or for the server's refusal at a place not before what had been seen. The cause is never
         //   XAER_NOTA of the statement that finishes the branch. The participants below it are finished, or answered
         //   XAER_NOTA; the stores above it got no statement.
+        // Proved (coordinator, takes-from-limits)
         ensures ends { EndsAs S.view self.old.branches prepared.transaction
             (finish_of_vote (is_decided decisions.now prepared.transaction.number) prepared.vote_kind) result
             self.old.stores.items self.new.stores.items }
@@ -147,7 +151,8 @@ impl<S: Speak> Coordinator<S> {
         //   ends in a fault: a commit or rollback is of a branch of this coordinator's naming, a commit
         //   without ONE PHASE of a decided number, a rollback of one that isn't decided. Of `abandon` this
         //   holds if its number isn't decided.
-        ensures agrees { EachStore S.view (Agrees decisions.now self.old.name.items) self.old.stores.items self.new.stores.items }
+        ensures agrees { EachStore S.view (Agrees decisions.now self.old.name.items) self.old.stores.items
+            self.new.stores.items }
     {
         let Prepared {
             transaction,
@@ -179,6 +184,7 @@ impl<S: Speak> Coordinator<S> {
         // Proved (coordinator, hazard)
         // Proved (coordinator, end-first)
         // Proved (coordinator, unfinished)
+        // Proved (coordinator, takes-from-limits)
         ensures ends { EndsAs S.view self.old.branches transaction Closing.RollBack result self.old.stores.items
             self.new.stores.items }
         // Proved (coordinator, agrees)

@@ -1,7 +1,7 @@
 //! A session that passes on a limited number of calls and then fails.
 ghost use Rattle.std.specs.Prelude.{◌≡◌, ◌+◌, true, false, ◌<◌, Some, map, slice_get, vec_len};
 ghost use Rattle.std.specs.Borrow.{Lends, sem};
-ghost use Rattle.xa_coordinator.specs.Fusing.{AnswersAsWithin};
+ghost use Rattle.xa_coordinator.specs.Fusing.{AnswersAsWithin, limited};
 ghost use Rattle.xa_coordinator.specs.Stores.{ChangesAt};
 
 use crate::{Coordinator, Speak};
@@ -59,6 +59,17 @@ impl<S: Speak> Fused<S> {
         &mut self.inner
     }
 
+    /// Returns how many more calls are passed on.
+    ///
+    /// Takes no memory. Doesn't wait.
+    /// Own rule: docs/COORDINATOR.md#sessions-of-a-coordinator.
+    pub fn left(&self) -> u64
+        // Proved (coordinator, limit-left): A limited session returns how many more calls it passes on.
+        ensures { result ≡ self.now.left }
+    {
+        self.left
+    }
+
     /// Whether one more call is passed on.
     fn passes(&mut self) -> bool
         ensures inner { self.new.inner ≡ self.old.inner }
@@ -77,7 +88,7 @@ impl<S: Speak> Fused<S> {
 //   `Speak`. While calls are left, it answers as the session within does, and one call less is left. Then it
 //   returns `NoMemory`, and the session within gets no statement.
 impl<S: Speak> Speak for Fused<S> {
-    ghost view = { λ fused. S.view fused.inner };
+    ghost view = { limited S.view };
 
     ghost attempts = { AnswersAsWithin S.attempts };
 

@@ -1,4 +1,7 @@
 //! What a recovery asks of a store: to end what is open, and to list what is prepared.
+//!
+//! Of the contracts' clauses, `frame` says that no other store's session changes, `marks` what the coordinator then
+//! has open in its stores, `quiet` that no entry was added, and `few` how many are added at most.
 ghost use Rattle.std.specs.Prelude.{◌≡◌, ◌<◌, ◌≤◌, ◌+◌, Some, None, false, IfOk, IfErr, OnOk, OnErr, slice_get};
 ghost use Rattle.std.specs.Prelude.{vec_len};
 ghost use Rattle.xa_coordinator.specs.OpenBranches.{association_seen};
@@ -74,7 +77,8 @@ impl<S: Speak> Coordinator<S> {
         ensures marks { self.new.branches ≡ self.old.branches }
         ensures listed { IfOk result (λ found. AtStore S.view store
             (ListsPrepared found.0 found.1) self.old.stores.items self.new.stores.items) }
-        ensures quiet { OnOk result (AtStore S.view store (λ old new. new.known.mine ≡ old.known.mine) self.old.stores.items self.new.stores.items) }
+        ensures quiet { OnOk result (AtStore S.view store (λ old new. new.known.mine ≡ old.known.mine)
+            self.old.stores.items self.new.stores.items) }
         ensures undone { IfErr result
             (λ fault. AtStore S.view store (IsUndone (RecoverStatement false)
             (Cause.Session fault)) self.old.stores.items self.new.stores.items) }

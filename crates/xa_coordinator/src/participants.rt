@@ -17,6 +17,7 @@ pub enum Participation {
 pub struct Participants {
     /// Whether each store takes part, by its number.
     pub(crate) members: [bool; 16],
+    // One place for each store that a coordinator may have.
     ghost sixteen: { length members ≡ 16 },
 }
 
@@ -24,7 +25,7 @@ impl Participants {
     ghost use Rattle.xa_coordinator.specs.Participants.{takes_part};
     ghost use Rattle.xa_coordinator.specs.Parts.{IsParticipation};
 
-    /// No store.
+    /// The participants of a transaction without work: no store.
     #[tactic(auto, unfolding(crate::specs::Participants::takes_part))]
     pub(crate) fn none() -> Participants
         ensures { (store : ℕ) → takes_part result store ≡ false }

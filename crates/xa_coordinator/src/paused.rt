@@ -14,6 +14,7 @@ pub struct Paused {
     pub(crate) name: Bytes,
     /// The branch that it has open in each store, by the store's number.
     pub(crate) branches: [Option<OpenBranch>; 16],
+    // With a number of 8 bytes behind it the name is a gtrid, which has at most 64.
     ghost named: { (1 ≤ array_vec_len name) × (array_vec_len name ≤ 56) },
 }
 

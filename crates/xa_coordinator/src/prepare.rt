@@ -1,4 +1,7 @@
 //! The first phase: the stores vote.
+//!
+//! Of the contracts' clauses, `count` says that there are as many stores, `elsewhere` that what is open stays in
+//! stores that weren't spoken to, and `cut` what is open in the store at which the vote ended.
 ghost use Rattle.std.specs.Prelude.{◌≡◌, List, IfErr, vec_len};
 ghost use Rattle.xa_coordinator.specs.Agreement.{Agrees};
 ghost use Rattle.xa_coordinator.specs.Stores.{EachStore};
@@ -13,7 +16,7 @@ use crate::transaction::VoteKind;
 use crate::{Cause, Coordinator, Prepared, Speak, Transaction, Vote};
 use std::sync::Wait;
 
-/// A vote of No.
+/// A vote of No: this store hasn't prepared, for this cause.
 fn no(transaction: Transaction, store: u8, cause: Cause) -> Vote
     ensures { result ≡ Vote.No (record { transaction = transaction; vote_kind = VoteKind.No }) store cause }
 {
@@ -124,6 +127,7 @@ impl<S: Speak> Coordinator<S> {
         // Proved (coordinator, vote-no): After a vote of No the named store didn't carry its statement out. The cause
         //   is the session's fault, or the server's refusal at a place not before what had been seen. The
         //   participants below it were ended and prepared; the stores above it got no statement.
+        // Proved (coordinator, takes-from-limits)
         ensures vote { VotesAs S.view transaction result self.old.stores.items self.new.stores.items }
         // Proved (coordinator, agrees)
         ensures agrees { (decisions : List Decision) → EachStore S.view

@@ -1,4 +1,7 @@
 //! Recovery: finishing what a stopped coordinator left, as the decisions say.
+//!
+//! Of the contracts' clauses, `frame` says that no other store's session changes, `marks` what the coordinator then
+//! has open in its stores, `free` that it has nothing open, and `few` how many entries are added at most.
 ghost use Rattle.std.specs.Prelude.{◌≡◌, ◌≢◌, ◌<◌, ◌≤◌, ◌+◌, ℕ, List, [], Option, Some, None, IfOk, IfErr, OnOk};
 ghost use Rattle.std.specs.Prelude.{length, slice_get, map, vec_len, vec_capacity};
 ghost use Rattle.xa_coordinator.specs.Agreement.{Agrees};
@@ -99,7 +102,8 @@ impl<S: Speak> Coordinator<S> {
         ensures marks { self.new.branches ≡ self.old.branches }
         ensures clear { IfOk result (λ front. AtStore S.view store
             (IsClear self.old.name.items store front) self.old.stores.items self.new.stores.items) }
-        ensures quiet { OnOk result (AtStore S.view store (λ old new. new.known.mine ≡ old.known.mine) self.old.stores.items self.new.stores.items) }
+        ensures quiet { OnOk result (AtStore S.view store (λ old new. new.known.mine ≡ old.known.mine)
+            self.old.stores.items self.new.stores.items) }
         ensures place { IfErr result (λ fault. asked_by_fault fault ≡ store + 1) }
         ensures fails { IfErr result
             (λ fault. (decisions : List Decision) (tally : TallyOf) (marks : List (Option OpenBranchOf))
@@ -170,7 +174,8 @@ impl<S: Speak> Coordinator<S> {
             → slice_get self.new.branches store ≡ slice_get self.old.branches store) }
         ensures below { IfErr result (λ fault. (store : ℕ) → store + 1 < asked_by_fault fault
             → slice_get self.new.branches store ≡ Some None) }
-        ensures recovers { IfOk result (λ report. Recovers S.view decisions.now self.old.name.items report self.old.stores.items self.new.stores.items) }
+        ensures recovers { IfOk result (λ report. Recovers S.view decisions.now self.old.name.items report
+            self.old.stores.items self.new.stores.items) }
         ensures breaks { IfErr result
             (λ fault. BreaksOff S.view decisions.now self.old.name.items fault self.old.branches self.new.branches
             self.old.stores.items self.new.stores.items) }
@@ -237,19 +242,23 @@ impl<S: Speak> Coordinator<S> {
         // Proved (coordinator, recovered-clear): After a recovery each session has looked, and at the place
         //   in the report, the end of all that it has seen, no branch of this coordinator's naming is
         //   prepared.
-        ensures recovers { IfOk result (λ report. Recovers S.view decisions.new self.old.name.items report self.old.stores.items self.new.stores.items) }
+        // Proved (coordinator, takes-from-limits)
+        ensures recovers { IfOk result (λ report. Recovers S.view decisions.new self.old.name.items report
+            self.old.stores.items self.new.stores.items) }
         // Proved (coordinator, recovery-fault): Each fault of recovery but `NoMemory` names a store, and the stores
         //   below it are recovered. In that store the session couldn't answer, or the store refused for another cause
         //   than XAER_NOTA, or a branch of this naming is prepared.
         // Proved (coordinator, recovery-fault-extent): The store that a fault of recovery names got exactly the
         //   statements up to the one that failed, and the stores above it got none. After `NoMemory` no session got a
         //   statement, and what is open is as before.
+        // Proved (coordinator, takes-from-limits)
         // Proved (coordinator, recovery-open)
         ensures breaks { IfErr result
             (λ fault. BreaksOff S.view decisions.new self.old.name.items fault self.old.branches self.new.branches
             self.old.stores.items self.new.stores.items) }
         // Proved (coordinator, agrees)
-        ensures agrees { EachStore S.view (Agrees decisions.new self.old.name.items) self.old.stores.items self.new.stores.items }
+        ensures agrees { EachStore S.view (Agrees decisions.new self.old.name.items) self.old.stores.items
+            self.new.stores.items }
     {
         decisions.close_all();
         let fronts = Vec::with_capacity(alloc, self.stores.len())?;

@@ -16,7 +16,7 @@ pub struct Report {
 }
 
 impl Report {
-    /// Adds one more store.
+    /// Adds what a recovery did in one more store, and the place at which nothing was prepared there.
     pub(crate) fn add(&mut self, tally: Tally, front: u64)
         requires room { vec_len self.old.fronts < vec_capacity self.old.fronts }
         requires committed_fits { self.old.committed + tally.committed < 2 ^ 128 }

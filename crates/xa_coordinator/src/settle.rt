@@ -1,4 +1,7 @@
 //! What a recovery does with the prepared branches of one store.
+//!
+//! Of the contracts' clauses, `frame` says that no other store's session changes, `marks` what the coordinator then
+//! has open in its stores, `free` that nothing is open in this one, and `few` how many entries are added at most.
 ghost use Rattle.std.specs.Prelude.{◌≡◌, ◌<◌, ◌≤◌, ◌+◌, ◌^◌, ℕ, true, false, IfOk, IfErr, IfSome, IfNone, slice_get};
 ghost use Rattle.std.specs.Prelude.{Some, None, vec_len};
 ghost use Rattle.std.specs.List.{list_any};

@@ -1,12 +1,12 @@
 //! What a coordinator requires of a session.
-ghost use Rattle.std.specs.Prelude.{◌≡◌, ◌≤◌, ◌<◌, ◌+◌, ⊤, [], Result, IfOk, IfErr};
+ghost use Rattle.std.specs.Prelude.{◌≡◌, ◌≤◌, ◌<◌, ◌+◌, ⊤, [], true, None, Result, IfOk, IfErr};
 ghost use Rattle.decision_log.specs.History.{entries_of};
 ghost use Rattle.xa_server.specs.Locks.{LockLaw};
 ghost use Rattle.xa_session.specs.Answer.{IsAnswered, Fails, IsFinal, WantsMemory};
 ghost use Rattle.xa_session.specs.declared.answer.Answer.{Answer as AnswerOf};
 ghost use Rattle.xa_session.specs.declared.fault.Fault.{Fault as FaultOf};
 ghost use Rattle.xa_xid.specs.declared.statement.Statement.{Statement as StatementOf};
-ghost use Rattle.xa_session.specs.View.{SessionView, StaysOfLog};
+ghost use Rattle.xa_session.specs.View.{SessionView, StaysOfLog, TakesBy};
 
 use decision_log::DecisionLog;
 use std::sync::Wait;
@@ -39,6 +39,7 @@ pub trait Speak {
             (view self.old).base statement.now fault (view self.old).known
             (view self.new).known) }
         ensures tries { (view self.new).known.tries ≤ (view self.old).known.tries + 1 }
+        ensures takes { TakesBy result (view self.old) (view self.new) }
         ensures gives { attempts self.old statement.now result self.new };
 
     /// Answers a statement as `attempt` does, and tries again after `Overtaken` and `Busy`.
@@ -55,6 +56,7 @@ pub trait Speak {
             (view self.old).base statement.now fault (view self.old).known
             (view self.new).known) }
         ensures lasts { IfErr result IsFinal }
+        ensures takes { TakesBy result (view self.old) (view self.new) }
         ensures gives { executes self.old statement.now result self.new };
 
     // the entries of its own number in what it has seen are its own
@@ -74,6 +76,8 @@ impl<'a, L: DecisionLog> Speak for Session<'a, L> {
       base = session.base.now;
       known = L.known session.pass;
       beside = [];
+      left = None;
+      starved = true;
     } };
 
     // a session looks at each attempt, and memory is missing only for a list, or for a replica that hasn't

@@ -32,9 +32,13 @@ pub struct LastingStore {
     pub(crate) own: Watch,
     /// What the other client's session has seen.
     pub(crate) other: Watch,
+    // The state in which the history begins keeps the lock law.
     ghost lawful: { LockLaw first.value },
+    // The server is what the history leaves.
     ghost stands: { server ≡ state_after first.value (map (λ one. one.value) history.items) },
+    // What the store's own session (1) has seen is a prefix of the history with all its entries.
     ghost own_seen: { HasSeenOwn 1 own (map (λ one. one.value) history.items) },
+    // So is what the other client's session (2) has seen.
     ghost other_seen: { HasSeenOwn 2 other (map (λ one. one.value) history.items) },
     // Proved (coordinator, unbounded-store-entries): Each entry of an unbounded store's history was logged at
     //   its place, and is of session 1 or 2.

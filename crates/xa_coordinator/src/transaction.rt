@@ -17,8 +17,11 @@ pub struct Transaction {
     pub(crate) stores: u8,
     /// The stores that take part.
     pub(crate) participants: Participants,
+    // The number is written as 8 bytes of the gtrid.
     ghost eight_bytes: { number < 2 ^ 64 },
+    // As many stores as its coordinator has.
     ghost among: { stores ≤ 16 },
+    // Only these can take part.
     ghost within: { (store : ℕ) → takes_part participants store ≡ true → store < stores },
 }
 

@@ -1,4 +1,8 @@
 //! Work of a transaction in a store.
+//!
+//! Of the contracts' clauses, `name` says that the coordinator keeps its name, `frame` that no other store's session
+//! changes, `marks` what it then has open in its stores, and `keeps` that the transaction changes for this store
+//! alone.
 ghost use Rattle.std.specs.Prelude.{◌≡◌, ◌≢◌, ◌<◌, ℕ, List, Some, Err, true, false, IfOk, IfErr, slice_get, vec_len};
 ghost use Rattle.xa_coordinator.specs.Agreement.{Agrees};
 ghost use Rattle.xa_coordinator.specs.Branch.{branch_xid};
@@ -65,7 +69,8 @@ impl<S: Speak> Coordinator<S> {
         ensures marks { self.new.branches ≡ self.old.branches }
         ensures keeps { KeepsOthers store transaction.old transaction.new }
         ensures part { takes_part transaction.new.participants store ≡ true }
-        ensures works { WorksWithin S.view (branch_of transaction.old store) store statement.now result self.old.stores.items self.new.stores.items }
+        ensures works { WorksWithin S.view (branch_of transaction.old store) store statement.now result
+            self.old.stores.items self.new.stores.items }
     {
         transaction.participants.insert(store);
         match self.execute_row(rt, store, transaction.number, statement) {
@@ -74,7 +79,10 @@ impl<S: Speak> Coordinator<S> {
         }
     }
 
-    /// Works in a store in which the transaction's branch is to be started.
+    /// Works in a store in which the transaction's branch isn't ACTIVE: starts it first.
+    ///
+    /// Clause `again`: if the branch is open already, its work was ended, and a session that has an open branch
+    /// starts none. So `XA START` isn't added then.
     fn start_and_work<R: Wait>(
         &mut self,
         rt: &R,
@@ -93,7 +101,8 @@ impl<S: Speak> Coordinator<S> {
         ensures keeps { KeepsOthers store transaction.old transaction.new }
         ensures again { HasOpen self.old.branches store transaction.old.number
             → AtStore S.view store (AddsAtMost statement.now) self.old.stores.items self.new.stores.items }
-        ensures works { WorksAs S.view self.old.branches self.new.branches transaction.old transaction.new store statement.now result self.old.stores.items
+        ensures works { WorksAs S.view self.old.branches self.new.branches transaction.old transaction.new store
+            statement.now result self.old.stores.items
             self.new.stores.items }
     {
         match self.start_branch(rt, store, transaction.number) {
@@ -124,7 +133,8 @@ impl<S: Speak> Coordinator<S> {
             → result ≡ Err WorkFault.Lost }
         ensures again { takes_part transaction.old.participants store ≡ true
             → AtStore S.view store (AddsAtMost statement.now) self.old.stores.items self.new.stores.items }
-        ensures works { WorksAs S.view self.old.branches self.new.branches transaction.old transaction.new store statement.now result self.old.stores.items
+        ensures works { WorksAs S.view self.old.branches self.new.branches transaction.old transaction.new store
+            statement.now result self.old.stores.items
             self.new.stores.items }
     {
         if self.is_working(store, transaction.number) {
@@ -176,7 +186,11 @@ impl<S: Speak> Coordinator<S> {
         //   coordinator hadn't the branch open and ACTIVE.
         // Proved (coordinator, work-fault-cause): A fault of work other than `Lost` carries a fault whose cause holds
         //   of the store's session, or the server's refusal of `XA START` at a place not before what had been seen.
-        ensures works { WorksAs S.view self.old.branches self.new.branches transaction.old transaction.new store statement.now result self.old.stores.items
+        // Proved (coordinator, takes-from-limits): A call of a coordinator takes exactly one from the limit of a
+        //   store's session for each statement that it gives it, and lifts no limit. A session returns `NoMemory`
+        //   only if its limit was 0, or if memory was refused for the statement, as far as the session notes that.
+        ensures works { WorksAs S.view self.old.branches self.new.branches transaction.old transaction.new store
+            statement.now result self.old.stores.items
             self.new.stores.items }
         // Proved (coordinator, work-lost): If the store takes part and the coordinator has no open branch of
         //   the transaction there, `work` returns `Lost`, and the session gets no statement.

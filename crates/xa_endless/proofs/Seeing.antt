@@ -24,10 +24,12 @@ use Rattle.xa_endless.specs.declared.fault.EndlessFault.{EndlessFault}
 use Rattle.xa_endless.specs.declared.fault.EndlessFault.TheVariants.{Overtaken, NoMemory, Behind}
 use Rattle.xa_endless.specs.declared.replica.Replica.{Replica}
 
+-- doing nothing is seeing nothing more
 pub seen_itself : (known : Known) → HasOnlySeen known known
 seen_itself known =
     record { number = refl; seen = begins_itself known.seen; mine = refl; looks = omega arith; tries = refl }
 
+-- seeing more in two calls is seeing more in both together
 pub seen_through : (old mid new : Known) → HasOnlySeen old mid → HasOnlySeen mid new → HasOnlySeen old new
 seen_through old mid new first second = record {
   number = second.number ∙ first.number;
@@ -37,13 +39,14 @@ seen_through old mid new first second = record {
   tries = second.tries ∙ first.tries;
 }
 
+-- a session that has only seen more has no answer
 pub unanswered_seen : (old new : Known) → HasOnlySeen old new → IsUnanswered old new
 unanswered_seen old new seen = record {
   advances = record { number = seen.number; seen = seen.seen; looks = seen.looks; tries = omega (arith, seen.tries) };
   mine = seen.mine;
 }
 
--- a meeting
+-- a session that another one meets has only seen more
 pub seen_first : (old new : Known) → MeetsFirst old new → HasOnlySeen old new
 seen_first old new met = record {
   number = met.number;
@@ -53,6 +56,7 @@ seen_first old new met = record {
   tries = met.tries;
 }
 
+-- the second of two that meet has only seen more
 pub seen_second : (other old new : Known) → MeetsSecond other old new → HasOnlySeen old new
 seen_second other old new met = record {
   number = met.number;
@@ -62,6 +66,7 @@ seen_second other old new met = record {
   tries = met.tries;
 }
 
+-- an attempt that was overtaken, after more was seen
 overtaken_after : (front : ℕ) (old mid new : Known) → HasOnlySeen old mid → IsOvertaken front mid new
     → IsOvertaken front old new
 overtaken_after front old mid new seen lost = record {
@@ -111,7 +116,7 @@ finds_after log statement (Err Behind) replica old mid new seen found = record {
   leaves = tt;
 }
 
--- how often it tried
+-- steps that only see more count as no try
 pub tries_after : (result : Result Answer EndlessFault) (old mid new : Known) → HasOnlySeen old mid
     → TriesOnce result mid new → TriesOnce result old new
 tries_after (Ok answer) old mid new seen once = record {
@@ -151,6 +156,7 @@ seen_behind log statement replica old new failed once = record {
 pub met_itself : (known : Known) → MeetsFirst known known
 met_itself known = record { number = refl; seen = refl; mine = refl; looks = omega arith; tries = refl }
 
+-- two meetings, one after the other, are one
 pub met_through : (old mid new : Known) → MeetsFirst old mid → MeetsFirst mid new → MeetsFirst old new
 met_through old mid new first second = record {
   number = second.number ∙ first.number;
@@ -160,6 +166,7 @@ met_through old mid new first second = record {
   tries = second.tries ∙ first.tries;
 }
 
+-- an answer stays one when its session meets another
 answered_met : (statement : Statement) (answer : Answer) (old mid new : Known)
     → IsAnswered no_state statement answer old mid → MeetsFirst mid new
     → IsAnswered no_state statement answer old new
@@ -190,6 +197,7 @@ answered_met statement answer old mid new is met =
           };
     }
 
+-- what the replica stands for after an answer it stands for after a meeting
 kept_met : (statement : Statement) (answer : Answer) (replica : KeptReplica) (mid new : Known)
     → IsKept no_state statement answer replica mid → MeetsFirst mid new
     → IsKept no_state statement answer replica new
@@ -198,6 +206,7 @@ kept_met statement answer replica mid new kept met =
     (ap (λ list. may_take_memory (state_at no_state list answer.place) new.number statement) met.seen
     ∙ ap (λ n. may_take_memory (state_at no_state mid.seen answer.place) n statement) met.number ∙ memory)) kept
 
+-- an answer, with what the replica stands for, stays one when its session meets another
 pub has_answered_met : (statement : Statement) (answer : Answer) (replica : Replica) (old mid new : Known)
     → HasAnswered statement answer replica old mid
     → MeetsFirst mid new → HasAnswered statement answer replica old new
@@ -207,6 +216,7 @@ has_answered_met statement answer replica old mid new has met = record {
   kept = kept_met statement answer (kept_of replica) mid new has.kept met;
 }
 
+-- a meeting after an answer is no try, so the answer still tried at most once
 pub tries_met : (answer : Answer) (old mid new : Known) → TriesOnce (Ok answer) old mid → MeetsFirst mid new
     → TriesOnce (Ok answer) old new
 tries_met answer old mid new once met = record {

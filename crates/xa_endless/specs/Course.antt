@@ -18,6 +18,7 @@ pub data Course (name : List ℕ) (store : ℕ) : List (List Decision) → Sessi
       → Agrees decisions name store old mid
       → Course name store later mid new → Course name store (decisions ∷ later) old new
 
+-- what several calls added, one after another
 abbrev pub joined : List (List Statement) → List Statement
 joined [] = []
 joined (list ∷ lists) = list ++ joined lists

@@ -4,7 +4,7 @@ use Rattle.std.specs.Prelude.{ℕ}
 use Rattle.xa_endless.specs.declared.fault.EndlessFault.{EndlessFault}
 use Rattle.xa_endless.specs.declared.fault.EndlessFault.TheVariants.{Overtaken, NoMemory, Behind}
 
--- in the order of docs/RATTLE.md#faults-of-a-session
+-- the fault's number in docs/RATTLE.md#faults-of-a-session
 abbrev pub number_of_fault : EndlessFault → ℕ
 number_of_fault (Overtaken front) = 1
 number_of_fault NoMemory = 3

@@ -8,7 +8,7 @@ use Rattle.xa_endless.specs.declared.fault.EndlessFault.{EndlessFault}
 use Rattle.xa_endless.specs.declared.fault.EndlessFault.TheVariants.{Overtaken, NoMemory, Behind}
 use Rattle.xa_endless.specs.declared.replica.Replica.{Replica}
 
--- a replay isn't overtaken
+-- why a replay stops, by its fault; a replay is never overtaken
 abbrev pub IsHalt : RingLog → EndlessFault → Replica → RingPass → Type 0
 IsHalt log (Overtaken front) replica pass = ⊥
 IsHalt log NoMemory replica pass = WantsMemory replica (known_of pass)

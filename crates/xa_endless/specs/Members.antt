@@ -17,7 +17,7 @@ pub record Keeps (old new : Member) : Type 0 where
   pub folds : old.replica.replayed ≤ new.replica.replayed
   pub told : new.told ≡ old.told
 
--- nothing was tried, and the replica is the same
+-- the member has only seen more: it tried nothing, and its replica is the same
 pub record Hears (old new : Member) : Type 0 where
   pub seen : HasOnlySeen (known_of old.pass) (known_of new.pass)
   pub replica : new.replica ≡ old.replica
@@ -29,7 +29,7 @@ pub record Tends (old new : Member) : Type 0 where
   pub replica : new.replica ≡ old.replica
   pub told : new.told ≡ old.told
 
--- it has replayed more than the session's own replica, and is the state after a prefix of what the session has seen
+-- the replica serves the member: it has replayed more than the member's own, and is a state of what was seen
 pub record Serves (member : Member) (replica : Replica) : Type 0 where
   pub further : member.replica.replayed < replica.replayed
   pub stands : Stands (known_of member.pass).seen replica

@@ -15,8 +15,7 @@ use Rattle.xa_endless.specs.declared.replica.Replica.{Replica}
 abbrev pub kept_of : Replica → KeptReplica
 kept_of replica = record { server = replica.server; replayed = replica.replayed }
 
--- it has replayed no more entries than were seen, and is the server after them; a store begins with no branch and no
--- row
+-- the replica has replayed no more than was seen, and is the server after that; a store begins empty
 pub record Stands (seen : List Entry) (replica : Replica) : Type 0 where
   pub within : replica.replayed ≤ length seen
   pub state : replica.server ≡ state_at no_state seen replica.replayed
@@ -26,7 +25,7 @@ abbrev pub ReplaysOne : {E : Type 0} → Result (Unit {0}) E → Replica → Rep
 ReplaysOne (Ok _) old new = new.replayed ≡ old.replayed + 1
 ReplaysOne (Err _) old new = new ≡ old
 
--- all that is seen is replayed, or not all of it
+-- after Ok the replica has replayed all that is seen, after Err not all of it
 abbrev pub CatchesUp : {A E : Type 0} → Result A E → Replica → Known → Type 0
 CatchesUp (Ok _) replica known = replica.replayed ≡ length known.seen
 CatchesUp (Err _) replica known = replica.replayed < length known.seen

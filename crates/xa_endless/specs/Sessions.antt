@@ -5,7 +5,7 @@
 --     MayFailOnce      the causes of a fault of `attempt`
 --     SpeaksOnce       what `attempt` does
 --     SpeaksOn         what `execute` does
-use Rattle.std.specs.Prelude.{false, [], ◌⊎◌, Result, IfOk, IfErr, OnErr}
+use Rattle.std.specs.Prelude.{true, false, [], ◌⊎◌, None, Result, IfOk, IfErr, OnErr}
 use Rattle.xa_xid.specs.declared.statement.Statement.{Statement}
 use Rattle.chain_log.specs.RingPass.{log_of, known_of}
 use Rattle.xa_server.specs.Locks.{LockLaw}
@@ -31,8 +31,11 @@ view_of session =
       known = known_of
           session.member.pass;
       beside = [];
+      left = None;
+      starved = true;
     }
 
+-- the state that a session's view begins with keeps the lock law: it is the empty one
 pub keeps-law : (session : EndlessSession) → LockLaw (view_of session).base
 keeps-law session = law_no_state
 
@@ -62,7 +65,8 @@ pub record SpeaksOnce (statement : Statement) (result : Result Answer Fault) (ol
   pub cause : IfErr result (λ fault. MayFailOnce statement fault new)
   pub once : TriesOnce result (known_of old.member.pass) (known_of new.member.pass)
 
--- the same of tries until one is answered: its fault doesn't come in place of a try that was lost
+-- tries of a statement, one after another, until one is answered; a fault doesn't come in place of a try that was
+-- lost
 pub record SpeaksOn (statement : Statement) (result : Result Answer Fault) (old new : EndlessSession) : Type 0 where
   pub stays : Stays old new
   pub answered : IfOk result (λ answer. HasAnswered statement answer new.member.replica (known_of old.member.pass)

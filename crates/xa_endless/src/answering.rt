@@ -95,7 +95,8 @@ impl EndlessSession {
         //   replayed. `NoMemory` only for a list, for a replica that hasn't replayed all that is seen, or after more
         //   than 2^59 entries. Such a replica's next entry is one that may take memory, or the replica needs a copy
         //   of all rows: as many entries as the ring has rows are left to replay.
-        ensures finds { Finds self.old.store.value.log statement.now result self.new.member.replica self.old.member.pass self.new.member.pass }
+        ensures finds { Finds self.old.store.value.log statement.now result self.new.member.replica
+            self.old.member.pass self.new.member.pass }
         // Proved (endless, one-try): An attempt looks, and makes at most one exchange of the word that sessions
         //   share: one if it ends in `Overtaken`, none if it ends in `NoMemory` or `Behind`.
         ensures once { TriesOnce result (known_of self.old.member.pass) (known_of self.new.member.pass) }

@@ -25,7 +25,9 @@ pub(crate) struct Checkpoint {
     pub(crate) spare: RingSpare,
     /// The replica, which sessions share while they copy it.
     pub(crate) replica: Arc<Replica>,
+    // The replica is no farther than what the spare has seen,
     ghost within: { replica.value.replayed ≤ length (spare_known_of spare).seen },
+    // and is the server after the entries that it has replayed.
     ghost state: { replica.value.server ≡ state_at no_state (spare_known_of spare).seen replica.value.replayed } by { Coded-set coded_state _ _ },
 }
 

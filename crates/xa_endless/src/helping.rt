@@ -6,7 +6,8 @@ ghost use Rattle.xa_endless.specs.Members.{Keeps};
 use crate::{EndlessStore, Member};
 use xa_xid::NoMemory;
 
-/// How many entries a session replays rather than that it looks for a checkpoint.
+/// How many entries a session replays rather than that it looks for a checkpoint: looking takes each checkpoint out
+/// of its place for a moment, where no other session finds it.
 const LEAST_JUMP: u64 = 512;
 
 impl EndlessStore {

@@ -20,9 +20,11 @@ pub struct Member {
     pub(crate) told: u64,
     /// How many entries its replica had replayed when it last looked after a checkpoint.
     pub(crate) tended: u64,
+    // The replica is no farther than what the pass has seen.
     ghost within: { replica.replayed ≤ length (known_of pass).seen },
     // Proved (endless, replica-is-a-prefix): At every moment the replica of a session is the server after a prefix of
     //   what the session has seen, from no branch and no row on.
     ghost state: { replica.server ≡ state_at no_state (known_of pass).seen replica.replayed } by { Coded-set coded_state _ _ },
+    // Only entries that the pass has seen were handed out.
     ghost handed: { told ≤ length (known_of pass).seen },
 }

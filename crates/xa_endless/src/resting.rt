@@ -24,8 +24,11 @@ pub struct RestingMember {
     pub(crate) told: u64,
     /// As in `Member`: what its replica had replayed when it last looked after a checkpoint.
     pub(crate) tended: u64,
+    // The replica is no farther than what the pass has seen,
     ghost within: { replica.replayed ≤ length (resting_known_of pass).seen },
+    // and is the server after the entries that it has replayed.
     ghost state: { replica.server ≡ state_at no_state (resting_known_of pass).seen replica.replayed } by { Coded-set coded_state _ _ },
+    // Only entries that the pass has seen were handed out.
     ghost handed: { told ≤ length (resting_known_of pass).seen },
 }
 
@@ -42,7 +45,9 @@ pub(crate) struct RestingCheckpoint {
     pub(crate) spare: RestingSpare,
     /// The replica, which sessions share while they copy it.
     pub(crate) replica: Arc<Replica>,
+    // The replica is no farther than what the spare has seen,
     ghost within: { replica.value.replayed ≤ length (resting_spare_known_of spare).seen },
+    // and is the server after the entries that it has replayed.
     ghost state: { replica.value.server ≡ state_at no_state
         (resting_spare_known_of spare).seen replica.value.replayed } by { Coded-set coded_state _ _ },
 }

@@ -7,7 +7,7 @@ use crate::checkpoint::Checkpoint;
 use crate::resting::{RestingCheckpoint, RestingMember};
 
 impl Member {
-    /// Lets a session rest.
+    /// Lets a session rest between two calls, as threads may share it then.
     pub(crate) fn rest(self) -> RestingMember
         ensures { IsAtRest self result }
     {
@@ -27,7 +27,7 @@ impl Member {
 }
 
 impl RestingMember {
-    /// Wakes a session.
+    /// Wakes a session for a call, if its pass wakes.
     pub(crate) fn wake(self) -> Option<Member>
         ensures { IfSome result (λ member. IsAtRest member self) }
     {
@@ -48,7 +48,7 @@ impl RestingMember {
 }
 
 impl Checkpoint {
-    /// Lets a checkpoint rest.
+    /// Lets a checkpoint rest while no session has it, as threads may share it then.
     pub(crate) fn rest(self) -> RestingCheckpoint
         ensures { IsLeft self result }
     {
@@ -61,7 +61,7 @@ impl Checkpoint {
 }
 
 impl RestingCheckpoint {
-    /// Wakes a checkpoint.
+    /// Wakes a checkpoint for the session that took it.
     pub(crate) fn wake(self) -> Option<Checkpoint>
         ensures { IfSome result (λ checkpoint. IsLeft checkpoint self) }
     {

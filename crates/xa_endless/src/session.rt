@@ -20,6 +20,7 @@ pub struct EndlessSession {
     pub(crate) store: Arc<EndlessStore>,
     /// Its pass and its replica.
     pub(crate) member: Member,
+    // The pass is one of this store's log.
     ghost belongs: { log_of member.pass ≡ identity_of store.value.log },
 }
 
@@ -70,7 +71,14 @@ impl EndlessSession {
         ensures store { self.new.store.value ≡ self.old.store.value }
         ensures other { other.new.store.value ≡ other.old.store.value }
         // Proved (endless, meet): After two sessions meet, what the first has seen begins what the second has seen. The
-        //   first's own entries there are as the first knows them.
+        //   first's own entries there are as the first knows them. Both keep their replica, and hand the history out
+        //   from where they were.
+        ensures replicas { (self.new.member.replica ≡ self.old.member.replica)
+            × (other.new.member.replica ≡ other.old.member.replica) }
+        // Proved (endless, meet)
+        ensures told { (self.new.member.told ≡ self.old.member.told)
+            × (other.new.member.told ≡ other.old.member.told) }
+        // Proved (endless, meet)
         ensures first { MeetsFirst (known_of self.old.member.pass) (known_of self.new.member.pass) }
         // Proved (endless, meet)
         ensures second { MeetsSecond (known_of self.old.member.pass) (known_of other.old.member.pass)

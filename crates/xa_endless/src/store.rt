@@ -28,7 +28,9 @@ pub struct EndlessStore {
     pub(crate) places: Vec<Slot<RestingMember>>,
     /// How far each session and the newest checkpoint have come.
     pub(crate) progress: Progress,
+    // Each checkpoint's spare is one of this store's log,
     ghost kept: { All (λ slot. identity_of slot.value ≡ identity_of log) checkpoints.items },
+    // and so is each place of a session: the pass that lies there, if it isn't taken.
     ghost free: { All (λ slot. identity_of slot.value ≡ identity_of log) places.items },
 }
 

@@ -15,7 +15,8 @@ pub(crate) const MOST_LOOKS: usize = 256;
 /// steps; one that replays has it for as long as that takes, and in a small ring others can't wait for it.
 const FEW_ROWS: u64 = 256;
 
-/// How many entries are replayed at least before the next copy.
+/// How many entries are replayed at least before the next copy: with few rows a copy is quick, but it takes memory,
+/// and would else come after every few entries.
 const FEW_ENTRIES: u64 = 1_024;
 
 impl EndlessStore {

@@ -1,4 +1,7 @@
 //! A single try by a replica and a pass.
+//!
+//! Of the contracts' clauses, `belongs` says that the pass is still of its ring, `stands` that the replica is the
+//! state after the prefix that it has replayed, and `folds` that this prefix gets no shorter.
 ghost use Rattle.std.specs.Prelude.{◌≡◌, ◌⊎◌, ◌<◌, ◌≤◌, ◌+◌, ◌^◌, true, false, length, slice_get, Some, IfOk, IfErr};
 ghost use Rattle.std.specs.Prelude.{OnOk, OnErr};
 ghost use Rattle.decision_log.specs.Calls.{Looked, Adds};
@@ -127,6 +130,8 @@ impl Replica {
     {
         let entry = Entry::entering(session, statement.copy());
         log.try_add(pass, &entry)?;
+        // The entry is in the history now. If there is no memory to carry it out on the replica, a later call replays
+        // it.
         let _kept = self.keep(log, pass, session, statement);
         Ok(())
     }

@@ -37,11 +37,13 @@ goes_on : (old list : List Configuration) (one end : Config) (event : Event) (mo
 goes_on old list one end event more leads has rest =
     record { one = rest.first; has = leads one rest.first has rest.sees; moves = rest.moves; runs = rest.runs }
 
+-- if no act has to come before the event, an order goes on with the event itself
 first_now : (old : List Configuration) (end : Config) (event : Event) (more : List Event)
     → ((config : Config) → Has old config → CanWait config event)
     → (now : Continues old (event ∷ more) end) → First now.one event more end
 first_now old end event more waits now = later now.one end event more now.moves (waits now.one now.has) now.runs
 
+-- for an event before which no act is needed: the configurations after it are those in which it was seen at once
 pub advance_now : (old : List Configuration) (answers : List Answer) (event : Event) (limit : ℕ) (next : Advance)
     → ((config : Config) → Has old config → CanWait config event)
     → ((config : Config) → Has old config → IsReady (Has old) event config)
@@ -88,6 +90,7 @@ reached_of base events trunk list one all has =
       runs = subst (λ c. LeadsThrough (opening_config base) events (trunk ++ place.1.path) c) place.4 reach;
     }
 
+-- before a return: the answers that the session can have are those of the closed and settled configurations
 answers_to : (old closed ready : List Configuration) (answers : List Answer) (session : ℕ) → Grows old closed
     → IsClosedBelow (length closed) (Some session) closed
     → ((one : Config) → Has closed one → Has ready (after_settling one session)) → KeepsReach closed ready
@@ -113,6 +116,7 @@ pub record AreLate (old closed ready : List Configuration) (session : ℕ) : Typ
   pub reached : (config : Config) → Has closed config → IsReachedFrom (Has old) (Some session) config
   pub settled : (config : Config) → Has ready config → IsSettledIn closed session config
 
+-- the configurations after a return of a session, and the answers that it could have had
 advance_at : (old closed ready : List Configuration) (answers : List Answer) (session : ℕ) (seen : Seen) (limit : ℕ)
     (next : Advance) → Grows old closed
     → IsClosedBelow (length closed) (Some session) closed
@@ -143,6 +147,7 @@ advance_at old closed ready answers session seen limit (Impossible others) grows
 advance_at old closed ready answers session seen limit TooMany grows is_closed settles reach given late leads =
     absurd leads
 
+-- the configurations after a return, with its answer or only known as a fact, and the answers that it could have had
 pub advance_return : (old closed ready : List Configuration) (answers : List Answer) (session : ℕ) (event : Event)
     (limit : ℕ) (next : Advance)
     → IsReturnOf session event → Grows old closed → IsClosedBelow (length closed) (Some session) closed
@@ -178,6 +183,7 @@ record SeenFromOne (list : List Configuration) (event : Event) (more : List Even
   has : Has list one
   rest : First one event more end
 
+-- in a closed list an order from one of its configurations sees the event from one of them at once
 closed_first : (list : List Configuration) (event : Event) (more : List Event) (old end : Config) (moves : List Move)
     → IsClosedBelow (length list) None list → Has list old → LeadsThrough old (event ∷ more) moves end
     → SeenFromOne list event more end
@@ -196,6 +202,7 @@ no_answers list (Return session seen) answers is none = absurd is
 no_answers list (Lost session) answers is none = none
 no_answers list (Unknown session) answers is none = none
 
+-- an order from a list goes on from the closed list that grew out of it
 from_closed : (old closed : List Configuration) (event : Event) (more : List Event) (end : Config) → Grows old closed
     → IsClosedBelow (length closed) None closed → Continues old (event ∷ more) end → SeenFromOne closed event more end
 from_closed old closed event more end grows is_closed now =
@@ -212,7 +219,7 @@ counts_closed old closed (Lost session) is widens reached config has = absurd wi
 counts_closed old closed (Unknown session) is widens reached config has =
     record { widens = tt; reached = reached config has }
 
--- and it stands directly before that event
+-- a configuration that counts for an event that isn't a return stands directly before that event
 ready_counted : (old : List Configuration) (event : Event) (config : Config) → IsNoReturn event
     → IsCounted (Has old) event config → IsReady (Has old) event config
 ready_counted old (Call session request) config is counted = inr counted
@@ -220,6 +227,7 @@ ready_counted old (Return session seen) config is counted = absurd is
 ready_counted old (Lost session) config is counted = absurd counted.widens
 ready_counted old (Unknown session) config is counted = counted
 
+-- the configurations after an event that isn't a return, from a closed list
 pub advance_closed : (old closed : List Configuration) (answers : List Answer) (event : Event) (limit : ℕ)
     (next : Advance) → IsNoReturn event
     → Grows old closed → IsClosedBelow (length closed) None closed → answers ≡ []

@@ -21,15 +21,18 @@ pub has_more : (old more : List Configuration) (one : Config) → Has old one �
 has_more old more one has = subst (λ l. Contains l one) (sym (map_append config_of old more))
     (Contains-append_left (configs old) (configs more) one has)
 
+-- what was in a list is in one that grew out of it
 pub has_still : (old new : List Configuration) (one : Config) → Grows old new → Has old one → Has new one
 has_still old new one grows has = subst (λ l. Has l one) (sym grows.parts) (has_more old grows.more one has)
 
+-- what stood at a place of a list stands there in one that grew out of it
 pub still_there : (old new : List Configuration) (place : ℕ) (one : Configuration) → Grows old new
     → slice_get old place ≡ Some one
     → slice_get new place ≡ Some one
 still_there old new place one grows found =
     subst (λ l. slice_get l place ≡ Some one) (sym grows.parts) (get_front old grows.more place one found)
 
+-- a configuration that is added unless it is there is there afterwards
 pub has_added : (old new : List Configuration) (one : Configuration) → AddsUnlessThere old one new
     → Has new (config_of one)
 has_added old new one (inl was) = subst (λ l. Has l (config_of one)) (sym was.1) was.0
@@ -38,14 +41,17 @@ has_added old new one (inr is) =
     (subst (λ l. Contains l (config_of one)) (sym (map_append config_of old (one ∷ [])))
     (Contains-push (configs old) (config_of one)))
 
+-- what was in a list stays in it when a configuration is added unless it is there
 pub has_kept : (old new : List Configuration) (one : Configuration) (other : Config) → AddsUnlessThere old one new
     → Has old other → Has new other
 has_kept old new one other (inl was) has = subst (λ l. Has l other) (sym was.1) has
 has_kept old new one other (inr is) has = subst (λ l. Has l other) (sym is) (has_more old (one ∷ []) other has)
 
+-- a list has grown out of itself
 pub grows_none : (list : List Configuration) → Grows list list
 grows_none list = record { more = []; parts = sym (append-nil list); reach = λ base events trunk all. all }
 
+-- a list that grew twice has grown
 pub grows_more : (old mid new : List Configuration) → Grows old mid → Grows mid new → Grows old new
 grows_more old mid new first second = record {
   more = first.more ++ second.more;
@@ -53,7 +59,7 @@ grows_more old mid new first second = record {
   reach = λ base events trunk all. second.reach base events trunk (first.reach base events trunk all);
 }
 
--- what an effect leads to is reached
+-- what an effect leads to from a configuration that is reached is reached
 pub reaches_effect : (base : State) (events : List Event) (trunk : List Move) (old new : Configuration) (session : ℕ)
     (act : Act)
     → Reaches base events trunk old → IsSession session
@@ -66,7 +72,7 @@ reaches_effect base events trunk old new session act reach is at path =
     subst (λ l. LeadsThrough (opening_config base) events l (config_of new))
     (append_assoc trunk old.path (Effect session act ∷ []) ∙ ap (λ l. trunk ++ l) (sym path)) more
 
--- and what an event leads to, by one event more
+-- if events lead to a configuration, they lead with one more to the configuration that has seen it
 pub reaches_event : (base : State) (events : List Event) (trunk : List Move) (old new : Configuration) (event : Event)
     → Reaches base events trunk old
     → observed (config_of old) event ≡ Some (config_of new) → new.path ≡ old.path ++ Seeing ∷ []
@@ -78,11 +84,13 @@ reaches_event base events trunk old new event reach at path =
     subst (λ l. LeadsThrough (opening_config base) (events ++ event ∷ []) l (config_of new))
     (append_assoc trunk old.path (Seeing ∷ []) ∙ ap (λ l. trunk ++ l) (sym path)) more
 
+-- what holds of each configuration and of the added one holds of each afterwards
 pub all_added : (P : Configuration → Type 0) (old new : List Configuration) (one : Configuration)
     → AddsUnlessThere old one new → All P old → P one → All P new
 all_added P old new one (inl was) all p = subst (λ l. All P l) (sym was.1) all
 all_added P old new one (inr is) all p = subst (λ l. All P l) (sym is) (All-push P old one all p)
 
+-- what holds of each holds of the one at a place
 pub all_at : (P : Configuration → Type 0) (list : List Configuration) (place : ℕ) (one : Configuration) → All P list
     → slice_get list place ≡ Some one → P one
 all_at P list place one all found = at list place all found

@@ -35,9 +35,11 @@ added_last : (old new : List Configuration) (one : Configuration) (c : Config) �
 added_last old new one c (inl was) has = inl (subst (λ l. Has l c) was.1 has)
 added_last old new one c (inr is) has = has_last old new one c is has
 
+-- a list to which nothing was added has only what acts of `one` lead to added
 pub adds_none : (returning : Option ℕ) (one : Config) (list : List Configuration) → AddsOnly returning one list list
 adds_none returning one list = λ config has. inl has
 
+-- what two steps added, acts of `one` lead to, if they do in each
 pub adds_more : (returning : Option ℕ) (one : Config) (old mid new : List Configuration)
     → AddsOnly returning one old mid
     → AddsOnly returning one mid new → AddsOnly returning one old new
@@ -46,7 +48,7 @@ adds_more returning one old mid new first second = λ config has. elim (second c
   | inr next ↦ inr next
 ]
 
--- what one act leads to is added
+-- what is added because one act leads to it comes of an act, of a session other than the one that returns
 pub adds_effect : (old new : List Configuration) (place : ℕ) (one next : Configuration) (found : Option Configuration)
     (session : ℕ) (act : Act)
     → slice_get old place ≡ Some one → IsSession session
@@ -88,6 +90,7 @@ SettledOnly session first rest list =
     ((config : Config) → Has rest config → Has first config)
     × ((config : Config) → Has list config → IsSettledIn first session config)
 
+-- each configuration that was made so far is one that sees the event, from one that was already gone over
 abbrev pub SeenOnly : Event → List Configuration → List Configuration → List Configuration → Type 0
 SeenOnly event first rest list =
     ((config : Config) → Has rest config → Has first config)
@@ -98,11 +101,13 @@ last_of : (first known rest : List Configuration) (one : Configuration) → know
     → ((config : Config) → Has known config → Has first config) → Has first (config_of one)
 last_of first known rest one parts of = of (config_of one) (has_pushed rest known one parts)
 
+-- what is in the rest of a list is in the list
 rest_of : (first known rest : List Configuration) (one : Configuration) → known ≡ rest ++ one ∷ []
     → ((config : Config) → Has known config → Has first config) → (config : Config) → Has rest config → Has first config
 rest_of first known rest one parts of config has =
     of config (subst (λ l. Has l config) (sym parts) (has_more rest (one ∷ []) config has))
 
+-- the step of the loop that settles configurations: the last one was settled
 pub settled_only : (session : ℕ) (first known rest list new : List Configuration) (one next : Configuration)
     → known ≡ rest ++ one ∷ [] → new ≡ list ++ next ∷ []
     → config_of next ≡ after_settling (config_of one) session
@@ -115,6 +120,7 @@ settled_only session first known rest list new one next parts pushed is only = (
   ],
 )
 
+-- the step of the loop in which configurations see an event
 pub seen_only : (event : Event) (first known rest list new : List Configuration) (one : Configuration)
     → known ≡ rest ++ one ∷ [] → IsSeenAdded event one list new
     → SeenOnly event first known list → SeenOnly event first rest new
@@ -130,9 +136,11 @@ seen_only event first known rest list new one parts (inr some) only = (
   ],
 )
 
+-- before the first step the whole list is left to go over, and nothing was made of it
 pub settled_none : (session : ℕ) (first : List Configuration) → SettledOnly session first first []
 settled_none session first = (λ config has. has, λ config has. absurd (has_none config has))
 
+-- before the first step the whole list is left to go over, and nothing was made of it
 pub seen_none : (event : Event) (first : List Configuration) → SeenOnly event first first []
 seen_none event first = (λ config has. has, λ config has. absurd (has_none config has))
 
@@ -145,7 +153,7 @@ unheard_at known place session one within at is = (
   is,
 )
 
--- in those before a place it isn't, nor in the one there
+-- the loop over configurations: neither those before a place nor the one there have an open call that nobody hears
 pub heard_more : (known : List Configuration) (place session : ℕ) (one : Configuration) → place < length known
     → one ≡ get_or known place one → has_unheard (config_of one) session ≡ false
     → ((k : ℕ) (other : Configuration) → k < place → slice_get known k ≡ Some other
@@ -161,13 +169,14 @@ heard_more known place session one within at is before k other below found = eli
       ap (λ o. has_unheard (config_of o) session) (sym one_is) ∙ is
 ]
 
--- from more configurations, no less is reached
+-- what is reached from some configurations is reached from more
 reached_of_more : (P Q : Config → Type 0) (returning : Option ℕ) (config : Config)
     → ((one : Config) → P one → Q one) → IsReachedFrom P returning config → IsReachedFrom Q returning config
 reached_of_more P Q returning _ wider (at_once config is) = at_once config (wider config is)
 reached_of_more P Q returning _ wider (by_act one config before next) =
     by_act one config (reached_of_more P Q returning one wider before) next
 
+-- if an event widens what some configurations lead to, it does so for more
 widens_of_more : (P Q : Config → Type 0) (event : Event) → ((one : Config) → P one → Q one) → Widens P event
     → Widens Q event
 widens_of_more P Q (Call session request) wider is = (is.0, wider is.0 is.1, is.2)
@@ -175,6 +184,7 @@ widens_of_more P Q (Return session seen) wider is = is
 widens_of_more P Q (Lost session) wider is = is
 widens_of_more P Q (Unknown session) wider is = is
 
+-- a configuration that counts for an event, by some configurations, counts for it by more
 pub counted_of_more : (P Q : Config → Type 0) (event : Event) (config : Config) → ((one : Config) → P one → Q one)
     → IsCounted P event config → IsCounted Q event config
 counted_of_more P Q event config wider is = record {
@@ -182,6 +192,7 @@ counted_of_more P Q event config wider is = record {
   reached = reached_of_more P Q _ config wider is.reached;
 }
 
+-- a configuration that is ready for an event, by some configurations, is ready for it by more
 ready_of_more : (P Q : Config → Type 0) (event : Event) (config : Config) → ((one : Config) → P one → Q one)
     → IsReady P event config → IsReady Q event config
 ready_of_more P Q (Call session request) config wider (inl is) = inl (wider config is)
@@ -192,7 +203,7 @@ ready_of_more P Q (Return session seen) config wider is =
 ready_of_more P Q (Lost session) config wider is = wider config is
 ready_of_more P Q (Unknown session) config wider is = counted_of_more P Q (Unknown session) config wider is
 
--- before all events
+-- the first configuration is one that has to be kept before all events
 pub opens_kept : (base : State) (events : List Event) (list : List Configuration) → IsOpening base list
     → (config : Config) → Has list config → IsKept base events 0 config
 opens_kept base events list is config has = elim (has_last [] list is.0 config is.1 has) [
@@ -200,7 +211,7 @@ opens_kept base events list is config has = elim (has_last [] list is.0 config i
   | inr same ↦ sym same ∙ is.2
 ]
 
--- after one event more, also of a list with shorter paths
+-- each configuration after one event more is one that has to be kept, also if common first moves were taken out
 pub kept_on : (base : State) (events : List Event) (place : ℕ) (event : Event) (trunk longer : List _)
     (old next new : List Configuration)
     → slice_get events place ≡ Some event

@@ -13,3 +13,4 @@ pub mod NearStates
 pub mod NearRuns
 pub mod Loaded
 pub mod NearVerdicts
+pub mod Told

@@ -61,7 +61,7 @@ module _ {A : Type 0} where
   get_behind (x ∷ xs) ys i = let e : suc (length xs) + i ≡ suc (length xs + i) = omega arith in
       rw e (get_behind xs ys i)
 
--- one session is about this, and all others are idle
+-- this session's client stands so, and all others are idle
 record IsAlone (clients : List ClientState) (session : ℕ) (client : ClientState) : Type 0 where
   here : slice_get clients session ≡ Some client
   others : (other : ℕ) → IsSession other → other ≢ session → slice_get clients other ≡ Some Idle
@@ -72,6 +72,7 @@ idle_at n session within =
     stands_at (replicate n Idle) session Idle (omega (arith, length-replicate n Idle))
     (sym (get_or-replicate n session Idle Idle within))
 
+-- before all events a session is idle, and all other sessions are idle too
 alone_opening : (state : State) (session : ℕ) → IsSession session
     → IsAlone ((opening_config state).clients) session Idle
 unfolding opening_config
@@ -98,7 +99,7 @@ idle_rests config new session Statement found is =
 idle_rests config new session Disconnect found is =
     none-some new (sym (ap (λ o. disconnected o config session) found) ∙ is)
 
--- nor has one that was answered
+-- no act of a session that has its answer can take effect
 answered_rests : (config new : Config) (session : ℕ) (act : Act) (answer : Answer)
     → slice_get config.clients session ≡ Some (Answered answer)
     → effect_of config session act ≡ Some new → ⊥
@@ -108,7 +109,7 @@ answered_rests config new session Statement answer found is =
 answered_rests config new session Disconnect answer found is =
     none-some new (sym (ap (λ o. disconnected o config session) found) ∙ is)
 
--- one that has called doesn't disconnect
+-- a session that has called doesn't disconnect before it is answered
 called_stays : (config new : Config) (session : ℕ) (request : Request)
     → slice_get config.clients session ≡ Some (Called request)
     → effect_of config session Disconnect ≡ Some new → ⊥
@@ -116,7 +117,7 @@ unfolding effect_of disconnected
 called_stays config new session request found is =
     none-some new (sym (ap (λ o. disconnected o config session) found) ∙ is)
 
--- nor does its call return
+-- the call of a session whose request hasn't taken effect doesn't return
 called_open : (config new : Config) (session : ℕ) (request : Request) (seen : Seen)
     → slice_get config.clients session ≡ Some (Called request)
     → observed config (Return session seen) ≡ Some new → ⊥
@@ -124,13 +125,13 @@ unfolding observed returned
 called_open config new session request seen found is =
     none-some new (sym (ap (λ o. returned o config session seen) found) ∙ is)
 
--- an idle session calls
+-- a call of an idle session can be seen
 idle_calls : (config : Config) (session : ℕ) (request : Request) → slice_get config.clients session ≡ Some Idle
     → observed config (Call session request) ≡ Some (with_client config session (Called request))
 unfolding observed called
 idle_calls config session request found = ap (λ o. called o config session request) found
 
--- the answer is returned
+-- a return can be seen that shows the answer which its session has
 answered_returns : (config : Config) (session : ℕ) (seen : Seen) (answer : Answer)
     → slice_get config.clients session ≡ Some (Answered answer)
     → shows_answer seen answer ≡ true → observed config (Return session seen) ≡ Some (with_client config session Idle)
@@ -139,7 +140,7 @@ answered_returns config session seen answer found shows =
     ap (λ o. returned o config session seen) found ∙ ap (λ b. cond b
     (Some (with_client config session Idle)) None) shows
 
--- and where something is returned, the session is idle then
+-- after a return its session is idle
 returns_idle : (config new : Config) (session : ℕ) (seen : Seen) (answer : Answer)
     → slice_get config.clients session ≡ Some (Answered answer)
     → observed config (Return session seen) ≡ Some new → with_client config session Idle ≡ new
@@ -148,7 +149,7 @@ returns_idle config new session seen answer found is =
     (cond_some (shows_answer seen answer) (with_client config session Idle) new
     (sym (ap (λ o. returned o config session seen) found) ∙ is)).1
 
--- the call has taken effect
+-- the configuration after the session's request took effect
 abbrev answered_config : Config → ℕ → Request → Config
 answered_config config session request =
     record {
@@ -157,13 +158,13 @@ answered_config config session request =
           (Answered (answer_to config.state session request));
     }
 
--- it takes effect
+-- the request of a session that has called can take effect
 called_acts : (config : Config) (session : ℕ) (request : Request)
     → slice_get config.clients session ≡ Some (Called request)
     → effect_of config session Statement ≡ Some (answered_config config session request)
 called_acts config session request found = effect_called config session request (ap called_for found)
 
--- first the call is seen
+-- if no call is open and a call comes next, an order begins with it
 call_first : (old end : Config) (session : ℕ) (request : Request) (rest : List Event) (all : List Move)
     → IsAlone old.clients session Idle
     → LeadsThrough old (Call session request ∷ rest) all end
@@ -180,7 +181,7 @@ call_first old end session request rest (Seeing ∷ moves) alone runs = (
 )
 call_first old end session request rest [] alone runs = absurd runs
 
--- then it takes effect, before it returns
+-- if the only open call is to return next, orders go on from the configuration in which its request has taken effect
 effect_then : (old end : Config) (session : ℕ) (request : Request) (seen : Seen) (rest : List Event) (all : List Move)
     → IsAlone old.clients session (Called request)
     → LeadsThrough old (Return session seen ∷ rest) all end
@@ -209,7 +210,7 @@ effect_then old end session request seen rest (Seeing ∷ moves) alone runs =
     absurd (called_open old runs.0 session request seen alone.here runs.1)
 effect_then old end session request seen rest [] alone runs = absurd runs
 
--- and then it returns
+-- if the only open call has its answer, the return of it comes next
 return_last : (old end : Config) (session : ℕ) (answer : Answer) (seen : Seen) (rest : List Event) (all : List Move)
     → IsAlone old.clients session (Answered answer)
     → LeadsThrough old (Return session seen ∷ rest) all end
@@ -268,7 +269,7 @@ alone_leads state session request seen is shows =
       ),
     )
 
--- and nowhere else
+-- after a call and its return in an idle store, orders go on from the state after the request: it took effect between
 pub alone_only : (state : State) (session : ℕ) (request : Request) (seen : Seen) (more : List Event) (all : List Move)
     (end : Config) → IsSession session
     → LeadsThrough (opening_config state) (Call session request ∷ Return session seen ∷ more) all end
@@ -289,7 +290,7 @@ alone_only state session request seen more all end is runs =
           (sym (idle_again state second.state session (Called request) (Answered answer) is)) after_return.1,
     )
 
--- where there are no events, they lead to the base itself
+-- no events lead from the base to the base itself
 pub loaded_none : (base : State) → IsLoadedTo base [] base
 loaded_none base = record { moves = []; leads = refl; only = λ more all end runs. (all, runs) }
 
@@ -324,7 +325,7 @@ explained_behind base full first later loaded explained = (
       explained.2,
 )
 
--- and the other way round
+-- if events and later ones are explained, the later ones are, from the state that the first lead to
 explained_from : (base full : State) (first later : List Event) → IsLoadedTo base first full
     → Explained base (first ++ later) → Explained full later
 explained_from base full first later loaded explained =
@@ -347,7 +348,7 @@ refuted_behind base full first later place loaded refuted = record {
   whole = λ explained. refuted.whole (explained_from base full first later loaded explained);
 }
 
--- with an answer that could be behind them
+-- an answer that could be from a state could be behind the events that lead to it
 could_behind : (base full : State) (first later : List Event) (place : ℕ) (answer : Answer) → IsLoadedTo base first full
     → CouldBe full later place answer
     → CouldBe base (first ++ later) (length first + place) answer
@@ -369,7 +370,7 @@ could_behind base full first later place answer loaded could =
       };
     }
 
--- and none but one that could be from the state
+-- an answer that could be behind events could be from the state that they lead to
 could_from : (base full : State) (first later : List Event) (place : ℕ) (answer : Answer) → IsLoadedTo base first full
     → CouldBe base (first ++ later) (length first + place) answer → CouldBe full later place answer
 could_from base full first later place answer loaded could =

@@ -27,13 +27,14 @@ use Rattle.xa_judge.proofs.Places.{map_append, get_within, place_mapped}
 use Rattle.xa_judge.proofs.Growth.{has_still, has_added, has_kept, still_there, all_added, reaches_effect}
 use Rattle.xa_judge.proofs.Growth.{reaches_event, grows_added}
 
--- where the first list is reached, so are what is left of it and what was made of the rest
+-- in a loop over a list: if the events lead to all of it, they lead to what is left and to what was made of the rest
 abbrev pub KeepsReachBoth : List Configuration → List Configuration → List Configuration → Type 0
 KeepsReachBoth first rest list =
     (base : State) (events : List Event) (trunk : List Move) → All (Reaches base events trunk) first
     → All (Reaches base events trunk) rest × All (Reaches base events trunk) list
 
--- and so by one event more is what was made of the rest
+-- in a loop over a list: if the events lead to all of it, they lead to what is left, and with one more to what was
+-- made
 abbrev pub ReachesPastBoth : Event → List Configuration → List Configuration → List Configuration → Type 0
 ReachesPastBoth event first rest list =
     (base : State) (events : List Event) (trunk : List Move) → All (Reaches base events trunk) first
@@ -49,6 +50,7 @@ abbrev pub SeesBoth : Event → List Configuration → List Configuration → Li
 SeesBoth event first rest list = (one new : Config) → Has first one → observed one event ≡ Some new
     → Has rest one ⊎ Has list new
 
+-- the configuration that was put behind a list is in it
 pub has_pushed : (list new : List Configuration) (one : Configuration) → new ≡ list ++ one ∷ []
     → Has new (config_of one)
 has_pushed list new one is = has_added list new one (inr is)
@@ -61,6 +63,7 @@ has_last rest known one c parts has =
     Contains-push_cases (configs rest) (config_of one) c (subst (λ l. Contains l c)
     (ap configs parts ∙ map_append config_of rest (one ∷ [])) has)
 
+-- the step of the loop that settles: each configuration that is gone has its settled one in the new list
 pub settles_step : (session : ℕ) (first known rest list new : List Configuration) (one next : Configuration)
     → known ≡ rest ++ one ∷ []
     → new ≡ list ++ next ∷ [] → config_of next ≡ after_settling (config_of one) session
@@ -74,6 +77,7 @@ settles_step session first known rest list new one next parts pushed is has = λ
   | inr done ↦ inr (has_kept list new next (after_settling c session) (inr pushed) done)
 ]
 
+-- if the events lead to a configuration, they lead to the settled one
 reaches_settled : (base : State) (events : List Event) (trunk : List Move) (session : ℕ) (one next : Configuration)
     → IsSettledFrom session one next
     → Reaches base events trunk one → Reaches base events trunk next
@@ -81,6 +85,7 @@ reaches_settled base events trunk session one next (inl same) reach = subst (Rea
 reaches_settled base events trunk session one next (inr effect) reach =
     reaches_effect base events trunk one next session Statement reach effect.0 effect.1 effect.2
 
+-- the loop that settles: the events lead to each of the settled configurations, too
 pub settles_reach : (session : ℕ) (first known rest list new : List Configuration) (one next : Configuration)
     → known ≡ rest ++ one ∷ []
     → new ≡ list ++ next ∷ [] → IsSettledFrom session one next
@@ -93,6 +98,7 @@ settles_reach session first known rest list new one next parts pushed from reach
           (reaches_settled base events trunk session one next from cut.1),
     )
 
+-- the step of the loop in which configurations see an event: each that is gone has seen it, if it can
 pub sees_step : (event : Event) (first known rest list new : List Configuration) (one : Configuration)
     → known ≡ rest ++ one ∷ []
     → IsSeenAdded event one list new → SeesBoth event first known list → SeesBoth event first rest new
@@ -113,6 +119,7 @@ sees_step event first known rest list new one parts (inr some) has = λ c next w
   | inr done ↦ inr (has_kept list new some.0 next some.3 done)
 ]
 
+-- the loop in which configurations see an event: the events lead, with this one more, to each new one
 pub sees_reach : (event : Event) (first known rest list new : List Configuration) (one : Configuration)
     → known ≡ rest ++ one ∷ []
     → IsSeenAdded event one list new → ReachesPastBoth event first known list → ReachesPastBoth event first rest new
@@ -128,13 +135,13 @@ sees_reach event first known rest list new one parts (inr some) reach = λ base 
           (reaches_event base events trunk one some.0 event cut.1 some.1 some.2),
     )
 
--- of the configurations before a place, each answer of the session is in the list
+-- each answer that the session has in a configuration before a place is in the list
 abbrev pub HasAnswersBefore : ℕ → List Configuration → ℕ → List Answer → Type 0
 HasAnswersBefore count known session answers =
     (place : ℕ) (one : Configuration) (answer : Answer) → place < count → slice_get known place ≡ Some one
     → slice_get one.clients.items session ≡ Some (Answered answer) → Contains answers answer
 
--- one more answer
+-- the loop over configurations: the answer that the session has in one more is added
 pub answers_step : (known : List Configuration) (place session : ℕ) (one : Configuration) (old new : List Answer)
     → place < length known
     → one ≡ get_or known place one → IsAnswerAdded (slice_get one.clients.items session) old new
@@ -201,7 +208,7 @@ closed_more place returning old new within before grows here k one below found =
     before_or_at : (k place : ℕ) → k < place + 1 → (k < place) ⊎ (k ≡ place)
     before_or_at k place below = elim (cases_lt k place) [ inl less ↦ inl less | inr more ↦ inr (omega arith) ]
 
--- what one act leads to is added
+-- the list has grown, and has what one act leads to, once that was added unless it was there
 pub effect_added : (old new : List Configuration) (place : ℕ) (one next : Configuration) (found : Option Configuration)
     (session : ℕ) (act : Act)
     → slice_get old place ≡ Some one → IsSession session
@@ -238,7 +245,7 @@ effects_added old mid new place session first second has then one Statement conf
 effects_added old mid new place session first second has then one Disconnect config at leads =
     then one config (still_there old mid place one first at) leads
 
--- what acts of the sessions up to this one lead to is there
+-- the loop over sessions: what acts of those up to this one lead to is in the list
 pub others_more : (old now new : List Configuration) (place number : ℕ) (returning : Option ℕ) (one : Configuration)
     → Grows old now → Grows now new
     → slice_get old place ≡ Some one → IsExpandedBelow number one returning now

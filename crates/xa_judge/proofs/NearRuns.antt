@@ -43,16 +43,16 @@ pub record AreNearConfigs (named : List ℕ → Bool) (left right : Config) : Ty
   pub waits : (session : ℕ) (client : ClientState) → slice_get left.clients session ≡ Some client
       → WaitsNamed named client
 
--- the other stands likewise where an effect can be in it
+-- the effect can be from this configuration, too, and leads to a near one
 abbrev EffectToo : (List ℕ → Bool) → Config → Config → ℕ → Act → Type 0
 EffectToo named right mid session act =
     (other : Config) × (effect_of right session act ≡ Some other) × AreNearConfigs named mid other
 
--- and where an event can be seen in it
+-- the event can be seen from this configuration, too, and leads to a near one
 abbrev SeenToo : (List ℕ → Bool) → Config → Config → Event → Type 0
 SeenToo named right mid event = (other : Config) × (observed right event ≡ Some other) × AreNearConfigs named mid other
 
--- what a session of the other is about
+-- in near configurations a session's client stands alike
 same_client : (named : List ℕ → Bool) (left right : Config) (session : ℕ) (o : Option ClientState)
     → AreNearConfigs named left right
     → slice_get left.clients session ≡ o → slice_get right.clients session ≡ o
@@ -128,7 +128,7 @@ near_statement named (Some (Gone (Some request))) left right mid session near fo
     )
 near_statement named (Some Left) left right mid session near found is = absurd (none-some mid is)
 
--- so does the DISCONNECT of a session whose client is gone
+-- from a near configuration the DISCONNECT of a lost client can take effect, too; `o` is where that client stands
 near_disconnect : (named : List ℕ → Bool) (o : Option ClientState) (left right mid : Config) (session : ℕ)
     → AreNearConfigs named left right
     → slice_get left.clients session ≡ o
@@ -151,7 +151,7 @@ near_disconnect named (Some (Gone request)) left right mid session near found is
     )
 near_disconnect named (Some Left) left right mid session near found is = absurd (none-some mid is)
 
--- where an effect can be in one it can be in the other, and leads to near ones
+-- an effect that can be from one of two near configurations can be from the other, and leads to near ones
 pub near_effect : (named : List ℕ → Bool) (left right mid : Config) (session : ℕ) (act : Act)
     → AreNearConfigs named left right
     → effect_of left session act ≡ Some mid
@@ -202,6 +202,7 @@ near_call named (Some Left) left right mid session request near reads found is =
     seen_too named left right mid (Call session request) Left Left near found (same_Some _ mid is) tt
     (ap (λ o. called o right session request) (same_client named left right session (Some Left) near found))
 
+-- a return can be seen on a near configuration, too; `o` is where its client stands
 near_return : (named : List ℕ → Bool) (o : Option ClientState) (left right mid : Config) (session : ℕ) (seen : Seen)
     → AreNearConfigs named left right
     → slice_get left.clients session ≡ o
@@ -240,7 +241,7 @@ near_lost named (Some (Answered answer)) left right mid session near found is =
 near_lost named (Some (Gone request)) left right mid session near found is = absurd (none-some mid is)
 near_lost named (Some Left) left right mid session near found is = absurd (none-some mid is)
 
--- an answer that isn't known
+-- a return of which only the fact is known can be seen from a near configuration, too
 near_unknown : (named : List ℕ → Bool) (o : Option ClientState) (left right mid : Config) (session : ℕ)
     → AreNearConfigs named left right
     → slice_get left.clients session ≡ o
@@ -260,7 +261,7 @@ near_unknown named (Some (Answered answer)) left right mid session near found is
 near_unknown named (Some (Gone request)) left right mid session near found is = absurd (none-some mid is)
 near_unknown named (Some Left) left right mid session near found is = absurd (none-some mid is)
 
--- so it is with an event that calls for nothing but what reads named rows
+-- an event that calls for nothing but what reads named rows can be seen from a near configuration, too
 pub near_event : (named : List ℕ → Bool) (left right mid : Config) (event : Event) → AreNearConfigs named left right
     → CallsNamed named event
     → observed left event ≡ Some mid
@@ -275,6 +276,7 @@ near_event named left right mid (Lost session) near reads is =
 near_event named left right mid (Unknown session) near reads is =
     near_unknown named (slice_get left.clients session) left right mid session near refl is
 
+-- whatever moves lead to, from a near configuration they lead to a near one
 run_too : (named : List ℕ → Bool) (events : List Event) (moves : List Move) (left right end : Config)
     → AreNearConfigs named left right
     → AllByRecursion (CallsNamed named) events
@@ -293,7 +295,7 @@ run_too named [] [] left right end near all runs =
     (right, refl, subst (λ c. AreNearConfigs named c right) (sym runs) near)
 run_too named (event ∷ events) [] left right end near all runs = absurd runs
 
--- so moves that lead on from one lead on from the other, and to near ones
+-- moves that lead on from one of two near configurations lead on from the other, to near ones
 pub near_run : (named : List ℕ → Bool) (events : List Event) (moves : List Move) (left right end : Config)
     → AreNearConfigs named left right
     → All (CallsNamed named) events

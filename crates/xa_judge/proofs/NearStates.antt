@@ -43,10 +43,11 @@ use Rattle.xa_judge.specs.Near.{AreNear, ReadsNamed}
 abbrev Rows : Type 0
 Rows = map.FinMap bytes_cmp Text
 
+-- the branches of a state, by their identifiers
 abbrev Branches : Type 0
 Branches = map.FinMap xid_cmp Branch
 
--- the state of these branches and rows
+-- a state made of these branches and committed values
 abbrev state_at : Branches → Rows → State
 state_at branches rows = record { branches = branches; rows = rows }
 
@@ -56,7 +57,7 @@ Agree named left right = (key : List ℕ) → named key ≡ true → map.get lef
 
 -- ---- rows
 
--- one write
+-- one write in both keeps committed values that agree on the named rows agreeing
 write_agrees : (named : List ℕ → Bool) (key : List ℕ) (write : Write) (left right : Rows) → Agree named left right
     → Agree named (with_write key write left) (with_write key write right)
 write_agrees named key (Some value) left right agree other is =
@@ -67,7 +68,7 @@ write_agrees named key None left right agree other is =
     get-remove bytes_total left key other ∙ ap (cond (eq_by_cmp bytes_cmp other key) None) (agree other is)
     ∙ sym (get-remove bytes_total right key other)
 
--- and several
+-- several writes in both keep committed values that agree on the named rows agreeing
 writes_agree : (named : List ℕ → Bool) (writes : List (List ℕ × Write)) (left right : Rows) → Agree named left right
     → Agree named (with_writes writes left) (with_writes writes right)
 writes_agree named [] left right agree = agree
@@ -75,7 +76,7 @@ writes_agree named (write ∷ writes) left right agree =
     write_agrees named write.0 write.1 (with_writes writes left) (with_writes writes right)
     (writes_agree named writes left right agree)
 
--- a write of a row that isn't named
+-- a write of a row that isn't named changes nothing about what agrees on the named rows
 unnamed_agrees : (named : List ℕ → Bool) (key : List ℕ) (write : Write) (left right : Rows) → Agree named left right
     → named key ≡ false
     → Agree named (with_write key write left) right
@@ -137,6 +138,7 @@ association_agrees : (branches : Branches) (left right : Rows) (session : ℕ)
 unfolding association_of own_xid
 association_agrees branches left right session = refl
 
+-- a statement that reads only named rows is answered alike by states that agree on these
 reply_agrees : (named : List ℕ → Bool) (branches : Branches) (left right : Rows) → Agree named left right
     → (session : ℕ) (statement : Statement)
     → ReadsNamed named (Given statement) → reply_to (state_at branches left) session statement
@@ -157,10 +159,12 @@ refusal_of_get false error left right = refl
 none_named : List ℕ → Bool
 none_named key = false
 
+-- any two tables of rows agree on an empty set of keys
 all_agree : (left right : Rows) → Agree none_named left right
 unfolding none_named
 all_agree left right key is = absurd (true≢false (sym is))
 
+-- whether a statement is refused never depends on committed values
 refusal_agrees : (branches : Branches) (left right : Rows) (association : Association) (statement : Statement)
     → is_refused (table (state_at branches left) association statement)
     ≡ is_refused (table (state_at branches right) association statement)
@@ -195,12 +199,12 @@ refusal_agrees branches left right association Disconnect =
 
 -- ---- what statements do
 
--- states of the same branches, whose rows agree
+-- states of the same branches are near if their committed values agree on the named rows
 near_at : (named : List ℕ → Bool) (branches : Branches) (left right : Rows) → Agree named left right
     → AreNear named (state_at branches left) (state_at branches right)
 near_at named branches left right agree = record { branches = refl; rows = agree }
 
--- a branch is changed
+-- changing the same branch in two near states leaves near states
 near_changed : (named : List ℕ → Bool) (branches : Branches) (left right : Rows) → Agree named left right
     → (xid : Xid) (change : Branch → Branch)
     → AreNear named (with_changed (state_at branches left) xid change)
@@ -215,7 +219,7 @@ near_changed named branches left right agree xid change = by (map.get branches x
     by None = near_at named branches left right agree
     by (Some branch) = near_at named (map.insert branches xid (change branch)) left right agree
 
--- a branch is committed
+-- committing the same branch in two near states leaves near states
 near_committed : (named : List ℕ → Bool) (branches : Branches) (left right : Rows) → Agree named left right
     → (xid : Xid)
     → AreNear named (committed (state_at branches left) xid) (committed (state_at branches right) xid)
@@ -235,7 +239,7 @@ near_committed named branches left right agree xid = by (map.get branches xid)
         (with_writes (map.entries branch.writes) right)
         (writes_agree named (map.entries branch.writes) left right agree)
 
--- a row is written
+-- the same write in two near states leaves near states
 near_written : (named : List ℕ → Bool) (branches : Branches) (left right : Rows) → Agree named left right
     → (association : Association) (key : List ℕ) (write : Write)
     → AreNear named (row_written (state_at branches left) association key write)
@@ -247,6 +251,7 @@ near_written named branches left right agree (Active own) key write =
     near_changed named branches left right agree own (with_own_write key write)
 near_written named branches left right agree (Idle own) key write = near_at named branches left right agree
 
+-- the effect of a statement on states that agree on the named rows leaves states that do
 near_effect : (named : List ℕ → Bool) (branches : Branches) (left right : Rows) → Agree named left right
     → (session : ℕ) (association : Association) (statement : Statement)
     → AreNear named (effect (state_at branches left) session association statement)
@@ -285,13 +290,14 @@ by_refusal (Value value) old new = refl
 by_refusal (Recovered xids) old new = refl
 by_refusal (Refused error) old new = refl
 
--- both statements are refused, or none is
+-- two near states stay near if a statement is refused in both, or in neither
 near_either : (named : List ℕ → Bool) (refused : Bool) (old new other other_new : State) → AreNear named old other
     → AreNear named new other_new
     → AreNear named (cond refused old new) (cond refused other other_new)
 near_either named true old new other other_new before later = before
 near_either named false old new other other_new before later = later
 
+-- two near states stay near after a statement that both refuse, or that leaves near ones
 near_unless : (named : List ℕ → Bool) (reply other_reply : Reply) (old new other other_new : State)
     → is_refused reply ≡ is_refused other_reply
     → AreNear named old other → AreNear named new other_new
@@ -304,6 +310,7 @@ near_unless named reply other_reply old new other other_new same before later =
     subst Left (sym (by_refusal reply old new)) (subst Right right
     (near_either named (is_refused reply) old new other other_new before later))
 
+-- a statement that reads only named rows leaves near states near: here of states given by branches and rows
 after_at : (named : List ℕ → Bool) (branches : Branches) (left right : Rows) → Agree named left right
     → (session : ℕ) (statement : Statement)
     → AreNear named (after (state_at branches left) session statement)
@@ -331,7 +338,7 @@ near_answer named left right session (Given statement) near reads =
     ap Replied (reply_agrees named left.branches left.rows right.rows near.rows session statement reads
     ∙ ap (λ s. reply_to s session statement) (right_is named left right near))
 
--- and statements leave near states
+-- a statement that reads only named rows leaves near states near
 pub near_after : (named : List ℕ → Bool) (left right : State) (session : ℕ) (statement : Statement)
     → AreNear named left right
     → AreNear named (after left session statement) (after right session statement)
@@ -340,21 +347,21 @@ near_after named left right session statement near =
     subst P (right_is named left right near)
     (after_at named left.branches left.rows right.rows near.rows session statement)
 
--- as requests do
+-- a request that reads only named rows leaves near states near
 pub near_next : (named : List ℕ → Bool) (left right : State) (session : ℕ) (request : Request)
     → AreNear named left right
     → AreNear named (next_state left session request) (next_state right session request)
 near_next named left right session Unread near = near
 near_next named left right session (Given statement) near = near_after named left right session statement near
 
--- the write is refused, or done
+-- whether a write is refused or done, the state after it is near the other, if both states are
 near_refusable : (named : List ℕ → Bool) (refused : Bool) (old new other : State) → AreNear named old other
     → AreNear named new other
     → AreNear named (unless_refused (refused_if refused RowLocked Accepted) old new) other
 near_refusable named true old new other before later = before
 near_refusable named false old new other before later = later
 
--- the left one with a row written that isn't named
+-- writing a row that isn't named in the left state leaves it near the right one
 near_unnamed : (named : List ℕ → Bool) (left right : State) (key : List ℕ) (write : Write) → AreNear named left right
     → named key ≡ false
     → AreNear named (record left { rows = with_write key write left.rows }) right
@@ -375,7 +382,7 @@ near_put named left right session key value near free unnamed =
     (record left { rows = with_write key (Some value) left.rows }) right near
     (near_unnamed named left right key (Some value) near unnamed))
 
--- and so does its deletion
+-- deleting a row that isn't named, outside of a branch and in one of two near states alone, leaves them near
 pub near_del : (named : List ℕ → Bool) (left right : State) (session : ℕ) (key : List ℕ) → AreNear named left right
     → association_of left session ≡ Free → named key ≡ false → AreNear named (after left session (Del key)) right
 unfolding after reply_to table effect

@@ -41,7 +41,7 @@ refuted_near named left right events place near calls is = record {
       (near_sym named left right near) calls explained);
 }
 
--- and what could be answered on one could be on the other
+-- an answer that could be from one of two near states could be from the other
 could_near : (named : List ℕ → Bool) (left right : State) (events : List Event) (place : ℕ) (answer : Answer)
     → AreNear named left right
     → All (CallsNamed named) events → CouldBe left events place answer → CouldBe right events place answer
@@ -61,6 +61,7 @@ could_near named left right events place answer near calls could =
       };
     }
 
+-- the answers that a session could have had are the same from near states
 pub answers_near : (named : List ℕ → Bool) (left right : State) (events : List Event) (place : ℕ)
     (answers : List Answer) → AreNear named left right
     → All (CallsNamed named) events → AreAllAnswers left events place answers → AreAllAnswers right events place answers

@@ -5,10 +5,11 @@ use Rattle.std.proofs.lemmas.List.{map-append}
 use Rattle.std.proofs.lemmas.List.Folds.{concat-append}
 use Rattle.xa_judge.specs.Path.{move_of, moves_of}
 
+-- joining blocks with one more at the end is joining them and putting that one behind
 concat_more : (blocks : List (List ℕ)) (last : List ℕ) → concat (blocks ++ last ∷ []) ≡ concat blocks ++ last
 concat_more blocks last = concat-append blocks (last ∷ []) ∙ ap (λ l. concat blocks ++ l) (append-nil last)
 
--- a code more
+-- one code more in the last block is one move more
 pub moves_push : (blocks : List (List ℕ)) (tail : List ℕ) (code : ℕ)
     → moves_of blocks (tail ++ code ∷ []) ≡ moves_of blocks tail ++ move_of code ∷ []
 moves_push blocks tail code =
@@ -19,14 +20,14 @@ moves_push blocks tail code =
 pub moves_folded : (blocks : List (List ℕ)) (tail : List ℕ) → moves_of (blocks ++ tail ∷ []) [] ≡ moves_of blocks tail
 moves_folded blocks tail = ap (map move_of) (append-nil (concat (blocks ++ tail ∷ [])) ∙ concat_more blocks tail)
 
--- the blocks' moves come first
+-- the moves of full blocks come first, and then those of the last one
 pub moves_split : (blocks : List (List ℕ)) (tail : List ℕ)
     → moves_of blocks tail ≡ moves_of blocks [] ++ map move_of tail
 moves_split blocks tail =
     map-append move_of (concat blocks) tail ∙ ap (λ l. map move_of l ++ map move_of tail)
     (sym (append-nil (concat blocks)))
 
--- a block more
+-- the moves of blocks with one full block more are the moves of the others, and then this block's
 pub moves_more : (blocks : List (List ℕ)) (last : List ℕ)
     → moves_of (blocks ++ last ∷ []) [] ≡ moves_of blocks [] ++ map move_of last
 moves_more blocks last = moves_folded blocks last ∙ moves_split blocks last

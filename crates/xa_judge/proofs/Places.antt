@@ -5,6 +5,7 @@ use Rattle.std.specs.Prelude.{slice_get}
 use Rattle.std.specs.List.{Contains}
 use Rattle.std.proofs.lemmas.Option.{none-some, same_Some, slice_get_read}
 
+-- two numbers are the same or not
 pub same_number : (m n : ℕ) → (m ≡ n) ⊎ (m ≢ n)
 same_number zero zero = inl refl
 same_number zero (suc n) = inr (λ e. absurd (omega arith))
@@ -49,10 +50,12 @@ module _ {A : Type 0} where
   get_within (y ∷ xs) zero within = (y, refl)
   get_within (y ∷ xs) (suc i) within = get_within xs i (omega arith)
 
+-- mapping two lists, one behind the other, is mapping each of them
 pub map_append : {A B : Type 0} (f : A → B) (xs ys : List A) → map f (xs ++ ys) ≡ map f xs ++ map f ys
 map_append f [] ys = refl
 map_append f (x ∷ xs) ys = ap (λ l. f x ∷ l) (map_append f xs ys)
 
+-- mapping leaves the length
 pub length_map : {A B : Type 0} (f : A → B) (xs : List A) → length (map f xs) ≡ length xs
 length_map f [] = refl
 length_map f (x ∷ xs) = ap suc (length_map f xs)
@@ -69,7 +72,7 @@ mapped_place {A} {B} f xs y has = by xs has.0 has.1 has.2
     by (x ∷ xs) (suc i) within at = let rest = by xs i (omega arith) at in
         (suc rest.0, rest.1, omega (arith, rest.2), rest.3, rest.4)
 
--- and each place of the list gives one
+-- the image of what stands at a place is in the mapped list
 pub place_mapped : {A B : Type 0} (f : A → B) (xs : List A) (i : ℕ) (x : A) → slice_get xs i ≡ Some x
     → Contains (map f xs) (f x)
 place_mapped f [] i x found = absurd (none-some x found)

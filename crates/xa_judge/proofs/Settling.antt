@@ -26,6 +26,7 @@ use Rattle.xa_judge.specs.Found.{config_of, Has, IsClosedBelow}
 use Rattle.xa_judge.proofs.Places.{same_number, get_written, get_apart, mapped_place}
 use Rattle.xa_judge.proofs.Waits.{acted, may_answer, answered_apart, First, later, return_answered}
 
+-- a session that has an answer may still give one
 answered_may : (o : Option ClientState) → answered_so o ≡ true → may_answer o ≡ true
 answered_may None e = absurd (false≢true e)
 answered_may (Some Idle) e = absurd (false≢true e)
@@ -68,7 +69,7 @@ pub record Settled (list : List Configuration) (session : ℕ) (seen : Seen) (mo
   pub has : Has list one
   pub rest : First (after_settling one session) (Return session seen) more new
 
--- where the session was answered, nothing is left to settle
+-- a session that has its answer has nothing left to settle
 settled_answered : (old : Config) (session : ℕ) → call_is_answered old session ≡ true → after_settling old session ≡ old
 unfolding after_settling
 settled_answered old session answered = ap (λ r. settled_by r old session) (by (slice_get old.clients session) answered)
@@ -81,6 +82,7 @@ settled_answered old session answered = ap (λ r. settled_by r old session) (by 
     by (Some (Gone request)) e = absurd (false≢true e)
     by (Some Left) e = absurd (false≢true e)
 
+-- a return to a session that has its answer is seen at once, or after acts of others that can wait
 settles_answered : (list : List Configuration) (session : ℕ) (seen : Seen) (more : List Event) (old new : Config)
     (moves : List Move) → Has list old
     → call_is_answered old session ≡ true → LeadsThrough old (Return session seen ∷ more) moves new
@@ -100,6 +102,7 @@ OwnAct old session mid =
     ((after_settling old session ≡ mid) × (call_is_answered mid session ≡ true))
     ⊎ (may_answer (slice_get mid.clients session) ≡ false)
 
+-- the act of a session that leads to its answer is its statement's
 own_act : (session : ℕ) (act : Act) (old mid : Config) → effect_of old session act ≡ Some mid → OwnAct old session mid
 unfolding effect_of carried_out disconnected after_settling
 own_act session act old mid at = by act (slice_get old.clients session) refl at
@@ -141,6 +144,7 @@ own_act session act old mid at = by act (slice_get old.clients session) refl at
     by Disconnect (Some (Gone request)) found is = inr (gone Disconnect request found is)
     by Disconnect (Some Left) found is = absurd (none-some mid (sym (ap (λ o. disconnected o old session) found) ∙ is))
 
+-- a return behind the session's own act: settle the session first, and the rest follows
 settles_own : (list : List Configuration) (session : ℕ) (act : Act) (seen : Seen) (more : List Event)
     (old mid new : Config) (moves : List Move) → Has list old
     → effect_of old session act ≡ Some mid
@@ -156,7 +160,7 @@ settles_own list session act seen more old mid new moves has at runs = elim (own
   | inr none ↦ absurd (dead mid new session seen more moves none runs)
 ]
 
--- numbers that differ
+-- two numbers that differ differ as found values, too
 apart_some : (m n : ℕ) → m ≢ n → Some n ≢ Some m
 apart_some m n apart e = apart (sym (same_Some n m e))
 
@@ -190,6 +194,7 @@ settles_effect list session other act seen more old new moves closed has runs go
       | inr apart ↦ go_on (other_act list session other act old runs.0 closed has runs.1 apart unanswered runs.2)
     ]
 
+-- in a closed list, each order up to a return goes on from a configuration with the session settled
 pub settles : (list : List Configuration) (session : ℕ) (seen : Seen) (more : List Event) (old new : Config)
     (moves : List Move)
     → IsClosedBelow (length list) (Some session) list → Has list old
@@ -226,12 +231,13 @@ stays_answered old new session (Effect other act ∷ moves) answered runs =
     stays_answered runs.0 new session moves (ap answered_so here ∙ answered) runs.3 ∙ here
 stays_answered old new session [] answered runs = ap (λ (c : Config). slice_get c.clients session) runs
 
--- in one of the list the session is answered so, once what it called for has taken effect
+-- in some configuration of the list the session has this answer, once what it called for has taken effect
 pub record AnsweredSo (list : List Configuration) (session : ℕ) (answer : Answer) : Type 0 where
   pub one : Config
   pub has : Has list one
   pub stands : slice_get (after_settling one session).clients session ≡ Some (Answered answer)
 
+-- the answer of a session that has one is that answer
 answers_here : (list : List Configuration) (session : ℕ) (answer : Answer) (old new : Config) (moves : List Move)
     → Has list old
     → call_is_answered old session ≡ true → LeadsThrough old [] moves new
@@ -244,6 +250,7 @@ answers_here list session answer old new moves has answered runs stands = record
       ∙ sym (stays_answered old new session moves answered runs) ∙ stands;
 }
 
+-- the answer behind the session's own act is the one after settling
 answers_own : (list : List Configuration) (session : ℕ) (answer : Answer) (act : Act) (old mid new : Config)
     (moves : List Move) → Has list old
     → effect_of old session act ≡ Some mid → LeadsThrough mid [] moves new
@@ -260,6 +267,7 @@ answers_own list session answer act old mid new moves has at runs stands = elim 
   | inr none ↦ absurd (dead_end mid new session answer moves none runs stands)
 ]
 
+-- an act of another session: the closed list has the configuration after it, or the act can wait
 answers_effect : (list : List Configuration) (session other : ℕ) (answer : Answer) (act : Act) (old new : Config)
     (moves : List Move)
     → IsClosedBelow (length list) (Some session) list → Has list old
@@ -277,8 +285,7 @@ answers_effect list session other answer act old new moves closed has runs stand
       | inr apart ↦ go_on (other_act list session other act old runs.0 closed has runs.1 apart unanswered runs.2)
     ]
 
--- where a list is closed, whatever a session is answered by acts alone it is in one of the list, once what it called
--- for has taken effect
+-- in a closed list, each answer that acts alone lead a session to is that of a settled configuration
 pub answers_settle : (list : List Configuration) (session : ℕ) (answer : Answer) (old new : Config) (moves : List Move)
     → IsClosedBelow (length list) (Some session) list → Has list old → LeadsThrough old [] moves new
     → slice_get new.clients session ≡ Some (Answered answer)

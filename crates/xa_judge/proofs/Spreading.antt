@@ -27,6 +27,7 @@ pub record Chosen (known : List Configuration) (keys : List (List ℕ)) (marks :
   pub marked : All (λ one. contains nat_cmp marks (mark keys one) ≡ true) chosen
   pub differ : AreDifferent chosen
 
+-- before the first configuration none was chosen
 pub chosen_none : (known : List Configuration) (keys : List (List ℕ)) (marks : BTreeSet ℕ) → Chosen known keys marks 0
 chosen_none known keys marks = record {
   chosen = [];
@@ -46,7 +47,7 @@ still_marked old new added number updates had = updates.0 number ∙ by (is_at (
     by true = refl
     by false = had
 
--- a configuration's number was there
+-- a configuration whose number was noted before isn't chosen
 pub chosen_same : (known : List Configuration) (keys : List (List ℕ)) (old new : BTreeSet ℕ) (count added : ℕ)
     → Updates nat_cmp old new added true
     → Chosen known keys old count → Chosen known keys new count
@@ -58,7 +59,7 @@ chosen_same known keys old new count added updates c = record {
   differ = c.differ;
 }
 
--- and here it wasn't
+-- one configuration more is chosen, if its number wasn't noted yet: it differs from all chosen before
 chosen_more : (known : List Configuration) (keys : List (List ℕ)) (old new : BTreeSet ℕ) (count : ℕ) (one : Config)
     → Has known one
     → Updates nat_cmp old new (mark keys one) true → contains nat_cmp old (mark keys one) ≡ false
@@ -77,6 +78,7 @@ chosen_more known keys old new count one has updates none c = record {
       c.differ;
 }
 
+-- a test whose negation holds fails
 not_there : (b : Bool) → not b ≡ true → b ≡ false
 not_there true e = absurd (false≢true e)
 not_there false e = refl

@@ -23,7 +23,7 @@ drop_got {A} xs i x found = subst (λ n. drop i xs ≡ x ∷ drop n xs) (sym (ad
     by (y ∷ ys) zero found = ap (λ a. a ∷ ys) (same_Some y x found)
     by (y ∷ ys) (suc i) found = by ys i found
 
--- where an effect leads to a configuration, moves lead on from it that led on by the effect
+-- moves that lead on from a configuration by an effect lead on from the one after it
 pub effect_leads : (old new : Config) (session : ℕ) (act : Act) (events : List Event) (later : List Move) (end : Config)
     → IsSession session
     → effect_of old session act ≡ Some new
@@ -33,7 +33,7 @@ effect_leads old new session act events later end is leads = (
   λ runs. (new, is, leads, runs),
 )
 
--- so it is with an event
+-- moves that lead on from a configuration by an event lead on from the one after it
 pub event_leads : (old new : Config) (event : Event) (events more : List Event) (later : List Move) (end : Config)
     → events ≡ event ∷ more
     → observed old event ≡ Some new
@@ -48,21 +48,21 @@ event_leads old new event events more later end is leads = (
       subst (λ l. LeadsThrough old l (Seeing ∷ later) end) (sym is) first,
 )
 
--- with no move left, events that are left are never seen
+-- with no move left, an event that is left is never seen
 pub none_leads : (config : Config) (events : List Event) (seen : ℕ) (event : Event) (end : Config)
     → slice_get events seen ≡ Some event
     → LeadsThrough config (drop seen events) [] end → ⊥
 none_leads config events seen event end found runs =
     subst (λ l. LeadsThrough config l [] end) (drop_got events seen event found) runs
 
--- a configuration to which the moves lead is one
+-- a configuration that the search finds is one to which the moves lead
 pub some_leads : (base : State) (events : List Event) (moves : List Move) (found : Option Configuration)
     → is_some found ≡ true
     → IfSome found (λ one. LeadsThrough (opening_config base) events moves (config_of one)) → Leads base events moves
 some_leads base events moves None is leads = absurd (false≢true is)
 some_leads base events moves (Some one) is leads = (config_of one, leads)
 
--- where the moves lead somewhere, a configuration was found
+-- if the moves lead somewhere, walking them finds a configuration
 pub leads_some : (base : State) (events : List Event) (moves : List Move) (found : Option Configuration)
     → (found ≡ None → (end : Config) → LeadsThrough (opening_config base) events moves end → ⊥)
     → Leads base events moves → is_some found ≡ true

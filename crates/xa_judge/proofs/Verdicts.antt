@@ -17,18 +17,14 @@ use Rattle.xa_judge.specs.Found.{config_of, configs, Has, Reaches, IsSpread, Kee
 use Rattle.xa_judge.specs.Found.{IsOpening, IsPathOf}
 use Rattle.xa_judge.specs.Late.{IsCounted, IsKept}
 use Rattle.xa_judge.specs.Advances.{Continues, AreAnswers}
+use Rattle.xa_judge.specs.Told.{IsComplete}
 use Rattle.xa_judge.specs.Verdicts.{IsRefuted, CouldBe, AreAllAnswers, IsWide}
 use Rattle.xa_judge.proofs.Places.{get_within, length_map}
 use Rattle.xa_judge.proofs.Growth.{all_at}
 use Rattle.xa_judge.proofs.Advances.{reached_of}
 use Rattle.xa_judge.proofs.Late.{counted_of_more}
 
--- where moves lead through those that were seen and more, some lead through these from the list, to the same end
-abbrev pub IsComplete : State → List Event → List Configuration → Type 0
-IsComplete base seen list =
-    (more : List Event) (moves : List Move) (new : Config) → LeadsThrough (opening_config base) (seen ++ more) moves new
-    → Continues list more new
-
+-- one event more: the list still has a configuration for each order that explains the events
 pub complete_more : (base : State) (events : List Event) (place : ℕ) (event : Event) (old new : List Configuration)
     → place < length events
     → event ≡ get_or events place event → IsComplete base (take place events) old
@@ -41,6 +37,7 @@ complete_more base events place event old new within at complete leads = λ more
     leads more end (complete (event ∷ more) moves end (subst
     (λ l. LeadsThrough (opening_config base) l moves end) parts runs))
 
+-- the events seen so far lead to each configuration of the list, with one event more
 pub reach_more : (base : State) (events : List Event) (place : ℕ) (event : Event) (trunk : List Move)
     (old new : List Configuration) → place < length events
     → event ≡ get_or events place event
@@ -51,7 +48,7 @@ reach_more base events place event trunk old new within at all leads =
     sym (take_more events place event within ∙ ap (λ x. take place events ++ x ∷ []) (sym at)) in
     subst (λ l. All (Reaches base l trunk) new) parts (leads base (take place events) trunk all)
 
--- one of the list explains what was seen
+-- if a list has a configuration that the events lead to, some order explains them
 pub explained_by : (base : State) (seen : List Event) (trunk : List Move) (list : List Configuration) → 0 < length list
     → All (Reaches base seen trunk) list
     → Explained base seen
@@ -60,6 +57,7 @@ explained_by base seen trunk list some all =
     let first = get_within list 0 some in
     (trunk ++ first.0.path, config_of first.0, all_at (Reaches base seen trunk) list 0 first.0 all first.1)
 
+-- LEGAL is right: the moves that are kept for a configuration lead through all events
 pub legal : (base : State) (events : List Event) (trunk moves : List Move) (list : List Configuration)
     → All (Reaches base (take (length events) events) trunk) list → IsPathOf trunk list moves
     → (new : Config) × LeadsThrough (opening_config base) events moves new
@@ -74,6 +72,7 @@ legal base events trunk moves list all path =
           (sym path.2) reach),
     )
 
+-- ILLEGAL is right: some order explains the events before this one, and none explains it, since none is left
 pub refuted : (base : State) (events : List Event) (place : ℕ) (event : Event) (trunk : List Move)
     (list : List Configuration) → place < length events
     → event ≡ get_or events place event → 0 < length list
@@ -134,6 +133,7 @@ answers_given base events place (Unknown session) trunk list answers at all comp
       ∙ could.returns in cc);
 }
 
+-- UNDECIDED is right: so many different configurations would have had to be kept
 pub wide : (base : State) (events : List Event) (limit place : ℕ) (event : Event) (trunk : List Move)
     (list many : List Configuration)
     → place < length events → slice_get events place ≡ Some event
@@ -157,6 +157,7 @@ wide base events limit place event trunk list many within at all kept spread kee
       (counted (get_or spread.many k d) (spread.has k d below));
 }
 
+-- the configuration that judging begins with is reached by no event
 pub opens_reached : (base : State) (list : List Configuration) → IsOpening base list → All (Reaches base [] []) list
 unfolding Reaches
 opens_reached base list is = subst (λ l. All (Reaches base [] []) l) (sym is.1)
@@ -165,6 +166,7 @@ opens_reached base list is = subst (λ l. All (Reaches base [] []) l) (sym is.1)
     one : LeadsThrough (opening_config base) [] ([] ++ is.0.path) (config_of is.0)
     one = subst (λ m. LeadsThrough (opening_config base) [] m (config_of is.0)) (sym is.3) is.2
 
+-- before the first event the list with the first configuration alone is complete
 pub opens_complete : (base : State) (list : List Configuration) → IsOpening base list → IsComplete base [] list
 opens_complete base list is more moves end runs = record {
   one = opening_config base;
@@ -173,6 +175,7 @@ opens_complete base list is more moves end runs = record {
   runs = runs;
 }
 
+-- common first moves may be taken out of all configurations: orders go on alike
 pub continues_shortened : (trunk longer : List Move) (old new : List Configuration) (more : List Event) (end : Config)
     → IsShortened trunk longer old new
     → Continues old more end → Continues new more end
@@ -185,6 +188,7 @@ continues_shortened trunk longer old new more end is now =
       runs = now.runs;
     }
 
+-- a list whose common first moves were taken out isn't empty if it wasn't before
 pub some_shortened : (trunk longer : List Move) (old new : List Configuration) → IsShortened trunk longer old new
     → 0 < length old → 0 < length new
 some_shortened trunk longer old new is some =

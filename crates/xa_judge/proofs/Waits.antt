@@ -27,6 +27,7 @@ use Rattle.xa_judge.specs.Explained.{next_state, LeadsThrough, IsSession}
 use Rattle.xa_judge.specs.Late.{call_is_answered, answered_so, has_unheard, unheard_so, called_for}
 use Rattle.xa_judge.proofs.Places.{same_number, get_written, get_apart, set_apart}
 
+-- moves that lead through events still do with one act more at the end, which leads on from there
 pub runs_effect : (old mid new : Config) (events : List Event) (moves : List Move) (session : ℕ) (act : Act)
     → LeadsThrough old events moves mid
     → IsSession session
@@ -41,6 +42,7 @@ runs_effect old mid new [] [] session act runs is at = let P : Config → Type 0
     λ c. effect_of c session act ≡ Some new in (new, is, subst P runs at, refl)
 runs_effect old mid new (event ∷ events) [] session act runs is at = absurd runs
 
+-- moves that lead through events lead through one event more, if it can be seen at the end
 pub runs_event : (old mid new : Config) (events : List Event) (moves : List Move) (event : Event)
     → LeadsThrough old events moves mid
     → observed mid event ≡ Some new
@@ -54,6 +56,7 @@ runs_event old mid new [] [] event runs at = let P : Config → Type 0 = λ c. o
     (new, subst P runs at, refl)
 runs_event old mid new (first ∷ events) [] event runs at = absurd runs
 
+-- a configuration of a state and of how far the clients are
 abbrev pub some_config : State → List ClientState → Option Config
 some_config state clients = Some (record { state = state; clients = clients })
 
@@ -79,6 +82,7 @@ pub record Acted (old : Config) (session : ℕ) (act : Act) (new : Config) : Typ
   pub unanswered : answered_so (Some before) ≡ false
   pub dead : may_answer (Some before) ≡ false → may_answer (Some next) ≡ false
 
+-- what a statement's effect changes: the state, and its own client; `o` is where that stood
 acted_statement : (o : Option ClientState) (old new : Config) (session : ℕ) → slice_get old.clients session ≡ o
     → carried_out o old session ≡ Some new
     → Acted old session Statement new
@@ -116,6 +120,7 @@ acted_statement (Some (Gone (Some request))) old new session found is = record {
 }
 acted_statement (Some Left) old new session found is = absurd (none-some new is)
 
+-- what the effect of a lost client's `DISCONNECT` changes: the state, and that client
 acted_disconnect : (o : Option ClientState) (old new : Config) (session : ℕ) → slice_get old.clients session ≡ o
     → disconnected o old session ≡ Some new
     → Acted old session Disconnect new
@@ -139,6 +144,7 @@ acted_disconnect (Some (Gone request)) old new session found is = record {
 }
 acted_disconnect (Some Left) old new session found is = absurd (none-some new is)
 
+-- what any effect changes: the state, and the client whose act it is
 pub acted : (old new : Config) (session : ℕ) (act : Act) → effect_of old session act ≡ Some new
     → Acted old session act new
 unfolding effect_of
@@ -168,7 +174,7 @@ effect_called config session request = by (slice_get config.clients session)
     by (Some (Gone other)) is = absurd (none-some request is)
     by (Some Left) is = absurd (none-some request is)
 
--- whose event it is
+-- the session whose event it is
 abbrev pub session_in : Event → ℕ
 session_in (Call session request) = session
 session_in (Return session seen) = session
@@ -184,6 +190,7 @@ pub record Saw (old : Config) (event : Event) (new : Config) : Type 0 where
   pub again : (other : Config) → slice_get other.clients (session_in event) ≡ Some before
       → observed other event ≡ Some (with_client other (session_in event) next)
 
+-- what a call changes: its own client alone
 saw_call : (o : Option ClientState) (old new : Config) (session : ℕ) (request : Request)
     → slice_get old.clients session ≡ o
     → called o old session request ≡ Some new → Saw old (Call session request) new
@@ -217,6 +224,7 @@ saw_call (Some Left) old new session request found is =
       again = λ other at. ap (λ o. called o other session request) at;
     }
 
+-- what a return changes: its own client alone, which had an answer
 saw_return : (o : Option ClientState) (old new : Config) (session : ℕ) (seen : Seen) → slice_get old.clients session ≡ o
     → returned o old session seen ≡ Some new
     → Saw old (Return session seen) new × (answered_so o ≡ true)
@@ -239,6 +247,7 @@ saw_return (Some (Answered answer)) old new session seen found is =
 saw_return (Some (Gone request)) old new session seen found is = absurd (none-some new is)
 saw_return (Some Left) old new session seen found is = absurd (none-some new is)
 
+-- what a loss changes: the lost client alone
 saw_lost : (o : Option ClientState) (old new : Config) (session : ℕ) → slice_get old.clients session ≡ o
     → lost o old session ≡ Some new
     → Saw old (Lost session) new
@@ -278,7 +287,7 @@ abbrev Swapped : Config → Event → ℕ → Act → Config → Type 0
 Swapped old event session act new =
     (first : Config) × (observed old event ≡ Some first) × (effect_of first session act ≡ Some new)
 
--- an act and an event of different sessions
+-- an act and an event of different sessions may be exchanged
 commute : (old mid new : Config) (session : ℕ) (act : Act) (event : Event) → Acted old session act mid
     → Saw mid event new → session ≢ session_in event
     → Swapped old event session act new
@@ -295,7 +304,7 @@ commute old mid new session act event a s apart =
     ∙ sym (s.is ∙ ap (λ (c : Config). with_client c other s.next) a.is) in
     (first, s.again old (sym here ∙ s.found), a.again first there refl ∙ ap Some end)
 
--- the act was the loss of a client's
+-- a call that took effect before its client was lost can take effect after the loss instead, to the same end
 lost_alone : (o : Option ClientState) (old mid new : Config) (session : ℕ) → slice_get old.clients session ≡ o
     → carried_out o old session ≡ Some mid
     → Saw mid (Lost session) new → lost (slice_get mid.clients session) mid session ≡ Some new
@@ -335,6 +344,7 @@ lost_alone (Some (Gone (Some request))) old mid new session found is s at =
     absurd (none-some new (sym (ap (λ o. lost o mid session) here) ∙ at))
 lost_alone (Some Left) old mid new session found is s at = absurd (none-some mid is)
 
+-- a client whose `DISCONNECT` took effect is gone already, so it can't be lost then
 left_alone : (o : Option ClientState) (old mid new : Config) (session : ℕ) → slice_get old.clients session ≡ o
     → disconnected o old session ≡ Some mid
     → lost (slice_get mid.clients session) mid session ≡ Some new → ⊥
@@ -398,6 +408,7 @@ gone_alone (Some (Gone None)) old mid new session request found heard is at =
 gone_alone (Some (Gone (Some other))) old mid new session request found heard is at = absurd (false≢true (sym heard))
 gone_alone (Some Left) old mid new session request found heard is at = absurd (none-some mid is)
 
+-- an act of the calling session before its call may come after it, unless it is a call that nobody hears
 call_alone : (old mid new : Config) (session : ℕ) (act : Act) (request : Request) → has_unheard old session ≡ false
     → effect_of old session act ≡ Some mid
     → called (slice_get mid.clients session) mid session request ≡ Some new
@@ -423,6 +434,7 @@ pub answered_apart : (old mid : Config) (session other : ℕ) (act : Act) → Ac
 answered_apart old mid session other act a answered = λ e.
     false≢true (sym a.unanswered ∙ ap answered_so (sym a.found ∙ ap (slice_get old.clients) e) ∙ answered)
 
+-- an act before an event may come after it, if the event needs no act before it
 swap : (old mid new : Config) (session : ℕ) (act : Act) (event : Event) → effect_of old session act ≡ Some mid
     → observed mid event ≡ Some new
     → CanWait old event → Swapped old event session act new
@@ -463,6 +475,7 @@ swap old mid new session Disconnect (Lost other) is at waits = elim (same_number
 ]
 swap old mid new session act (Unknown other) is at waits = absurd waits
 
+-- an event that needs no act before it needs none after an act has taken effect
 still_waits : (old mid : Config) (session : ℕ) (act : Act) (event : Event) → effect_of old session act ≡ Some mid
     → CanWait old event → CanWait mid event
 still_waits old mid session act (Call other request) is waits =
@@ -490,6 +503,7 @@ pub record First (old : Config) (event : Event) (more : List Event) (new : Confi
   pub moves : List Move
   pub runs : LeadsThrough first more moves new
 
+-- an event that needs no act before it may be seen first, and the acts before it come later
 pub later : (old new : Config) (event : Event) (more : List Event) (moves : List Move) → CanWait old event
     → LeadsThrough old (event ∷ more) moves new
     → First old event more new
@@ -507,7 +521,7 @@ later old new event more (Effect session act ∷ moves) waits runs =
     }
 later old new event more [] waits runs = absurd runs
 
--- where a return was seen, its session was answered
+-- if a return was seen, its session had an answer
 pub return_answered : (old new : Config) (session : ℕ) (seen : Seen) → observed old (Return session seen) ≡ Some new
     → call_is_answered old session ≡ true
 unfolding observed

@@ -54,11 +54,11 @@ pub record Config : Type 0 where
   pub state : State
   pub clients : List ClientState
 
--- before all events; place 0 belongs to no session
+-- the configuration before all events; place 0 of clients belongs to no session
 unfoldable pub opening_config : State → Config
 opening_config base = record { state = base; clients = replicate 17 Idle }
 
--- the session is in this state from now on
+-- the configuration once the session is in this state
 abbrev pub with_client : Config → ℕ → ClientState → Config
 with_client config session client = record { state = config.state; clients = slice_set config.clients session client }
 
@@ -86,11 +86,13 @@ effect_of config session ItsDisconnect = disconnected (slice_get config.clients 
 abbrev pub same_text : Text → Text → Bool
 same_text left right = pointwise nat_eq left.items right.items
 
+-- whether two values of a row are the same; None is a row without a value
 abbrev pub same_values : Option Text → Option Text → Bool
 same_values None None = true
 same_values (Some text) (Some value) = same_text text value
 same_values left right = false
 
+-- whether two lists have the same identifiers, in the same order
 abbrev pub same_rows : List Xid → List Xid → Bool
 same_rows [] [] = true
 same_rows (row ∷ rows) (xid ∷ xids) = same_xid row xid && same_rows rows xids
@@ -136,14 +138,14 @@ answered_unknown (Some (Called request)) config session = Some (with_client conf
 answered_unknown (Some (Answered answer)) config session = Some (with_client config session Idle)
 answered_unknown other config session = None
 
--- an event is seen
+-- the configuration after an event is seen, if it can be seen there
 unfoldable pub observed : Config → Event → Option Config
 observed config (Call session request) = called (slice_get config.clients session) config session request
 observed config (Return session seen) = returned (slice_get config.clients session) config session seen
 observed config (Lost session) = lost (slice_get config.clients session) config session
 observed config (Unknown session) = answered_unknown (slice_get config.clients session) config session
 
--- a session's number
+-- the number is a session's, 1 to 16
 abbrev pub IsSession : ℕ → Type 0
 IsSession session = (1 ≤ session) × (session ≤ 16)
 

@@ -34,10 +34,11 @@ config_of one = record { state = one.server; clients = one.clients.items }
 abbrev pub moved_to : State → List ClientState → ℕ → ClientState → Config
 moved_to state clients session client = record { state = state; clients = slice_set clients session client }
 
+-- the configurations as definitions see them, without what the program keeps beside them
 abbrev pub configs : List Configuration → List Config
 configs list = map config_of list
 
--- the trunk and the path of the configuration lead to it
+-- the trunk, and then the configuration's own path, lead through the events to the configuration
 unfoldable pub Reaches : State → List Event → List Move → Configuration → Type 0
 Reaches base events trunk one = LeadsThrough (opening_config base) events (trunk ++ one.path) (config_of one)
 
@@ -107,7 +108,7 @@ IsOpening base list =
 abbrev pub IsPathOf : List Move → List Configuration → List Move → Type 0
 IsPathOf trunk list moves = (one : Configuration) × (slice_get list 0 ≡ Some one) × (moves ≡ trunk ++ one.path)
 
--- the same configurations are reached, with another trunk
+-- the new list has the same configurations; the common first moves of all are in the longer trunk now
 pub record IsShortened (trunk longer : List Move) (old new : List Configuration) : Type 0 where
   pub same : configs new ≡ configs old
   pub reach : (base : State) (events : List Event) → All (Reaches base events trunk) old
@@ -123,7 +124,7 @@ pub record Grows (old new : List Configuration) : Type 0 where
 abbrev pub AddsOnly : Option ℕ → Config → List Configuration → List Configuration → Type 0
 AddsOnly returning one old new = (config : Config) → Has new config → Has old config ⊎ IsNextTo returning one config
 
--- this is one of the list after what the session called for takes effect
+-- this is what a configuration of the list becomes once what the session called for takes effect
 abbrev pub IsSettledIn : List Configuration → ℕ → Config → Type 0
 IsSettledIn list session config = (one : Config) × Has list one × (config ≡ after_settling one session)
 

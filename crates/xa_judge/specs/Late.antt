@@ -27,6 +27,7 @@ abbrev pub called_for : Option ClientState → Option Request
 called_for (Some (Called request)) = Some request
 called_for other = None
 
+-- the configuration after the session's request, if there is one: the state goes on, and the client has its answer
 abbrev pub settled_by : Option Request → Config → ℕ → Config
 settled_by None config session = config
 settled_by (Some request) config session =
@@ -39,6 +40,7 @@ settled_by (Some request) config session =
 unfoldable pub after_settling : Config → ℕ → Config
 after_settling config session = settled_by (called_for (slice_get config.clients session)) config session
 
+-- the client has an answer that it hasn't returned yet
 abbrev pub answered_so : Option ClientState → Bool
 answered_so (Some (Answered answer)) = true
 answered_so other = false
@@ -52,6 +54,7 @@ abbrev pub unheard_so : Option ClientState → Bool
 unheard_so (Some (Gone (Some request))) = true
 unheard_so other = false
 
+-- the session's client is gone, and its last call may still take effect
 abbrev pub has_unheard : Config → ℕ → Bool
 has_unheard config session = unheard_so (slice_get config.clients session)
 
@@ -70,7 +73,7 @@ pub record IsNextTo (returning : Option ℕ) (one config : Config) : Type 0 wher
   pub unanswered : is_over returning one ≡ false
   pub leads : effect_of one session act ≡ Some config
 
--- any number of such acts lead to the configuration from one that is kept
+-- any number of acts that count (`IsNextTo`) lead to the configuration from one that is kept
 pub data IsReachedFrom (kept : Config → Type 0) (returning : Option ℕ) : Config → Type 0 where
   at_once : (config : Config) → kept config → IsReachedFrom kept returning config
   by_act : (one config : Config) → IsReachedFrom kept returning one → IsNextTo returning one config
@@ -100,7 +103,7 @@ pub record IsCounted (kept : Config → Type 0) (event : Event) (config : Config
   pub widens : Widens kept event
   pub reached : IsReachedFrom kept (returning_at event) config
 
--- this stands directly before the event; before a return, what its session called for takes effect last
+-- the configuration stands directly before the event; before a return, what its session called for takes effect last
 abbrev pub IsReady : (Config → Type 0) → Event → Config → Type 0
 IsReady kept (Call session request) config = kept config ⊎ IsCounted kept (Call session request) config
 IsReady kept (Return session seen) config =
@@ -108,11 +111,11 @@ IsReady kept (Return session seen) config =
 IsReady kept (Lost session) config = kept config
 IsReady kept (Unknown session) config = IsCounted kept (Unknown session) config
 
--- this is kept after the event
+-- the configuration is kept after the event
 abbrev pub IsKeptAfter : (Config → Type 0) → Event → Config → Type 0
 IsKeptAfter kept event config = (one : Config) × IsReady kept event one × (observed one event ≡ Some config)
 
--- this is kept before the event at the place
+-- the configuration is kept before the event at the place
 abbrev pub IsKept : State → List Event → ℕ → Config → Type 0
 IsKept base events zero config = config ≡ opening_config base
 IsKept base events (suc place) config =

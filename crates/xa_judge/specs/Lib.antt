@@ -9,3 +9,4 @@ pub mod Marks
 pub mod Following
 pub mod Path
 pub mod Near
+pub mod Told

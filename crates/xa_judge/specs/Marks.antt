@@ -34,35 +34,36 @@ with_word number word =
     let product = ((bit_xor number word + 1) % 2 ^ 64 * 11400714819323198485) % 2 ^ 64 in
     bit_xor product (product / 2 ^ 29)
 
--- after the bytes of a text
+-- the number so far, followed by the length of a text and its bytes
 abbrev pub with_text : ℕ → List ℕ → ℕ
 with_text number bytes = fold with_word (with_word number (length bytes)) bytes
 
--- after an identifier
+-- the number of a configuration's parts so far, followed by an identifier
 abbrev pub with_xid : ℕ → Xid → ℕ
 with_xid number xid = with_text (with_text (with_word number xid.format_id) xid.gtrid.items) xid.bqual.items
 
--- after a value, or none
+-- the number so far, followed by 0 for no value, or with 1 and the value's bytes
 abbrev pub with_value : ℕ → Option Text → ℕ
 with_value number None = with_word number 0
 with_value number (Some text) = with_text (with_word number 1) text.items
 
--- after identifiers
+-- the number so far, followed by identifiers
 abbrev pub with_xids : ℕ → List Xid → ℕ
 with_xids number xids = fold with_xid (with_word number (length xids)) xids
 
+-- the state of a branch that a refusal names, as one word
 abbrev pub with_state : ℕ → BranchState → ℕ
 with_state number NonExisting = with_word number 0
 with_state number StateActive = with_word number 1
 with_state number StateIdle = with_word number 2
 with_state number StatePrepared = with_word number 3
 
--- after a refusal
+-- the number so far, followed by a refusal
 abbrev pub with_error : ℕ → XaError → ℕ
 with_error number (Rmfail state) = with_state (with_word number (number_of (Rmfail state))) state
 with_error number error = with_word number (number_of error)
 
--- after an answer
+-- the number so far, followed by an answer
 abbrev pub with_answer : ℕ → Answer → ℕ
 with_answer number NotRead = with_word number 0
 with_answer number (Replied Accepted) = with_word number 1
@@ -70,7 +71,7 @@ with_answer number (Replied (Value value)) = with_value (with_word number 2) val
 with_answer number (Replied (Recovered xids)) = with_xids (with_word number 3) xids
 with_answer number (Replied (Refused error)) = with_error (with_word number 4) error
 
--- after how far a session is, without what it has called for
+-- the number so far, followed by how far a session is, without what it has called for
 abbrev pub with_client : ℕ → ClientState → ℕ
 with_client number Idle = with_word number 0
 with_client number (Called request) = with_word number 1
@@ -79,37 +80,41 @@ with_client number (Gone None) = with_word number 3
 with_client number (Gone (Some request)) = with_word number 4
 with_client number Left = with_word number 5
 
+-- a branch's phase, as one word
 abbrev pub with_phase : ℕ → Phase → ℕ
 with_phase number Active = with_word number 0
 with_phase number PhaseIdle = with_word number 1
 with_phase number Prepared = with_word number 2
 
+-- a branch's owner, as one word: 0 is nobody
 abbrev pub with_owner : ℕ → Option ℕ → ℕ
 with_owner number None = with_word number 0
 with_owner number (Some session) = with_word number session
 
+-- how a branch holds a row, as one word, and the value that it puts
 abbrev pub with_hold : ℕ → Hold → ℕ
 with_hold number Shared = with_word number 0
 with_hold number (Put value) = with_text (with_word number 1) value.items
 with_hold number Delete = with_word number 2
 
--- after a row that a branch holds
+-- the number so far, followed by a row that a branch holds: its key and how it is held
 abbrev pub with_row : ℕ → HeldRow → ℕ
 with_row number row = with_hold (with_text number row.key) row.hold
 
+-- the number so far, followed by the rows that a branch holds: how many they are, and each row
 abbrev pub with_rows : ℕ → List HeldRow → ℕ
 with_rows number rows = fold with_row (with_word number (length rows)) rows
 
--- after a branch of the server
+-- the number so far, followed by a branch of the server: its xid, phase, owner and rows
 abbrev pub with_branch : State → ℕ → BranchEntry → ℕ
 with_branch state number branch = with_rows (with_owner
     (with_phase (with_xid number branch.xid) branch.phase) branch.owner) (rows_of state branch.xid)
 
--- after the committed value of a row
+-- the number so far, followed by the committed value of a row
 abbrev pub with_key : State → ℕ → List ℕ → ℕ
 with_key state number key = with_value number (committed_value state key)
 
--- after a server's branches with their rows, and the committed values of these rows
+-- the number so far, followed by a server's branches with their rows, and the committed values of these rows
 abbrev pub with_server : List (List ℕ) → ℕ → State → ℕ
 with_server keys number state = fold (with_key state) (fold (with_branch state) number (branches_of state)) keys
 

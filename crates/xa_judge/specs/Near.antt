@@ -24,7 +24,7 @@ Keys = BTreeSet (List ℕ)
 abbrev pub named_in : Keys → List ℕ → Bool
 named_in keys key = contains bytes_cmp keys key
 
--- the same branches, and the same committed values of the named rows
+-- two states with the same branches and the same committed values of the named rows
 pub record AreNear (named : List ℕ → Bool) (left right : State) : Type 0 where
   pub branches : left.branches ≡ right.branches
   pub rows : (key : List ℕ) → named key ≡ true → committed_value left key ≡ committed_value right key

@@ -44,12 +44,12 @@ pub record CouldBe (base : State) (events : List Event) (place : ℕ) (answer : 
   pub returns : slice_get events place ≡ Some (Return session seen)
   pub after : IsAnswerAfter base (take place events) session answer
 
--- these are exactly the answers that some order gives to the call that returns there
+-- the answers are exactly those that some order gives to the call that returns at the place
 pub record AreAllAnswers (base : State) (events : List Event) (place : ℕ) (answers : List Answer) : Type 0 where
   pub each : All (CouldBe base events place) answers
   pub all : (answer : Answer) → CouldBe base events place answer → Contains answers answer
 
--- no two of the list are the same
+-- no two configurations of the list are the same
 abbrev pub AreDifferent : List Config → Type 0
 AreDifferent list = AllPairs (λ one other. one ≢ other) list
 
@@ -65,7 +65,7 @@ pub record IsWide (base : State) (events : List Event) (limit place : ℕ) : Typ
   pub at : slice_get events place ≡ Some event
   pub counted : All (IsCounted (IsKept base events place) event) many
 
--- the verdict is right
+-- the verdict on events is right, for a limit of configurations
 abbrev pub IsVerdict : State → List Event → ℕ → Verdict → Type 0
 IsVerdict base events limit (Legal moves) = (new : Config) × LeadsThrough (opening_config base) events moves.items new
 IsVerdict base events limit (Illegal place answers) =

@@ -70,7 +70,8 @@ impl Configuration {
         }
     }
 
-    /// The configuration after the session's request takes effect; the session is answered.
+    /// The configuration after the session's request takes effect. The session then has its answer, whose return
+    /// may come later.
     fn answered(
         self,
         session: SessionNo,
@@ -89,6 +90,7 @@ impl Configuration {
             path,
         } = self;
         let (server, answer) = server.carried_out(session, request)?;
+        // Many configurations have the same answer for a session. They share one copy, since lists of rows are long.
         let shared = shared_among(clients.as_slice(), lists, answer)?;
         let answered = ClientState::Answered(shared);
         Configuration {
@@ -234,7 +236,8 @@ impl Configuration {
         lists: &mut SharedLists,
     ) -> Result<Option<Configuration>, NoMemory>
         ensures config { IfOk result (λ found. option_map config_of found ≡ effect_of (config_of self) session act) }
-        ensures path { IfOk result (λ found. IfSome found (λ new. new.path ≡ self.path ++ Move.Effect session act ∷ [])) }
+        ensures path { IfOk result (λ found. IfSome found
+            (λ new. new.path ≡ self.path ++ Move.Effect session act ∷ [])) }
         ensures session { IsSession session }
     {
         match act {
@@ -252,7 +255,8 @@ impl Configuration {
         act: Act,
     ) -> Result<Option<Configuration>, NoMemory>
         ensures config { IfOk result (λ found. option_map config_of found ≡ effect_of (config_of self) session act) }
-        ensures path { IfOk result (λ found. IfSome found (λ new. new.path ≡ self.path ++ Move.Effect session act ∷ [])) }
+        ensures path { IfOk result (λ found. IfSome found
+            (λ new. new.path ≡ self.path ++ Move.Effect session act ∷ [])) }
         ensures session { IsSession session }
     {
         let mut lists = SharedLists::new(self.server.alloc());

@@ -1,4 +1,6 @@
 //! A search for one order, which keeps only some configurations at a time.
+ghost use Rattle.std.specs.Prelude.{◌≡◌, ◌+◌, ◌^◌, ◌<◌, length, IfOk};
+ghost use Rattle.xa_judge.specs.Told.{IsReport};
 
 use crate::best::best_of;
 use crate::closing::observe_all;
@@ -8,6 +10,7 @@ use crate::event::Event;
 use crate::fingerprint_index::FingerprintIndex;
 use crate::foresight::{Fit, Foresight};
 use crate::known::add;
+use crate::progress::{Progress, tell};
 use crate::room::has_room;
 use crate::shared_lists::SharedLists;
 use std::alloc::Global;
@@ -63,7 +66,9 @@ impl<'a> Beam<'a> {
         known: Vec<Configuration>,
         width: usize,
         left: u64,
-    ) -> Result<Beam<'a>, NoMemory> {
+    ) -> Result<Beam<'a>, NoMemory>
+        ensures { IfOk result (λ beam. beam.known ≡ known) }
+    {
         Ok(Beam {
             events,
             foresight: Foresight::new(alloc, events)?,
@@ -110,6 +115,7 @@ impl<'a> Beam<'a> {
     ) -> Result<Option<Configuration>, NoMemory> {
         let mut here = one.copy()?;
         for effect in self.effects.iter() {
+            // An effect doesn't fit if its call returns something else later, so that it would only be refuted then.
             if effect.session != own.session && self.foresight.fit(&here, effect)? != Fit::Not {
                 let lists = &mut self.index.lists;
                 here = match here.effected_among(effect.session, effect.act, lists)? {
@@ -140,6 +146,7 @@ impl<'a> Beam<'a> {
             None => None,
             Some(one) => after(&self.foresight, &mut self.index.lists, one, effect)?,
         };
+        // Only effects that make a new configuration are costly, so only they are counted.
         if found.is_some() {
             self.left = self.left.saturating_sub(1);
         }
@@ -173,6 +180,7 @@ impl<'a> Beam<'a> {
     /// Adds what effects that fit lead to, fewest effects first.
     fn look_on(&mut self, session: SessionNo) -> Result<(), NoMemory> {
         for index in 0..self.width.saturating_mul(SIGHT) {
+            // The list grows while it is gone through: what an effect leads to may lead on by another.
             if index >= self.known.len() || !self.looks_on() {
                 return Ok(());
             }
@@ -234,7 +242,9 @@ impl<'a> Beam<'a> {
         Ok(())
     }
 
-    /// Goes over the event at this place. If no configuration is left, the search has failed.
+    /// Goes over the event at this place: first lets take effect what must come before it, then drops the
+    /// configurations in which it can't happen, and keeps the best of the others. If none is left, the search has
+    /// failed, which doesn't mean that there is no order.
     ///
     /// May return `NoMemory`.
     pub fn see(&mut self, place: usize) -> Result<(), NoMemory> {
@@ -245,11 +255,24 @@ impl<'a> Beam<'a> {
             self.prepare(session)?;
         }
         let mut ready = mem::replace(&mut self.known, Vec::new(self.alloc));
-        // They are seen from the last one on.
+        // `observe_all` takes them from the last one on, and those with fewer effects are to come first.
         ready.reverse();
         let seen = observe_all(self.alloc, ready, &mut self.index, event)?;
         self.foresight.follow(place);
         self.keep(seen)
+    }
+
+    /// Tells that the event at this place is seen next. `before` others come before all of the events.
+    pub fn tell<P: Progress>(&self, before: usize, events: &[Event], place: usize, progress: &mut P)
+        requires within { place < length events.now }
+        requires fits { before + length events.now < 2 ^ 64 }
+        requires some { 0 < length self.now.known.items }
+        // Proved (records, progress-searched): While one order is searched, the number that `progress` is told is
+        //   that of the configurations that the search keeps.
+        ensures { IsReport P.judged_gives (before + place) (before + length events.now)
+            (length self.now.known.items) progress.old progress.new }
+    {
+        tell(progress, before, events, place, self.known.as_slice());
     }
 
     /// Returns how many effects may still be tried.

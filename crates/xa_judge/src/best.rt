@@ -31,6 +31,7 @@ fn greatest_kept(counts: &[usize], width: usize) -> usize {
                 sum = sum.saturating_add(1);
             }
         }
+        // As many as may be kept have no greater count.
         if sum >= width {
             return count;
         }
@@ -65,6 +66,7 @@ pub fn best_of(
         }
     }
     for one in spare {
+        // Of those with the greatest count only as many as there is room for.
         if best.len() < width {
             best.push(one)?;
         }

@@ -41,6 +41,7 @@ impl Blocks {
     fn add(&mut self, codes: Vec<u8>) -> Result<Block, NoMemory>
         ensures { IfOk result (λ block. block ≡ codes.items) }
     {
+        // All are forgotten together: those that are still shared live on in their paths.
         if self.kept.len() >= MOST {
             self.kept.clear();
         }

@@ -65,6 +65,7 @@ impl BranchRecords {
 
     /// The session has this open call, or none.
     fn call(&mut self, session: SessionNo, request: Option<SharedRequest>) -> Result<(), NoMemory> {
+        // The places are made at the first call, so that `new` needs no memory.
         for _ in self.called.len()..SESSIONS {
             self.called.push(None)?;
             self.owned.push(None)?;
@@ -127,6 +128,7 @@ impl BranchRecords {
                 let branch = self.owned_by(session);
                 self.end(session, branch);
             }
+            // Within a branch the statement may be about a row, which would be one record more.
             _ => {
                 if let Some(xid) = self.owned_by(session) {
                     self.add(&xid)?;

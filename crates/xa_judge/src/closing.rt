@@ -27,6 +27,7 @@ fn is_too_wide(
 ) -> Result<bool, NoMemory>
     ensures { IfOk result (λ wide. wide ≡ true → IsSpread limit known.now) }
 {
+    // Counting takes long, so it is done only when the list has doubled since it was done last.
     if known.len() <= *uncounted {
         return Ok(false);
     }
@@ -137,7 +138,8 @@ fn add_answer(
     one: &Configuration,
     session: SessionNo,
 ) -> Result<(), NoMemory>
-    ensures { OnOk result (IsAnswerAdded (slice_get one.now.clients.items session) answers.old.items answers.new.items) }
+    ensures { OnOk result (IsAnswerAdded (slice_get one.now.clients.items session) answers.old.items
+        answers.new.items) }
 {
     match one.client(session) {
         None => Ok(()),

@@ -55,6 +55,7 @@ impl DoneBlocks {
     fn add(&mut self, requests: Vec<Done>) -> Result<DoneBlock, NoMemory>
         ensures { IfOk result (λ block. block ≡ requests.items) }
     {
+        // All are forgotten together: those that are still shared live on in their servers.
         if self.kept.len() >= MOST {
             self.kept.clear();
         }

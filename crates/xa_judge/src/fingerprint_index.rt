@@ -99,6 +99,7 @@ impl FingerprintIndex {
         let is_full = self.rows.len() > MOST_RECORDS && !self.rows.contains_key(&fingerprint);
         let is_listed = !is_full
             && self.rows.insert(fingerprint, self.forgotten)? == Some(self.forgotten);
+        // Each row is listed once. Past the greatest number rows are left out: more fingerprints are equal then.
         if !is_listed && self.written.len() < MOST_WRITTEN {
             self.written.push(key.copy())?;
         }
@@ -186,6 +187,7 @@ impl FingerprintIndex {
     /// May return `NoMemory`.
     pub fn last_of(&mut self, one: &Configuration) -> Result<Option<usize>, NoMemory> {
         let fingerprint = self.mark_of(one)?;
+        // If the configuration is added next, `note` takes its fingerprint from here: to make it again takes long.
         self.sought = Some(fingerprint);
         Ok(self.last.get(&fingerprint).copied())
     }

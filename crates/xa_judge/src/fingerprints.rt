@@ -36,7 +36,7 @@ impl Fingerprint {
         Fingerprint { number: 0 }
     }
 
-    /// Adds a word.
+    /// Mixes a word into the number.
     #[tactic(auto, unfolding(crate::specs::Marks::with_word))]
     fn with(self, word: u64) -> Fingerprint
         ensures { result.number ≡ with_word self.number word }

@@ -45,6 +45,7 @@ fn session_of(event: &Event) -> SessionNo {
 fn answer_ahead<'a>(events: &'a [Event], from: usize, session: SessionNo) -> Option<&'a Seen> {
     for place in from..events.len() {
         let event = events.get(place)?;
+        // The first event of the session from here on is the one that ends its open call, whatever it is.
         if session_of(event) == session {
             return match event {
                 Event::Return(_, seen) => Some(seen.seen()),

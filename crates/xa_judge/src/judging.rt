@@ -1,5 +1,6 @@
 //! Judges a record.
-ghost use Rattle.std.specs.Prelude.{IfOk, IfSome};
+ghost use Rattle.std.specs.Prelude.{◌+◌, ◌^◌, ◌<◌, length, IfOk, IfSome, MatchOption};
+ghost use Rattle.xa_judge.specs.Told.{AreReports, ArePasses, IsToldUpTo, IsSizeOfKept, seen_for};
 ghost use Rattle.xa_judge.specs.Verdicts.{IsVerdict};
 
 use crate::advance::{Advance, see_event};
@@ -9,7 +10,7 @@ use crate::following::follows;
 use crate::known::opening;
 use crate::loading::count_alone;
 use crate::near::judge_behind;
-use crate::progress::{Progress, Silent};
+use crate::progress::{Progress, Silent, tell};
 use crate::searching::moves_through;
 use crate::trunk::{path_of, share};
 use crate::verdict::Verdict;
@@ -36,15 +37,19 @@ pub fn judge_in_breadth<P: Progress>(
     limit: usize,
     progress: &mut P,
 ) -> Result<Verdict, NoMemory>
-    ensures { IfOk result (IsVerdict base.now events.now limit) }
+    requires { before + length events.now < 2 ^ 64 }
+    ensures verdict { IfOk result (IsVerdict base.now events.now limit) }
+    // Proved (records, progress-kept): While all configurations are kept, the number that `progress` is told is
+    //   that of a list: what was seen before the event leads to each of the list, by acts as late as they can
+    //   be, and every order that goes on goes on from one of them.
+    ensures told { IfOk result (λ verdict. AreReports P.judged_gives (IsSizeOfKept base.now events.now) before
+        (before + length events.now) progress.old (seen_for events.now verdict) progress.new) }
 {
     let mut trunk = Vec::new(alloc);
     let mut known = opening(alloc, base)?;
     let mut index = FingerprintIndex::new(alloc);
-    let all = before.saturating_add(events.len());
     for place in 0..events.len() {
-        let done = before.saturating_add(place);
-        progress.judged(done as u64, all as u64, known.len() as u64);
+        tell(progress, before, events, place, known.as_slice());
         known = match see_event(alloc, known, &mut index, &events[place], limit)? {
             Advance::Known(next) => next,
             Advance::Impossible(answers) => return Ok(Verdict::Illegal(place, answers)),
@@ -63,7 +68,11 @@ fn judge_narrow<P: Progress>(
     limit: usize,
     progress: &mut P,
 ) -> Result<Option<Verdict>, NoMemory>
-    ensures { IfOk result (λ found. IfSome found (IsVerdict base.now events.now limit)) }
+    ensures verdict { IfOk result (λ found. IfSome found (IsVerdict base.now events.now limit)) }
+    ensures told { IfOk result (λ found. MatchOption found
+        (ArePasses P.judged_gives (length events.now) progress.old progress.new)
+        (λ verdict. IsToldUpTo P.judged_gives (length events.now) (seen_for events.now verdict) progress.old
+        progress.new)) }
 {
     match judge_in_breadth(alloc, base, 0, events, NARROW.min(limit), progress)? {
         Verdict::Legal(moves) => Ok(Some(Verdict::Legal(moves))),
@@ -80,7 +89,11 @@ fn judge_by_search<P: Progress>(
     limit: usize,
     progress: &mut P,
 ) -> Result<Option<Verdict>, NoMemory>
-    ensures { IfOk result (λ found. IfSome found (IsVerdict base.now events.now limit)) }
+    ensures verdict { IfOk result (λ found. IfSome found (IsVerdict base.now events.now limit)) }
+    ensures told { IfOk result (λ found. MatchOption found
+        (ArePasses P.judged_gives (length events.now) progress.old progress.new)
+        (λ verdict. IsToldUpTo P.judged_gives (length events.now) (seen_for events.now verdict) progress.old
+        progress.new)) }
 {
     match moves_through(alloc, base, events, progress)? {
         None => Ok(None),
@@ -103,11 +116,43 @@ fn judge_long<P: Progress>(
     limit: usize,
     progress: &mut P,
 ) -> Result<Option<Verdict>, NoMemory>
-    ensures { IfOk result (λ found. IfSome found (IsVerdict base.now events.now limit)) }
+    ensures verdict { IfOk result (λ found. IfSome found (IsVerdict base.now events.now limit)) }
+    ensures told { IfOk result (λ found. MatchOption found
+        (ArePasses P.judged_gives (length events.now) progress.old progress.new)
+        (λ verdict. IsToldUpTo P.judged_gives (length events.now) (seen_for events.now verdict) progress.old
+        progress.new)) }
 {
     match judge_by_search(alloc, base, events, limit, progress)? {
         Some(verdict) => Ok(Some(verdict)),
         None => judge_behind(alloc, base, events, limit, progress),
+    }
+}
+
+/// The verdict, if few configurations or a search for one order are enough.
+fn judge_soon<P: Progress>(
+    alloc: Global,
+    base: &Server,
+    events: &[Event],
+    limit: usize,
+    progress: &mut P,
+) -> Result<Option<Verdict>, NoMemory>
+    ensures verdict { IfOk result (λ found. IfSome found (IsVerdict base.now events.now limit)) }
+    ensures told { IfOk result (λ found. MatchOption found
+        (ArePasses P.judged_gives (length events.now) progress.old progress.new)
+        (λ verdict. IsToldUpTo P.judged_gives (length events.now) (seen_for events.now verdict) progress.old
+        progress.new)) }
+{
+    let alone = count_alone(events);
+    if LONG <= alone && alone < events.len() {
+        match judge_long(alloc, base, events, limit, progress)? {
+            Some(verdict) => Ok(Some(verdict)),
+            None => judge_narrow(alloc, base, events, limit, progress),
+        }
+    } else {
+        match judge_narrow(alloc, base, events, limit, progress)? {
+            Some(verdict) => Ok(Some(verdict)),
+            None => judge_by_search(alloc, base, events, limit, progress),
+        }
     }
 }
 
@@ -127,20 +172,17 @@ pub fn judge_telling<P: Progress>(
     // Proved (records, illegal)
     // Proved (records, illegal-answers)
     // Proved (records, undecided)
-    ensures { IfOk result (IsVerdict base.now events.now limit) }
+    ensures verdict { IfOk result (IsVerdict base.now events.now limit) }
+    // Proved (records, progress): `progress` is told of each event before it is judged, and of nothing else: its
+    //   place, and how many events there are. Events are judged in passes, one event after another. The last
+    //   pass goes up to what decides.
+    ensures told { IfOk result (λ verdict. IsToldUpTo P.judged_gives (length events.now)
+        (seen_for events.now verdict) progress.old progress.new) }
 {
-    let alone = count_alone(events);
-    let is_long = LONG <= alone && alone < events.len();
-    if is_long && let Some(verdict) = judge_long(alloc, base, events, limit, progress)? {
-        return Ok(verdict);
+    match judge_soon(alloc, base, events, limit, progress)? {
+        Some(verdict) => Ok(verdict),
+        None => judge_in_breadth(alloc, base, 0, events, limit, progress),
     }
-    if let Some(verdict) = judge_narrow(alloc, base, events, limit, progress)? {
-        return Ok(verdict);
-    }
-    if !is_long && let Some(verdict) = judge_by_search(alloc, base, events, limit, progress)? {
-        return Ok(verdict);
-    }
-    judge_in_breadth(alloc, base, 0, events, limit, progress)
 }
 
 /// Returns the verdict whether any order explains the events, beginning with a server in the state of `base`.

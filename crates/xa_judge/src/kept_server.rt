@@ -47,6 +47,7 @@ fn carry_out_all(server: &mut Server, since: &[Done]) -> Result<(), NoMemory>
     ensures { OnOk result (server.new ≡ state_since server.old since.now) }
 {
     for done in since {
+        // Only the state after them is wanted.
         let _answer = done.request.request().carry_out(server, done.session)?;
     }
     Ok(())
@@ -261,7 +262,7 @@ impl KeptServer {
         }
     }
 
-    /// Whether it is known to be the same as this server.
+    /// Whether the kept server is known to be the same as this server.
     fn is_like(&self, server: &Server) -> Result<bool, NoMemory>
         ensures { IfOk result (λ same. same ≡ true → self.now ≡ server.now) }
     {

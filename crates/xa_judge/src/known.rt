@@ -121,6 +121,8 @@ pub fn fit(one: Configuration, count: usize, records: usize) -> Result<Configura
     // Proved (records, kept-server)
     ensures { IfOk result (λ same. same ≡ one) }
 {
+    // A server of its own is quick to look at and takes memory. In a long list only those get one that are slow
+    // without.
     if has_room(count, records) && (count < WIDE || one.server.did_much()) {
         one.whole()
     } else {
@@ -141,6 +143,7 @@ fn fitting(
     requires leads { IsEffectAt known.now place session act next }
     ensures { IfOk result (λ new. new ≡ next) }
 {
+    // In a short list each has a server of its own already.
     if known.len() < WIDE && has_room(known.len(), records) {
         return Ok(next);
     }

@@ -48,6 +48,7 @@ mod shared_answer;
 mod shared_lists;
 mod shared_request;
 mod shared_seen;
+mod so_far;
 mod trunk;
 mod verdict;
 
@@ -62,4 +63,5 @@ pub use request::Request;
 pub use shared_answer::SharedAnswer;
 pub use shared_request::SharedRequest;
 pub use shared_seen::SharedSeen;
+pub use so_far::SoFar;
 pub use verdict::Verdict;

@@ -85,6 +85,7 @@ pub fn server_for(
                 Some(key) => rows.contains(&mark_of_key(key)),
             };
             if is_needed {
+                // Only the state is wanted: what was answered is seen where the record's returns are judged.
                 let _answer = request.request().carry_out(&mut server, *session)?;
             }
         }

@@ -3,13 +3,14 @@
 //!
 //! A test bench often fills its tables first, one call after another. The answers to its other calls don't
 //! depend on rows that none of them names, and a server without these rows is soon copied.
-ghost use Rattle.std.specs.Prelude.{◌≡◌, ◌+◌, ◌<◌, ◌^◌, ◌++◌, true, false, length, IfOk, IfSome, OnOk};
+ghost use Rattle.std.specs.Prelude.{◌≡◌, ◌+◌, ◌<◌, ◌^◌, ◌++◌, true, false, length, IfOk, IfSome, OnOk, MatchOption};
 ghost use Rattle.std.specs.List.{All};
 ghost use Rattle.xa_server.specs.State.{State, association_of};
 ghost use Rattle.xa_server.specs.Step.{after};
 ghost use Rattle.xa_server.specs.declared.association.Association.{Association};
 ghost use Rattle.xa_judge.specs.Explained.{answer_to, next_state, shows_answer, IsSession};
 ghost use Rattle.xa_judge.specs.Near.{Keys, named_in, AreNear, ReadsNamed, CallsNamed, IsLoadedTo};
+ghost use Rattle.xa_judge.specs.Told.{ArePasses, IsToldUpTo, seen_for};
 ghost use Rattle.xa_judge.specs.Verdicts.{IsVerdict};
 
 use crate::alone_call::{AloneCall, alone};
@@ -225,7 +226,8 @@ fn legal_behind(
     later: &[Move],
     limit: usize,
 ) -> Result<Option<Verdict>, NoMemory>
-    ensures { IfOk result (λ found. IfSome found (IsVerdict base.now events.now limit)) }
+    ensures verdict { IfOk result (λ found. IfSome found (IsVerdict base.now events.now limit)) }
+    ensures whole { IfOk result (λ found. IfSome found (λ verdict. seen_for events.now verdict ≡ length events.now)) }
 {
     let _limit = limit;
     let mut moves = moves_alone(alloc, first)?;
@@ -254,11 +256,16 @@ fn judge_later<P: Progress>(
     requires near { (keys : Keys) × (full : State) × IsLoadedTo base.now first.now full
         × AreNear (named_in keys) full near.now
         × All (CallsNamed (named_in keys)) later.now }
-    ensures { IfOk result (λ found. IfSome found (IsVerdict base.now events.now limit)) }
+    ensures verdict { IfOk result (λ found. IfSome found (IsVerdict base.now events.now limit)) }
+    ensures told { IfOk result (λ found. MatchOption found
+        (ArePasses P.judged_gives (length events.now) progress.old progress.new)
+        (λ verdict. IsToldUpTo P.judged_gives (length events.now) (seen_for events.now verdict) progress.old
+        progress.new)) }
 {
     match judge_in_breadth(alloc, near, first.len(), later, limit, progress)? {
         Verdict::Legal(moves) => {
-            legal_behind(alloc, base, events, first, moves.as_slice(), limit)
+            let found = legal_behind(alloc, base, events, first, moves.as_slice(), limit)?;
+            Ok(found)
         }
         Verdict::Illegal(place, answers) => {
             Ok(Some(Verdict::Illegal(first.len() + place, answers)))
@@ -280,7 +287,11 @@ pub fn judge_behind<P: Progress>(
 ) -> Result<Option<Verdict>, NoMemory>
     // Proved (records, named-rows-only): A verdict that is found after calls that don't overlap, on a server
     //   without the rows that no later call names, is right for the whole record.
-    ensures { IfOk result (λ found. IfSome found (IsVerdict base.now events.now limit)) }
+    ensures verdict { IfOk result (λ found. IfSome found (IsVerdict base.now events.now limit)) }
+    ensures told { IfOk result (λ found. MatchOption found
+        (ArePasses P.judged_gives (length events.now) progress.old progress.new)
+        (λ verdict. IsToldUpTo P.judged_gives (length events.now) (seen_for events.now verdict) progress.old
+        progress.new)) }
 {
     let (first, later) = events.split_at(count_alone(events).min(events.len()));
     let keys = keys_called(alloc, later)?;

@@ -144,7 +144,7 @@ impl Path {
         Ok(())
     }
 
-    /// Adds its moves to others.
+    /// Adds the path's moves behind other moves.
     ///
     /// May return `NoMemory`.
     pub fn add_to(&self, moves: &mut Vec<Move>) -> Result<(), NoMemory>

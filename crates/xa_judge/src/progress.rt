@@ -1,13 +1,25 @@
 //! Tells how far judging is.
+ghost use Rattle.std.specs.Prelude.{◌+◌, ◌^◌, ◌<◌, length};
+ghost use Rattle.xa_judge.specs.declared.so_far.SoFar.{SoFar};
+ghost use Rattle.xa_judge.specs.Told.{IsReport};
+
+use crate::configuration::Configuration;
+use crate::event::Event;
+use crate::so_far::SoFar;
 
 /// Takes note of how far judging is.
 pub trait Progress {
-    /// Takes note that `done` of `all` events are judged, after which this many configurations are kept.
+    /// What taking note of this makes of a value. Who needs to know that its notes are right says more here
+    /// than that it may be anything.
+    ghost judged_gives: { Self → SoFar → Self → Type 0 } = { λ _ _ _. Unit {0} };
+
+    /// Takes note of how far judging is.
     ///
     /// It is called before each event that is judged. If some events are judged once more, it is called
     /// before each of them again. It isn't called for events before calls overlap if these are left out, nor
     /// for events along which a found order is checked.
-    fn judged(&mut self, done: u64, all: u64, configurations: u64);
+    fn judged(&mut self, so_far: SoFar)
+        ensures { judged_gives self.old so_far self.new };
 }
 
 /// Takes no notice of how far judging is.
@@ -15,5 +27,25 @@ pub trait Progress {
 pub struct Silent;
 
 impl Progress for Silent {
-    fn judged(&mut self, _done: u64, _all: u64, _configurations: u64) {}
+    fn judged(&mut self, _so_far: SoFar) {}
+}
+
+/// Tells that the event at this place is judged next, with these configurations. `before` others come before
+/// all of the events.
+pub fn tell<P: Progress>(
+    progress: &mut P,
+    before: usize,
+    events: &[Event],
+    place: usize,
+    known: &[Configuration],
+)
+    requires within { place < length events.now }
+    requires fits { before + length events.now < 2 ^ 64 }
+    requires some { 0 < length known.now }
+    ensures { IsReport P.judged_gives (before + place) (before + length events.now) (length known.now)
+        progress.old progress.new }
+{
+    let done = before + place;
+    let all = before + events.len();
+    progress.judged(SoFar::of(done as u64, all as u64, known.len() as u64));
 }

@@ -7,7 +7,8 @@ const BYTES: usize = 134_217_728;
 /// What a server takes at most in addition to its records, in bytes.
 const SERVER: usize = 32_768;
 
-/// What a server takes at most for each record of a row or a branch, in bytes.
+/// What a server takes at most for each record of a row or a branch, in bytes: its texts, its nodes in maps, and its
+/// part in lists of locks.
 const RECORD: usize = 512;
 
 /// No server with more records has room.

@@ -1,4 +1,6 @@
 //! A search for one order that explains a record.
+ghost use Rattle.std.specs.Prelude.{◌+◌, ◌^◌, ◌<◌, ℕ, length, IfOk, MatchOption};
+ghost use Rattle.xa_judge.specs.Told.{AreReports, ArePasses, IsSize, IsToldUpTo};
 
 use crate::beam::Beam;
 use crate::event::Event;
@@ -32,13 +34,18 @@ fn moves_within<P: Progress>(
     width: usize,
     left: &mut u64,
     progress: &mut P,
-) -> Result<Option<Vec<Move>>, NoMemory> {
-    let all = before.saturating_add(events.len());
+) -> Result<Option<Vec<Move>>, NoMemory>
+    requires { before + length events.now < 2 ^ 64 }
+    ensures { IfOk result (λ found. MatchOption found
+        ((count : ℕ) × AreReports P.judged_gives IsSize before (before + length events.now) progress.old count
+        progress.new)
+        (λ _. AreReports P.judged_gives IsSize before (before + length events.now) progress.old
+        (length events.now) progress.new)) }
+{
     let mut beam = Beam::new(alloc, events, opening(alloc, base)?, width, *left)?;
     let mut trunk = Vec::new(alloc);
     for place in 0..events.len() {
-        let done = before.saturating_add(place);
-        progress.judged(done as u64, all as u64, beam.known.len() as u64);
+        beam.tell(before, events, place, progress);
         beam.see(place)?;
         *left = beam.left();
         if *left == 0 || beam.known.is_empty() {
@@ -60,13 +67,19 @@ fn moves_behind<P: Progress>(
     before: usize,
     events: &[Event],
     progress: &mut P,
-) -> Result<Option<Vec<Move>>, NoMemory> {
+) -> Result<Option<Vec<Move>>, NoMemory>
+    requires { before + length events.now < 2 ^ 64 }
+    ensures { IfOk result (λ found. MatchOption found
+        (ArePasses P.judged_gives (before + length events.now) progress.old progress.new)
+        (λ _. IsToldUpTo P.judged_gives (before + length events.now) (before + length events.now) progress.old
+        progress.new)) }
+{
     let all = events.len() as u64;
     let mut left = all.saturating_mul(EFFECTS_EACH).saturating_add(EFFECTS);
     for width in WIDTHS {
-        let found = moves_within(alloc, base, before, events, width, &mut left, progress)?;
-        if found.is_some() {
-            return Ok(found);
+        match moves_within(alloc, base, before, events, width, &mut left, progress)? {
+            None => {}
+            Some(moves) => return Ok(Some(moves)),
         }
     }
     Ok(None)
@@ -84,7 +97,11 @@ pub fn moves_through<P: Progress>(
     base: &Server,
     events: &[Event],
     progress: &mut P,
-) -> Result<Option<Vec<Move>>, NoMemory> {
+) -> Result<Option<Vec<Move>>, NoMemory>
+    ensures { IfOk result (λ found. MatchOption found
+        (ArePasses P.judged_gives (length events.now) progress.old progress.new)
+        (λ _. IsToldUpTo P.judged_gives (length events.now) (length events.now) progress.old progress.new)) }
+{
     let (first, later) = events.split_at(count_alone(events).min(events.len()));
     let near = server_for(alloc, base, first, later)?;
     match moves_behind(alloc, &near, first.len(), later, progress)? {

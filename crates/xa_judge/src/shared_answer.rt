@@ -48,7 +48,7 @@ impl SharedAnswer {
         })
     }
 
-    /// Returns one more owner.
+    /// Returns one more owner of the answer, which isn't copied.
     ///
     /// Errors: `NoMemory` if there are too many owners to be counted. Takes no memory. Doesn't wait.
     pub fn try_clone(&self) -> Result<SharedAnswer, NoMemory>

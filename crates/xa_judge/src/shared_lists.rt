@@ -29,7 +29,7 @@ impl SharedLists {
         }
     }
 
-    /// Forgets them. An owner of one keeps it.
+    /// Forgets all lists. Who owns one keeps it.
     pub fn clear(&mut self) {
         self.newest.clear();
         self.xids.clear();

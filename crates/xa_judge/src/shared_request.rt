@@ -33,7 +33,7 @@ impl SharedRequest {
         })
     }
 
-    /// Returns one more owner.
+    /// Returns one more owner of the request, which isn't copied.
     ///
     /// Errors: `NoMemory` if there are too many owners to be counted. Takes no memory. Doesn't wait.
     pub fn try_clone(&self) -> Result<SharedRequest, NoMemory>

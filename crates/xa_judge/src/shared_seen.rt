@@ -33,7 +33,7 @@ impl SharedSeen {
         })
     }
 
-    /// Returns one more owner.
+    /// Returns one more owner of what was seen, which isn't copied.
     ///
     /// Errors: `NoMemory` if there are too many owners to be counted. Takes no memory. Doesn't wait.
     pub fn try_clone(&self) -> Result<SharedSeen, NoMemory>

@@ -17,6 +17,7 @@ const APART: usize = 64;
 fn shorten(trunk: &mut Vec<Move>, known: &mut Vec<Configuration>) -> Result<(), NoMemory>
     ensures { OnOk result (IsShortened trunk.old.items trunk.new.items known.old.items known.new.items) }
 {
+    // Only moves that all configurations have in common may go into the trunk.
     if known.len() != 1 {
         return Ok(());
     }

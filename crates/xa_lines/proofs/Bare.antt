@@ -19,15 +19,17 @@ empty_line : (text : List ℕ) → is_empty_line text ≡ (length text == 0)
 empty_line [] = refl
 empty_line (byte ∷ text) = let some : (length (byte ∷ text) == 0) ≡ false = grind (arith, common_steps) in sym some
 
+-- a choice by a test that holds gives the first of two
 chosen : (b : Bool) (one other : Bool) → b ≡ true → (if b then one else other) ≡ one
 chosen true one other is = refl
 chosen false one other is = cc
 
+-- a choice by a test that fails gives the second of two
 not_chosen : (b : Bool) (one other : Bool) → b ≡ false → (if b then one else other) ≡ other
 not_chosen false one other is = refl
 not_chosen true one other is = cc
 
--- a blank line says nothing
+-- a blank line doesn't decide whether a script begins with a comment
 pub begins_blank : (line rest : List ℕ) (lines : List (List ℕ)) → lines_of rest ≡ line ∷ lines
     → (length (unblank line) == 0) ≡ true
     → begins_commented (lines_of rest) ≡ begins_commented lines
@@ -36,7 +38,7 @@ begins_blank line rest lines cut blank =
     ap begins_commented cut ∙ chosen (is_empty_line (unblank line)) (begins_commented lines) (is_comment_line line)
     (empty_line (unblank line) ∙ blank)
 
--- another line tells
+-- whether a script begins with a comment is decided by its first line that isn't blank
 pub begins_filled : (line rest : List ℕ) (lines : List (List ℕ)) → lines_of rest ≡ line ∷ lines
     → (length (unblank line) == 0) ≡ false
     → begins_commented (lines_of rest) ≡ is_comment_line line
@@ -45,12 +47,12 @@ begins_filled line rest lines cut filled =
     ap begins_commented cut ∙ not_chosen (is_empty_line (unblank line)) (begins_commented lines) (is_comment_line line)
     (empty_line (unblank line) ∙ filled)
 
--- no line is left
+-- if no line is left, and those before were blank, the script begins with no comment
 pub begins_none : (rest : List ℕ) → (length rest == 0) ≡ true → begins_commented (lines_of rest) ≡ false
 unfolding begins_commented
 begins_none rest empty = ap begins_commented (lines-none rest empty)
 
--- one line more was left bare
+-- the loop over lines: one more was written, blank if it was a comment
 pub bare_more : (whole old more new line rest : List ℕ) (lines : List (List ℕ)) → lines_of rest ≡ line ∷ lines
     → whole ≡ old ++ bare_lines (lines_of rest)
     → more ≡ old ++ bare_line line → new ≡ more ++ 10 ∷ [] → whole ≡ new ++ bare_lines lines
@@ -60,7 +62,7 @@ bare_more whole old more new line rest lines cut is pushed ended =
     ∙ ap (λ l. l ++ 10 ∷ bare_lines lines) (sym pushed) ∙ sym (append_assoc more (10 ∷ []) (bare_lines lines))
     ∙ ap (λ l. l ++ bare_lines lines) (sym ended)
 
--- no line is left
+-- the loop over lines ends: no line is left, and all are written
 pub bare_end : (whole new rest : List ℕ) → (length rest == 0) ≡ true → whole ≡ new ++ bare_lines (lines_of rest)
     → new ≡ whole
 unfolding bare_lines

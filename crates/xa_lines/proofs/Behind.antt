@@ -46,7 +46,7 @@ pub reply_answers : (state : State) (session : ℕ) (statement : Statement) (rep
 reply_answers state session statement reply told is words =
     words (converts statement) ∙ ap (λ r. answer_text (decimal session) (reply_text (converts statement) r)) is
 
--- an answer that takes memory
+-- an answer that takes memory: it is the statement's, or memory was refused for it
 pub text_answered : {A E : Type 0} (items : A → List ℕ) (result : Result A E) (old new : State) (session : ℕ)
     (read : Result Statement ℕ) (text : List ℕ)
     → MayBeRefused old session read → IfOk result (λ answer. items answer ≡ answer_to old session read)
@@ -61,11 +61,12 @@ pub list_refused : (state : State) (session : ℕ) (statement : Statement) → i
     → MayBeRefused state session (Ok statement)
 list_refused state session statement is = ap (λ b. b || (enters state session statement && makes_record statement)) is
 
--- no test leads to a list
+-- a reply that is Ok or a refusal, by a test, is no list
 ok_if-list : (b : Bool) (error : XaError) → is_list (ok_if b error) ≡ false
 ok_if-list true error = refl
 ok_if-list false error = refl
 
+-- a reply that may become a refusal is no list if it was none
 refused_if-list : (b : Bool) (error : XaError) (reply : Reply) → is_list reply ≡ false
     → is_list (refused_if b error reply) ≡ false
 refused_if-list true error reply none = refl
@@ -125,6 +126,7 @@ reply_answered state session statement reply is list =
     list_refused state session statement (sym (table-list state (association_of state session) statement)
     ∙ sym (ap is_list is) ∙ list)
 
+-- an answer with the right listing behind it is the answer that `show` promises
 behind : (old : State) (line : Line) (answer text rest : List ℕ) (new : State)
     → IsAnswerTo old line answer new → rest ≡ listing_after old line new → StandsBehind rest answer text
     → IsAnswerShown old line text new
@@ -159,6 +161,7 @@ given_unshown old new session statement read answer text is some answered refuse
   );
 }
 
+-- a blank line is answered with nothing
 pub blank_shown : (state : State) (text : List ℕ) → text ≡ [] → IsAnswerShown state Blank text state
 unfolding answer_of state_after_line listing_after
 blank_shown state text none = record { answer = text; is = inl (none, refl); shown = inl (sym (append-nil text)) }
@@ -171,18 +174,21 @@ unfolding answer_of state_after_line listing_after
 bad_shown state answer text keys none is shown =
     behind state Bad answer text (listing state keys) state (inl (is, refl)) (ap (listing state) none) shown
 
+-- a comment is written as it is, or not at all if memory is short
 pub comment_shown : (old : State) (line text : List ℕ) (new : State) → true ≡ is_comment_line line
     → (text ≡ comment_text line) ⊎ (text ≡ unshown_text) → new ≡ old
     → IsShown old (Whole line) text new
 unfolding IsShown
 comment_shown old line text new is shown same = rw (sym is) (shown, same)
 
+-- a line that is no comment is answered as what it says
 pub line_shown : (old : State) (line text : List ℕ) (new : State) → false ≡ is_comment_line line
     → IsAnswerShown old (line_of line) text new
     → IsShown old (Whole line) text new
 unfolding IsShown
 line_shown old line text new is shown = rw (sym is) shown
 
+-- a line that is too long is answered as a bad one
 pub long_shown : (old : State) (text : List ℕ) (new : State) → IsAnswerShown old Bad text new
     → IsShown old TooLong text new
 unfolding IsShown

@@ -169,7 +169,7 @@ pub passed_fault : {A : Type 0} (P : ScriptFault → Type 0) (result : Result A 
 passed_fault {A} P result passed fault is same holds =
     let Q : Result A ScriptFault → Type 0 = λ r. IfErr r P in subst Q (sym is) (subst P (sym same) holds)
 
--- a fault of writing
+-- what holds of the fault Write holds of a fault that is Write
 write_is : (P : ScriptFault → Type 0) (fault : ScriptFault) → fault ≡ Write → P Write → P fault
 write_is P fault is holds = subst P (sym is) holds
 

@@ -30,7 +30,7 @@ lines_of-feeds (line ∷ lines) rest none =
     ap lines_of parts ∙ lines_of-feed line (flat_map with_feed lines ++ rest) (All-head HasNoFeed line lines none)
     ∙ ap (λ more. line ∷ more) (lines_of-feeds lines rest (All-tail HasNoFeed line lines none))
 
--- a line that no line feed ends
+-- bytes of which none is a line feed are one line, which no line feed ends
 lines_of-last : (byte : ℕ) (line : List ℕ) → HasNoFeed (byte ∷ line) → lines_of (byte ∷ line) ≡ (byte ∷ line) ∷ []
 unfolding lines_of
 lines_of-last byte [] none =
@@ -41,14 +41,16 @@ lines_of-last byte (next ∷ line) none =
     let more = lines_of-last next line (All-tail (λ b. (b == 10) ≡ false) byte (next ∷ line) none) in
     rw (here, more) refl
 
+-- no bytes make no line
 pub lines_of-nothing : lines_of [] ≡ []
 unfolding lines_of
 lines_of-nothing = refl
 
+-- nothing is cut into no lines, and none is begun
 pub cut_none : IsCutIntoLines [] [] []
 cut_none = record { whole = refl; each = All-nil HasNoFeed; last = All-nil (λ b. (b == 10) ≡ false) }
 
--- one byte more of a line
+-- a byte that is no line feed makes the line that has begun longer
 pub cut_more : (bytes : List ℕ) (lines : List (List ℕ)) (begun : List ℕ) (byte : ℕ) → (byte == 10) ≡ false
     → IsCutIntoLines bytes lines begun
     → IsCutIntoLines (bytes ++ byte ∷ []) lines (begun ++ byte ∷ [])
@@ -58,7 +60,7 @@ cut_more bytes lines begun byte other cut = record {
   last = All-push (λ b. (b == 10) ≡ false) begun byte cut.last other;
 }
 
--- a line feed
+-- a line feed ends the line that has begun
 pub cut_feed : (bytes : List ℕ) (lines : List (List ℕ)) (begun : List ℕ) → IsCutIntoLines bytes lines begun
     → IsCutIntoLines (bytes ++ 10 ∷ []) (lines ++ begun ∷ []) []
 cut_feed bytes lines begun cut =
@@ -72,13 +74,14 @@ cut_feed bytes lines begun cut =
       last = All-nil (λ b. (b == 10) ≡ false);
     }
 
--- the lines of what was cut
+-- the lines of bytes that were cut are those cut off, and then the lines of what was begun and the rest
 pub lines_of-cut : (bytes : List ℕ) (lines : List (List ℕ)) (begun rest : List ℕ) → IsCutIntoLines bytes lines begun
     → lines_of (bytes ++ rest) ≡ lines ++ lines_of (begun ++ rest)
 lines_of-cut bytes lines begun rest cut =
     ap (λ xs. lines_of (xs ++ rest)) cut.whole ∙ ap lines_of (append_assoc (flat_map with_feed lines) begun rest)
     ∙ lines_of-feeds lines (begun ++ rest) cut.each
 
+-- a line feed ends the line that was begun
 pub lines_of-cut_feed : (bytes : List ℕ) (lines : List (List ℕ)) (begun rest : List ℕ)
     → IsCutIntoLines bytes lines begun
     → lines_of (bytes ++ 10 ∷ rest) ≡ (lines ++ begun ∷ []) ++ lines_of rest
@@ -86,11 +89,12 @@ lines_of-cut_feed bytes lines begun rest cut =
     lines_of-cut bytes lines begun (10 ∷ rest) cut ∙ ap (λ xs. lines ++ xs) (lines_of-feed begun rest cut.last)
     ∙ sym (append_assoc lines (begun ∷ []) (lines_of rest))
 
+-- a line of which nothing was received yet is kept as the empty line
 pub received_line-nothing : Whole [] ≡ received_line []
 unfolding received_line
 received_line-nothing = refl
 
--- one byte more of a line, of which all was kept, or not
+-- one byte more of a line: it is kept, or the line is too long
 longer_by : (b : Bool) (line : List ℕ) (byte : ℕ) → nat_le (length line) 65536 ≡ b
     → longer (cond b (Whole line) TooLong) byte ≡ received_line (line ++ byte ∷ [])
 unfolding received_line
@@ -99,30 +103,35 @@ longer_by false line byte long =
     let more : nat_le (length (line ++ byte ∷ [])) 65536 ≡ false = grind (arith, nat_tests, length-append) in
     rw more refl
 
+-- a byte makes the line longer by that byte, or too long
 pub received_line-longer : (line : List ℕ) (byte : ℕ) → longer (received_line line) byte
     ≡ received_line (line ++ byte ∷ [])
 unfolding received_line
 received_line-longer line byte = longer_by (nat_le (length line) 65536) line byte refl
 
+-- a line with a byte isn't nothing, whole or too long
 something : (b : Bool) (byte : ℕ) (line : List ℕ) → is_nothing (cond b (Whole (byte ∷ line)) TooLong) ≡ false
 something true byte line = refl
 something false byte line = refl
 
+-- a received line with a byte isn't nothing
 received_line-some : (byte : ℕ) (line : List ℕ) → is_nothing (received_line (byte ∷ line)) ≡ false
 unfolding received_line
 received_line-some byte line = something (nat_le (length (byte ∷ line)) 65536) byte line
 
+-- a received line that is nothing has no byte
 pub nothing_begun : (line : List ℕ) → is_nothing (received_line line) ≡ true → line ≡ []
 nothing_begun [] none = refl
 nothing_begun (byte ∷ line) none = let some = received_line-some byte line in cc
 
+-- bytes without a line feed are one line
 pub lines_of-some : (line : List ℕ) → HasNoFeed line → is_nothing (received_line line) ≡ false
     → lines_of line ≡ line ∷ []
 unfolding received_line
 lines_of-some [] none some = cc
 lines_of-some (byte ∷ line) none some = lines_of-last byte line none
 
--- one byte more of a line that is kept
+-- one byte more of a line that has room for it is kept, unless the line was too long already
 pub put_short : (long : Bool) (line next : List ℕ) (byte : ℕ) → long ≡ false → length line < 65536
     → next ≡ line ++ byte ∷ []
     → cond long TooLong (Whole next) ≡ longer (cond long TooLong (Whole line)) byte
@@ -132,6 +141,7 @@ put_short false line next byte short room is =
     let kept : nat_le (length (line ++ byte ∷ [])) 65536 ≡ true = grind (arith, nat_tests, length-append) in
     rw (is, kept) refl
 
+-- the byte after the greatest length, 65,536, makes the line too long
 pub put_long : (long : Bool) (line : List ℕ) (byte : ℕ) → long ≡ false → 65536 ≤ length line
     → TooLong ≡ longer (cond long TooLong (Whole line)) byte
 unfolding received_line

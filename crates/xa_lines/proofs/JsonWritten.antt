@@ -12,7 +12,7 @@ use Rattle.xa_lines.specs.Script.{lines_of, is_empty_line}
 use Rattle.xa_lines.specs.Objects.{mark_of, part_fits_as, left_as, parts_fit, part_tokens_as, parts_tokens, fits}
 use Rattle.xa_lines.specs.Objects.{first_fit, form_for, object_line, objects_of}
 
--- one character more
+-- the loop over characters: one more is encoded
 pub characters_more : (text old new : List ℕ) (index : ℕ) → index < length text
     → old ≡ encode_utf8_all (take index text)
     → new ≡ old ++ encode_utf8 (get_or text index 0)
@@ -35,15 +35,17 @@ pub empty_line : (text : List ℕ) → is_empty_line text ≡ (length text == 0)
 empty_line [] = refl
 empty_line (byte ∷ text) = let some : (length (byte ∷ text) == 0) ≡ false = grind (arith, common_steps) in sym some
 
+-- a choice by a test that holds gives the first of two
 chosen : (b : Bool) (one other : Bool) → b ≡ true → (if b then one else other) ≡ one
 chosen true one other is = refl
 chosen false one other is = cc
 
+-- a choice by a test that fails gives the second of two
 not_chosen : (b : Bool) (one other : Bool) → b ≡ false → (if b then one else other) ≡ other
 not_chosen false one other is = refl
 not_chosen true one other is = cc
 
--- the next part fits
+-- the loop over a form's parts: the next part fits, so the others decide
 pub fit_more : (part parts line : List ℕ) (more : List (List ℕ)) → lines_of parts ≡ part ∷ more
     → part_fits_as (mark_of part) part line ≡ true
     → parts_fit (lines_of parts) line ≡ parts_fit more (left_as (mark_of part) line)
@@ -52,7 +54,7 @@ fit_more part parts line more cut is =
     ap (λ l. parts_fit l line) cut ∙ chosen (part_fits_as (mark_of part) part line) (parts_fit more (left_as (mark_of
     part) line)) false is
 
--- the next part doesn't fit
+-- the loop over a form's parts: the next part doesn't fit, so the line doesn't
 pub fit_fails : (part parts line : List ℕ) (more : List (List ℕ)) → lines_of parts ≡ part ∷ more
     → part_fits_as (mark_of part) part line ≡ false
     → parts_fit (lines_of parts) line ≡ false
@@ -61,12 +63,12 @@ fit_fails part parts line more cut is =
     ap (λ l. parts_fit l line) cut ∙ not_chosen (part_fits_as (mark_of part) part line) (parts_fit more (left_as
     (mark_of part) line)) false is
 
--- no part is left
+-- the loop over a form's parts ends: the line fits if nothing of it is left
 pub fit_ends : (parts line : List ℕ) → (length parts == 0) ≡ true → parts_fit (lines_of parts) line ≡ (length line == 0)
 unfolding parts_fit
 fit_ends parts line empty = ap (λ l. parts_fit l line) (lines-none parts empty) ∙ empty_line line
 
--- one member more
+-- the loop over a form's parts: the member of one more is written
 pub members_more : (whole old new : List Token) (part parts line : List ℕ) (more : List (List ℕ))
     → lines_of parts ≡ part ∷ more
     → whole ≡ old ++ parts_tokens (lines_of parts) line → new ≡ old ++ part_tokens_as (mark_of part) part line
@@ -77,7 +79,7 @@ members_more whole old new part parts line more cut is written =
     ∙ sym (append_assoc old (part_tokens_as (mark_of part) part line) (parts_tokens more (left_as (mark_of part) line)))
     ∙ ap (λ l. l ++ parts_tokens more (left_as (mark_of part) line)) (sym written)
 
--- no member is left
+-- the loop over a form's parts ends: all members are written
 pub members_end : (whole new : List Token) (parts line : List ℕ) → (length parts == 0) ≡ true
     → whole ≡ new ++ parts_tokens (lines_of parts) line
     → new ≡ whole
@@ -85,7 +87,7 @@ unfolding parts_tokens
 members_end whole new parts line empty is =
     sym (is ∙ ap (λ l. new ++ parts_tokens l line) (lines-none parts empty) ∙ append-nil new)
 
--- one object more
+-- the loop over lines: the object of one more is written
 pub objects_more : (whole old new line text : List ℕ) (lines : List (List ℕ)) → lines_of text ≡ line ∷ lines
     → whole ≡ old ++ objects_of (lines_of text)
     → new ≡ old ++ object_line line → whole ≡ new ++ objects_of lines
@@ -94,13 +96,13 @@ objects_more whole old new line text lines cut is written =
     is ∙ ap (λ l. old ++ objects_of l) cut ∙ sym (append_assoc old (object_line line) (objects_of lines))
     ∙ ap (λ l. l ++ objects_of lines) (sym written)
 
--- no object is left
+-- the loop over lines ends: all objects are written
 pub objects_end : (whole new text : List ℕ) → (length text == 0) ≡ true → whole ≡ new ++ objects_of (lines_of text)
     → new ≡ whole
 unfolding objects_of
 objects_end whole new text empty is = sym (is ∙ ap (λ l. new ++ objects_of l) (lines-none text empty) ∙ append-nil new)
 
--- the whole object was written
+-- the object of a line was written: its beginning, its members, and its end
 pub object_done : (text items more line : List ℕ) (one two three : List Token) → one ≡ begin_object ∷ []
     → two ≡ one ++ parts_tokens (lines_of (form_for line)) line → three ≡ two ++ end_object ∷ []
     → items ≡ text ++ print three
@@ -112,6 +114,7 @@ object_done text items more line one two three first second third written ended 
     ended ∙ ap (λ l. l ++ codes "\n") (written ∙ ap (λ l. text ++ print l) all)
     ∙ append_assoc text (print (begin_object ∷ (parts ++ end_object ∷ []))) (codes "\n")
 
+-- the first form that fits, among those from a place on: the one there, or one behind it
 first_of_rest : (forms : List (Bor (List ℕ))) (line : List ℕ) (index : ℕ) (d : Bor (List ℕ)) → index < length forms
     → first_fit (map (λ form. form.now) (drop index forms)) line
     ≡ (if fits (get_or forms index d).now line
@@ -121,10 +124,12 @@ unfolding first_fit
 first_of_rest forms line index d within = ap (λ l. first_fit (map (λ form. form.now) l) line) (drop_more forms index d
     within)
 
+-- a choice between texts by a test that holds gives the first
 taken_if : (b : Bool) (one other : List ℕ) → b ≡ true → (if b then one else other) ≡ one
 taken_if true one other is = refl
 taken_if false one other is = cc
 
+-- a choice between texts by a test that fails gives the second
 left_if : (b : Bool) (one other : List ℕ) → b ≡ false → (if b then one else other) ≡ other
 left_if false one other is = refl
 left_if true one other is = cc
@@ -138,7 +143,7 @@ form_here forms line index d within is fit =
     sym (is ∙ first_of_rest forms line index d within ∙ taken_if (fits (get_or forms index d).now line) (get_or forms
     index d).now _ fit)
 
--- the form at a place doesn't fit
+-- if the form at a place doesn't fit a line, the form for the line is among the later ones
 pub form_next : (forms : List (Bor (List ℕ))) (line : List ℕ) (index : ℕ) (d : Bor (List ℕ)) → index < length forms
     → form_for line ≡ first_fit (map (λ form. form.now) (drop index forms)) line
     → fits (get_or forms index d).now line ≡ false
@@ -147,7 +152,7 @@ form_next forms line index d within is fit =
     is ∙ first_of_rest forms line index d within ∙ left_if (fits (get_or forms index d).now line) (get_or forms index
     d).now _ fit
 
--- no form fits
+-- the loop over forms ends: no form fits the line
 pub form_none : (forms : List (Bor (List ℕ))) (line : List ℕ) (index : ℕ) → length forms ≤ index
     → form_for line ≡ first_fit (map (λ form. form.now) (drop index forms)) line → codes "=text" ≡ form_for line
 unfolding first_fit

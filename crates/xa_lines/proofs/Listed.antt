@@ -14,7 +14,7 @@ nothing_listed state keys none nil =
     ap (λ branches. flat_map (branch_lines state) branches ++ flat_map (row_line state) keys) none
     ∙ ap (flat_map (row_line state)) nil
 
--- a branch has a line
+-- a listing with a branch isn't empty
 pub branch_listed : (state : State) (keys : List (List ℕ)) → branches_of state ≢ [] → listing state keys ≢ []
 unfolding listing
 branch_listed state keys some = by (branches_of state) some
@@ -24,7 +24,7 @@ branch_listed state keys some = by (branches_of state) some
     by [] has none = has refl
     by (branch ∷ branches) has none = cc
 
--- a row has a line
+-- a listing with a row isn't empty
 pub key_listed : (state : State) (keys : List (List ℕ)) → keys ≢ [] → listing state keys ≢ []
 unfolding listing
 key_listed state keys some = by (flat_map (branch_lines state) (branches_of state)) keys some

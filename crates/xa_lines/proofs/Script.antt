@@ -14,6 +14,7 @@ use Rattle.xa_lines.specs.Script.{session_named, is_empty_line}
 abbrev pub first_length : List ℕ → ℕ
 first_length text = prefix_len (λ byte. not (byte == 10)) text
 
+-- one byte more in front of a text makes its first line longer
 longer : (byte n : ℕ) (text : List ℕ)
     → (byte ∷ take n text) ∷ lines_of (drop (n + 1) text)
     ≡ take (1 + n) (byte ∷ text) ∷ lines_of (drop (1 + n + 1) (byte ∷ text))
@@ -22,12 +23,14 @@ longer byte n text =
     let two : 1 + n + 1 ≡ suc (n + 1) = omega arith in
     rw (two, one) refl
 
+-- the first line ends at the first line feed; `b` says whether this byte is one
 cut_at : (b : Bool) (byte n : ℕ) (text : List ℕ) → lines_of text ≡ take n text ∷ lines_of (drop (n + 1) text)
     → cond b ([] ∷ lines_of text) (with_first byte (lines_of text))
     ≡ take (cond (not b) (1 + n) 0) (byte ∷ text) ∷ lines_of (drop (cond (not b) (1 + n) 0 + 1) (byte ∷ text))
 cut_at true byte n text short = refl
 cut_at false byte n text short = rw short (longer byte n text)
 
+-- the first line ends at the text's last byte; `b` says whether that is a line feed
 last_cut : (b : Bool) (byte : ℕ)
     → cond b ([] ∷ []) ((byte ∷ []) ∷ []) ≡ take (cond (not b) 1 0) (byte ∷ []) ∷ lines_of
     (drop (cond (not b) 1 0 + 1) (byte ∷ []))
@@ -44,15 +47,18 @@ lines_of-cut (byte ∷ []) h = last_cut (byte == 10) byte
 lines_of-cut (byte ∷ next ∷ rest) h =
     cut_at (byte == 10) byte (first_length (next ∷ rest)) (next ∷ rest) (lines_of-cut (next ∷ rest) (omega arith))
 
+-- a text of length 0 is the empty one
 empty_is : (text : List ℕ) → (length text == 0) ≡ is_empty_line text
 empty_is [] = refl
 empty_is (x ∷ xs) = grind (arith, common_steps)
 
+-- a line of nothing but blanks says nothing
 pub line_of-blank : (line text : List ℕ) → text ≡ unblank line → (length text == 0) ≡ true → Blank ≡ line_of line
 unfolding line_of
 line_of-blank line text is empty = let e : is_empty_line (unblank line) ≡ true =
     ap is_empty_line (sym is) ∙ sym (empty_is text) ∙ empty in rw e refl
 
+-- a line that isn't blank is read without its leading blanks
 pub line_of-filled : (line text : List ℕ) → text ≡ unblank line → (length text == 0) ≡ false
     → line_of line ≡ filled_line text
 unfolding line_of
@@ -60,11 +66,13 @@ line_of-filled line text is filled =
     let e : is_empty_line (unblank line) ≡ false = ap is_empty_line (sym is) ∙ sym (empty_is text) ∙ filled in
     rw (e, is) refl
 
+-- a line whose first word is no session's number is bad
 pub filled-bad : (line text word : List ℕ) → line_of line ≡ filled_line text → word ≡ first_word text
     → session_named word ≡ None → Bad ≡ line_of line
 filled-bad line text word is at none =
     sym (is ∙ ap (λ s. line_given s (unblank (after_word text))) (ap session_named (sym at) ∙ none))
 
+-- a line whose first word is one gives that session the text behind it
 pub filled-given : (line text word rest : List ℕ) (session : ℕ) → line_of line ≡ filled_line text
     → word ≡ first_word text → rest ≡ after_word text
     → session_named word ≡ Some session
@@ -72,7 +80,7 @@ pub filled-given : (line text word rest : List ℕ) (session : ℕ) → line_of 
 filled-given line text word rest session is at after some =
     rw after (sym (is ∙ ap (λ s. line_given s (unblank (after_word text))) (ap session_named (sym at) ∙ some)))
 
--- the first line of a text that is split after it
+-- the lines of a text are its first line and the lines behind that line's line feed
 pub lines_of-split : (text line rest lines : List ℕ) → 0 < length text → line ≡ take (first_length text) text
     → rest ≡ drop (first_length text) text
     → lines ≡ drop 1 rest
@@ -82,6 +90,7 @@ lines_of-split text line rest lines some is after next =
     ∙ ap (drop 1) (sym after) ∙ sym next in
     rw is (lines_of-cut text some ∙ ap (λ l. take (first_length text) text ∷ lines_of l) e)
 
+-- past the end nothing is left
 pub none_left : (text : List ℕ) → length text < 1 → text ≡ drop 1 text
 none_left [] short = refl
 none_left (x ∷ xs) short = absurd (omega arith)

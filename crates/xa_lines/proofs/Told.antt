@@ -20,22 +20,25 @@ use Rattle.xa_lines.specs.Statements.{said, refused_text, HoldsNothing, IsRefusa
 use Rattle.xa_lines.specs.Statements.{served_text, IsToldAll}
 use Rattle.xa_lines.specs.Statements.{AfterFaultOfStatements, IsShort}
 
--- a line for whose statement memory is refused or isn't
+-- what a line is answered, and the state after it; the mark says whether memory is refused for its statement
 record IsMarked (mark : Bool) (old : State) (line : Line) (text : List ℕ) (new : State) : Type 0 where
   text_is : text ≡ text_of mark old line
   state_is : new ≡ state_of mark old line
 
+-- an answer that refuses memory for a statement and changes nothing is the one with the mark true
 refusal_marked : (line : Line) (old new : State) (text : List ℕ) → IsRefusal old line text → new ≡ old
     → IsMarked true old line text new
 refusal_marked Blank old new text r same = absurd r
 refusal_marked Bad old new text r same = absurd r
 refusal_marked (Given session statement) old new text r same = record { text_is = r.0; state_is = same }
 
+-- the answer to a line is the one with the mark true or the one with the mark false
 mark_of : (old new : State) (line : Received) (text : List ℕ) → IsLineAnswer old line text new
     → (mark : Bool) × IsMarked mark old (said line) text new
 mark_of old new line text (inl a) = (false, record { text_is = a.0; state_is = a.1 })
 mark_of old new line text (inr r) = (true, refusal_marked (said line) old new text r.0 r.1)
 
+-- each of several answers has its mark, and together they are what a server tells with these marks
 marks_of : (lines later : List (List ℕ)) (first last : State) (text : List ℕ)
     → AnswersAll IsLineAnswer first lines text last
     → (marks : List Bool) × (served_text marks first (lines ++ later) ≡ text ++ served_text [] last later)
@@ -54,6 +57,7 @@ marks_of (line ∷ lines) later first last text a =
           ∙ sym (append_assoc a.1 a.2 (served_text [] last later)) ∙ ap (λ t. t ++ served_text [] last later) (sym a.5),
     )
 
+-- to no lines a server tells nothing
 nothing_later : (state : State) → served_text [] state [] ≡ []
 unfolding served_text
 nothing_later state = refl
@@ -65,7 +69,7 @@ part_told lines later text a =
     let m = marks_of lines later a.first a.last text a.answers in
     (m.0, served_text [] a.last later, ap (λ s. served_text m.0 s (lines ++ later)) (sym a.begins) ∙ m.1)
 
--- the answers to lines
+-- the answers to lines, each as it may be, are what a server tells with some marks
 all_told : (lines : List (List ℕ)) (text : List ℕ) → AreAnswers HoldsNothing IsLineAnswer lines text
     → (marks : List Bool) × (text ≡ served_text marks no_state lines)
 all_told lines text a =
@@ -76,16 +80,19 @@ all_told lines text a =
     ∙ ap (λ t. text ++ t) (nothing_later a.last) ∙ append-nil text in
     (m.0, sym whole)
 
+-- what a server has told once it ended are the answers to all lines
 pub served_told : (o : Option Exchange) → IfSome o (IsServed HoldsNothing IsLineAnswer) → IfSome o IsToldAll
 served_told None s = tt
 served_told (Some exchange) s = (s.0, all_told (lines_of exchange.received) exchange.told s.2)
 
+-- what a server has told once it ended, after Ok, are the answers to all lines
 pub served_ok : {A E : Type 0} (result : Result A E) (o : Option Exchange)
     → OnOk result (IfSome o (IsServed HoldsNothing IsLineAnswer))
     → OnOk result (IfSome o IsToldAll)
 served_ok (Ok x) o s = served_told o s
 served_ok (Err e) o s = tt
 
+-- a fault of serving leaves what a fault of statements leaves
 after_fault : (fault : ScriptFault) (exchange : Exchange) → AfterServing HoldsNothing IsLineAnswer fault exchange
     → AfterFaultOfStatements fault exchange
 after_fault Read exchange a =
@@ -107,6 +114,7 @@ after_fault Full exchange a = a
 after_fault GateShut exchange a = a
 after_fault ThreadRefused exchange a = a
 
+-- what a server leaves after a fault, of an Err
 pub served_fault : {A : Type 0} (result : Result A ScriptFault) (o : Option Exchange)
     → IfErr result (λ fault. IfSome o (AfterServing HoldsNothing IsLineAnswer fault))
     → IfErr result (λ fault. IfSome o (AfterFaultOfStatements fault))
@@ -114,16 +122,18 @@ served_fault (Ok x) o a = tt
 served_fault (Err fault) None a = tt
 served_fault (Err fault) (Some exchange) a = after_fault fault exchange a
 
--- a line that is kept whole
+-- a line that is short enough to be kept whole says what its text says
 said_by : (b : Bool) (line : List ℕ) → b ≡ true → said (cond b (Whole line) TooLong) ≡ line_of line
 said_by true line short = refl
 said_by false line short = cc
 
+-- a line that isn't too long says what it says in a script
 said_short : (line : List ℕ) → IsShort line → said (received_line line) ≡ line_of line
 unfolding received_line
 said_short line short = let b : nat_le (length line) 65536 ≡ true = grind (arith, nat_tests) in
     said_by (nat_le (length line) 65536) line b
 
+-- to short lines, and with memory enough, a server tells what `run` writes
 pub served_text-short : (state : State) (lines : List (List ℕ)) → All IsShort lines
     → served_text [] state lines ≡ run_text state lines
 unfolding served_text run_text
@@ -139,6 +149,7 @@ pub blank_answered : (state : State) (line : Line) (text : List ℕ) → Blank �
 unfolding answer_of state_after_line
 blank_answered state line text is none = (rw (← is) none, rw (← is) refl)
 
+-- a bad line is answered as such, and changes nothing
 pub bad_answered : (state : State) (line : Line) (text : List ℕ) → Bad ≡ line
     → text ≡ answer_text (codes "-") (syntax_text 0)
     → (text ≡ answer_of state line) × (state ≡ state_after_line state line)
@@ -153,7 +164,7 @@ bad_text =
     decimal_digit 0 (lit< tt) in ap (λ d. answer_text (codes "-")
     (codes "ERROR 1064 (42000): syntax fault at byte " ++ d)) (sym e)
 
--- that of the answer to a statement for which memory was refused
+-- the answer to a statement for which memory was refused: its session's number, and the text of ERROR 1037
 pub refused_text-parts : (who : List ℕ) (session : ℕ) → who ≡ decimal session
     → who ++ codes " ERROR 1037 (HY001): out of memory\n" ≡ refused_text session
 refused_text-parts who session is = rw is (simp append_assoc)

@@ -11,7 +11,7 @@ use Rattle.xa_server.specs.State.{State}
 use Rattle.xa_lines.specs.Script.{lines_of, line_of}
 use Rattle.xa_lines.specs.Transcript.{AppendsPrefix, IsWrittenUpTo, answer_of, state_after_line, run_text}
 
--- bytes that the whole begins with
+-- if the writer got bytes with which a whole begins, it got a prefix of that whole
 prefix_from : (old new : Option (List ℕ)) (whole bytes rest : List ℕ) → Appends old new bytes → whole ≡ bytes ++ rest
     → AppendsPrefix old new whole
 prefix_from old new whole bytes rest appended parts =
@@ -20,11 +20,12 @@ prefix_from old new whole bytes rest appended parts =
     let P : List ℕ → Type 0 = λ piece. Appends old new piece in
     (length bytes, subst P e appended)
 
+-- if a part of the text was written, and the rest is left, a prefix was written
 pub prefix_written : (old new : Option (List ℕ)) (whole left : List ℕ) → IsWrittenUpTo old new whole left
     → AppendsPrefix old new whole
 prefix_written old new whole left w = prefix_from old new whole w.written left w.appended w.parts
 
--- a part of the next answer
+-- if a part of the next answer was written, what was written in all is a prefix of the whole
 pub prefix_more : (old now new : Option (List ℕ)) (whole answer more : List ℕ)
     → IsWrittenUpTo old now whole (answer ++ more) → AppendsPrefix now new answer
     → AppendsPrefix old new whole
@@ -36,7 +37,7 @@ prefix_more old now new whole answer more w p =
     (Appends-trans old now new w.written (take n answer) w.appended p.1)
     (w.parts ∙ ap (λ xs. w.written ++ xs) split ∙ sym (append_assoc w.written (take n answer) (drop n answer ++ more)))
 
--- the whole of the next answer
+-- once the next answer is written, what is left of the whole is what comes behind that answer
 pub written_more : (old now new : Option (List ℕ)) (whole answer more : List ℕ)
     → IsWrittenUpTo old now whole (answer ++ more) → Appends now new answer
     → IsWrittenUpTo old new whole more
@@ -46,6 +47,7 @@ written_more old now new whole answer more w appended = record {
   parts = w.parts ∙ sym (append_assoc w.written answer more);
 }
 
+-- before the first write, all of a text is left
 pub written_none : (old : Option (List ℕ)) (whole : List ℕ) → IsWrittenUpTo old old whole whole
 written_none old whole = record { written = []; appended = Appends-nil old; parts = refl }
 
@@ -63,6 +65,7 @@ unfolding run_text lines_of
 run_text-end state [] empty = refl
 run_text-end state (x ∷ xs) empty = absurd (let none : length (x ∷ xs) ≡ 0 = grind (arith, common_steps) in omega arith)
 
+-- if nothing is left, all was written
 pub written_whole : (old new : Option (List ℕ)) (whole left : List ℕ) → IsWrittenUpTo old new whole left → left ≡ []
     → Appends old new whole
 written_whole old new whole left w none =
@@ -74,6 +77,7 @@ pub written_as : (old new : Option (List ℕ)) (whole left same : List ℕ) → 
     → IsWrittenUpTo old new whole same
 written_as old new whole left same e w = let P : List ℕ → Type 0 = λ xs. IsWrittenUpTo old new whole xs in subst P e w
 
+-- what holds anyway holds if the result is an error
 pub on_err : {T E : Type 0} {P : Type 0} (r : Result T E) → P → OnErr r P
 on_err (Ok x) p = tt
 on_err (Err e) p = p

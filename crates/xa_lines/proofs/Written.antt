@@ -6,13 +6,13 @@ use Rattle.std.proofs.Math.Seq.{take-add}
 use Rattle.std.specs.Io.KnownBytes.{Appends, Keeps}
 use Rattle.std.proofs.KnownBytes.{Appends-trans}
 
--- one piece more is too much
+-- a piece that makes the text longer than is allowed makes it too long
 pub length-piece : (most : ℕ) (script piece : List ℕ) (count : ℕ) → most < length script + count → count ≤ length piece
     → most < length (script ++ take count piece)
 length-piece most script piece count long within =
     omega (arith, length-append script (take count piece), length-take count piece)
 
--- more of the same bytes
+-- a part of a text that was written, and the part behind it, are one part
 pub Appends-more : (first second third : Option (List ℕ)) (bytes : List ℕ) (written count : ℕ)
     → Appends first second (take written bytes)
     → Appends second third (take count (take (length bytes - written) (drop written bytes)))
@@ -24,6 +24,7 @@ Appends-more first second third bytes written count before now =
     subst Q (sym (take-add written count bytes)) (Appends-trans first second third (take written bytes)
     (take count (drop written bytes)) before rest)
 
+-- appending nothing keeps what was written
 kept_by_nothing : (old new : Option (List ℕ)) → Appends old new [] → Keeps old new
 kept_by_nothing None new taken = tt
 kept_by_nothing (Some old) None taken = absurd taken
@@ -35,6 +36,7 @@ pub Keeps-nothing : (old new : Option (List ℕ)) (count : ℕ) (bytes : List �
 Keeps-nothing old new count bytes none taken =
     let P : ℕ → Type 0 = λ n. Appends old new (take n bytes) in kept_by_nothing old new (subst P none taken)
 
+-- keeping what was written is appending nothing
 pub Appends-nothing : (old new : Option (List ℕ)) → Keeps old new → Appends old new []
 Appends-nothing None new kept = tt
 Appends-nothing (Some old) None kept = absurd kept

@@ -11,7 +11,7 @@ abbrev pub bytes_of : Answer → List ℕ
 bytes_of (Text text) = text.items
 bytes_of (Short text) = text.items
 
--- so many bytes more can be appended without memory
+-- so many bytes more can be appended to the answer without memory
 abbrev pub HasRoom : ℕ → Answer → Type 0
 HasRoom spare (Text text) = vec_len text + spare ≤ vec_capacity text
 HasRoom spare (Short text) = array_vec_len text + spare ≤ 160

@@ -11,47 +11,59 @@ use Rattle.std.specs.Prelude.{ℕ, Bool, ◌==◌, ◌&&◌, not, cond, List}
 use Rattle.xa_lines.specs.declared.cut_reader.CutReader.{CutReader}
 use Rattle.xa_lines.specs.declared.cut_writer.CutWriter.{CutWriter}
 
+-- the bytes that a reader has yet to give
 abbrev pub left_in : CutReader → List ℕ
 left_in reader = reader.rest.now
 
+-- how many more reads it answers before it faults
 abbrev pub reads_left_in : CutReader → ℕ
 reads_left_in reader = reader.reads
 
+-- the greatest number of bytes that it gives at a time
 abbrev pub piece_of : CutReader → ℕ
 piece_of reader = reader.piece
 
+-- whether it faults once and then goes on
 abbrev pub goes_on_behind : CutReader → Bool
 goes_on_behind reader = reader.once
 
+-- whether a reader has faulted
 abbrev pub has_faulted : CutReader → Bool
 has_faulted reader = reader.faulted
 
+-- how often the reader was read after it had told its fault
 abbrev pub reads_after : CutReader → ℕ
 reads_after reader = reader.after
 
--- no reads are left, and it isn't one that has had its fault
+-- whether the reader faults at its next use: no reads are left, and it faults each time or hasn't faulted yet
 abbrev pub faults_next : CutReader → Bool
 faults_next reader = reader.reads == 0 && not (reader.once && reader.faulted)
 
+-- the bytes that a writer took
 abbrev pub taken_by : CutWriter → List ℕ
 taken_by writer = writer.taken.items
 
+-- how many more bytes it takes before it faults
 abbrev pub room_in : CutWriter → ℕ
 room_in writer = writer.room
 
+-- the greatest number of bytes that it takes at a time
 abbrev pub piece_into : CutWriter → ℕ
 piece_into writer = writer.piece
 
+-- whether it faults once and then goes on
 abbrev pub goes_on_writing : CutWriter → Bool
 goes_on_writing writer = writer.once
 
+-- whether a writer has faulted
 abbrev pub has_refused : CutWriter → Bool
 has_refused writer = writer.faulted
 
+-- how often the writer was written to after it had told its fault
 abbrev pub writes_after : CutWriter → ℕ
 writes_after writer = writer.after
 
--- no room is left, and it isn't one that has had its fault
+-- whether the writer refuses the next byte: no room is left, and it faults each time or hasn't faulted yet
 abbrev pub refuses_next : CutWriter → Bool
 refuses_next writer = writer.room == 0 && not (writer.once && writer.faulted)
 

@@ -9,7 +9,7 @@ use Rattle.std.specs.Prelude.{◌≡◌, ◌⊎◌, ℕ, ◌==◌, cond, Option,
 use Rattle.xa_lines.specs.declared.stage.Stage.{Stage}
 use Rattle.xa_lines.specs.declared.stage.Stage.TheVariants.{Open, Ended, Deaf, Mute}
 
--- what has passed
+-- what has passed between a client and the program
 pub record Exchange : Type 0 where
   -- what was received
   pub received : List ℕ
@@ -20,6 +20,7 @@ pub record Exchange : Type 0 where
   -- whether more may be received
   pub stage : Stage
 
+-- nothing was received, taken or told yet, and the client may send
 abbrev pub IsFresh : Exchange → Type 0
 IsFresh exchange = (exchange.received ≡ []) × (exchange.given ≡ []) × (exchange.told ≡ []) × (exchange.stage ≡ Open)
 

@@ -5,7 +5,7 @@ use Rattle.xa_lines.specs.declared.script_fault.ScriptFault.{ScriptFault}
 use Rattle.xa_lines.specs.declared.script_fault.ScriptFault.TheVariants.{Read, TooLong, Write, NoMemory, Full, GateShut}
 use Rattle.xa_lines.specs.declared.script_fault.ScriptFault.TheVariants.{ThreadRefused}
 
--- those of the streams first, then those of a race (own rule)
+-- the number of a fault of a script: those of the streams first, then those of a race (own rule)
 abbrev pub number_of_script_fault : ScriptFault → ℕ
 number_of_script_fault Read = 1
 number_of_script_fault TooLong = 2

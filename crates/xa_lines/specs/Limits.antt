@@ -3,8 +3,10 @@
 --     script_reads     reads that a script takes
 use Rattle.std.specs.Prelude.{ℕ}
 
+-- 1 MiB: one byte more can't be read
 abbrev pub script_bytes : ℕ
 script_bytes = 1048576
 
+-- two for each byte, so that a reader that gives little at a time still comes to an end
 abbrev pub script_reads : ℕ
 script_reads = 2097152

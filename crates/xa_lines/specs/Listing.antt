@@ -18,6 +18,7 @@ use Rattle.xa_server.specs.declared.overview.BranchEntry.{BranchEntry}
 use Rattle.xa_server.specs.Overview.{branches_of, rows_of}
 use Rattle.xa_server.specs.State.{State, committed_value}
 
+-- the words for a branch's phase
 abbrev pub phase_text : Phase → List ℕ
 phase_text Active = codes " ACTIVE"
 phase_text Idle = codes " IDLE"

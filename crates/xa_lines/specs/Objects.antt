@@ -81,10 +81,11 @@ parts_fit [] text = is_empty_line text
 parts_fit (part ∷ parts) text = if part_fits_as (mark_of part) part text then parts_fit parts (left_as (mark_of part)
     text) else false
 
+-- whether a line has the form: the form's lines are its parts, in order
 abbrev pub fits : (form line : List ℕ) → Bool
 fits form line = parts_fit (lines_of form) line
 
--- a key with a number, if there is one
+-- the tokens of a member of a JSON object whose value is a number; none without a number
 abbrev pub number_tokens : List ℕ → Option ℕ → List Token
 number_tokens name None = []
 number_tokens name (Some found) = key (encode_utf8_all name) ∷ number (decimal found) ∷ []
@@ -113,7 +114,7 @@ unfoldable pub first_fit : List (List ℕ) → List ℕ → List ℕ
 first_fit [] line = codes "=text"
 first_fit (form ∷ forms) line = if fits form line then form else first_fit forms line
 
--- the forms (own rule)
+-- the forms of lines with their members' names; a line takes the first form that fits it (own rule)
 abbrev pub all_forms : List (List ℕ)
 all_forms =
     codes "!verdict"

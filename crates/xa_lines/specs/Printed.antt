@@ -39,7 +39,7 @@ abbrev pub error_text : XaError → List ℕ
 error_text error =
     codes "ERROR " ++ decimal (number_of error) ++ codes " (" ++ sqlstate_of error ++ codes "): " ++ message_of error
 
--- one line a reply (own rule)
+-- the text of a reply, in one line (own rule)
 abbrev pub reply_text : Bool → Reply → List ℕ
 reply_text convert Accepted = codes "OK"
 reply_text convert (Value None) = codes "NONE"

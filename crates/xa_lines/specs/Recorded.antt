@@ -5,7 +5,7 @@ use Rattle.xa_lines.specs.Cut.{taken_by}
 use Rattle.xa_lines.specs.Exchange.{Exchange}
 use Rattle.xa_lines.specs.declared.recorded.Recorded.{Recorded}
 
--- what has passed with it
+-- what has passed between this client and the program
 abbrev pub exchange_of : Recorded → Exchange
 exchange_of client = record {
   received = client.received.items;

@@ -16,6 +16,7 @@ use Rattle.xa_xid.specs.declared.byte_class.ByteClass.TheVariants.{Blank as Blan
 use Rattle.xa_lines.specs.declared.lines.ScriptLine.{ScriptLine}
 use Rattle.xa_lines.specs.declared.lines.ScriptLine.TheVariants.{Blank as BlankLine, Bad as BadLine, Given as GivenLine}
 
+-- no byte, or no element of any list
 abbrev pub is_empty_line : {A : Type 0} → List A → Bool
 is_empty_line [] = true
 is_empty_line (x ∷ xs) = false
@@ -30,15 +31,19 @@ unfoldable pub lines_of : List ℕ → List (List ℕ)
 lines_of [] = []
 lines_of (byte ∷ bytes) = cond (byte == 10) ([] ∷ lines_of bytes) (with_first byte (lines_of bytes))
 
+-- the byte isn't a blank
 abbrev pub is_no_blank : ℕ → Bool
 is_no_blank byte = not (belongs BlankByte byte)
 
+-- the bytes before the first blank
 abbrev pub first_word : List ℕ → List ℕ
 first_word text = take (prefix_len is_no_blank text) text
 
+-- what stands behind the first word, with the blanks before it
 abbrev pub after_word : List ℕ → List ℕ
 after_word text = drop (prefix_len is_no_blank text) text
 
+-- what stands behind the first word and the blanks after it
 abbrev pub behind_word : List ℕ → List ℕ
 behind_word text = unblank (after_word text)
 
@@ -62,6 +67,7 @@ number_of_word (first ∷ []) = whole_number (number_ahead (first ∷ []))
 number_of_word (first ∷ second ∷ rest) =
     if first == 48 then None else whole_number (number_ahead (first ∷ second ∷ rest))
 
+-- whether a text begins with `#`, the byte 35
 abbrev pub begins_comment : List ℕ → Bool
 begins_comment [] = false
 begins_comment (byte ∷ bytes) = byte == 35
@@ -70,7 +76,7 @@ begins_comment (byte ∷ bytes) = byte == 35
 abbrev pub is_comment_line : List ℕ → Bool
 is_comment_line line = begins_comment (unblank line)
 
--- what a line says
+-- what a line of a script says
 pub data Line : Type 0 where
   -- nothing: it has no answer
   Blank : Line

@@ -24,6 +24,7 @@ comment_text line = codes "  " ++ line ++ codes "\n"
 abbrev pub unshown_text : List ℕ
 unshown_text = codes "  OUT OF MEMORY\n"
 
+-- the rows to show for a text that was read as a statement, or couldn't be
 abbrev pub keys_of_read : State → ℕ → Result Statement ℕ → List (List ℕ)
 keys_of_read state session (Ok statement) = keys_about state session statement
 keys_of_read state session (Err place) = []
@@ -70,5 +71,6 @@ IsShown old TooLong text new = IsAnswerShown old Bad text new
 abbrev pub BeginsEmpty : Shown → Type 0
 BeginsEmpty shown = shown.server ≡ no_state
 
+-- a server that shows its store answers a line so, by the server within it
 abbrev pub Shows : Shown → Received → List ℕ → Shown → Type 0
 Shows old line text new = IsShown old.server line text new.server

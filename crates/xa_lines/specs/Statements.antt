@@ -43,7 +43,7 @@ abbrev pub MayBeRefused : State → ℕ → Result Statement ℕ → Type 0
 MayBeRefused state session (Ok statement) = may_take_memory state session statement ≡ true
 MayBeRefused state session (Err place) = ⊥
 
--- only for such a statement memory may be refused
+-- memory was refused for the line, which only a statement's line may be
 abbrev pub IsRefusal : State → Line → List ℕ → Type 0
 IsRefusal state Blank text = ⊥
 IsRefusal state Bad text = ⊥
@@ -61,7 +61,7 @@ abbrev pub IsAnswerTo : State → Line → List ℕ → State → Type 0
 IsAnswerTo old line text new =
     ((text ≡ answer_of old line) × (new ≡ state_after_line old line)) ⊎ (IsRefusal old line text × (new ≡ old))
 
--- so is a line
+-- a line as it was received is answered as what it says
 abbrev pub IsLineAnswer : State → Received → List ℕ → State → Type 0
 IsLineAnswer old line text new = IsAnswerTo old (said line) text new
 
@@ -72,7 +72,7 @@ text_of true state Blank = answer_of state Blank
 text_of true state Bad = answer_of state Bad
 text_of false state line = answer_of state line
 
--- the state after it
+-- the state after a line, if memory is refused for its statement or isn't
 abbrev pub state_of : Bool → State → Line → State
 state_of true state (Given session statement) = state
 state_of true state Blank = state_after_line state Blank
@@ -84,6 +84,7 @@ abbrev pub next_mark : List Bool → Bool
 next_mark [] = false
 next_mark (mark ∷ marks) = mark
 
+-- the marks of the lines after the next one; a mark says that memory is refused for the line's statement
 abbrev pub later_marks : List Bool → List Bool
 later_marks [] = []
 later_marks (mark ∷ marks) = marks

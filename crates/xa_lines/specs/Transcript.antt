@@ -102,7 +102,7 @@ StopsRun gives fails takes refuses fault old new before after =
     ⊎ ((script : List ℕ) × HasReadAll gives script_reads old script new
     × StopsAnswering takes refuses fault before (transcript script) after)
 
--- the writer got the whole but for what is left of it
+-- the writer got all of the whole but for what is left
 pub record IsWrittenUpTo (old new : Option (List ℕ)) (whole left : List ℕ) : Type 0 where
   pub written : List ℕ
   pub appended : Appends old new written

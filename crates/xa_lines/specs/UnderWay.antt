@@ -27,7 +27,7 @@ pub record IsUnderWay {S : Type 0} (Begins : S → Type 0) (Answers : S → Rece
   pub stage_is : exchange.stage ≡ stage
   pub counted : reads ≤ length exchange.received
 
--- the same, of a client that says what has passed
+-- a conversation under way, of a client that says what has passed; of another one nothing is said
 abbrev pub UnderWay : {S : Type 0} → (S → Type 0) → (S → Received → List ℕ → S → Type 0) → Stage → ℕ → Option Exchange
     → List ℕ → Received → S → Type 0
 UnderWay Begins Answers stage reads None waiting line server = ⊤

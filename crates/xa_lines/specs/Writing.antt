@@ -19,13 +19,13 @@ abbrev pub AppendsObjects : (Option (List ℕ) → Option (List ℕ) → Type 0)
 AppendsObjects Writes old new = (text : List ℕ) × Writes (Some []) (Some text)
     × Appends old new (objects_of (lines_of text))
 
--- the writer got a prefix of them
+-- the writer got a prefix of the JSON objects of what Writes writes
 abbrev pub AppendsObjectsPrefix : (Option (List ℕ) → Option (List ℕ) → Type 0) → Option (List ℕ) → Option (List ℕ)
     → Type 0
 AppendsObjectsPrefix Writes old new = (text : List ℕ) × Writes (Some []) (Some text)
     × AppendsPrefix old new (objects_of (lines_of text))
 
--- what a fault of such a job leaves: a prefix of the objects if a write failed, else nothing
+-- what a fault of a job with `--json` leaves: a prefix of the objects if a write failed, else nothing
 abbrev pub AfterObjects : (Option (List ℕ) → Option (List ℕ) → Type 0) → ScriptFault → Option (List ℕ)
     → Option (List ℕ) → Type 0
 AfterObjects Writes Write old new = AppendsObjectsPrefix Writes old new

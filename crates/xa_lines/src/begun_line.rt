@@ -13,6 +13,7 @@ pub struct BegunLine {
     bytes: Vec<u8>,
     /// Whether more were received.
     is_long: bool,
+    // The room for the longest line was taken when this was made, so no byte takes memory.
     ghost room: { 65536 ≤ vec_capacity bytes },
 }
 
@@ -41,6 +42,7 @@ impl BegunLine {
             self.is_long = true;
             return;
         }
+        // The room was taken before, so this can't fail.
         let _ = self.bytes.push(byte);
     }
 

@@ -162,6 +162,7 @@ pub fn serve<S: LineServer, P: Client<S>>(
             Ok(count) => count,
             Err(_) => return Err(ScriptFault::Read),
         };
+        // The end: what stands behind the last line feed is a line, too.
         if count == 0 {
             answer_last(alloc, server, client, &mut line)?;
             return flush(client);

@@ -25,6 +25,7 @@ pub struct CutReader<'a> {
     faulted: bool,
     /// How often it was read after it first failed, at most 2^64-1.
     after: u64,
+    // Each read gives something, so a loop over reads ends.
     ghost some: { 0 < piece },
 }
 
@@ -114,6 +115,7 @@ impl<'a> Read for CutReader<'a> {
         if self.faulted {
             self.after = self.after.saturating_add(1);
         }
+        // Its time has come, unless it fails once and has done so.
         if self.reads == 0 && !(self.once && self.faulted) {
             self.faulted = true;
             return Err(ErrorKind::Interrupted.into());

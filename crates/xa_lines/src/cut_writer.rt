@@ -26,6 +26,7 @@ pub struct CutWriter {
     faulted: bool,
     /// How often it was written to after that, at most 2^64-1.
     after: u64,
+    // Each write takes something, so a loop over writes ends.
     ghost some: { 0 < piece },
 }
 
@@ -117,6 +118,7 @@ impl Write for CutWriter {
             self.after = self.after.saturating_add(1);
         }
         let passed = self.once && self.faulted;
+        // Its time has come, unless it fails once and has done so. Behind that there is no bound.
         if self.room == 0 && !passed {
             self.faulted = true;
             return Err(ErrorKind::Interrupted.into());

@@ -24,7 +24,9 @@ pub struct Recorded<'a> {
     told: usize,
     /// Whether it may send more.
     stage: Stage,
+    // No more was told than the writer took.
     ghost within: { told ≤ length (taken_by writer) },
+    // Once the streams have faulted they fault each time.
     ghost each_time: { (goes_on_behind reader ≡ false) × (goes_on_writing writer ≡ false) },
 }
 
@@ -103,6 +105,7 @@ impl<'a, S: LineServer> Client<S> for Recorded<'a> {
         }
         match self.reader.read(piece) {
             Ok(count) => {
+                // The room was taken above, so this can't fail.
                 self.received.extend_from_slice(&piece[..count]).unwrap();
                 if count == 0 {
                     self.stage = Stage::Ended;
@@ -126,6 +129,7 @@ impl<'a, S: LineServer> Client<S> for Recorded<'a> {
         }
         match self.writer.write(text) {
             Ok(count) if count >= text.len() => Ok(()),
+            // Only a part of the text was taken, so the client never hears the rest: a fault.
             Ok(_) => {
                 self.stage = Stage::Mute;
                 Err(ErrorKind::Interrupted.into())

@@ -85,7 +85,8 @@ pub fn run_script<R: PieceReader, W: PieceWriter>(
         × HasReadAll R.gives script_reads reader.old script reader.new
         × HasWritten W.takes writer.old (transcript script) writer.new) }
     // Proved (scripts, run-fault-causes)
-    ensures cause { IfErr result (λ fault. StopsRun R.gives R.fails W.takes W.refuses fault reader.old reader.new writer.old writer.new) }
+    ensures cause { IfErr result (λ fault. StopsRun R.gives R.fails W.takes W.refuses fault reader.old reader.new
+        writer.old writer.new) }
 {
     let script = read_all(alloc, reader)?;
     run_lines(alloc, script.as_slice(), writer)

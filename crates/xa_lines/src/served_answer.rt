@@ -17,7 +17,8 @@ use xa_server::{Reply, Server};
 use xa_statement::read_statement;
 use xa_xid::{NoMemory, SessionNo, Statement};
 
-/// How many bytes more an answer has room for.
+/// How many bytes more an answer has room for: enough to append the note that a listing is left out, after memory
+/// was refused for it.
 const SPARE_BYTES: usize = 16;
 
 /// Carries out a statement whose reply is known and isn't a list, and answers it without memory.
@@ -115,6 +116,7 @@ pub(crate) fn serve_unread(server: &Server, session: SessionNo, place: u64) -> A
     ensures answered { IsStatementAnswer server.now session (Err place) (bytes_of result) server.now }
     ensures room { HasRoom 16 result }
 {
+    // Nothing is carried out. The server is here so that the clause can say that it stays as it is.
     let _server = server;
     unread_told(session, place)
 }

@@ -17,6 +17,7 @@ fn short_answer(who: &[u8], what: &[u8]) -> Answer
     ensures room { (spare : ℕ) → length who.now + length what.now + spare ≤ 160 → HasRoom spare result }
 {
     let mut text = ArrayVec::new();
+    // Both fit, as the first clause requires.
     let _ = text.try_extend_from_slice(who);
     let _ = text.try_extend_from_slice(what);
     Answer::Short(text)
@@ -59,6 +60,7 @@ pub(crate) fn with_unshown(answer: Answer) -> Answer
 {
     match answer {
         Answer::Text(mut text) => {
+            // These are the 16 bytes for which there is room, so neither case can fail.
             let _ = text.extend_from_slice(b"  OUT OF MEMORY\n");
             Answer::Text(text)
         }

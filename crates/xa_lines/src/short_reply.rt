@@ -32,6 +32,7 @@ fn told(session: SessionNo, first: &[u8], second: &[u8]) -> Answer
     ensures room { HasRoom 16 result }
 {
     let mut text = session_text(session);
+    // At most 2 digits, 140 bytes, a blank and a line feed: all of it fits.
     let _ = text.try_extend_from_slice(b" ");
     let _ = text.try_extend_from_slice(first);
     let _ = text.try_extend_from_slice(second);
@@ -46,6 +47,7 @@ fn small_digits(bytes: &[u8]) -> ArrayVec<u8, 128>
 {
     let mut digits = ArrayVec::from([0; 128]);
     digits.truncate(2 * bytes.len());
+    // It fails only if the lengths don't fit, and they do.
     let _ = hex::encode_to_slice(bytes, digits.as_mut_slice());
     digits
 }
@@ -100,6 +102,7 @@ pub(crate) fn reply_told(session: SessionNo, reply: &Reply) -> Answer
         Reply::Value(None) => told(session, b"NONE", b""),
         Reply::Value(Some(value)) => value_told(session, value.as_slice()),
         Reply::Refused(error) => told(session, error_words(error), b""),
+        // A list is excluded by the clause above.
         Reply::Recovered(_) => unreachable!(),
     }
 }

@@ -15,7 +15,8 @@ use std::alloc::Global;
 /// The greatest length of a script, in bytes.
 const SCRIPT_BYTES: usize = 1_048_576;
 
-/// The greatest number of reads that a script takes.
+/// The greatest number of reads that a script takes: two for each byte, so that a reader that gives little at a
+/// time still comes to an end.
 const SCRIPT_READS: u64 = 2_097_152;
 
 /// Returns the greatest length of a script, in bytes, and the greatest number of reads that it may take.
@@ -92,6 +93,7 @@ pub fn read_within<R: PieceReader>(
         if count == 0 {
             return Ok(text);
         }
+        // The text is at most `most` bytes long, so this doesn't underflow.
         if count > most - text.len() {
             return Err(ScriptFault::TooLong);
         }
@@ -114,7 +116,8 @@ pub fn read_all<R: PieceReader>(alloc: Global, reader: &mut R) -> Result<Vec<u8>
     ensures too_long { result ≡ Err ScriptFault.TooLong → ConsumesMoreThan script_bytes (R.remaining reader.old)
         (R.remaining reader.new) }
     ensures calls { IfOk result (λ script. HasReadAll R.gives script_reads reader.old script.items reader.new) }
-    ensures cause { IfErr result (λ fault. StopsReading R.gives R.fails script_reads script_bytes fault reader.old reader.new) }
+    ensures cause { IfErr result (λ fault. StopsReading R.gives R.fails script_reads script_bytes fault reader.old
+        reader.new) }
 {
     read_within(alloc, reader, SCRIPT_BYTES, SCRIPT_READS)
 }

@@ -25,6 +25,7 @@ fn give_once<W: PieceWriter>(writer: &mut W, text: &[u8]) -> io::Result<usize>
         Ok(0) => Err(ErrorKind::WriteZero.into()),
         Ok(count) => Ok(count),
         Err(fault) => {
+            // Nothing was written, and the write may be made again.
             if fault.kind() == ErrorKind::Interrupted {
                 return Ok(0);
             }

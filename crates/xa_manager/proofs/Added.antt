@@ -120,8 +120,8 @@ module _ (kind : Statement → Type 0) where
   closed : (ends : Bool) (statement : Statement) (xid : Xid) (old new : SessionView) → kind (End xid) → kind statement
       → IsClosed ends statement xid old new
       → AddsOnly kind old new
-  closed false statement xid old new may is adds = adds_one statement old new is adds
-  closed true statement xid old new may is adds = adds_two (End xid) statement old new may is adds
+  closed false statement xid old new may is adds = adds_one statement old new is adds.adds
+  closed true statement xid old new may is adds = adds_two (End xid) statement old new may is adds.adds
 
   settles : (ends : Bool) (statement : Statement) (xid : Xid) (takes listed : Bool) (old new : SessionView)
       → kind (End xid)
@@ -133,12 +133,12 @@ module _ (kind : Statement → Type 0) where
   voted : (xid : Xid) (takes : Bool) (old new : SessionView) → kind (End xid) → kind (Prepare xid)
       → IsVoted xid takes old new → AddsOnly kind old new
   voted xid false old new may is same = adds_same old new same
-  voted xid true old new may is adds = adds_two (End xid) (Prepare xid) old new may is adds
+  voted xid true old new may is adds = adds_two (End xid) (Prepare xid) old new may is adds.adds
 
   ended : (xid : Xid) (takes : Bool) (old new : SessionView) → kind (End xid) → IsEnded xid takes old new
       → AddsOnly kind old new
   ended xid false old new may same = adds_same old new same
-  ended xid true old new may adds = adds_one (End xid) old new may adds
+  ended xid true old new may adds = adds_one (End xid) old new may adds.adds
 
   -- a row statement that was answered was added or not
   replied : (row : Statement) (reply : Reply) (xid : Xid) (old new : SessionView) → kind row
@@ -187,9 +187,9 @@ module _ (kind : Statement → Type 0) where
         → SettlesOne decisions name store xid before old after new → AddsOnly kind old new
     settled_one xid before after old new (foreign apart) = adds_none old
     settled_one xid before after old new (committed number is decided n adds) =
-        adds_one (Commit xid false) old n (commits number xid is decided) adds
+        adds_one (Commit xid false) old n (commits number xid is decided) adds.adds
     settled_one xid before after old new (rolled_back number is decided n adds) =
-        adds_one (Rollback xid) old n (rolls number xid is decided) adds
+        adds_one (Rollback xid) old n (rolls number xid is decided) adds.adds
     settled_one xid before after old new (missing number is n none) = undone _ _ old n none
 
     settled : (old : SessionView) (xids : List Xid) (tally : Tally) (new : SessionView)
@@ -232,7 +232,7 @@ added_or_there kind old new entry adds there =
           (in_map kind old.known.number adds.statements adds.each) now)
     ]
 
--- what was there stays
+-- an entry that a session had added is still its own after it added more
 pub stays_there : (kind : Statement → Type 0) (old new : SessionView) (entry : Entry) → AddsOnly kind old new
     → Contains old.known.mine entry
     → Contains new.known.mine entry
@@ -331,7 +331,7 @@ module _ {S : Type 0} (view : S → SessionView) (kind : ℕ → Statement → T
       by (Err Lost) is = at_same view store (AddsOnly (kind store)) (λ a. adds_none (kind store) a) old new
           (ap (λ list. slice_get list store) is.4)
 
--- a store that took part still does
+-- a store that took part before more work was added takes part after it
 pub work_keeps : {S : Type 0} (view : S → SessionView) (marks marks' : List (Option OpenBranch))
     (before after : Transaction) (store : ℕ) (row : Statement)
     (answer : Result Reply WorkFault) (old new : List S) → WorksAs view marks marks' before after store row answer old

@@ -8,7 +8,8 @@ use Rattle.xa_server.specs.declared.reply.Reply.{Reply}
 use Rattle.xa_session.specs.View.{SessionView, StaysOfLog}
 use Rattle.xa_session.specs.declared.answer.Answer.{Answer}
 use Rattle.xa_session.specs.declared.fault.Fault.{Fault}
-use Rattle.xa_coordinator.specs.Beside.{IsLeftAlone, IsAnsweredSo}
+use Rattle.xa_coordinator.specs.Beside.{IsLeftAlone, HoldsAsBefore, IsAnsweredSo}
+use Rattle.xa_coordinator.specs.Fusing.{limited}
 use Rattle.xa_coordinator.specs.Stores.{AtStore, EachStore, ChangesAt}
 use Rattle.xa_coordinator.specs.declared.decisions.Decision.{Decision}
 use Rattle.xa_coordinator.specs.declared.fused.Fused.{Fused}
@@ -25,19 +26,22 @@ use Rattle.xa_manager.specs.Whole.{Performs}
 use Rattle.xa_manager.proofs.Passes.{map_within}
 use Rattle.xa_manager.proofs.Said.{get_before, get_last}
 
-module _ {S : Type 0} (view other : S → SessionView) (steady : (old new : S) → StaysOfLog (view old) (view new)
+module _ {S : Type 0} (view other : S → SessionView) (steady : (old new : S) → HoldsAsBefore (view old) (view new)
     → other new ≡ other old) where
   others_steady : (old new : List (Fused S)) → length new ≡ length old
-      → EachStore (within view) (λ store. StaysOfLog) old new
+      → EachStore (limited view) (λ store. StaysOfLog) old new
       → others_of other new ≡ others_of other old
   others_steady [] [] count each = refl
   others_steady [] (n ∷ ns) count each = absurd (omega (arith, count))
   others_steady (o ∷ os) [] count each = absurd (omega (arith, count))
   others_steady (o ∷ os) (n ∷ ns) count each =
-      ap (λ first. first ∷ others_of other ns) (steady o.inner n.inner (each 0 o n refl refl))
+      ap (λ first. first ∷ others_of other ns) (steady o.inner n.inner (held (each 0 o n refl refl)))
       ∙ ap (λ rest. other o.inner ∷ rest)
       (others_steady os ns (omega (arith, count)) (λ store before after is_before is_after. each
       (suc store) before after is_before is_after))
+    where
+      held : StaysOfLog (limited view o) (limited view n) → HoldsAsBefore (view o.inner) (view n.inner)
+      held stays = record { base = stays.base; beside = stays.beside }
 
   others_within : (old new : List (Fused S)) → map (λ (s : Fused S). s.inner) new ≡ map (λ (s : Fused S). s.inner) old
       → others_of other new ≡ others_of other old
@@ -55,7 +59,7 @@ module _ {S : Type 0} (view other : S → SessionView) (steady : (old new : S) �
         → others_of other whole.sessions ≡ others_of other old.sessions → Same
     unchanged_others whole is same = ap (λ (w : WholeManager (Fused S) T). others_of other w.sessions) is ∙ same
 
-    spoken : (decisions : List Decision) (stages : List Stage) → SpeaksAlone (within view) decisions stages old new
+    spoken : (decisions : List Decision) (stages : List Stage) → SpeaksAlone (limited view) decisions stages old new
         → Same
     spoken decisions stages alone =
         let stores : new.stores ≡ old.stores = ap (λ (w : WholeManager (Fused S) T). w.stores) alone.stands in
@@ -63,7 +67,7 @@ module _ {S : Type 0} (view other : S → SessionView) (steady : (old new : S) �
 
     carried_beside : (call : Call) (response : Response) → ((store : ℕ) (statement : Statement)
         → call ≡ At store statement → ⊥) → (call ≡ Show → ⊥)
-        → Carries (within view) nobody old call response new → CarriesBeside view other nobody old call response new
+        → Carries (limited view) nobody old call response new → CarriesBeside view other nobody old call response new
     carried_beside Silent response not_at not_show is = (is, unchanged_others old is.1 refl)
     carried_beside (Unread place) response not_at not_show is = absurd is
     carried_beside Begin response not_at not_show is =
@@ -87,22 +91,33 @@ module _ {S : Type 0} (view other : S → SessionView) (steady : (old new : S) �
     performed_beside call response not_at not_show performs =
         ⊎_elim (λ refused. inl refused) (λ carries. inr (carried_beside call response not_at not_show carries)) performs
 
--- what a session answered, without its place
+-- if a session answered the statement so, it gave the reply, wherever in the history that took effect
 pub given_so : (statement : Statement) (answered : Result Answer Fault) (old new : SessionView)
     → IsAnsweredSo statement answered old new
     → IsGiven statement (reply_of answered) old new
 given_so statement (Ok answer) old new is = record { log = is.log; replies = (answer.place, is.answers) }
 given_so statement (Err fault) old new is = record { log = is.log; replies = is.answers }
 
+-- a session to which nothing is said is left alone
 alone_itself : (a : SessionView) → IsLeftAlone a a
-alone_itself a = record { identity = refl; turns = refl; base = refl; known = refl }
+alone_itself a = record {
+  identity = refl;
+  turns = refl;
+  base = refl;
+  known = refl;
+  left = refl;
+  starved = λ starved. starved;
+}
 
+-- a session that two calls leave alone is left alone by both together
 alone_then : (a b c : SessionView) → IsLeftAlone a b → IsLeftAlone b c → IsLeftAlone a c
 alone_then a b c first second = record {
   identity = second.identity ∙ first.identity;
   turns = second.turns ∙ first.turns;
   base = second.base ∙ first.base;
   known = second.known ∙ first.known;
+  left = second.left ∙ first.left;
+  starved = λ starved. second.starved (first.starved starved);
 }
 
 -- a call that was read from a line is what the line says
@@ -115,7 +130,7 @@ performed_said {S} {T} view other nobody old new call said response same perform
     let P : Call → Type 0 = λ c. PerformsBeside view other nobody old c response new in
     subst P same performs
 
--- one store's other client more has listed what is prepared there
+-- the loop over stores: the other client of one more has listed what is prepared there
 pub listed_beside : {S : Type 0} (view : S → SessionView) (answers : List (Result Reply Fault))
     (answered : Result Answer Fault) (answer : Result Reply Fault)
     (place : ℕ) (old now next : List S)
@@ -159,6 +174,7 @@ module _ {S : Type 0} (view : S → SessionView) where
     left = left ∙ so_far.left;
   }
 
+-- what follows from a result's value may be concluded under the Ok
 pub if_ok_map : {A E : Type 0} (P Q : A → Type 0) (result : Result A E) → ((a : A) → P a → Q a) → IfOk result P
     → IfOk result Q
 if_ok_map P Q (Ok a) more is = more a is

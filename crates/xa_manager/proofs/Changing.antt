@@ -28,6 +28,7 @@ changed_rows state xid change = by (map.get state.branches xid)
     by None = refl
     by (Some branch) = refl
 
+-- an accepted statement changes committed values only if it is of a kind that does
 effect_rows : (state : State) (session : ℕ) (association : Association) (statement : Statement)
     → ((effect state session association statement).rows ≡ state.rows) ⊎ ChangesRows association statement
 unfolding effect
@@ -51,6 +52,7 @@ effect_rows state session Free Disconnect = inl refl
 effect_rows state session (Active own) Disconnect = inl refl
 effect_rows state session (Idle own) Disconnect = inl refl
 
+-- a statement changes committed values only if it is of a kind that does; a refused one changes nothing
 after_rows : (state : State) (session : ℕ) (statement : Statement)
     → ((after state session statement).rows ≡ state.rows) ⊎ ChangesRows (association_of state session) statement
 after_rows state session statement = elim (outcome state session statement) [
@@ -61,6 +63,7 @@ after_rows state session statement = elim (outcome state session statement) [
   ]
 ]
 
+-- at each place of a store's history the committed values stay, or the entry there is of a kind that changes them
 pub rows_keep : (counted : CountedStore) (place : ℕ) (entry : Entry)
     → slice_get (history_of counted.store) place ≡ Some entry
     → KeepsRowsOr counted place entry

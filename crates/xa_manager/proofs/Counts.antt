@@ -30,14 +30,16 @@ pushed_holds P from (z ∷ zs) y old new (suc place) x is =
     (old (suc other) o known))
     (subst (λ (n : ℕ). P n y) long new) place x is)
 
+-- of no elements none is left
 drop_nil : (place : ℕ) → drop {A = ℕ} place [] ≡ []
 drop_nil zero = refl
 drop_nil (suc place) = refl
 
+-- a place within a list, counted without its first element
 less_behind : (x : ℕ) (xs : List ℕ) (place : ℕ) → suc place < length (x ∷ xs) → place < length xs
 less_behind x xs place within = grind (arith, common_steps)
 
--- one number more
+-- the loop over stores: one difference more
 pub differences_step : (after before : List ℕ) (place one other : ℕ) → place < length after → one ≡ get_or after place 0
     → other ≡ get_or before place 0
     → differences (drop place after) (drop place before) ≡ (one - other) ∷ differences (drop (place + 1) after)
@@ -63,13 +65,14 @@ differences_step (x ∷ xs) (y ∷ ys) (suc place) one other within is was =
     ∙ ap (λ (n : ℕ). (one - other) ∷ differences (drop n (x ∷ xs)) (drop n (y ∷ ys)))
     (let e : suc (place + 1) ≡ suc place + 1 = omega arith in e)
 
+-- past the last store no difference is left
 pub differences_end : (after before : List ℕ) (place : ℕ) → length after ≤ place
     → differences (drop place after) (drop place before) ≡ []
 unfolding differences
 differences_end after before place past =
     ap (λ (list : List ℕ). differences list (drop place before)) (drop_all place after past)
 
--- one store more
+-- the loop over stores: the limit of one more is what it answered, or what is left
 pub limits_step : (made : List ℕ) (place there left : ℕ) → place < length made → there ≡ get_or made place 0
     → limits_for (drop place made) left ≡ min there left ∷ limits_for (drop (place + 1) made) (left - min there left)
 unfolding limits_for
@@ -77,27 +80,28 @@ limits_step made place there left within is =
     ap (λ (list : List ℕ). limits_for list left)
     (drop_more made place 0 within ∙ ap (λ (n : ℕ). n ∷ drop (place + 1) made) (sym is))
 
+-- past the last store no limit is
 pub limits_end : (made : List ℕ) (place left : ℕ) → length made ≤ place → limits_for (drop place made) left ≡ []
 unfolding limits_for
 limits_end made place left past = ap (λ (list : List ℕ). limits_for list left) (drop_all place made past)
 
--- no stop is below none
+-- a line that makes no calls of sessions has no stop among them
 pub none_below : (place : ℕ) → stops_below place 0 ≡ []
 unfolding stops_below
 none_below place = refl
 
--- one stop more
+-- the loop over a call's statements: one stop more
 pub stops_more : (place count : ℕ) → stops_below place (count + 1) ≡ stops_below place count
     ++ (record { place = place; calls = count }) ∷ []
 unfolding stops_below
 stops_more place count = ap (stops_below place) (add-one count)
 
--- a line has a stop at least
+-- a script's calls can be stopped at one call at least, even if there is no call
 pub counted : (calls : ℕ) → max calls 1 ≡ stop_count calls
 counted zero = omega arith
 counted (suc calls) = omega arith
 
--- the stops in one line more
+-- the loop over lines: the stops in one more
 pub stops_step : (place : ℕ) (calls : List Call) (made : List (List ℕ)) (call : Call) (there : List ℕ)
     → place < length calls → place < length made
     → call ≡ get_or calls place call → there ≡ get_or made place there
@@ -110,6 +114,7 @@ stops_step place calls made call there within as_well is also =
     ∙ ap (λ (list : List (List ℕ)). stops_from place (call ∷ drop (place + 1) calls) list)
     (drop_more made place there as_well ∙ ap (λ (t : List ℕ). t ∷ drop (place + 1) made) (sym also))
 
+-- past the last call no stop is
 pub stops_end : (place : ℕ) (calls : List Call) (made : List (List ℕ)) → length calls ≤ place
     → stops_from place (drop place calls) (drop place made) ≡ []
 unfolding stops_from
@@ -158,7 +163,7 @@ pushed P xs y count long old new place x is =
     (λ other o known. subst (λ (n : ℕ). P n o) (let e : other ≡ 0 + other = omega arith in e) (old other o known))
     (subst (λ (n : ℕ). P n y) (let e : count ≡ 0 + length xs = omega (arith, long) in e) new) place x is)
 
--- an item of a list that is mapped
+-- the item at a place of a mapped list is the mapped item at that place
 pub read_map : {X Y : Type 0} (f : X → Y) (xs : List X) (place : ℕ) (x : X) → place < length xs → x ≡ get_or xs place x
     → f x ≡ get_or (map f xs) place (f x)
 read_map {X} f [] place x within is = absurd (let none : length {A = X} [] ≡ 0 = refl in omega (arith, within, none))
@@ -166,7 +171,7 @@ read_map f (z ∷ zs) zero x within is = ap f is
 read_map f (z ∷ zs) (suc place) x within is =
     read_map f zs place x (let w : suc place < length (z ∷ zs) = within in grind (arith, common_steps)) is
 
--- in a list that is empty there is nothing
+-- an empty list, mapped, has nothing at any place
 pub none_there : {X Y : Type 0} (f : X → Y) (xs : List X) (place : ℕ) (y : Y) → xs ≡ []
     → slice_get (map f xs) place ≡ Some y → ⊥
 none_there f [] place y empty is = cc

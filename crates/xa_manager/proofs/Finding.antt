@@ -26,30 +26,32 @@ use Rattle.xa_server.proofs.Changes.{idle, detached, branch_after, effect-branch
 use Rattle.xa_server.proofs.Maps.{same_or_apart, same_itself}
 use Rattle.xa_session.specs.Replay.{state_after, state_at}
 
+-- whether the branch is there and PREPARED
 abbrev ready : Option Branch → Bool
 ready found = option_map_or is_prepared_phase (option_map (λ (b : Branch). b.phase) found) false
 
+-- a test can't be true and false; the lemmas below use it to leave out a case
 clash : {A : Type 0} (b : Bool) → b ≡ true → b ≡ false → A
 clash b e f = absurd (true≢false (sym e ∙ f))
 
--- another branch was changed
+-- the case of a statement about another branch is left out: this one is as before, and was PREPARED
 beside : {A : Type 0} (b : Bool) (new found : Option Branch) → b ≡ false → ready found ≡ true
     → ready (cond b new found) ≡ false → A
 beside true new found apart is isn't = absurd (true≢false apart)
 beside false new found apart is isn't = clash (ready found) is isn't
 
--- the branch is PREPARED still
+-- the case of a change that leaves PREPARED branches PREPARED is left out: after it this one wouldn't be PREPARED
 kept : {A : Type 0} (change : Branch → Branch) (found : Option Branch)
     → ((b : Branch) → is_prepared_phase b.phase ≡ true → is_prepared_phase (change b).phase ≡ true)
     → ready found ≡ true → ready (option_map change found) ≡ false → A
 kept change None keeps is isn't = absurd (true≢false (sym is))
 kept change (Some branch) keeps is isn't = clash (is_prepared_phase (change branch).phase) (keeps branch is) isn't
 
--- XA COMMIT or XA ROLLBACK of the branch
+-- the statement is an XA COMMIT or XA ROLLBACK of the branch
 abbrev pub EndsBranch : Xid → Statement → Type 0
 EndsBranch xid statement = ((one_phase : Bool) × (statement ≡ Commit xid one_phase)) ⊎ (statement ≡ Rollback xid)
 
--- of a session that hasn't the branch open, only these end a prepared branch
+-- a statement of a session that hasn't a prepared branch open ends it only as an XA COMMIT or XA ROLLBACK of it
 ends_it : (session : ℕ) (association : Association) (statement : Statement) (at : Xid) (found : Option Branch)
     → ((own : Xid) → (association ≡ Active own) ⊎ (association ≡ Idle own) → same_xid at own ≡ false)
     → (statement ≡ Start at → ⊥) → (statement ≡ End at → ⊥)
@@ -103,7 +105,7 @@ ends_it session (Active own) Disconnect at found apart no_start no_end is isn't 
 ends_it session (Idle own) Disconnect at found apart no_start no_end is isn't =
     beside (same_xid at own) None found (apart own (inr refl)) is isn't
 
--- a prepared branch is nobody's
+-- a branch that a session has open isn't a prepared one
 nobodys : (state : State) (session : ℕ) (xid own : Xid) → is_prepared state xid ≡ true
     → (association_of state session ≡ Active own) ⊎ (association_of state session ≡ Idle own) → same_xid xid own ≡ false
 nobodys state session xid own is open_one = elim (same_or_apart xids_total exact_xids xid own) [
@@ -146,10 +148,12 @@ ends_prepared state session statement xid is isn't = elim (outcome state session
 
 -- ---- an accepted XA PREPARE
 
+-- if a test that needs another one to fail holds, that one fails
 unrefused : (refused may : Bool) → (not refused && may) ≡ true → refused ≡ false
 unrefused true may is = absurd (cc)
 unrefused false may is = refl
 
+-- a statement that enters the history was accepted
 pub entered_accepted : (state : State) (session : ℕ) (statement : Statement) → enters state session statement ≡ true
     → is_refused (reply_to state session statement) ≡ false
 unfolding enters
@@ -157,12 +161,14 @@ entered_accepted state session statement is =
     unrefused (is_refused (reply_to state session statement))
     (may_enter state (association_of state session) statement) is
 
+-- a branch that has a phase is PREPARED once it is detached
 in_phase : (found : Option Branch) (phase : Phase) → option_map (λ (b : Branch). b.phase) found ≡ Some phase
     → ready (option_map detached found) ≡ true
 unfolding detached
 in_phase None phase is = absurd (cc)
 in_phase (Some branch) phase is = refl
 
+-- an XA PREPARE that enters the history leaves its branch PREPARED
 pub prepares : (state : State) (session : ℕ) (xid : Xid) → enters state session (Prepare xid) ≡ true
     → is_prepared (after state session (Prepare xid)) xid ≡ true
 unfolding reply_to branch_after table
@@ -185,7 +191,7 @@ prepares state session xid entering =
 
 -- ---- along a history
 
--- from one place on the branch is PREPARED, up to this one, and the entry there ends it
+-- the branch is PREPARED from one place of the history up to another, at which an entry ends it
 pub record IsEndedAt (base : State) (history : List Entry) (from : ℕ) (xid : Xid) : Type 0 where
   pub place : ℕ
   pub behind : from ≤ place
@@ -194,6 +200,7 @@ pub record IsEndedAt (base : State) (history : List Entry) (from : ℕ) (xid : X
   pub prepared : (at : ℕ) → from ≤ at → at ≤ place → is_prepared (state_at base history at) xid ≡ true
   pub ends : EndsBranch xid entry.statement
 
+-- an ending found in the rest of a history is one of the whole history, a place later
 later : (base : State) (first : Entry) (rest : List Entry) (from : ℕ) (xid : Xid)
     → IsEndedAt (after base first.session first.statement) rest from xid → IsEndedAt base (first ∷ rest) (suc from) xid
 unfolding state_after
@@ -211,7 +218,7 @@ later base first rest from xid is =
     by zero less more = absurd (omega (arith, less))
     by (suc at) less more = is.prepared at (omega (arith, less)) (omega (arith, more))
 
--- one entry before it the branch is PREPARED, too
+-- an ending found behind the first entry, of a branch that was PREPARED before it, is one from the beginning
 sooner : (base : State) (first : Entry) (rest : List Entry) (xid : Xid) → is_prepared base xid ≡ true
     → IsEndedAt (after base first.session first.statement) rest 0 xid → IsEndedAt base (first ∷ rest) 0 xid
 unfolding state_after
@@ -229,6 +236,7 @@ sooner base first rest xid now is =
     by zero less more = now
     by (suc at) less more = is.prepared at (omega arith) (omega (arith, more))
 
+-- a prepared branch is ended by the first entry, or still prepared after it and ended later
 first_or_later : (base : State) (first : Entry) (rest : List Entry) (xid : Xid) → is_prepared base xid ≡ true
     → (b : Bool)
     → is_prepared (after base first.session first.statement) xid ≡ b
@@ -266,6 +274,7 @@ ended_behind base (first ∷ rest) zero xid within is isn't =
 
 -- ---- what a commit does to the rows
 
+-- an XA COMMIT that enters the history makes the branch's writes the committed values
 pub commit_rows : (state : State) (session : ℕ) (xid : Xid) (one_phase : Bool) (branch : Branch)
     → enters state session (Commit xid one_phase) ≡ true
     → map.get state.branches xid ≡ Some branch → (after state session (Commit xid one_phase)).rows

@@ -11,10 +11,10 @@ use Rattle.xa_coordinator.specs.Branch.{IsBranchOf}
 use Rattle.xa_coordinator.specs.Decisions.{is_decided}
 use Rattle.xa_coordinator.specs.Participants.{takes_part, OnlyTakesPart}
 use Rattle.xa_coordinator.specs.Stores.{EachStore}
+use Rattle.xa_coordinator.specs.Fusing.{limited}
 use Rattle.xa_coordinator.specs.declared.fused.Fused.{Fused}
 use Rattle.xa_coordinator.specs.declared.transaction.Prepared.{Prepared}
 use Rattle.xa_coordinator.specs.declared.transaction.VoteKind.TheVariants.{OnePhase as VoteKindOnePhase}
-use Rattle.xa_manager.specs.Beside.{within}
 use Rattle.xa_manager.specs.Ledger.{stage_of, IsTransactionOf}
 use Rattle.xa_manager.specs.declared.stage.Stage.{Stage}
 use Rattle.xa_manager.specs.declared.stage.Stage.TheVariants.{Working, Ready, Voted, Over}
@@ -25,6 +25,7 @@ use Rattle.xa_manager.specs.Runs.{Managing}
 use Rattle.xa_manager.specs.Atomic.{branch_in, HasAdded, IsAlone}
 use Rattle.xa_manager.proofs.Added.{AddsOnly, adds_none, added_or_there, stays_there}
 
+-- a counted store's session, with another client's beside it, that may be made to fail
 abbrev pub Session : Type 0
 Session = Fused CountedStore
 
@@ -51,7 +52,7 @@ pub record IsUndecidedOver (manager : Managing) (number : ℕ) : Type 0 where
   pub undecided : is_decided manager.decisions number ≡ false
   pub over : stage_of manager.stages number ≡ Some Over
 
--- a statement that was added goes with that
+-- what a manager must be like if a store was given this statement, by the kind of statement
 abbrev pub Goes : Managing → ℕ → Statement → Type 0
 Goes manager store (Commit xid false) =
     (number : ℕ) × IsBranchOf (codes "c") number store xid × (is_decided manager.decisions number ≡ true)
@@ -62,13 +63,14 @@ Goes manager store (Rollback xid) =
     (number : ℕ) × IsBranchOf (codes "c") number store xid × IsUndecidedOver manager number
 Goes manager store statement = Unit {0}
 
--- where one branch of a transaction was begun, it was prepared
+-- each branch that the transaction began, in any store, was prepared
 abbrev pub PreparesAll : Managing → ℕ → Type 0
 PreparesAll manager number =
     (store : ℕ) (session : Session) → slice_get manager.sessions store ≡ Some session
     → HasAdded session (Start (branch_in number store))
     → HasAdded session (Prepare (branch_in number store))
 
+-- what holds of a manager between two calls, before any recovery: its stages, decisions and stores go together
 pub record Holds (manager : Managing) : Type 0 where
   pub kept : Kept manager.stores manager.stages
   pub ready : AllReady manager.stages
@@ -95,35 +97,40 @@ pub record Holds (manager : Managing) : Type 0 where
 pub record Grew (kind : ℕ → Statement → Type 0) (store : ℕ) (old : List Session) (after : Session) : Type 0 where
   pub before : Session
   pub there : slice_get old store ≡ Some before
-  pub adds : AddsOnly (kind store) (own_of before.inner) (own_of after.inner)
+  pub adds : AddsOnly (kind store) (limited own_of before) (limited own_of after)
 
+-- each store's session of `new` was there in `old`, and added statements of its kind since
 abbrev pub Grows : (ℕ → Statement → Type 0) → List Session → List Session → Type 0
 Grows kind old new = (store : ℕ) (after : Session) → slice_get new store ≡ Some after → Grew kind store old after
 
+-- if each store's session added only statements of its kind, the sessions grew by that
 pub grows_each : (kind : ℕ → Statement → Type 0) (old new : List Session) → length new ≡ length old
-    → EachStore (within own_of) (λ store. AddsOnly (kind store)) old new → Grows kind old new
+    → EachStore (limited own_of) (λ store. AddsOnly (kind store)) old new → Grows kind old new
 grows_each kind old new count each store after is =
     let below : store < length old = let there = slice_get_within new store after is in omega (arith, there, count) in
     let was = slice_get-get_or old store after below in
     record { before = _; there = was; adds = each store _ after was is }
 
--- the same sessions
+-- sessions that stay as they are have grown by nothing
 pub grows_same : (kind : ℕ → Statement → Type 0) (sessions : List Session) → Grows kind sessions sessions
 grows_same kind sessions store after is =
-    record { before = after; there = is; adds = adds_none (kind store) (own_of after.inner) }
+    record { before = after; there = is; adds = adds_none (kind store) (limited own_of after) }
 
+-- a statement that a session has added was added before, or is of the kind
 pub grew_cases : (kind : ℕ → Statement → Type 0) (store : ℕ) (old : List Session) (after : Session)
     (statement : Statement)
     → (grew : Grew kind store old after) → HasAdded after statement
     → HasAdded grew.before statement ⊎ kind store statement
 grew_cases kind store old after statement grew added =
-    added_or_there (kind store) (own_of grew.before.inner) (own_of after.inner) (entry_of 1 statement) grew.adds added
+    added_or_there (kind store) (limited own_of grew.before) (limited own_of after) (entry_of 1 statement) grew.adds
+    added
 
+-- a statement that was added before still is
 pub grew_stays : (kind : ℕ → Statement → Type 0) (store : ℕ) (old : List Session) (after : Session)
     (statement : Statement)
     → (grew : Grew kind store old after) → HasAdded grew.before statement → HasAdded after statement
 grew_stays kind store old after statement grew added =
-    stays_there (kind store) (own_of grew.before.inner) (own_of after.inner) (entry_of 1 statement) grew.adds added
+    stays_there (kind store) (limited own_of grew.before) (limited own_of after) (entry_of 1 statement) grew.adds added
 
 -- ---- what goes on going
 
@@ -135,6 +142,7 @@ pub record GoesOn (kind : ℕ → Statement → Type 0) (old new : Managing) : T
   pub begins : (number store : ℕ) → number < 2 ^ 64 → stage_of old.stages number ≡ Some Over
       → kind store (Start (branch_in number store)) → ⊥
 
+-- a branch that is the only one of its transaction stays so: no branch of what is over begins
 still_alone : (kind : ℕ → Statement → Type 0) (old new : Managing) (number store : ℕ) → number < 2 ^ 64
     → GoesOn kind old new → IsUndecidedOver old number
     → IsAlone old.sessions number store → IsAlone new.sessions number store
@@ -145,6 +153,7 @@ still_alone kind old new number store fits on over alone other after is added =
       | inr now ↦ absurd (on.begins number other fits over.over now)
     ]
 
+-- a statement that was allowed where the manager stood still is: decisions and endings stay
 pub goes_still : (kind : ℕ → Statement → Type 0) (old new : Managing) (store : ℕ) (statement : Statement)
     → GoesOn kind old new → Goes old store statement
     → Goes new store statement
@@ -175,7 +184,7 @@ all_go kind old new holds on fresh store session statement is added =
       | inr now ↦ fresh store statement now
     ]
 
--- where no branch begins that wasn't begun, each that was prepared still is
+-- if no branch of a transaction begins anew, each that was prepared still is
 pub still_prepared : (kind : ℕ → Statement → Type 0) (old new : Managing) (number : ℕ)
     → Grows kind old.sessions new.sessions
     → ((store : ℕ) → kind store (Start (branch_in number store)) → ⊥) → PreparesAll old number → PreparesAll new number
@@ -189,9 +198,11 @@ still_prepared kind old new number grows none prepared store after is added =
 
 -- ---- nothing but what isn't looked at changed
 
+-- the kind of no statement: nothing is added
 abbrev pub Never : ℕ → Statement → Type 0
 Never store statement = ⊥
 
+-- a call that adds nothing and changes neither stages nor decisions keeps what holds
 pub quiet : (old new : Managing) → new.stores ≡ old.stores → new.stages ≡ old.stages → new.decisions ≡ old.decisions
     → Grows Never old.sessions new.sessions
     → Holds old → Holds new

@@ -32,7 +32,8 @@ use Rattle.xa_coordinator.specs.declared.vote.Vote.TheVariants.{Ready as VoteRea
 use Rattle.xa_coordinator.specs.declared.vote.Vote.TheVariants.{No as VoteNo, Nothing as VoteNothing}
 use Rattle.xa_coordinator.proofs.Listed.{number_behind_is}
 use Rattle.xa_coordinator.specs.Lasting.{own_view}
-use Rattle.xa_manager.specs.Beside.{within, CarriesBeside, LeavesAlone}
+use Rattle.xa_coordinator.specs.Fusing.{limited}
+use Rattle.xa_manager.specs.Beside.{CarriesBeside, LeavesAlone}
 use Rattle.xa_manager.specs.Calls.{takes_rows}
 use Rattle.xa_manager.specs.Carried.{HasWorked, HasVoted, IsFinished, IsAbandoned, HasEnded, stage_after}
 use Rattle.xa_manager.specs.Ledger.{stage_of, with_stage, IsTransactionOf}
@@ -56,6 +57,7 @@ use Rattle.xa_manager.proofs.Moving.{acts, begins, decides_one, stage_put}
 
 -- ---- sessions that weren't spoken to
 
+-- a session that knows what it knew has added nothing, so whatever it added is of any kind
 adds_known : (kind : Statement → Type 0) (old new : SessionView) → new.known ≡ old.known → AddsOnly kind old new
 adds_known kind old new same = record {
   statements = (adds_none kind old).statements;
@@ -83,42 +85,45 @@ grows_within old new same store after is =
           ∙ ap (option_map inner) was)));
     }
 
--- each was left alone
+-- sessions that a call left alone have added nothing
 pub grows_alone : (old new : List Session) → LeavesAlone own_of old new → Grows Never old new
 grows_alone old new is =
     let left : Session → ℕ = λ s. s.left in
     grows_each Never old new (sym (length-map new left) ∙ ap length is.left ∙ length-map old left)
     (λ store before after is_before is_after.
-    adds_known (Never store) (own_of before.inner) (own_of after.inner)
+    adds_known (Never store) (limited own_of before) (limited own_of after)
     (is.alone store before after is_before is_after).known)
 
 -- ---- numbers and branches
 
--- a branch has one number
+-- equal branches of the coordinator in one store are of the same transaction
 pub one_number : (number other store : ℕ) → number < 2 ^ 64 → other < 2 ^ 64
     → branch_in number store ≡ branch_in other store → number ≡ other
 one_number number other store fits fits' same =
     sym ((number_behind_is (codes "c") number store (branch_in number store) (record { fits = fits; is = refl })).1)
     ∙ (number_behind_is (codes "c") other store (branch_in number store) (record { fits = fits'; is = same })).1
 
--- the branch of a transaction of `c`
+-- the branch of a kept transaction is the one that its number and the manager's name `c` make
 named_branch : (stores number : ℕ) (transaction : Transaction) (store : ℕ) → IsTransactionOf stores number transaction
     → branch_of transaction store ≡ branch_in number store
 named_branch stores number transaction store is =
     ap (λ name. branch_xid name transaction.number store) is.name ∙ ap (λ n. branch_xid (codes "c") n store) is.number
 
+-- the number of a transaction that is kept fits into 64 bits
 fits_number : (stores number : ℕ) (transaction : Transaction) → IsTransactionOf stores number transaction
     → number < 2 ^ 64
 fits_number stores number transaction is = subst (λ n. n < 2 ^ 64) is.number transaction.eight_bytes
 
 -- ---- statements that begin and finish no branch
 
+-- a statement that neither begins a branch nor finishes one
 abbrev Harmless : Statement → Type 0
 Harmless (Start xid) = ⊥
 Harmless (Commit xid one_phase) = ⊥
 Harmless (Rollback xid) = ⊥
 Harmless statement = Unit {0}
 
+-- a statement that neither begins nor finishes a branch is allowed wherever the manager stands
 harmless_goes : (manager : Managing) (store : ℕ) (statement : Statement) → Harmless statement
     → Goes manager store statement
 harmless_goes manager store (Start xid) is = tt
@@ -134,6 +139,7 @@ harmless_goes manager store (Put key value) is = tt
 harmless_goes manager store (Del key) is = tt
 harmless_goes manager store Disconnect is = tt
 
+-- GET, PUT and DEL neither begin nor finish a branch
 row_harmless : (row : Statement) → takes_rows row ≡ true → Harmless row
 row_harmless (Start xid) is = absurd (cc)
 row_harmless (End xid) is = tt
@@ -147,23 +153,27 @@ row_harmless (Put key value) is = tt
 row_harmless (Del key) is = tt
 row_harmless Disconnect is = tt
 
+-- equal XA START have equal identifiers
 start_same : (xid other : Xid) → Start xid ≡ Start other → xid ≡ other
 start_same xid other is = cc
 
 -- ---- WORK
 
+-- what work adds: harmless statements, and an XA START of the transaction's branch if the store takes part then
 abbrev Begins : Transaction → Transaction → ℕ → Statement → Type 0
 Begins before after store statement =
     Harmless statement ⊎ ((statement ≡ Start (branch_of before store)) × (takes_part after.participants store ≡ true))
 
+-- the XA START and harmless statements of work are allowed where the manager stands
 begins_goes : (manager : Managing) (before after : Transaction) (store : ℕ) (statement : Statement)
     → Begins before after store statement
     → Goes manager store statement
 begins_goes manager before after store statement (inl is) = harmless_goes manager store statement is
 begins_goes manager before after store statement (inr is) = subst (Goes manager store) (sym is.0) tt
 
+-- a call of WORK keeps what holds of the manager
 pub works : (number store : ℕ) (row : Statement) (old new : Managing) (response : Response) → takes_rows row ≡ true
-    → HasWorked (within own_of) number store row old response new → Holds old → Holds new
+    → HasWorked (limited own_of) number store row old response new → Holds old → Holds new
 works number store row old new response rows is holds =
     acts (Begins is.before is.after) number (Working is.before) (Working is.after) old new (record {
       stores = ap (λ (m : Managing). m.stores) is.alone.stands;
@@ -172,7 +182,7 @@ works number store row old new response rows is holds =
       before = is.working;
       opened = λ e. absurd (cc);
       grows = grows_each (Begins is.before is.after) old.sessions new.sessions is.alone.count
-          (work_adds (within own_of) (Begins is.before is.after) old.branches new.branches is.before is.after store row
+          (work_adds (limited own_of) (Begins is.before is.after) old.branches new.branches is.before is.after store row
           is.answer old.sessions new.sessions
           (λ takes. inr (refl, takes)) (inl (row_harmless row rows)) is.others is.works);
       kept = worked_kept store old.stores number is.before is.after is.keeps named;
@@ -205,17 +215,20 @@ works number store row old new response rows is holds =
           let there : takes_part is.before.participants store ≡ true =
           subst (λ n. takes_part is.before.participants n ≡ true) here takes in
           subst (λ n. takes_part is.after.participants n ≡ true) (sym here)
-          (work_keeps (within own_of) old.branches new.branches is.before is.after store row is.answer old.sessions
+          (work_keeps (limited own_of) old.branches new.branches is.before is.after store row is.answer old.sessions
           new.sessions is.works there)
       | inr (_, apart) ↦ is.keeps.others other apart ∙ takes
     ]
 
 -- ---- PREPARE
 
+-- what voting adds: only harmless statements, as XA END and XA PREPARE are
 abbrev Votes : ℕ → Statement → Type 0
 Votes store statement = Harmless statement
 
-vote_alone : (before : Transaction) (vote : Vote) (old new : List Session) → VotesAs (within own_of) before vote old new
+-- a vote for one phase comes from a transaction with one participant
+vote_alone : (before : Transaction) (vote : Vote) (old new : List Session)
+    → VotesAs (limited own_of) before vote old new
     → (prepared : Prepared)
     → stage_after vote ≡ Voted prepared → prepared.vote_kind ≡ VoteKindOnePhase
     → (store : ℕ) × OnlyTakesPart prepared.transaction.participants store
@@ -230,7 +243,8 @@ vote_alone before (VoteNo p store cause) old new is prepared stage one =
     absurd (let e = ap (λ (q : Prepared). q.vote_kind) same in cc)
 vote_alone before VoteNothing old new is prepared stage one = absurd (cc)
 
-vote_took : (before : Transaction) (vote : Vote) (old new : List Session) → VotesAs (within own_of) before vote old new
+-- after a vote each participant still counts as one
+vote_took : (before : Transaction) (vote : Vote) (old new : List Session) → VotesAs (limited own_of) before vote old new
     → (store : ℕ)
     → takes_part before.participants store ≡ true → TookPart store (Some (stage_after vote))
 vote_took before (VoteReady p) old new is store takes =
@@ -241,18 +255,19 @@ vote_took before (VoteNo p last cause) old new is store takes =
     ap (λ (q : Prepared). takes_part q.transaction.participants store) is.0 ∙ takes
 vote_took before VoteNothing old new is store takes = tt
 
+-- a branch of which the store voted yes was prepared: its XA PREPARE is among the session's entries
 two_added : (xid : Xid) (takes : Bool) (old new : SessionView) → takes ≡ true → IsVoted xid takes old new
     → Contains new.known.mine (entry_of old.known.number (Prepare xid))
 two_added xid false old new is adds = absurd (cc)
 two_added xid true old new is adds =
-    subst (λ (list : List Entry). Contains list (entry_of old.known.number (Prepare xid))) (sym adds.mine)
+    subst (λ (list : List Entry). Contains list (entry_of old.known.number (Prepare xid))) (sym adds.adds.mine)
     (Contains-append_right old.known.mine (entry_of old.known.number (End xid) ∷ entry_of old.known.number
     (Prepare xid) ∷ [])
     (entry_of old.known.number (Prepare xid)) (1, omega arith, refl))
 
 -- each participant of a vote of Ready was prepared
 vote_prepares : (before : Transaction) (vote : Vote) (old new : List Session) → length new ≡ length old
-    → VotesAs (within own_of) before vote old new
+    → VotesAs (limited own_of) before vote old new
     → (prepared : Prepared)
     → stage_after vote ≡ Ready prepared → (store : ℕ) (session : Session) → slice_get new store ≡ Some session
     → takes_part before.participants store ≡ true
@@ -261,13 +276,14 @@ vote_prepares before (VoteReady p) old new count is prepared stage store session
     let below : store < length old = let there = slice_get_within new store session there in
     omega (arith, there, count) in
     let was = slice_get-get_or old store session below in
-    two_added (branch_of before store) (takes_part before.participants store) _ (own_of session.inner) takes
+    two_added (branch_of before store) (takes_part before.participants store) _ (limited own_of session) takes
     (is.2 store _ session was there)
 vote_prepares before (VoteOnePhase p) old new count is prepared stage store session there takes = absurd (cc)
 vote_prepares before (VoteNo p last cause) old new count is prepared stage store session there takes = absurd (cc)
 vote_prepares before VoteNothing old new count is prepared stage store session there takes = absurd (cc)
 
-pub votes : (number : ℕ) (old new : Managing) (response : Response) → HasVoted (within own_of) number old response new
+-- a call of PREPARE keeps what holds of the manager
+pub votes : (number : ℕ) (old new : Managing) (response : Response) → HasVoted (limited own_of) number old response new
     → Holds old → Holds new
 votes number old new response is holds =
     acts Votes number (Working is.before) (stage_after is.vote) old new (record {
@@ -277,8 +293,8 @@ votes number old new response is holds =
       before = is.working;
       opened = λ e. absurd (cc);
       grows = grows;
-      kept = voted_kept (within own_of) is.before is.vote old.sessions new.sessions old.stores number is.votes named;
-      ready = voted_ready (within own_of) is.before is.vote old.sessions new.sessions is.votes;
+      kept = voted_kept (limited own_of) is.before is.vote old.sessions new.sessions old.stores number is.votes named;
+      ready = voted_ready (limited own_of) is.before is.vote old.sessions new.sessions is.votes;
       alone = vote_alone is.before is.vote old.sessions new.sessions is.votes;
       decided = λ decided. absurd (subst MayStandDecided is.working (holds.decided number decided));
       took = vote_took is.before is.vote old.sessions new.sessions is.votes;
@@ -302,16 +318,18 @@ votes number old new response is holds =
 
     grows : Grows Votes old.sessions new.sessions
     grows = grows_each Votes old.sessions new.sessions is.alone.count
-        (vote_adds (within own_of) Votes is.before is.vote old.sessions new.sessions (λ store. tt)
+        (vote_adds (limited own_of) Votes is.before is.vote old.sessions new.sessions (λ store. tt)
         (λ store. tt) is.votes)
 
 -- ---- FINISH and ABANDON
 
+-- what ending adds: harmless statements, and the statement that finishes the branch of a participant
 abbrev Ends : Transaction → Closing → ℕ → Statement → Type 0
 Ends transaction closing store statement =
     Harmless statement ⊎ ((statement ≡ finish_statement closing (branch_of transaction store))
     × (takes_part transaction.participants store ≡ true))
 
+-- no statement that ends a transaction begins a branch
 no_start : (transaction : Transaction) (closing : Closing) (store : ℕ) (xid : Xid)
     → Ends transaction closing store (Start xid) → ⊥
 no_start transaction closing store xid (inl harmless) = harmless
@@ -319,19 +337,20 @@ no_start transaction InTwoPhases store xid (inr is) = absurd (let e = is.0 in cc
 no_start transaction InOnePhase store xid (inr is) = absurd (let e = is.0 in cc)
 no_start transaction RollBack store xid (inr is) = absurd (let e = is.0 in cc)
 
--- how a transaction may be finished
+-- how a transaction may be finished: in two phases if it is decided, in one if only one store takes part
 abbrev May : Managing → ℕ → Transaction → Closing → Type 0
 May old number transaction InTwoPhases = is_decided old.decisions number ≡ true
 May old number transaction InOnePhase =
     (is_decided old.decisions number ≡ false) × ((store : ℕ) × OnlyTakesPart transaction.participants store)
 May old number transaction RollBack = is_decided old.decisions number ≡ false
 
+-- a call that ends a transaction keeps what holds, if its closing is what the decision allows
 pub ends : (number : ℕ) (was : Stage) (transaction : Transaction) (closing : Closing) (old new : Managing)
     (response : Response)
     → stage_of old.stages number ≡ Some was → (was ≡ Over → ⊥) → IsTransactionOf old.stores number transaction
     → ((store : ℕ) → TookPart store (Some was) → takes_part transaction.participants store ≡ true)
     → May old number transaction closing
-    → HasEnded (within own_of) number transaction closing old response new → Holds old → Holds new
+    → HasEnded (limited own_of) number transaction closing old response new → Holds old → Holds new
 ends number was transaction closing old new response there opened named takes may is holds =
     acts kind number was Over old new (record {
       stores = ap (λ (m : Managing). m.stores) is.alone.stands;
@@ -361,7 +380,7 @@ ends number was transaction closing old new response there opened named takes ma
 
     grows : Grows (Ends transaction closing) old.sessions new.sessions
     grows = grows_each (Ends transaction closing) old.sessions new.sessions is.alone.count
-        (ending_adds (within own_of) (Ends transaction closing) old.branches transaction closing is.ending old.sessions
+        (ending_adds (limited own_of) (Ends transaction closing) old.branches transaction closing is.ending old.sessions
         new.sessions (λ store. inl tt)
         (λ store part. inr (refl, part)) is.ends)
 
@@ -423,8 +442,9 @@ may_finish old number prepared holds voted = by (is_decided old.decisions number
     by false VoteKindReady decided is stage = decided
     by false VoteKindNo decided is stage = decided
 
+-- a call of FINISH keeps what holds of the manager
 pub finishes : (number : ℕ) (old new : Managing) (response : Response)
-    → IsFinished (within own_of) number old response new → Holds old → Holds new
+    → IsFinished (limited own_of) number old response new → Holds old → Holds new
 finishes number old new response is holds = by is.voted
   where
     named : IsTransactionOf old.stores number is.prepared.transaction
@@ -443,12 +463,14 @@ finishes number old new response is holds = by is.voted
         (λ e. absurd (cc)) named (λ store took. took) (may_finish old number is.prepared holds
         (inr there)) is.ends holds
 
+-- a test that can't hold fails
 not_decided : (b : Bool) → (b ≡ true → ⊥) → b ≡ false
 not_decided true none = absurd (none refl)
 not_decided false none = refl
 
+-- a call of ABANDON keeps what holds of the manager
 pub abandons : (number : ℕ) (old new : Managing) (response : Response)
-    → IsAbandoned (within own_of) number old response new → Holds old → Holds new
+    → IsAbandoned (limited own_of) number old response new → Holds old → Holds new
 abandons number old new response is holds =
     ends number (Working is.before) is.before RollBack old new response is.working (λ e. absurd (cc))
     (holds.kept number (Working is.before) is.before is.working refl) (λ store took. took)
@@ -457,6 +479,7 @@ abandons number old new response is holds =
 
 -- ---- each call
 
+-- each call but RECOVER keeps what holds of the manager, if it is carried out
 pub carried_holds : (old new : Managing) (call : Call) (response : Response) → IsPlain call
     → CarriesBeside own_of other_of own_view old call response new
     → Holds old → Holds new
@@ -487,6 +510,7 @@ carried_holds old new Show response plain is holds =
     quiet old new (ap (λ (m : Managing). m.stores) is.stands) (ap (λ (m : Managing). m.stages) is.stands)
     (ap (λ (m : Managing). m.decisions) is.stands) (grows_alone old.sessions new.sessions is.alone) holds
 
+-- each call but RECOVER keeps what holds of the manager: one that is refused changes nothing
 pub answered_holds : (old new : Managing) (call : Call) (response : Response) → IsPlain call
     → IsAnswered old call response new → Holds old → Holds new
 answered_holds old new call response plain is holds =

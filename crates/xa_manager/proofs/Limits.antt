@@ -9,6 +9,7 @@ use Rattle.xa_coordinator.specs.declared.fused.Fused.{Fused}
 use Rattle.xa_coordinator.specs.Stores.{ChangesAt}
 use Rattle.xa_manager.specs.Limits.{Passes}
 
+-- limits are given store by store: those up to this one, too, now have as many calls left as was said
 pub passes_grown : {S : Type 0} (store calls : ℕ) (old new : List (Fused S))
     → ((other : ℕ) → other < store → Passes other calls old) → Passes store calls new
     → ChangesAt store old new →
@@ -26,7 +27,7 @@ passes_grown {S} store calls old new so_far there changes = λ other below.
           subst (λ s. Passes s calls new) here there
     ]
 
--- one session more that passes so many calls on
+-- the loop over sessions: one more passes on so many calls
 pub passes_more : {S : Type 0} (calls : ℕ) (sessions : List (Fused S)) (session : Fused S)
     → ((store : ℕ) → store < length sessions → Passes store calls sessions) → session.left ≡ calls
     → (store : ℕ) → store < length (sessions ++ session ∷ []) → Passes store calls (sessions ++ session ∷ [])

@@ -71,6 +71,7 @@ stage_put stages number other was stage is = by (number == 0) (other == 0) refl 
           )
     ]
 
+-- the transaction isn't over
 IsOpenStage : Stage → Type 0
 IsOpenStage Over = ⊥
 IsOpenStage stage = Unit {0}
@@ -97,9 +98,11 @@ pub record Acts (kind : ℕ → Statement → Type 0) (number : ℕ) (was stage 
       → HasAdded session (Start (branch_in number store)) → HasAdded session (Prepare (branch_in number store)))
   pub goes : (store : ℕ) (statement : Statement) → kind store statement → Goes new store statement
 
+-- a stage that isn't over isn't the stage of one that is
 some_over : (was : Stage) → (was ≡ Over → ⊥) → Some was ≡ Some Over → ⊥
 some_over was apart is = apart (same_Some was Over is)
 
+-- a call that moves one transaction to another stage keeps what holds, if that stage fits
 pub acts : (kind : ℕ → Statement → Type 0) (number : ℕ) (was stage : Stage) (old new : Managing)
     → Acts kind number was stage old new → Holds old → Holds new
 acts kind number was stage old new act holds =
@@ -194,12 +197,14 @@ acts kind number was stage old new act holds =
 
 -- ---- a transaction that begins
 
+-- a list with one element more has the same at the old places
 get_still : (stages : List Stage) (last found : Stage) (place : ℕ) → slice_get stages place ≡ Some found
     → slice_get (stages ++ last ∷ []) place ≡ Some found
 get_still [] last found place is = absurd (cc)
 get_still (y ∷ ys) last found zero is = is
 get_still (y ∷ ys) last found (suc n) is = get_still ys last found n is
 
+-- a transaction that is begun changes no other one's stage
 pub stage_still : (stages : List Stage) (last found : Stage) (other : ℕ) → stage_of stages other ≡ Some found
     → stage_of (stages ++ last ∷ []) other ≡ Some found
 unfolding stage_of
@@ -210,6 +215,7 @@ stage_still stages last found other is = by (other == 0) is
     by true there = there
     by false there = get_still stages last found (other - 1) there
 
+-- a new number that isn't decided decides nothing
 decides_more : (decisions : List Decision) (place : ℕ)
     → decides (slice_get (decisions ++ Undecided ∷ []) place) ≡ decides (slice_get decisions place)
 decides_more [] zero = refl
@@ -217,6 +223,7 @@ decides_more [] (suc n) = refl
 decides_more (d ∷ ds) zero = refl
 decides_more (d ∷ ds) (suc n) = decides_more ds n
 
+-- a new number that isn't decided leaves which numbers are decided
 pub decided_more : (decisions : List Decision) (number : ℕ)
     → is_decided (decisions ++ Undecided ∷ []) number ≡ is_decided decisions number
 unfolding decision_of
@@ -227,16 +234,20 @@ decided_more decisions number = by (number == 0)
     by true = refl
     by false = decides_more decisions (number - 1)
 
+-- a stage that is there, as one that was found
 some_stage : (stage : Option Stage) → (stage ≡ None → ⊥) → (found : Stage) × (stage ≡ Some found)
 some_stage None none = absurd (none refl)
 some_stage (Some stage) none = (stage, refl)
 
+-- a store takes part only in a transaction that is kept
 took_some : (store : ℕ) (stage : Option Stage) → TookPart store stage → stage ≡ None → ⊥
 took_some store stage took none = subst (TookPart store) none took
 
+-- only a transaction that is kept may be decided
 decided_some : (stage : Option Stage) → MayStandDecided stage → stage ≡ None → ⊥
 decided_some stage may none = subst MayStandDecided none may
 
+-- BEGIN keeps what holds: the new transaction has no participant, and isn't decided
 pub begins : (transaction : Transaction) (old new : Managing)
     → IsTransactionOf old.stores (length old.stages + 1) transaction
     → new ≡ record old { decisions = old.decisions ++ Undecided ∷ []; stages = old.stages ++ Working transaction ∷ [] }
@@ -295,6 +306,7 @@ begins transaction old new is stands holds = subst Holds (sym stands) (begun)
 
 -- ---- a decision
 
+-- deciding one number decides no other
 pub decided_other : (decisions : List Decision) (number other : ℕ) → number ≢ 0 → other ≢ number
     → is_decided (with_decided decisions number) other ≡ is_decided decisions other
 unfolding decision_of with_decided
@@ -309,20 +321,24 @@ decided_other decisions number other some apart = by (other == 0) refl
         ap decides (get_set_other decisions (number - 1) (other - 1) Decided
         (λ same. apart (omega (arith, same, some, second))))
 
+-- deciding one number leaves decided what was decided
 still_decided : (decisions : List Decision) (number other : ℕ) → is_decided decisions other ≡ true
     → is_decided (with_decided decisions number) other ≡ true
 unfolding with_decided
 still_decided decisions number other is = decided_kept decisions (number - 1) other is
 
+-- numbers begin at 1, so a transaction that is kept doesn't have 0
 stage_some : (stages : List Stage) (number : ℕ) (found : Stage) → stage_of stages number ≡ Some found → number ≢ 0
 unfolding stage_of
 stage_some stages number found is none =
     absurd (let e : None ≡ Some found = sym (ap (λ n. stage_of stages n) none) ∙ is in cc)
 
+-- deciding gives no new number
 decided_count : (decisions : List Decision) (number : ℕ) → length (with_decided decisions number) ≡ length decisions
 unfolding with_decided
 decided_count decisions number = length-set decisions (number - 1) Decided
 
+-- DECIDE keeps what holds, of a transaction whose vote was Ready
 pub decides_one : (number : ℕ) (prepared : Prepared) (old new : Managing)
     → stage_of old.stages number ≡ Some (Ready prepared)
     → new ≡ record old { decisions = with_decided old.decisions number } → Holds old → Holds new

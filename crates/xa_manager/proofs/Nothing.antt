@@ -6,7 +6,7 @@ use Rattle.std.specs.Prelude.{◌==◌}
 use Rattle.xa_manager.specs.Ledger.{stage_of}
 use Rattle.xa_manager.specs.declared.stage.Stage.{Stage}
 
--- no number has a stage
+-- before the first BEGIN no transaction has a stage
 pub none_begun : (number : ℕ) → stage_of [] number ≡ None
 unfolding stage_of
 none_begun number = by (number == 0)
@@ -15,7 +15,7 @@ none_begun number = by (number == 0)
     by true = refl
     by false = refl
 
--- no number is decided
+-- before the first BEGIN no number is decided
 pub none_decided : (number : ℕ) → is_decided [] number ≡ false
 unfolding decision_of
 none_decided number = by (number == 0)

@@ -50,6 +50,7 @@ pub record OtherGrew (kind : ℕ → Statement → Type 0) (store : ℕ) (old : 
   pub there : slice_get old store ≡ Some before
   pub adds : AddsOnly (kind store) (other_of before.inner) (other_of after.inner)
 
+-- the other client of each store was there, and added statements of this kind since
 abbrev OthersGrow : (ℕ → Statement → Type 0) → List Session → List Session → Type 0
 OthersGrow kind old new = (store : ℕ) (after : Session) → slice_get new store ≡ Some after
     → OtherGrew kind store old after
@@ -86,9 +87,11 @@ given_adds kind statement (Err fault) old new may is =
       each = All-nil kind;
     }
 
+-- another client to whom nothing was said has added nothing
 same_other : (kind : Statement → Type 0) (old new : SessionView) → new ≡ old → AddsOnly kind old new
 same_other kind old new is = subst (λ s. AddsOnly kind old s) (sym is) (adds_none kind old)
 
+-- if each other client added only statements of its kind, the other clients grew by that
 others_grow : (kind : ℕ → Statement → Type 0) (old new : List Session) → length new ≡ length old
     → ((store : ℕ) (before after : Session) → slice_get old store ≡ Some before → slice_get new store ≡ Some after
     → AddsOnly (kind store) (other_of before.inner) (other_of after.inner))
@@ -111,6 +114,7 @@ others_same kind old new same =
     ∙ slice_get-map other old store
     ∙ ap (option_map other) is_before)))
 
+-- if none of them ends a branch of the coordinator's, none has been ended by others
 still_leave : (kind : ℕ → Statement → Type 0) (old new : Managing)
     → ((store : ℕ) (statement : Statement) → kind store statement → EndsNone store statement)
     → OthersGrow kind old.sessions new.sessions → OthersLeave old → OthersLeave new
@@ -122,11 +126,13 @@ still_leave kind old new fresh grows leave store session statement is added =
       | inr now ↦ fresh store statement now
     ]
 
+-- other clients that stay as they were have still ended no branch of the coordinator's
 same_leave : (old new : Managing) → others_of other_of new.sessions ≡ others_of other_of old.sessions → OthersLeave old
     → OthersLeave new
 same_leave old new same = still_leave Never old new (λ store statement never. absurd never)
     (others_same Never old.sessions new.sessions same)
 
+-- AT with a statement that ends none of these branches
 replied_leave : (store : ℕ) (statement : Statement) (old new : Managing) (response : Response)
     → EndsNone store statement
     → HasRepliedBeside own_of other_of store statement old response new → OthersLeave old → OthersLeave new
@@ -145,6 +151,7 @@ replied_leave store statement old new response none is =
           (sym is_after ∙ is.others.others there apart ∙ is_before)))
     ]))
 
+-- SHOW, which gives each other client an XA RECOVER
 shown_leave : (old new : Managing) (response : Response) → IsShownBeside own_of other_of old response new
     → OthersLeave old → OthersLeave new
 shown_leave old new response is =
@@ -157,6 +164,7 @@ shown_leave old new response is =
     given_adds (EndsNone there) (RecoverStatement true) listed.answer (other_of before.inner)
     (other_of after.inner) tt listed.given))
 
+-- a call that is carried out and leaves branches alone keeps what the other clients leave alone
 carried_leave : (old new : Managing) (call : Call) (response : Response) → LeavesBranches call
     → CarriesBeside own_of other_of own_view old call response new
     → OthersLeave old → OthersLeave new
@@ -174,6 +182,7 @@ carried_leave old new Recover response leaves is = same_leave old new is.1
 carried_leave old new (At store statement) response leaves is = replied_leave store statement old new response leaves is
 carried_leave old new Show response leaves is = shown_leave old new response is
 
+-- each call at all: one that is refused says nothing to anybody
 pub answered_leave : (old new : Managing) (call : Call) (response : Response) → LeavesBranches call
     → IsAnswered old call response new → OthersLeave old
     → OthersLeave new
@@ -181,6 +190,7 @@ answered_leave old new call response leaves is leave =
     ⊎_elim (λ refused. subst OthersLeave (sym refused.stands) leave)
     (λ carried. carried_leave old new call response leaves carried leave) is
 
+-- calls that leave the coordinator's branches to it, one after another, have no other client end one
 pub calls_leave : (old new : Managing) (calls : List Call) (responses : List Response)
     → CarriesOut old calls responses new → All LeavesBranches calls
     → OthersLeave old → OthersLeave new
@@ -189,6 +199,7 @@ calls_leave old new calls responses (one_more cs rs mid so_far call response n a
     answered_leave mid n call response (last_all LeavesBranches cs call leaves) answered
     (calls_leave old mid cs rs so_far (front_all LeavesBranches cs call leaves) leave)
 
+-- at the beginning no other client has added anything
 pub fresh_leave : (stores : ℕ) (first : Managing) → IsFresh stores first → OthersLeave first
 fresh_leave stores first fresh store session statement is added =
     let pair = one_of (λ (s : Session). IsPair (own_of s.inner)

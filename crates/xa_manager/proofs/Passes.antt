@@ -1,6 +1,6 @@
 -- Passes of stores, one of each, at their places, and sessions of them.
 use Rattle.std.proofs.Common.{◌≡◌, ◌∙◌, ℕ, ◌<◌, ◌+◌, Bool, List, [], ◌∷◌, ◌++◌, take, zero, suc, length, get_or, map}
-use Rattle.std.proofs.Common.{subst, sym, ap, refl, arith}
+use Rattle.std.proofs.Common.{subst, sym, ap, refl, arith, None, true}
 use Rattle.std.proofs.lemmas.List.{take_more, take_all}
 use Rattle.std.proofs.lemmas.Slice.Zip.{all_zipped_more}
 use Rattle.std.specs.List.{AllZip, AllByRecursion}
@@ -12,7 +12,7 @@ use Rattle.xa_store.specs.declared.store.Store.{Store}
 use Rattle.xa_coordinator.specs.declared.fused.Fused.{Fused}
 use Rattle.xa_manager.specs.Whole.{IsPair}
 
--- the pass is of the store
+-- the pass is one of the store's log
 abbrev pub IsOwn : Store → Pass → Type 0
 IsOwn store pass = log_of pass ≡ identity_of store.log
 
@@ -30,6 +30,7 @@ at_place (s ∷ ss) (p ∷ ps) zero store pass all below is is' =
 at_place (s ∷ ss) (p ∷ ps) (suc place) store pass all below is is' =
     at_place ss ps place store pass all.1 (omega arith) is is'
 
+-- the pass at a store's place is that store's own
 pub own_at : (stores : List Store) (passes : List Pass) (place other : ℕ) (store : Store) (pass : Pass) → place ≡ other
     → AllZip IsOwn stores passes
     → place < length passes
@@ -41,7 +42,15 @@ own_at stores passes place other store pass same all below is is' =
 -- a session of a pass, whose history begins in this state
 abbrev pub seen_as : Bool → Pass → State → SessionView
 seen_as turns pass base =
-    record { identity = log_of pass; turns = turns; base = base; known = known_of pass; beside = [] }
+    record {
+      identity = log_of pass;
+      turns = turns;
+      base = base;
+      known = known_of pass;
+      beside = [];
+      left = None;
+      starved = true;
+    }
 
 -- sessions of the passes of new stores are pairs
 pub pairs_of : {S T : Type 0} (turns : Bool) (stores : List Store) (sessions : List S) (others : List T)
@@ -80,6 +89,7 @@ zip_within within R [] (y ∷ ys) all = absurd all
 zip_within within R (x ∷ xs) [] all = absurd all
 zip_within within R (x ∷ xs) (y ∷ ys) all = (all.0, zip_within within R xs ys all.1)
 
+-- a function of what is within each, over the list of what is within
 pub map_within : {A B C : Type 0} (within : A → B) (f : B → C) (xs : List A)
     → map (λ x. f (within x)) xs ≡ map f (map within xs)
 map_within within f [] = refl
@@ -98,7 +108,7 @@ fused_pairs {S} {T} sessions others others' fused fused' R within same same' all
     subst P (sym same) (subst Q (sym same') (zip_within (λ (session : Fused S). session.inner) R fused others
     (subst O (sym within) all)))
 
--- one session more, over the store in its place
+-- the loop over stores: the session of one more begins with that store's base
 pub bases_more : {S : Type 0} (base : S → State) (stores : List Store) (sessions now : List S) (session : S)
     (count place : ℕ) (store : Store)
     → count ≡ place → place < length stores → now ≡ sessions ++ session ∷ []
@@ -117,7 +127,7 @@ bases_more {S} base stores sessions now session count place store same below ite
     subst P (sym cut) (subst Q (sym items) (all_zipped_more R (take count stores) sessions
     (get_or stores count store) session all here))
 
--- all stores have a session
+-- the loop over stores ends: the session of each store begins with that store's base
 pub bases_all : {S : Type 0} (base : S → State) (stores : List Store) (sessions : List S) (count : ℕ)
     → count ≡ length stores
     → AllZip (λ x s. base s ≡ x.base) (take count stores) sessions → AllZip (λ x s. base s ≡ x.base) stores sessions

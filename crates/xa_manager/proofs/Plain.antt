@@ -26,30 +26,37 @@ use Rattle.xa_manager.proofs.Standing.{all_or_none}
 
 -- ---- the call of a line
 
+-- the call, as the text of a script is taken, isn't RECOVER
 record Fine (call : Call) : Type 0 where
   is : IsPlain (taken call)
 
+-- if neither of two calls is RECOVER, neither is the one that a test takes
 either : (b : Bool) (x y : Call) → Fine x → Fine y → Fine (if b then x else y)
 either true x y f g = f
 either false x y f g = g
 
+-- a word that has to stand alone on its line isn't taken as RECOVER
 fine_alone : (call : Call) (text : List ℕ) → Fine call → Fine (alone call text)
 fine_alone call [] fine = fine
 fine_alone call (byte ∷ rest) fine = record { is = tt }
 
+-- a word with a transaction's number behind it isn't taken as RECOVER
 fine_numbered : (make : ℕ → Call) (number : Option ℕ) → ((n : ℕ) → Fine (make n)) → Fine (numbered make number)
 fine_numbered make None fine = record { is = tt }
 fine_numbered make (Some n) fine = fine n
 
+-- a call made of a number, if one could be read, isn't RECOVER
 fine_with : (number : Option ℕ) (make : ℕ → Call) → ((n : ℕ) → Fine (make n)) → Fine (with_number number make)
 fine_with None make fine = record { is = tt }
 fine_with (Some n) make fine = fine n
 
+-- a statement of WORK, if it is one about a row
 fine_row : (number store : ℕ) (statement : Statement) (b : Bool) → takes_rows statement ≡ b
     → Fine (if b then Work number store statement else Unread 0)
 fine_row number store statement true rows = record { is = rows }
 fine_row number store statement false other = record { is = tt }
 
+-- WORK with a statement that was read, or couldn't be
 fine_work : (number store : ℕ) (read : Result Statement ℕ) → Fine (work_call number store read)
 fine_work number store (Ok statement) = fine_row number store statement (takes_rows statement) refl
 fine_work number store (Err place) = record { is = tt }
@@ -59,12 +66,14 @@ fine_at : (store : ℕ) (read : Result Statement ℕ) → Fine (at_call store re
 fine_at store (Ok statement) = record { is = tt }
 fine_at store (Err place) = record { is = tt }
 
+-- a call that is read from a line of AT isn't RECOVER
 fine_at_of : (text : List ℕ) → Fine (at_of text)
 unfolding at_of
 fine_at_of text =
     fine_with (number_of_word (first_word text)) (λ store. at_call store (read_of (behind_word text)))
     (λ store. fine_at store (read_of (behind_word text)))
 
+-- a call that is read from a line of FAIL isn't RECOVER
 fine_fail_of : (text : List ℕ) → Fine (fail_of text)
 unfolding fail_of
 fine_fail_of text =
@@ -76,6 +85,7 @@ fine_fail_of text =
     (fine_numbered (λ calls. Fail store calls) number (λ n. record { is = tt }))
     (record { is = tt }))
 
+-- a call that is read from a line of WORK isn't RECOVER
 fine_work_of : (text : List ℕ) → Fine (work_of text)
 unfolding work_of
 fine_work_of text =
@@ -142,23 +152,28 @@ module _ (word text : List ℕ) where
       (either (bytes_eq word (codes "ABANDON")) (numbered (λ n. Abandon n) number) (plain_call word text)
       (fine_numbered (λ n. Abandon n) number (λ n. record { is = tt })) fine_plain))))
 
+-- a line that isn't empty isn't taken as RECOVER
 fine_filled : (line : List ℕ) → Fine (filled_call line)
 fine_filled [] = record { is = tt }
 fine_filled (first ∷ rest) = fine_named (first_word (first ∷ rest)) (behind_word (first ∷ rest))
 
+-- no line that is taken from a script is RECOVER, which `stops` reads as a line that it can't read
 fine_line : (line : List ℕ) → Fine (call_of line)
 unfolding call_of
 fine_line line =
     either (is_comment_line line) Silent (filled_call (unblank line)) (record { is = tt }) (fine_filled (unblank line))
 
+-- a line as it is received, which may be too long, isn't taken as RECOVER
 fine_said : (received : Received) → Fine (call_said received)
 fine_said (Whole line) = fine_line line
 fine_said TooLong = record { is = tt }
 
+-- what holds of each image holds of each element of the mapped list
 all_map : {A B : Type 0} (P : B → Type 0) (f : A → B) (xs : List A) → ((x : A) → P (f x)) → All P (map f xs)
 all_map P f [] each = All-nil P
 all_map P f (x ∷ xs) each = All-cons P (f x) (map f xs) (each x) (all_map P f xs each)
 
+-- no call of a script for `stops` is RECOVER
 plain_calls : (script : List ℕ) → All IsPlain (calls_of script)
 plain_calls script = all_map IsPlain call_in (lines_of script) (λ line. (fine_said (received_line line)).is)
 
@@ -187,9 +202,11 @@ module _ (P : Call → Type 0) (of_fail : (store calls : ℕ) → P (Fail store 
 
 -- ---- what they leave
 
+-- what holds of some calls and of the stop holds of the calls with a stop behind them
 with_stop_call : (P : Call → Type 0) (calls : List Call) → P StopCall → All P calls → All P (calls ++ StopCall ∷ [])
 with_stop_call P calls is each = All-append P calls (StopCall ∷ []) each (All-cons P StopCall [] is (All-nil P))
 
+-- what is left after a stop, of calls that leave the coordinator's branches to it: each transaction is whole
 pub left_whole : (stores : ℕ) (script calls : List Call) (text : List ℕ)
     (left : IsLeft stores script (ended_calls calls) text) → All IsPlain calls
     → All LeavesBranches calls → LeavesWhole left
@@ -204,6 +221,7 @@ left_whole stores script calls text left plain leaves report is =
           (with_stop_call LeavesBranches calls tt leaves) run,
     )
 
+-- at each stop that the text shows, each transaction is left whole
 pub stop_whole : (stores : ℕ) (script : List ℕ) (made : List (List ℕ)) (stop : Stop) (text : List ℕ)
     → All LeavesBranches (calls_of script)
     → (shown : IsStopText stores (calls_of script) made stop text) → LeavesWhole shown.left
@@ -214,6 +232,7 @@ stop_whole stores script made stop text leaves shown =
     (stop_are IsPlain (λ store n. tt) calls stop limits (plain_calls script))
     (stop_are LeavesBranches (λ store n. tt) calls stop limits leaves)
 
+-- at the end of the script each transaction is left whole
 pub end_whole : (stores : ℕ) (script : List ℕ) (text : List ℕ) → All LeavesBranches (calls_of script)
     → (shown : IsShown stores (calls_of script) text)
     → LeavesWhole shown.left

@@ -9,7 +9,7 @@ use Rattle.xa_session.specs.declared.fault.Fault.{Fault}
 use Rattle.xa_coordinator.specs.declared.decisions.Decision.{Decision}
 use Rattle.xa_manager.specs.Texts.{stores_text, store_text, stores_shown_text, number_text, numbers_text, stands_as}
 
--- one element more, of a text that grows by each element
+-- the step of a loop that makes a text longer by each element of a list
 grown : {A : Type 0} (all : List A → List ℕ) (one : List ℕ) (xs : List A) (i : ℕ) (x : A) (begin before now : List ℕ)
     → i < length xs → x ≡ get_or xs i x
     → all (take i xs ++ x ∷ []) ≡ all (take i xs) ++ one → before ≡ begin ++ all (take i xs) → now ≡ before ++ one
@@ -20,12 +20,14 @@ grown all one xs i x begin before now within is more was step =
     step ∙ ap (λ text. text ++ one) was ∙ append_assoc begin (all (take i xs)) one
     ∙ ap (λ text. begin ++ text) (sym (ap all cut ∙ more))
 
+-- the text of several stores' numbers and one more
 stores_text-more : (xs : List ℕ) (x : ℕ) → stores_text (xs ++ x ∷ []) ≡ stores_text xs ++ (codes " " ++ decimal x)
 stores_text-more [] x = append-nil (codes " " ++ decimal x)
 stores_text-more (y ∷ ys) x =
     ap (λ text. codes " " ++ decimal y ++ text) (stores_text-more ys x)
     ∙ sym (append_assoc (codes " " ++ decimal y) (stores_text ys) (codes " " ++ decimal x))
 
+-- the step of the loop that prints the numbers of stores
 pub stores_grown : (xs : List ℕ) (i x : ℕ) (begin before now : List ℕ) → i < length xs → x ≡ get_or xs i x
     → before ≡ begin ++ stores_text (take i xs)
     → now ≡ before ++ (codes " " ++ decimal x)
@@ -34,6 +36,7 @@ stores_grown xs i x begin before now within is was step =
     grown stores_text (codes " " ++ decimal x) xs i x begin before now within is
     (stores_text-more (take i xs) x) was step
 
+-- the text of several stores' answers and of one more, under the number that is its place
 shown-more : (n : ℕ) (xs : List (Result Reply Fault)) (x : Result Reply Fault)
     → stores_shown_text n (xs ++ x ∷ []) ≡ stores_shown_text n xs ++ store_text (n + length xs) x
 shown-more n [] x = append-nil (store_text n x) ∙ ap (λ k. store_text k x) (sym (add-zero n))
@@ -43,6 +46,7 @@ shown-more n (y ∷ ys) x =
     ∙ ap (λ k. stores_shown_text (n + 1) ys ++ store_text k x) same)
     ∙ sym (append_assoc (store_text n y) (stores_shown_text (n + 1) ys) (store_text (n + length (y ∷ ys)) x))
 
+-- the step of the loop that prints the stores' answers: one answer more is written
 pub shown_grown : (xs : List (Result Reply Fault)) (i : ℕ) (x : Result Reply Fault) (begin before now : List ℕ)
     → i < length xs → x ≡ get_or xs i x
     → before ≡ begin ++ stores_shown_text 0 (take i xs) → now ≡ before ++ store_text i x
@@ -52,6 +56,7 @@ shown_grown xs i x begin before now within is was step =
     grown (stores_shown_text 0) (store_text i x) xs i x begin before now within is
     (shown-more 0 (take i xs) x ∙ ap (λ k. stores_shown_text 0 (take i xs) ++ store_text k x) count) was step
 
+-- the text of several decisions' numbers and of one more, if it is the wanted one
 numbers-more : (wanted : Decision) (n : ℕ) (xs : List Decision) (x : Decision)
     → numbers_text wanted n (xs ++ x ∷ []) ≡ numbers_text wanted n xs ++ number_text wanted (n + length xs) x
 numbers-more wanted n [] x = append-nil (number_text wanted n x) ∙ ap (λ k. number_text wanted k x) (sym (add-zero n))
@@ -62,6 +67,7 @@ numbers-more wanted n (y ∷ ys) x =
     ∙ sym (append_assoc (number_text wanted n y) (numbers_text wanted (n + 1) ys)
     (number_text wanted (n + length (y ∷ ys)) x))
 
+-- the step of the loop that prints the numbers; they begin at 1
 pub numbers_grown : (wanted : Decision) (xs : List Decision) (i : ℕ) (x : Decision) (begin before now : List ℕ)
     → i < length xs → x ≡ get_or xs i x
     → before ≡ begin ++ numbers_text wanted 1 (take i xs) → now ≡ before ++ number_text wanted (i + 1) x
@@ -91,7 +97,7 @@ numbers_grown_if wanted xs i d stands begin before now within is was step =
     by false so (inl told) = let yes = told.0 in absurd (cc)
     by false so (inr silent) = silent.1 ∙ sym (append-nil before)
 
--- three words and their counts
+-- three words, each with its count, appended one after another
 pub three_grown : (begin first second now a b c d e f : List ℕ) → first ≡ begin ++ (a ++ b) → second ≡ first ++ (c ++ d)
     → now ≡ second ++ (e ++ f)
     → now ≡ begin ++ (a ++ b ++ c ++ d ++ e ++ f)

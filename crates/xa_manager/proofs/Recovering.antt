@@ -18,7 +18,7 @@ use Rattle.xa_coordinator.specs.Recovery.{Recovers}
 use Rattle.xa_coordinator.specs.declared.decisions.Decision.{Decision}
 use Rattle.xa_coordinator.specs.declared.report.Report.{Report}
 use Rattle.xa_coordinator.proofs.DecisionsOf.{closed_decides}
-use Rattle.xa_manager.specs.Beside.{within}
+use Rattle.xa_coordinator.specs.Fusing.{limited}
 use Rattle.xa_manager.specs.Carried.{HasRecovered}
 use Rattle.xa_manager.specs.Ledger.{stage_of}
 use Rattle.xa_manager.specs.Whole.{IsPair}
@@ -36,6 +36,7 @@ use Rattle.xa_manager.proofs.Holds.{answered_holds}
 
 -- ---- a manager with which nothing has begun
 
+-- before the first BEGIN no transaction is kept
 no_stage : (number : ℕ) (stage : Stage) → stage_of [] number ≡ Some stage → ⊥
 unfolding stage_of
 no_stage number stage is = by (number == 0) is
@@ -44,6 +45,7 @@ no_stage number stage is = by (number == 0) is
     by true is = absurd (cc)
     by false is = absurd (cc)
 
+-- before the first BEGIN no number is decided
 none_decided : (number : ℕ) → is_decided [] number ≡ true → ⊥
 unfolding decision_of
 none_decided number is = by (number == 0) is
@@ -52,14 +54,17 @@ none_decided number is = by (number == 0) is
     by true is = absurd (cc)
     by false is = absurd (cc)
 
+-- what holds of each element holds of the one at a place
 pub one_of : {A : Type 0} (P : A → Type 0) (xs : List A) (place : ℕ) (x : A) → All P xs → slice_get xs place ≡ Some x
     → P x
 one_of P xs place x each is =
     subst P (get_or_from_slice_get xs place x x is) (each place x (slice_get_within xs place x is))
 
+-- nothing is in an empty list
 pub nothing_in : {A : Type 0} (x : A) → Contains [] x → ⊥
 nothing_in x there = let below : there.0 < 0 = there.1 in absurd (omega (arith, below))
 
+-- a session that was just opened has added nothing
 none_added : (session : Session) (statement : Statement) → IsPair (own_of session.inner) (other_of session.inner)
     → HasAdded session statement → ⊥
 none_added session statement pair added =
@@ -67,6 +72,7 @@ none_added session statement pair added =
     (subst (λ (list : List Entry). Contains list (entry_of 1 statement))
     (ap (λ (k : Known). k.mine) pair.first_known) added)
 
+-- a manager that just began has everything that holds before any recovery
 pub fresh_holds : (stores : ℕ) (first : Managing) → IsFresh stores first → Holds first
 fresh_holds stores first fresh =
     let no : (number : ℕ) (stage : Stage) → stage_of first.stages number ≡ Some stage → ⊥ =
@@ -93,14 +99,17 @@ fresh_holds stores first fresh =
 
 -- ---- calls, and the last of them
 
+-- what holds of several and a last one holds of the several
 pub front_all : {A : Type 0} (P : A → Type 0) (xs : List A) (x : A) → All P (xs ++ x ∷ []) → All P xs
 front_all P xs x each place d within =
     subst P (get_or_append_left xs (x ∷ []) d place within)
     (each place d (omega (arith, within, length-append xs (x ∷ []))))
 
+-- what holds of several and a last one holds of the last one
 pub last_all : {A : Type 0} (P : A → Type 0) (xs : List A) (x : A) → All P (xs ++ x ∷ []) → P x
 last_all P xs x each = All-contains P (xs ++ x ∷ []) x each (Contains-push xs x)
 
+-- what holds before any recovery goes on holding through calls of which none is RECOVER
 pub calls_hold : (old new : Managing) (calls : List Call) (responses : List Response)
     → CarriesOut old calls responses new → All IsPlain calls → Holds old
     → Holds new
@@ -109,6 +118,7 @@ calls_hold old new calls responses (one_more cs rs mid so_far call response n an
     answered_holds mid n call response (last_all IsPlain cs call plain) answered
     (calls_hold old mid cs rs so_far (front_all IsPlain cs call plain) holds)
 
+-- equal lists have equal last elements, and are equal before them
 pub snoc_same : {A : Type 0} (xs ys : List A) (x y : A) → xs ++ x ∷ [] ≡ ys ++ y ∷ [] → (xs ≡ ys) × (x ≡ y)
 snoc_same [] [] x y is = (refl, cc)
 snoc_same [] (b ∷ []) x y is = absurd (cc)
@@ -120,11 +130,12 @@ snoc_same (a ∷ xs) (b ∷ ys) x y is =
     let first : a ≡ b = cc in
     (ap (λ f. f ∷ xs) first ∙ ap (λ list. b ∷ list) rest.0, rest.1)
 
+-- a list with a last element isn't empty
 not_empty : {A : Type 0} (xs : List A) (x : A) → [] ≡ xs ++ x ∷ [] → ⊥
 not_empty [] x is = absurd (cc)
 not_empty (y ∷ ys) x is = absurd (cc)
 
--- the last call, and those before it
+-- carrying out calls is carrying out all but the last one, and then the last one
 pub last_call : (old new : Managing) (all : List Call) (answers : List Response) → CarriesOut old all answers new
     → (told : List Call) (call : Call)
     (responses : List Response) (response : Response) → all ≡ told ++ call ∷ [] → answers ≡ responses ++ response ∷ []
@@ -141,7 +152,8 @@ last_call old new all answers (one_more cs rs mid so_far c r n answered) told ca
 
 -- ---- a recovery that came to its end
 
--- what a recovery adds
+-- what a recovery adds: it commits branches of decided numbers and rolls back the others, in two phases, and begins
+-- none
 abbrev pub Recovering : List Decision → ℕ → Statement → Type 0
 Recovering decisions store (Start xid) = ⊥
 Recovering decisions store (Commit xid false) =
@@ -151,6 +163,7 @@ Recovering decisions store (Rollback xid) =
     (number : ℕ) × IsBranchOf (codes "c") number store xid × (is_decided decisions number ≡ false)
 Recovering decisions store statement = Unit {0}
 
+-- what a recovery adds goes with the decisions: it commits what is decided, and rolls back the rest
 recovering_goes : (decisions : List Decision) (sessions : List Session) (store : ℕ) (statement : Statement)
     → Recovering decisions store statement
     → GoesWith decisions sessions store statement
@@ -167,19 +180,21 @@ recovering_goes decisions sessions store (Put key value) is = tt
 recovering_goes decisions sessions store (Del key) is = tt
 recovering_goes decisions sessions store Disconnect is = tt
 
--- a manager that recovered
+-- a recovery returned a report: it recovered by the decisions, and changed none
 pub record HasEndedWell (mid last : Managing) (report : Report) : Type 0 where
-  pub recovers : Recovers (within own_of) last.decisions (codes "c") report mid.sessions last.sessions
+  pub recovers : Recovers (limited own_of) last.decisions (codes "c") report mid.sessions last.sessions
   pub decisions : (number : ℕ) → is_decided last.decisions number ≡ is_decided mid.decisions number
   pub grows : Grows (Recovering last.decisions) mid.sessions last.sessions
 
-same_report : (mid last : Managing) (report : Report) → HasRecovered (within own_of) mid (Recovered (Ok report)) last
-    → Recovers (within own_of) last.decisions (codes "c") report mid.sessions last.sessions
+-- the clause on a recovery, taken apart for the report that it returned
+same_report : (mid last : Managing) (report : Report) → HasRecovered (limited own_of) mid (Recovered (Ok report)) last
+    → Recovers (limited own_of) last.decisions (codes "c") report mid.sessions last.sessions
 same_report mid last report is =
     let outcome : is.outcome ≡ Ok report = let e = is.told in cc in
-    subst (λ o. IfOk o (λ (r : Report). Recovers (within own_of) last.decisions
+    subst (λ o. IfOk o (λ (r : Report). Recovers (limited own_of) last.decisions
     (codes "c") r mid.sessions last.sessions)) outcome is.done
 
+-- a recovery that returned a report has recovered by the decisions, and changed none
 pub ended_well : (mid last : Managing) (report : Report) → IsAnswered mid Recover (Recovered (Ok report)) last
     → HasEndedWell mid last report
 ended_well mid last report (inl refused) = absurd (let e = refused.told in cc)
@@ -196,8 +211,8 @@ ended_well mid last report (inr carried) =
           let by = recovers.each store before after is_before is_after in
           recovered (Recovering last.decisions store) last.decisions (codes "c") store
           (λ number xid named decided. (number, named, decided))
-          (λ number xid named decided. (number, named, decided)) by.0.0 by.0.1 (own_of before.inner)
-          (own_of after.inner) tt by.2);
+          (λ number xid named decided. (number, named, decided)) by.0.0 by.0.1 (limited own_of before)
+          (limited own_of after) tt by.2);
     }
 
 module _ (mid last : Managing) (report : Report) (holds : Holds mid) (well : HasEndedWell mid last report) where
@@ -242,6 +257,7 @@ module _ (mid last : Managing) (report : Report) (holds : Holds mid) (well : Has
         (well.recovers.each store grew.before session grew.there is).2.clear.none_left;
   }
 
+-- after calls and a recovery that returned a report, all that was added keeps to the decisions
 pub keeps_to_decisions : (stores : ℕ) (told : List Call) (responses : List Response) (report : Report) (last : Managing)
     → All IsPlain told
     → IsRun stores (told ++ Recover ∷ []) (responses ++ Recovered (Ok report) ∷ []) last → KeepsToDecisions last

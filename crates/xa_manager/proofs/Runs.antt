@@ -22,7 +22,7 @@ use Rattle.xa_manager.specs.Counted.{own_of, other_of, state_in}
 use Rattle.xa_manager.specs.Rows.{rows_text}
 use Rattle.xa_manager.specs.Stops.{fails_from, ended_calls, cut_line, IsLeft, IsWhole, IsCutShort, IsCutAt}
 
--- the same calls, answered the same, in other words
+-- equal lists of calls and responses may take the place of those that were carried out
 pub carried_as : (old new : Managing) (calls same : List Call) (responses as_well : List Response) → same ≡ calls
     → as_well ≡ responses
     → CarriesOut old calls responses new → CarriesOut old same as_well new
@@ -30,7 +30,7 @@ carried_as old new calls same responses as_well is are carried =
     subst (λ (list : List Call). CarriesOut old list as_well new) (sym is)
     (subst (λ (list : List Response). CarriesOut old calls list new) (sym are) carried)
 
--- one call more
+-- calls that were carried out, and one call more
 pub carried_more : (old mid new : Managing) (calls more : List Call) (responses : List Response) (call : Call)
     (response : Response)
     → CarriesOut old calls responses mid → IsAnswered mid call response new → more ≡ calls ++ call ∷ []
@@ -39,7 +39,7 @@ carried_more old mid new calls more responses call response so_far answered is =
     carried_as old new (calls ++ call ∷ []) more (responses ++ response ∷ []) (responses ++ response ∷ []) is refl
     (one_more calls responses mid so_far call response new answered)
 
--- calls behind calls
+-- calls that were carried out behind others are carried out together
 pub carried_then : (old mid new : Managing) (calls later : List Call) (responses more : List Response)
     → CarriesOut old calls responses mid
     → CarriesOut mid later more new → CarriesOut old (calls ++ later) (responses ++ more) new
@@ -52,7 +52,7 @@ carried_then old mid new calls later responses more before (one_more cs rs m so_
     (carried_more old m n (calls ++ cs) ((calls ++ cs) ++ call ∷ []) (responses ++ rs) call response
     (carried_then old mid m calls cs responses rs before so_far) answered refl)
 
--- FAIL for one store more
+-- the calls FAIL for several stores and for one more
 pub fails_snoc : (from : ℕ) (limits : List ℕ) (limit : ℕ)
     → fails_from from (limits ++ limit ∷ []) ≡ fails_from from limits ++ Fail (from + length limits) limit ∷ []
 unfolding fails_from
@@ -75,6 +75,7 @@ run_then stores calls later responses mid last before carried = record {
   carried = carried_then before.first mid last calls later before.responses responses before.carried carried;
 }
 
+-- among no calls none is FAIL
 pub fails_none : fails_from 0 [] ≡ []
 unfolding fails_from
 fails_none = refl
@@ -90,18 +91,19 @@ fails_step limits store limit within is =
     (let e : store ≤ length limits = omega (arith, within) in e) in
     let e : 0 + length (take store limits) ≡ store = omega (arith, long) in e)
 
--- one line more of those that are carried out
+-- the loop over lines: one more is among those that are carried out
 pub taken_more : (calls : List Call) (place : ℕ) (call : Call) → place < length calls → call ≡ get_or calls place call
     → take (place + 1) calls ≡ take place calls ++ call ∷ []
 taken_more calls place call within is =
     take_more calls place call within ∙ ap (λ (c : Call). take place calls ++ c ∷ []) (sym is)
 
--- calls that lead from a fresh manager
+-- calls that are carried out from a fresh manager on make a run of these calls
 pub from_fresh : (stores : ℕ) (first last : Managing) (calls : List Call) → IsFresh stores first
     → ((responses : List Response) × CarriesOut first calls responses last) → HasCarried stores calls last
 from_fresh stores first last calls fresh carried =
     record { first = first; fresh = fresh; responses = carried.0; carried = carried.1 }
 
+-- mapping twice is mapping once with both
 pub map_twice : {X Y Z : Type 0} (f : X → Y) (g : Y → Z) (xs : List X) → map g (map f xs) ≡ map (λ x. g (f x)) xs
 map_twice f g [] = refl
 map_twice f g (x ∷ xs) = ap (λ rest. g (f x) ∷ rest) (map_twice f g xs)
@@ -140,18 +142,19 @@ recovered stores script told mid stopped last first second kept text before stop
       refl,
     )
 
+-- what follows from a result's value may be concluded under the Ok
 pub if_ok_map : {A E : Type 0} (P Q : A → Type 0) (result : Result A E) → ((a : A) → P a → Q a) → IfOk result P
     → IfOk result Q
 if_ok_map P Q (Ok a) more is = more a is
 if_ok_map P Q (Err e) more is = is
 
--- one call alone
+-- one call that was answered is a run of one call
 pub one_carried : (old new : Managing) (call : Call) (response : Response) → IsAnswered old call response new
     → CarriesOut old (call ∷ []) (response ∷ []) new
 one_carried old new call response answered =
     carried_more old old new [] (call ∷ []) [] call response none_yet answered refl
 
--- the line at a place alone
+-- the calls from a place on, cut after one, are the call there
 pub line_alone : (calls : List Call) (place : ℕ) (call : Call) → place < length calls → call ≡ get_or calls place call
     → take 1 (drop place calls) ≡ call ∷ []
 line_alone calls place call within is =
@@ -179,22 +182,25 @@ carried_count old new Recover response is = ap (λ (m : Managing). m.stores) is.
 carried_count old new (At store statement) response is = ap (λ (m : Managing). m.stores) is.stands
 carried_count old new Show response is = ap (λ (m : Managing). m.stores) is.stands
 
+-- a call changes nothing about how many stores there are
 answered_count : (old new : Managing) (call : Call) (response : Response) → IsAnswered old call response new
     → new.stores ≡ old.stores
 answered_count old new call response is =
     ⊎_elim (λ refused. ap (λ (m : Managing). m.stores) refused.stands)
     (λ carried. carried_count old new call response carried) is
 
+-- calls change nothing about how many stores there are
 calls_count : (old new : Managing) (calls : List Call) (responses : List Response) → CarriesOut old calls responses new
     → new.stores ≡ old.stores
 calls_count old new calls responses none_yet = refl
 calls_count old new calls responses (one_more cs rs mid so_far call response n answered) =
     answered_count mid n call response answered ∙ calls_count old mid cs rs so_far
 
+-- a run from the beginning ends with as many stores as it began with
 pub run_count : (stores : ℕ) (calls : List Call) (last : Managing) → HasCarried stores calls last → last.stores ≡ stores
 run_count stores calls last is = calls_count is.first last calls is.responses is.carried ∙ is.fresh.count
 
--- one response for each call
+-- there is one response for each call
 pub carried_length : (old new : Managing) (calls : List Call) (responses : List Response)
     → CarriesOut old calls responses new
     → length responses ≡ length calls
@@ -203,13 +209,13 @@ carried_length old new calls responses (one_more cs rs mid so_far call response 
     length_push rs response ∙ ap (λ (count : ℕ). count + 1) (carried_length old mid cs rs so_far)
     ∙ sym (length_push cs call)
 
--- one FAIL for each limit
+-- there is one call FAIL for each limit
 pub fails_length : (from : ℕ) (limits : List ℕ) → length (fails_from from limits) ≡ length limits
 unfolding fails_from
 fails_length from [] = refl
 fails_length from (limit ∷ limits) = ap suc (fails_length (from + 1) limits)
 
--- calls, FAIL for each store, and a line
+-- a run is put together from calls, a call FAIL for each store, and the call of one line
 pub cut_run : (stores : ℕ) (calls fails line same : List Call) (first one two three : Managing)
     (responses more : List Response) (call : Call) (response : Response)
     → IsFresh stores first → CarriesOut first calls responses one → CarriesOut one fails more two
@@ -243,7 +249,8 @@ left_whole_at stores script calls place zero limits rest none within left whole 
     (left, subst (λ (n : ℕ). IsWhole n left.responses) (length-take-le place calls within) whole)
 left_whole_at stores script calls place (suc count) limits rest none within left whole = absurd (omega (arith, none))
 
--- and after some
+-- what is left if a call is cut off after some of its statements: the calls before it, FAIL for the stores, and the
+-- call
 pub left_cut_at : (stores : ℕ) (script calls : List Call) (place count : ℕ) (limits rest : List ℕ) → (count ≡ 0 → ⊥)
     → (left : IsLeft stores script (ended_calls ((take place calls ++ fails_from 0 limits) ++ take 1
     (drop place calls))) rest)

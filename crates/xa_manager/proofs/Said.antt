@@ -24,13 +24,14 @@ use Rattle.xa_manager.specs.Whole.{Performs}
 use Rattle.xa_manager.specs.Carried.{WholeManager}
 use Rattle.xa_manager.specs.Said.{RepliesAs, IsGiven, IsListed, reply_of}
 
+-- sessions that are the same within are as many
 pub as_many : {S : Type 0} (old new : List (Fused S)) → map (λ (session : Fused S). session.inner) new
     ≡ map (λ (session : Fused S). session.inner) old
     → length new ≡ length old
 as_many {S} old new same = sym (length-map new (λ (session : Fused S). session.inner)) ∙ ap length same
     ∙ length-map old (λ (session : Fused S). session.inner)
 
--- what a session answered, without its place
+-- what holds of a session's answer or fault holds of the reply alone, without its place in the history
 pub replied_as : (statement : Statement) (answered : Result Answer Fault) (old new : SessionView)
     → IfOk answered (λ answer. IsAnswered old.base statement answer old.known new.known)
     → IfErr answered (λ fault. Fails old.turns old.identity.capacity old.base statement fault old.known new.known)
@@ -38,18 +39,20 @@ pub replied_as : (statement : Statement) (answered : Result Answer Fault) (old n
 replied_as statement (Ok answer) old new answers fails = (answer.place, answers)
 replied_as statement (Err fault) old new answers fails = fails
 
--- where a call added only what agrees with decisions, each session is of the log that it was of
+-- sessions to which only statements were added that agree with decisions are each of the log that they were of
 pub agreed_logs : {S : Type 0} (view : S → SessionView) (decisions : List Decision) (name : List ℕ) (old new : List S)
     → EachStore view (Agrees decisions name) old new → EachStore view (λ store. StaysOfLog) old new
 agreed_logs view decisions name old new agrees =
     λ store before after is_before is_after. (agrees store before after is_before is_after).adds.log
 
+-- putting an element behind a list leaves what stood in it
 pub get_before : {A : Type 0} (xs : List A) (y : A) (place : ℕ) (x : A) → slice_get xs place ≡ Some x
     → slice_get (xs ++ y ∷ []) place ≡ Some x
 get_before [] y place x is = absurd (cc)
 get_before (z ∷ zs) y zero x is = is
 get_before (z ∷ zs) y (suc place) x is = get_before zs y place x is
 
+-- at the place behind a list stands the element that is put there
 pub get_last : {A : Type 0} (xs : List A) (y : A) (place : ℕ) → length xs ≡ place
     → slice_get (xs ++ y ∷ []) place ≡ Some y
 get_last [] y zero is = refl
@@ -57,7 +60,7 @@ get_last [] y (suc place) is = absurd (cc)
 get_last (z ∷ zs) y zero is = absurd (omega arith)
 get_last (z ∷ zs) y (suc place) is = get_last zs y place (omega arith)
 
--- one store's client more has listed what is prepared there
+-- the loop over stores: the client of one more has listed what is prepared there
 pub listed_more : {T : Type 0} (view : T → SessionView) (answers : List (Result Reply Fault))
     (answer : Result Reply Fault) (place : ℕ) (old now : List T)
     (before after : T)

@@ -20,11 +20,12 @@ use Rattle.xa_manager.specs.declared.stage.Stage.TheVariants.{Ready, Voted, Over
 use Rattle.xa_manager.specs.Calls.{takes_rows}
 use Rattle.xa_manager.specs.Ledger.{stage_of, with_stage, transaction_in, IsTransactionOf}
 
--- one that wasn't begun
+-- a number that wasn't begun has a place past the list
 absent_past : (count number : ℕ) → (number ≡ 0) ⊎ (count < number) → number ≢ 0 → count ≤ number - 1
 absent_past count number (inl none) apart = absurd (apart none)
 absent_past count number (inr past) apart = omega arith
 
+-- setting the stage of a number that was never given changes nothing
 pub with_stage-absent : (stages : List Stage) (number : ℕ) (stage : Stage) → (number ≡ 0) ⊎ (length stages < number)
     → stages ≡ with_stage stages number stage
 unfolding with_stage
@@ -35,6 +36,7 @@ with_stage-absent stages number stage absent = by (number == 0) refl
     by false some =
         sym (set_past stages (number - 1) stage (absent_past (length stages) number absent (eqb-false number 0 some)))
 
+-- setting a stage leaves their number
 pub with_stage-length : (stages : List Stage) (number : ℕ) (stage : Stage)
     → length (with_stage stages number stage) ≡ length stages
 unfolding with_stage
@@ -44,13 +46,14 @@ with_stage-length stages number stage = by (number == 0)
     by true = refl
     by false = length-set stages (number - 1) stage
 
--- what is written last stands
+-- of two settings of one place the second counts
 set-twice : {A : Type 0} (xs : List A) (place : ℕ) (x y : A)
     → slice_set (slice_set xs place x) place y ≡ slice_set xs place y
 set-twice [] place x y = refl
 set-twice (z ∷ zs) zero x y = refl
 set-twice (z ∷ zs) (suc n) x y = ap (λ rest. z ∷ rest) (set-twice zs n x y)
 
+-- of two settings of one number the second counts
 pub with_stage-twice : (stages : List Stage) (number : ℕ) (before after : Stage)
     → with_stage (with_stage stages number before) number after ≡ with_stage stages number after
 unfolding with_stage
@@ -63,12 +66,13 @@ with_stage-twice stages number before after = by (number == 0)
     by true = refl
     by false = set-twice stages (number - 1) before after
 
--- what stands there is written again
+-- writing again what stands at a place changes nothing
 set-same : {A : Type 0} (xs : List A) (place : ℕ) (x : A) → slice_get xs place ≡ Some x → slice_set xs place x ≡ xs
 set-same [] place x is = refl
 set-same (y ∷ ys) zero x is = let e : y ≡ x = cc in ap (λ first. first ∷ ys) (sym e)
 set-same (y ∷ ys) (suc n) x is = ap (λ rest. y ∷ rest) (set-same ys n x is)
 
+-- setting the stage that is there changes nothing
 pub with_stage-same : (stages : List Stage) (number : ℕ) (stage : Stage) → stage_of stages number ≡ Some stage
     → with_stage stages number stage ≡ stages
 unfolding stage_of with_stage
@@ -79,7 +83,7 @@ with_stage-same stages number stage is = by (number == 0) is
     by true none = refl
     by false there = set-same stages (number - 1) stage there
 
--- one that was taken out is put back
+-- a stage that was taken out for a call is put back: the stages are as before
 pub put_back : (stages : List Stage) (number : ℕ) (between stage : Stage) (taken now : List Stage)
     → stage_of stages number ≡ Some stage
     → taken ≡ with_stage stages number between → now ≡ with_stage taken number stage
@@ -88,7 +92,7 @@ put_back stages number between stage taken now is out back =
     back ∙ ap (λ list. with_stage list number stage) out ∙ with_stage-twice stages number between stage
     ∙ with_stage-same stages number stage is
 
--- another stage is put in its place
+-- in place of a stage that was taken out for a call another is put: that is setting it
 pub put_on : (stages : List Stage) (number : ℕ) (between stage : Stage) (taken now : List Stage)
     → taken ≡ with_stage stages number between
     → now ≡ with_stage taken number stage → now ≡ with_stage stages number stage
@@ -117,7 +121,7 @@ stage_of-with stages number other stage found is = by (number == 0) (other == 0)
       | inr (_, apart) ↦ inr (sym (get_set_other stages (number - 1) (other - 1) stage apart) ∙ there)
     ]
 
--- one transaction more
+-- what is found in a list with a last element is that one, at its end, or was found before
 get-append : (stages : List Stage) (last found : Stage) (place : ℕ) → slice_get (stages ++ last ∷ []) place ≡ Some found
     → ((place ≡ length stages) × (last ≡ found)) ⊎ (slice_get stages place ≡ Some found)
 get-append [] last found zero is = inl (refl, cc)
@@ -128,6 +132,7 @@ get-append (y ∷ ys) last found (suc n) is = elim (get-append ys last found n i
   | inr there ↦ inr there
 ]
 
+-- a stage that is found after one transaction more is the new one's, or was found before
 pub stage_of-append : (stages : List Stage) (last found : Stage) (other : ℕ)
     → stage_of (stages ++ last ∷ []) other ≡ Some found
     → ((other ≡ length stages + 1) × (last ≡ found)) ⊎ (stage_of stages other ≡ Some found)
@@ -158,22 +163,26 @@ with_stage-last stages before after number is = by (number == 0) refl
         let place : number - 1 ≡ length stages = omega arith in
         ap (λ at. slice_set (stages ++ before ∷ []) at after) place ∙ set-append_seam stages before [] after
 
+-- a list of stages without its last one is the list before that one was appended
 pub take-last : (stages : List Stage) (last : Stage) → take (length (stages ++ last ∷ []) - 1) (stages ++ last ∷ [])
     ≡ stages
 take-last stages last =
     let count : length (stages ++ last ∷ []) - 1 ≡ length stages = omega (arith, length-append stages (last ∷ [])) in
     ap (λ n. take n (stages ++ last ∷ [])) count ∙ take-append_seam stages (last ∷ [])
 
+-- each transaction that is kept was begun under its number, over so many stores
 abbrev pub Kept : ℕ → List Stage → Type 0
 Kept count stages =
     (number : ℕ) (stage : Stage) (transaction : Transaction) → stage_of stages number ≡ Some stage
     → transaction_in stage ≡ Some transaction
     → IsTransactionOf count number transaction
 
+-- whatever is kept as voted Ready was voted Ready
 abbrev pub AllReady : List Stage → Type 0
 AllReady stages = (number : ℕ) (prepared : Prepared) → stage_of stages number ≡ Some (Ready prepared)
     → prepared.vote_kind ≡ VoteKindReady
 
+-- setting a stage keeps the first, if the new one's transaction has that number
 pub kept_with : (count : ℕ) (stages : List Stage) (number : ℕ) (stage : Stage) → Kept count stages
     → ((transaction : Transaction) → transaction_in stage ≡ Some transaction → IsTransactionOf count number transaction)
     → Kept count (with_stage stages number stage)
@@ -185,6 +194,7 @@ kept_with count stages number stage kept is other found transaction there keeps 
       | inr before ↦ kept other found transaction before keeps
     ]
 
+-- setting a stage keeps all that are kept as Ready voted so, if the new one is
 pub ready_with : (stages : List Stage) (number : ℕ) (stage : Stage) → AllReady stages
     → ((prepared : Prepared) → stage ≡ Ready prepared → prepared.vote_kind ≡ VoteKindReady)
     → AllReady (with_stage stages number stage)
@@ -194,7 +204,7 @@ ready_with stages number stage ready is other prepared there =
       | inr before ↦ ready other prepared before
     ]
 
--- one transaction more is kept, where it is that of the next number
+-- one transaction more keeps each under its number, if it has the next one
 pub kept_more : (count : ℕ) (stages : List Stage) (last : Stage) → Kept count stages
     → ((transaction : Transaction) → transaction_in last ≡ Some transaction
     → IsTransactionOf count (length stages + 1) transaction)
@@ -207,6 +217,7 @@ kept_more count stages last kept is other found transaction there keeps =
       | inr before ↦ kept other found transaction before keeps
     ]
 
+-- one transaction more keeps all that are kept as Ready voted so, if the new one is
 pub ready_more : (stages : List Stage) (last : Stage) → AllReady stages
     → ((prepared : Prepared) → last ≡ Ready prepared → prepared.vote_kind ≡ VoteKindReady)
     → AllReady (stages ++ last ∷ [])
@@ -215,15 +226,16 @@ ready_more stages last ready is other prepared there = elim (stage_of-append sta
   | inr before ↦ ready other prepared before
 ]
 
--- one that is over keeps nothing
+-- a transaction that is over is kept no longer, so nothing has to hold of it
 pub kept_over : (count : ℕ) (stages : List Stage) (number : ℕ) → Kept count stages
     → Kept count (with_stage stages number Over)
 kept_over count stages number kept = kept_with count stages number Over kept (λ transaction is. absurd (cc))
 
+-- a transaction that is over keeps all that are kept as Ready voted so
 pub ready_over : (stages : List Stage) (number : ℕ) → AllReady stages → AllReady (with_stage stages number Over)
 ready_over stages number ready = ready_with stages number Over ready (λ prepared is. absurd (cc))
 
--- the transaction of a vote
+-- the transaction of a vote that is kept is one of its number
 pub kept_voted : (count : ℕ) (stages : List Stage) (number : ℕ) (prepared : Prepared) → Kept count stages
     → (stage_of stages number ≡ Some (Ready prepared)) ⊎ (stage_of stages number ≡ Some (Voted prepared))
     → IsTransactionOf count number prepared.transaction

@@ -38,9 +38,11 @@ use Rattle.xa_manager.proofs.Others.{OthersLeave, OtherAdded, calls_leave, answe
 
 -- ---- a session's entries in a history
 
+-- the first entry is in the list
 first_there : (entry : Entry) (rest : List Entry) → Contains (entry ∷ rest) entry
 first_there entry rest = (0, omega arith, refl)
 
+-- an entry in the rest of a list is in the list
 rest_there : (first entry : Entry) (rest : List Entry) → Contains rest entry → Contains (first ∷ rest) entry
 rest_there first entry rest (k, below, is) = (suc k, omega (arith, below), is)
 
@@ -64,7 +66,7 @@ is_among number (first ∷ rest) (suc place) entry is own =
     by true there = rest_there first entry (entries_of number rest) there
     by false there = there
 
--- and one that is among them has a place
+-- an entry among a session's own has a place in the history
 pub has_place : (number : ℕ) (history : List Entry) (entry : Entry) → Contains (entries_of number history) entry
     → (place : ℕ) × (slice_get history place ≡ Some entry)
 has_place number [] entry there = let below : there.0 < 0 = there.1 in absurd (omega (arith, below))
@@ -90,18 +92,20 @@ has_place number (first ∷ rest) entry there = by (is_of number first) there (�
     by true found later = in_first found.0 found.1 found.2 later
     by false found later = behind_first (later found)
 
+-- a list begins with each front of it
 begins_take : (count : ℕ) (xs : List Entry) → Begins (take count xs) xs
 begins_take zero xs = refl
 begins_take (suc count) [] = refl
 begins_take (suc count) (x ∷ xs) = ap (λ rest. x ∷ rest) (begins_take count xs)
 
+-- a number from 1 to 2 is 1 or 2
 one_or_two : (number : ℕ) → (1 ≤ number) × (number ≤ 2) → (number ≡ 1) ⊎ (number ≡ 2)
 one_or_two number within = elim (eqb_tells number 1) [
   | inl (_, one) ↦ inl one
   | inr (_, apart) ↦ inr (omega (arith, apart, within.0, within.1))
 ]
 
--- an entry with its session and its statement
+-- an entry of a session is made of that session's number and its statement
 entry_is : (entry : Entry) (number : ℕ) → entry.session ≡ number → entry ≡ entry_of number entry.statement
 entry_is entry number is = ap (λ n. entry_of n entry.statement) is
 
@@ -235,6 +239,7 @@ module _ (decisions : _) (sessions : List Session) (number store : ℕ) (session
 
 -- ---- all of them
 
+-- after a recovery that came to its end: of each transaction all branches that were prepared are committed, or none
 pub all_or_none : (stores : ℕ) (told : List Call) (responses : List Response) (report : Report) (last : Managing)
     → All IsPlain told → All LeavesBranches told
     → IsRun stores (told ++ Recover ∷ []) (responses ++ Recovered (Ok report) ∷ []) last → AllOrNone last

@@ -22,6 +22,7 @@ use Rattle.xa_manager.specs.Ledger.{IsTransactionOf, transaction_in, with_stage}
 use Rattle.xa_manager.specs.Carried.{WholeManager, stage_after}
 use Rattle.xa_manager.proofs.Stages.{Kept, AllReady, with_stage-last}
 
+-- a manager put together from its parts
 abbrev pub whole : {C T : Type 0} → ℕ → List Decision → List Stage → List (Option OpenBranch) → List C → List T
     → WholeManager C T
 whole stores decisions stages branches sessions other_clients = record {
@@ -33,7 +34,7 @@ whole stores decisions stages branches sessions other_clients = record {
   other_clients = other_clients;
 }
 
--- the same stores, numbers and transactions, in the same sessions
+-- managers are equal if their stores, decisions and stages are, over the same sessions
 pub same_whole : {C T : Type 0} (n m : ℕ) (d e : List Decision) (s t : List Stage) (b : List (Option OpenBranch))
     (xs : List C) (os : List T)
     → n ≡ m → d ≡ e → s ≡ t → whole n d s b xs os ≡ whole m e t b xs os
@@ -41,20 +42,21 @@ same_whole n m d e s t b xs os stores decisions stages =
     ap (λ k. whole k d s b xs os) stores ∙ ap (λ list. whole m list s b xs os) decisions
     ∙ ap (λ list. whole m e list b xs os) stages
 
--- as many stores, in which the same is open
+-- managers over as many stores, in which the same is open, are equal
 pub same_open : {C T : Type 0} (n m : ℕ) (d : List Decision) (s : List Stage) (b c : List (Option OpenBranch))
     (xs : List C) (os : List T)
     → n ≡ m → b ≡ c → whole n d s b xs os ≡ whole m d s c xs os
 same_open n m d s b c xs os stores branches =
     ap (λ k. whole k d s b xs os) stores ∙ ap (λ list. whole m d s list xs os) branches
 
--- the same facts of the same stores and stages
+-- facts on the stages of so many stores, for equal stores and stages
 pub kept_as : (n m : ℕ) (s t : List Stage) → m ≡ n → t ≡ s → Kept n s → Kept m t
 kept_as n m s t stores stages kept =
     let P : ℕ → Type 0 = λ k. Kept k t in
     let Q : List Stage → Type 0 = λ list. Kept n list in
     subst P (sym stores) (subst Q (sym stages) kept)
 
+-- what holds of all stages of a list holds of an equal list
 pub ready_as : (s t : List Stage) → t ≡ s → AllReady s → AllReady t
 ready_as s t stages ready = let P : List Stage → Type 0 = λ list. AllReady list in subst P (sym stages) ready
 
@@ -63,13 +65,14 @@ decided-length : (decisions : List Decision) (number : ℕ) → length (with_dec
 unfolding with_decided
 decided-length decisions number = length-set decisions (number - 1) Decided
 
+-- whether deciding was refused or not, there are as many decisions as before
 pub after_decision : {A B : Type 0} (result : Result A B) (old new : List Decision) (number : ℕ)
     → OnOk result (new ≡ with_decided old number)
     → OnErr result (new ≡ old) → length new ≡ length old
 after_decision (Ok a) old new number decided kept = ap length decided ∙ decided-length old number
 after_decision (Err b) old new number decided kept = ap length kept
 
--- a vote keeps its transaction
+-- a vote is kept with the transaction that was voted on
 pub voted_kept : {S : Type 0} (view : S → SessionView) (transaction : Transaction) (vote : Vote) (old new : List S)
     (count number : ℕ)
     → VotesAs view transaction vote old new → IsTransactionOf count number transaction
@@ -110,7 +113,7 @@ worked_kept store count number old new keeps is kept same =
           ∙ is.stores;
     })
 
--- the transaction that has begun
+-- a transaction that has begun is kept as one of its number
 pub working_kept : (count number : ℕ) (transaction : Transaction) → IsTransactionOf count number transaction
     → (kept : Transaction)
     → transaction_in (Working transaction) ≡ Some kept → IsTransactionOf count number kept
@@ -119,6 +122,7 @@ working_kept count number transaction is kept same =
     let P : Transaction → Type 0 = λ t. IsTransactionOf count number t in
     subst P e is
 
+-- BEGIN first reserves a place with a stage that is over, and then sets it: together one stage was put behind
 pub begun_on : (stages : List Stage) (number : ℕ) (begun : Stage) (added now : List Stage) → number ≡ length stages + 1
     → added ≡ stages ++ Over ∷ []
     → now ≡ with_stage added number begun → now ≡ stages ++ begun ∷ []

@@ -25,18 +25,18 @@ use Rattle.xa_manager.specs.declared.stop_ended.Ended.{Ended}
 use Rattle.xa_manager.specs.Scripts.{call_in, calls_of, is_refusal, cause_text, fault_text, faults_from, IsStopsText}
 use Rattle.xa_manager.specs.Scripts.{AppendsStops, AppendsStopsPrefix, AfterStopsFault}
 
--- one line more was cut off
+-- the loop over lines: one more was cut off and read
 pub calls_cut : (text line rest : List ℕ) → lines_of text ≡ line ∷ lines_of rest
     → calls_of text ≡ call_in line ∷ calls_of rest
 calls_cut text line rest cut = ap (map call_in) cut
 
--- no line is left
+-- the loop over lines ends: no line is left, and no call
 pub calls_end : (text : List ℕ) → (length text == 0) ≡ true → calls_of text ≡ []
 unfolding lines_of
 calls_end [] empty = refl
 calls_end (x ∷ xs) empty = absurd (let none : length (x ∷ xs) ≡ 0 = grind (arith, common_steps) in omega arith)
 
--- one response more
+-- the text of several responses' faults and of one more
 pub faults_snoc : (number : ℕ) (responses : List Response) (response : Response)
     → faults_from number (responses ++ response ∷ []) ≡ faults_from number responses
     ++ fault_text (number + length responses) response
@@ -52,11 +52,12 @@ faults_snoc number (r ∷ rs) response =
     ∙ sym (append_assoc (fault_text number r) (faults_from (number + 1) rs)
     (fault_text (number + length (r ∷ rs)) response))
 
+-- before the first line no line is faulty
 pub faults_none : faults_from 1 [] ≡ []
 unfolding faults_from
 faults_none = refl
 
--- one call more
+-- the loop over calls: the row that one more names is put among the keys
 pub keys_step : (keys : List (List ℕ)) (store place : ℕ) (calls : List Call) (call : Call) → place < length calls
     → call ≡ get_or calls place call
     → keys_with keys store (drop place calls) ≡ keys_with (with_key keys (key_named call store)) store
@@ -66,12 +67,13 @@ keys_step keys store place calls call within is =
     ap (keys_with keys store) (drop_more calls place call within
     ∙ ap (λ (c : Call). c ∷ drop (place + 1) calls) (sym is))
 
+-- past the last call no key is added
 pub keys_end : (keys : List (List ℕ)) (store place : ℕ) (calls : List Call) → length calls ≤ place
     → keys_with keys store (drop place calls) ≡ keys
 unfolding keys_with
 keys_end keys store place calls past = ap (keys_with keys store) (drop_all place calls past)
 
--- one store more
+-- the loop over stores: the rows of one more are written
 pub rows_step : (calls : List Call) (store : ℕ) (states : List State) (state : State) (keys : List (List ℕ))
     → store < length states
     → state ≡ get_or states store state → keys ≡ keys_named calls store
@@ -84,12 +86,13 @@ rows_step calls store states state keys within is named =
     ∙ ap (λ (list : List (List ℕ)). flat_map (row_line store state) list
     ++ rows_text calls (store + 1) (drop (store + 1) states)) (sym named)
 
+-- past the last store no row is written
 pub rows_end : (calls : List Call) (store : ℕ) (states : List State) → length states ≤ store
     → rows_text calls store (drop store states) ≡ []
 unfolding rows_text
 rows_end calls store states past = ap (rows_text calls store) (drop_all store states past)
 
--- one pair more
+-- one related pair more behind two lists that are related place by place
 pub zip_push : {A B : Type 0} (R : A → B → Type 0) (xs : List A) (ys : List B) (x : A) (y : B) → AllZip R xs ys → R x y
     → AllZip R (xs ++ x ∷ []) (ys ++ y ∷ [])
 zip_push R [] [] x y all one = (one, tt)
@@ -97,7 +100,7 @@ zip_push R [] (b ∷ bs) x y all one = absurd all
 zip_push R (a ∷ more) [] x y all one = absurd all
 zip_push R (a ∷ more) (b ∷ bs) x y all one = (all.0, zip_push R more bs x y all.1 one)
 
--- one block more
+-- one block more behind others, as one text
 pub concat_push : (blocks : List (List ℕ)) (block : List ℕ) → concat (blocks ++ block ∷ []) ≡ concat blocks ++ block
 concat_push blocks block =
     concat-append blocks (block ∷ []) ∙ ap (λ (t : List ℕ). concat blocks ++ t) (append-nil block)
@@ -109,6 +112,7 @@ read_whole P None rest given read end p = tt
 read_whole P (Some x) None given read end p = absurd read
 read_whole P (Some x) (Some y) given read end p = subst P (sym (read ∙ ap (λ l. given ++ l) end ∙ append-nil given)) p
 
+-- the input was read and the whole text was written: what `stops` promises after Ok
 pub stops_written : (stores : ℕ) (result : Result Ended ScriptFault) (ended : Ended) (text given : List ℕ)
     (input rest old new : Option (List ℕ))
     → Consumes input rest given → IsAtEnd rest → IsStopsText stores given ended text
@@ -119,6 +123,7 @@ stops_written stores (Ok e) ended text given input rest old new read end is same
     (text, subst (λ x. IsStopsText stores given x text) (sym same) is, written)
 stops_written stores (Err fault) ended text given input rest old new read end is same written = tt
 
+-- writing failed: a prefix of the text was written, which is what `stops` promises after that fault
 pub stops_faulted : (stores : ℕ) (result : Result Ended ScriptFault) (ended : Ended) (text given : List ℕ)
     (input rest old new : Option (List ℕ))
     → Consumes input rest given → IsAtEnd rest → IsStopsText stores given ended text

@@ -14,6 +14,7 @@ use Rattle.xa_server.specs.declared.reply.Reply.{Reply}
 use Rattle.xa_session.specs.declared.fault.Fault.{Fault}
 use Rattle.xa_session.specs.View.{SessionView}
 use Rattle.xa_coordinator.specs.Beside.{IsLeftAlone}
+use Rattle.xa_coordinator.specs.Fusing.{limited}
 use Rattle.xa_coordinator.specs.Stores.{AtStore, EachStore, ChangesAt}
 use Rattle.xa_coordinator.specs.declared.fused.Fused.{Fused}
 use Rattle.xa_lines.specs.Printed.{converts}
@@ -75,7 +76,7 @@ CarriesBeside view other nobody old (At store statement) response new =
     HasRepliedBeside view other store statement old response new
 CarriesBeside view other nobody old Show response new = IsShownBeside view other old response new
 CarriesBeside view other nobody old call response new =
-    Carries (within view) nobody old call response new × (others_of other new.sessions ≡ others_of other old.sessions)
+    Carries (limited view) nobody old call response new × (others_of other new.sessions ≡ others_of other old.sessions)
 
 -- a call was refused as it has to be, or was carried out
 abbrev pub PerformsBeside : {S T : Type 0} → (S → SessionView) → (S → SessionView) → (T → SessionView)

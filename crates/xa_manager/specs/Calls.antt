@@ -14,7 +14,7 @@ use Rattle.xa_manager.specs.declared.call.Call.TheVariants.{Silent, Unread, Begi
 use Rattle.xa_manager.specs.declared.call.Call.TheVariants.{Finish, Abandon, Fail, Stop}
 use Rattle.xa_manager.specs.declared.call.Call.TheVariants.{Recover as RecoverCall, At, Show}
 
--- GET, PUT and DEL
+-- GET, PUT and DEL, the statements that WORK takes
 abbrev pub takes_rows : Statement → Bool
 takes_rows (Get key) = true
 takes_rows (Put key value) = true
@@ -50,18 +50,18 @@ abbrev pub with_number : Option ℕ → (ℕ → Call) → Call
 with_number None call = Unread 0
 with_number (Some number) call = call number
 
--- n k STATEMENT
+-- what stands behind WORK: a transaction's number, a store's number, and a statement about a row
 unfoldable pub work_of : List ℕ → Call
 work_of text =
     with_number (number_of_word (first_word text)) (λ number.
     with_number (number_of_word (first_word (behind_word text)))
     (λ store. work_call number store (read_of (behind_word (behind_word text)))))
 
--- k STATEMENT
+-- what stands behind AT: a store's number and a statement of its other client
 unfoldable pub at_of : List ℕ → Call
 at_of text = with_number (number_of_word (first_word text)) (λ store. at_call store (read_of (behind_word text)))
 
--- k AFTER j
+-- what stands behind FAIL: a store's number, the word AFTER, and after how many statements it fails
 unfoldable pub fail_of : List ℕ → Call
 fail_of text =
     with_number (number_of_word (first_word text)) (λ store.

@@ -84,7 +84,7 @@ pub record SpeaksAlone {C T : Type 0} (view : C → SessionView) (decisions : Li
   pub stands : new
       ≡ record old { decisions = decisions; stages = stages; branches = new.branches; sessions = new.sessions }
 
--- the answer for a vote
+-- what PREPARE answers for a vote
 abbrev pub vote_answer_of : Vote → VoteAnswer
 vote_answer_of (VoteReady prepared) = ToldReady
 vote_answer_of (VoteOnePhase prepared) = ToldOnePhase
@@ -107,7 +107,7 @@ pub record IsBegun {C T : Type 0} (old : WholeManager C T) (response : Response)
   pub stands : new
       ≡ record old { decisions = old.decisions ++ Undecided ∷ []; stages = old.stages ++ Working transaction ∷ [] }
 
--- no number is left
+-- all numbers were given, so BEGIN gives none and changes nothing
 pub record IsSpent {C T : Type 0} (old : WholeManager C T) (response : Response) (new : WholeManager C T) : Type 0 where
   pub all : length old.decisions ≡ most_numbers
   pub told : response ≡ NumbersSpent

@@ -1,8 +1,8 @@
--- A store that counts, as contracts see it.
+-- A store that notes if memory was refused, as contracts see it.
 --     own_of, other_of the coordinator's session;  the other client's by itself
 --     state_in         the state that its history leaves
---     IsCounted        a statement of the coordinator's session was counted
-use Rattle.std.specs.Prelude.{◌≡◌, ◌<◌, ◌-◌, ◌+◌, ◌^◌, true, Result, OnOk, OnErr}
+--     IsNoted          it is noted whether a statement of the coordinator's session was answered
+use Rattle.std.specs.Prelude.{◌≡◌, true, Result, OnOk, OnErr}
 use Rattle.xa_xid.specs.declared.statement.Statement.{Statement}
 use Rattle.xa_server.specs.State.{State}
 use Rattle.xa_session.specs.Replay.{state_after}
@@ -12,9 +12,9 @@ use Rattle.xa_session.specs.declared.fault.Fault.{Fault}
 use Rattle.xa_coordinator.specs.Lasting.{own_view, other_alone, history_of}
 use Rattle.xa_manager.specs.declared.counted_store.CountedStore.{CountedStore}
 
--- the coordinator's session
+-- the coordinator's session; memory was refused for a statement of it only if that is noted
 abbrev pub own_of : CountedStore → SessionView
-own_of counted = own_view counted.store
+own_of counted = record (own_view counted.store) { starved = counted.starved }
 
 -- the other client's session by itself
 abbrev pub other_of : CountedStore → SessionView
@@ -24,9 +24,8 @@ other_of counted = other_alone counted.store
 abbrev pub state_in : CountedStore → State
 state_in counted = state_after counted.store.first.value (history_of counted.store)
 
--- one more call was counted, up to 2 ^ 64 - 1 of them; whether memory was ever refused is noted
-pub record IsCounted (old : CountedStore) (statement : Statement) (result : Result Answer Fault)
+-- whether memory was ever refused is noted
+pub record IsNoted (old : CountedStore) (statement : Statement) (result : Result Answer Fault)
     (new : CountedStore) : Type 0 where
-  pub given : old.given < 2 ^ 64 - 1 → new.given ≡ old.given + 1
   pub refused : OnErr result (new.starved ≡ true)
   pub kept : OnOk result (new.starved ≡ old.starved)

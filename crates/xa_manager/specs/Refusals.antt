@@ -14,17 +14,17 @@ use Rattle.xa_manager.specs.declared.response.Response.TheVariants.{Unread, Unkn
 use Rattle.xa_manager.specs.declared.response.Response.TheVariants.{WrongStage}
 use Rattle.xa_manager.specs.Ledger.{stage_of}
 
--- a transaction that takes work
+-- whether a transaction at this stage takes work
 abbrev pub takes_work : Stage → Bool
 takes_work (Working transaction) = true
 takes_work stage = false
 
--- one with a vote of Ready
+-- whether a transaction at this stage may be decided: its vote is Ready
 abbrev pub takes_decision : Stage → Bool
 takes_decision (Ready prepared) = true
 takes_decision stage = false
 
--- one with a vote of Ready, One Phase or No
+-- whether a transaction at this stage may be finished: its vote is Ready, One Phase or No
 abbrev pub takes_finish : Stage → Bool
 takes_finish (Ready prepared) = true
 takes_finish (Voted prepared) = true

@@ -2,13 +2,14 @@
 --     Managing         such a manager, as contracts see it
 --     IsAnswered       a call was refused or carried out
 --     CarriesOut       calls were answered, one after another
---     IsFresh          nothing has begun, and no session was given a statement
+--     IsFresh          nothing has begun
 --     HasCarried       calls were carried out from such a beginning
 --     IsRun            HasCarried, and memory was refused for no statement
 --     is_unanswered    whether a session didn't answer a statement that a call gave it
 --     AreAnswered      that was so in no call
+--     passed           how many calls of a session were passed on
 --     IsGiven          how many statements the coordinator's session of each store was given in a run
-use Rattle.std.specs.Prelude.{◌≡◌, ℕ, Bool, true, false, Err, List, [], ◌∷◌, ◌++◌, All, map}
+use Rattle.std.specs.Prelude.{◌≡◌, ◌-◌, ◌^◌, ℕ, Bool, true, false, Err, List, [], ◌∷◌, ◌++◌, All, map}
 use Rattle.xa_coordinator.specs.declared.ending.Ending.TheVariants.{Unfinished}
 use Rattle.xa_coordinator.specs.declared.fault.Cause.{Cause}
 use Rattle.xa_coordinator.specs.declared.fault.Cause.TheVariants.{Session as BySession, Refused as ByRefusal}
@@ -41,11 +42,10 @@ pub data CarriesOut (old : Managing) : List Call → List Response → Managing 
       → (call : Call) (response : Response) (new : Managing) → IsAnswered mid call response new
       → CarriesOut old (calls ++ call ∷ []) (responses ++ response ∷ []) new
 
--- over so many stores that hold nothing, nothing has begun, and no session was given a statement
+-- over so many stores that hold nothing, nothing has begun, and memory was refused for no statement
 pub record IsFresh (stores : ℕ) (manager : Managing) : Type 0 where
   pub count : manager.stores ≡ stores
   pub begins : BeginsBeside own_of other_of manager
-  pub none_given : All (λ session. session.inner.given ≡ 0) manager.sessions
   pub none_starved : All (λ session. session.inner.starved ≡ false) manager.sessions
 
 -- calls were carried out from such a beginning
@@ -81,6 +81,10 @@ is_unanswered response = false
 abbrev pub AreAnswered : List Response → Type 0
 AreAnswered responses = All (λ response. is_unanswered response ≡ false) responses
 
+-- how many calls were passed on since the limit was 2 ^ 64 - 1
+abbrev pub passed : Fused CountedStore → ℕ
+passed session = 2 ^ 64 - 1 - session.left
+
 -- after the calls were carried out, the coordinator's session of each store had been given so many statements, and
 -- each was answered
 pub record IsGiven (stores : ℕ) (calls : List Call) (given : List ℕ) : Type 0 where
@@ -88,4 +92,4 @@ pub record IsGiven (stores : ℕ) (calls : List Call) (given : List ℕ) : Type 
   pub last : Managing
   pub run : IsRun stores calls responses last
   pub answered : AreAnswered responses
-  pub counts : given ≡ map (λ (s : Fused CountedStore). s.inner.given) last.sessions
+  pub counts : given ≡ map (λ (s : Fused CountedStore). passed s) last.sessions

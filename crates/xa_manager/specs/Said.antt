@@ -12,7 +12,7 @@ use Rattle.xa_session.specs.declared.answer.Answer.{Answer}
 use Rattle.xa_session.specs.Answer.{IsAnswered, Fails}
 use Rattle.xa_session.specs.View.{SessionView, StaysOfLog}
 
--- the reply of an answer
+-- the reply of an answer, or its fault
 abbrev pub reply_of : Result Answer Fault → Result Reply Fault
 reply_of (Ok answer) = Ok answer.reply
 reply_of (Err fault) = Err fault

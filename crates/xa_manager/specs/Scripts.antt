@@ -39,7 +39,7 @@ call_in line = taken (call_said (received_line line))
 abbrev pub calls_of : List ℕ → List Call
 calls_of script = map call_in (lines_of script)
 
--- a call that was refused
+-- whether the call was refused
 abbrev pub is_refusal : Response → Bool
 is_refusal (Unread place) = true
 is_refusal (UnknownStore store) = true
@@ -51,7 +51,7 @@ is_refusal response = false
 abbrev pub cause_text : ℕ → Response → List ℕ
 cause_text number response = codes "LINE " ++ decimal number ++ codes ": " ++ answer_text [] response
 
--- the same, if the line is refused; else nothing
+-- what is written for a line that is refused; nothing for any other
 abbrev pub fault_text : ℕ → Response → List ℕ
 fault_text number response = if is_refusal response then cause_text number response else []
 
@@ -81,7 +81,7 @@ IsSomeText stores script text = (ended : Ended) × IsStopsText stores script end
 abbrev pub AppendsStops : ℕ → Ended → List ℕ → Option (List ℕ) → Option (List ℕ) → Type 0
 AppendsStops stores ended script old new = (text : List ℕ) × IsStopsText stores script ended text × Appends old new text
 
--- the writer got a prefix of it
+-- the writer got a prefix of the script's text, however the script ends
 abbrev pub AppendsStopsPrefix : ℕ → List ℕ → Option (List ℕ) → Option (List ℕ) → Type 0
 AppendsStopsPrefix stores script old new =
     (ended : Ended) × (text : List ℕ) × IsStopsText stores script ended text × AppendsPrefix old new text

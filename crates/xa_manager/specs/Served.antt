@@ -34,7 +34,7 @@ call_said TooLong = Unread 0
 abbrev pub refused_text : List ℕ
 refused_text = codes "ERROR 1037 (HY001): out of memory\n"
 
--- a reply of one word: OK, or that there is no such row
+-- whether the reply is one word: OK, or that there is no row of the key
 abbrev pub is_word : Reply → Bool
 is_word Done = true
 is_word (Value None) = true

@@ -75,7 +75,7 @@ unfoldable pub limits_for : List ℕ → ℕ → List ℕ
 limits_for [] calls = []
 limits_for (there ∷ made) calls = min there calls ∷ limits_for made (calls - min there calls)
 
--- FAIL k AFTER j for each store from this one on
+-- a call FAIL k AFTER j for each of the limits j; the first is of this store k, then k + 1, ..
 unfoldable pub fails_from : ℕ → List ℕ → List Call
 fails_from store [] = []
 fails_from store (limit ∷ limits) = Fail store limit ∷ fails_from (store + 1) limits
@@ -132,11 +132,11 @@ abbrev pub IsCutAt : ℕ → ℕ → List ℕ → List Response → Type 0
 IsCutAt place zero limits responses = IsWhole place responses
 IsCutAt place (suc calls) limits responses = IsCutShort place limits responses
 
--- STOPS m
+-- the line STOPS m: how many stops there are
 abbrev pub count_line : ℕ → List ℕ
 count_line count = codes "STOPS " ++ decimal count ++ codes "\n"
 
--- STOP l j
+-- the line STOP l j: the stop in line l, after j of its statements
 abbrev pub stop_line : Stop → List ℕ
 stop_line stop = codes "STOP " ++ decimal (stop.place + 1) ++ codes " " ++ decimal stop.calls ++ codes "\n"
 

@@ -50,14 +50,14 @@ abbrev pub cause_text : Cause → List ℕ
 cause_text (SessionCause fault) = fault_text fault
 cause_text (RefusedCause error) = error_text error
 
--- the result of work
+-- what is written for a call of WORK: the reply, or why there is none
 abbrev pub worked_text : Result Reply WorkFault → List ℕ
 worked_text (Ok reply) = reply_text false reply
 worked_text (Err (WorkSession fault)) = codes "FAULT: " ++ fault_text fault
 worked_text (Err (WorkRefused error)) = codes "NOT STARTED: " ++ error_text error
 worked_text (Err Lost) = codes "LOST"
 
--- what the stores voted
+-- what is written for a call of PREPARE: what the stores voted
 abbrev pub vote_text : VoteAnswer → List ℕ
 vote_text Ready = codes "READY"
 vote_text OnePhase = codes "ONE PHASE"
@@ -69,14 +69,14 @@ abbrev pub stores_text : List ℕ → List ℕ
 stores_text [] = []
 stores_text (store ∷ stores) = codes " " ++ decimal store ++ stores_text stores
 
--- how a transaction ended
+-- what is written for FINISH and ABANDON: how the transaction ended
 abbrev pub ending_text : Ending → List ℕ
 ending_text Committed = codes "COMMITTED"
 ending_text RolledBack = codes "ROLLED BACK"
 ending_text (Hazard stores) = codes "HAZARD" ++ stores_text stores.items
 ending_text (Unfinished store cause) = codes "UNFINISHED " ++ decimal store ++ codes ": " ++ cause_text cause
 
--- why a recovery failed
+-- what is written if RECOVER failed: the store and why
 abbrev pub recover_fault_text : RecoverFault → List ℕ
 recover_fault_text (RecoverSession store fault) =
     codes "UNRECOVERED " ++ decimal store ++ codes ": " ++ fault_text fault
@@ -85,28 +85,28 @@ recover_fault_text RecoverNoMemory = codes "UNRECOVERED: out of memory"
 recover_fault_text (RecoverRefused store error) =
     codes "UNRECOVERED " ++ decimal store ++ codes ": " ++ error_text error
 
--- what a recovery did
+-- what is written if RECOVER came to its end: what it did with branches
 abbrev pub report_text : Report → List ℕ
 report_text report =
     codes "RECOVERED committed " ++ decimal report.committed ++ codes " rolled back " ++ decimal report.rolled_back
     ++ codes " missing "
     ++ decimal report.missing
 
--- the result of a recovery
+-- what is written for a call of RECOVER
 abbrev pub recovered_text : Result Report RecoverFault → List ℕ
 recovered_text (Ok report) = report_text report
 recovered_text (Err fault) = recover_fault_text fault
 
--- another client's answer, with recovered identifiers in digits if they are to be converted
+-- what is written for an answer to the other client; convert says whether recovered identifiers are in digits
 abbrev pub replied_text : Bool → Result Reply Fault → List ℕ
 replied_text convert (Ok reply) = reply_text convert reply
 replied_text convert (Err fault) = codes "FAULT: " ++ fault_text fault
 
--- a store, and below it its other client's answer
+-- a store's number, and below it the answer that its other client got; `true`: recovered identifiers are in digits
 abbrev pub store_text : ℕ → Result Reply Fault → List ℕ
 store_text store answer = codes "STORE " ++ decimal store ++ codes "\n" ++ replied_text true answer ++ codes "\n"
 
--- the stores from this number on
+-- the answers of the stores from this number on, each behind its line STORE
 abbrev pub stores_shown_text : ℕ → List (Result Reply Fault) → List ℕ
 stores_shown_text store [] = []
 stores_shown_text store (answer ∷ answers) = store_text store answer ++ stores_shown_text (store + 1) answers
@@ -128,7 +128,7 @@ numbers_text wanted number [] = []
 numbers_text wanted number (decision ∷ decisions) =
     number_text wanted number decision ++ numbers_text wanted (number + 1) decisions
 
--- the numbers by their states
+-- what SHOW writes of the numbers: those that are undecided, decided and closed
 abbrev pub decisions_text : List Decision → List ℕ
 decisions_text decisions =
     codes "UNDECIDED" ++ numbers_text Undecided 1 decisions ++ codes "\nDECIDED" ++ numbers_text Decided 1 decisions

@@ -8,6 +8,7 @@ use Rattle.std.specs.List.{AllZip}
 use Rattle.decision_log.specs.Known.{newcomer}
 use Rattle.xa_server.specs.State.{no_state}
 use Rattle.xa_session.specs.View.{SessionView}
+use Rattle.xa_coordinator.specs.Fusing.{limited}
 use Rattle.xa_coordinator.specs.declared.fused.Fused.{Fused}
 use Rattle.xa_manager.specs.declared.call.Call.{Call}
 use Rattle.xa_manager.specs.declared.response.Response.{Response}
@@ -38,8 +39,8 @@ pub record IsRefused {C T : Type 0} (old : WholeManager C T) (call : Call) (resp
   pub told : refusal_of old.stores old.stages call ≡ Some response
   pub stands : new ≡ old
 
--- a call was refused as the table says, or was carried out; sessions are seen without their limits
+-- a call was refused as the table says, or was carried out; sessions are seen with their limits
 abbrev pub Performs : {S T : Type 0} → (S → SessionView) → (T → SessionView) → WholeManager (Fused S) T → Call
     → Response → WholeManager (Fused S) T → Type 0
 Performs view view' old call response new =
-    IsRefused old call response new ⊎ Carries (λ session. view session.inner) view' old call response new
+    IsRefused old call response new ⊎ Carries (limited view) view' old call response new

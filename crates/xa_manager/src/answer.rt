@@ -291,7 +291,8 @@ impl<S: Speak, T: Speak> Manager<Fused<S>, T> {
         //   names, none for a refused call, and each session stays of its log.
         // Proved (manager, limits): After `FAIL` is answered OK only that session's limit changes, to the
         //   given number of calls. After `STOP` each session passes on 2^64 - 1 calls, and nothing is open in
-        //   any store.
+        //   any store. No other call lifts a limit: each statement that it gives the coordinator's session takes
+        //   one, and the session is out of memory only if none is left, or if memory was refused and this is noted.
         ensures answers { IfOk result (λ response. Performs S.view T.view (whole_of self.old) (call.now) response
             (whole_of self.new)) }
         // Proved (manager, no-memory): If `NoMemory` is returned, no session got a statement, and numbers,

@@ -28,6 +28,7 @@ fn begun(number: u64) -> Answer
 {
     let mut buffer = Buffer::new();
     let mut bytes = ArrayVec::new();
+    // 12 bytes, at most 20 digits and a line feed: all of it fits.
     let _ = bytes.try_extend_from_slice(b"TRANSACTION ");
     let _ = bytes.try_extend_from_slice(buffer.format(number).as_bytes());
     let _ = bytes.try_extend_from_slice(b"\n");

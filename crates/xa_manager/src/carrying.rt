@@ -81,6 +81,7 @@ pub fn limit_each<R: Wait>(
             store: store as u64,
             calls: limits[store],
         };
+        // The response only says that the session is limited, and isn't shown.
         let _response = manager.answer_beside(rt, alloc, &call)?;
     }
     Ok(())

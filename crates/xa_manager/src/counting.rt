@@ -4,23 +4,12 @@ ghost use Rattle.xa_manager.specs.Calls.{IsWritten};
 ghost use Rattle.xa_manager.specs.Runs.{IsGiven};
 ghost use Rattle.xa_manager.specs.Stops.{differences as differences_of, MakesCalls};
 
+use crate::Call;
 use crate::carrying::carry_out;
-use crate::stop_stores::{fed_stores, fresh_manager};
-use crate::{Call, CountedStore};
+use crate::stop_stores::{fresh_manager, passed_by};
 use std::alloc::Global;
 use std::sync::Wait;
 use xa_xid::NoMemory;
-
-/// How many statements the coordinator's session of each store was given.
-fn given_in(alloc: Global, stores: &[CountedStore]) -> Result<Vec<u64>, NoMemory>
-    ensures { IfOk result (λ given. given.items ≡ map (λ store. store.given) stores.now) }
-{
-    let mut given = Vec::new(alloc);
-    for store in stores {
-        given.push(store.given)?;
-    }
-    Ok(given)
-}
 
 /// How many statements the coordinator's session of each store was given, after these calls are carried out.
 fn given_after<R: Wait>(
@@ -36,8 +25,7 @@ fn given_after<R: Wait>(
 {
     let mut manager = fresh_manager(alloc, stores)?;
     carry_out(rt, alloc, &mut manager, calls)?;
-    let kept = fed_stores(alloc, manager)?;
-    let given = given_in(alloc, kept.as_slice())?;
+    let given = passed_by(alloc, manager)?;
     Ok(given)
 }
 

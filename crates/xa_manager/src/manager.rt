@@ -33,13 +33,18 @@ pub struct Manager<C: Speak, T: Speak> {
     pub(crate) decisions: Decisions,
     /// The stage of each transaction that was begun.
     pub(crate) ledger: Ledger,
+    // Branches are named by this name: docs/COORDINATOR.md#calls.
     ghost named: { coordinator.name.items ≡ codes "c" },
+    // Each store has another client.
     ghost pairs: { vec_len other_clients ≡ vec_len coordinator.stores },
+    // Each number that was given has a transaction, at whatever stage.
     ghost counted: { length ledger ≡ length decisions },
+    // Each transaction that is kept stands under its own number, and is over these stores.
     ghost kept: { (number : ℕ) (stage : Stage) (transaction : Transaction)
         → stage_of ledger number ≡ Some stage
         → transaction_in stage ≡ Some transaction
         → IsTransactionOf (vec_len coordinator.stores) number transaction },
+    // What is kept as Ready was voted Ready, so it may be decided.
     ghost ready: { (number : ℕ) (prepared : Prepared) → stage_of ledger number ≡ Some (StageReady prepared)
         → prepared.vote_kind ≡ VoteKindReady },
 }

@@ -63,7 +63,7 @@ fn alone(call: Call, rest: &[u8]) -> Call
     }
 }
 
-/// `n k STATEMENT`.
+/// The call of a line WORK n k STATEMENT, by what stands behind WORK.
 #[tactic(auto, unfolding(crate::specs::Calls::work_of))]
 fn work(text: &[u8]) -> Call
     ensures call { result ≡ work_of text.now }
@@ -91,7 +91,7 @@ fn work(text: &[u8]) -> Call
     }
 }
 
-/// `k STATEMENT`.
+/// The call of a line AT k STATEMENT, by what stands behind AT.
 #[tactic(auto, unfolding(crate::specs::Calls::at_of))]
 fn at(text: &[u8]) -> Call
     ensures call { result ≡ at_of text.now }
@@ -106,7 +106,7 @@ fn at(text: &[u8]) -> Call
     }
 }
 
-/// `k AFTER j`.
+/// The call of a line FAIL k AFTER j, by what stands behind FAIL.
 #[tactic(auto, unfolding(crate::specs::Calls::fail_of))]
 fn fail(text: &[u8]) -> Call
     ensures call { result ≡ fail_of text.now }
@@ -148,7 +148,7 @@ fn plain(word: &[u8], rest: &[u8]) -> Call
     }
 }
 
-/// `n`, after `PREPARE`.
+/// The call of a line PREPARE n, by what stands behind PREPARE.
 fn prepare(text: &[u8]) -> Call
     ensures call { result ≡ numbered (λ number. Call.Prepare number) (lone_number text.now) }
     ensures written { IsWritten result }
@@ -159,7 +159,7 @@ fn prepare(text: &[u8]) -> Call
     }
 }
 
-/// `n`, after `DECIDE`.
+/// The call of a line DECIDE n, by what stands behind DECIDE.
 fn decide(text: &[u8]) -> Call
     ensures call { result ≡ numbered (λ number. Call.Decide number) (lone_number text.now) }
     ensures written { IsWritten result }
@@ -170,7 +170,7 @@ fn decide(text: &[u8]) -> Call
     }
 }
 
-/// `n`, after `FINISH`.
+/// The call of a line FINISH n, by what stands behind FINISH.
 fn finish(text: &[u8]) -> Call
     ensures call { result ≡ numbered (λ number. Call.Finish number) (lone_number text.now) }
     ensures written { IsWritten result }
@@ -181,7 +181,7 @@ fn finish(text: &[u8]) -> Call
     }
 }
 
-/// `n`, after `ABANDON`.
+/// The call of a line ABANDON n, by what stands behind ABANDON.
 fn abandon(text: &[u8]) -> Call
     ensures call { result ≡ numbered (λ number. Call.Abandon number) (lone_number text.now) }
     ensures written { IsWritten result }

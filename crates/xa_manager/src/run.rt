@@ -59,7 +59,8 @@ pub fn open_stores(
     // Proved (manager, opened-stores)
     ensures second { IfOk result (λ opened. AreOf opened.0.items opened.2.items) }
     // Proved (manager, opened-stores)
-    ensures capacity { IfOk result (λ opened. All (λ store. (identity_of store.log).capacity ≡ capacity) opened.0.items) }
+    ensures capacity { IfOk result (λ opened. All (λ store. (identity_of store.log).capacity ≡ capacity)
+        opened.0.items) }
     // Proved (manager, opened-stores)
     ensures new { IfOk result (λ opened. AreNew opened.0.items opened.1.items opened.2.items) }
 {
@@ -84,7 +85,8 @@ fn connect_each<'a>(
     requires { AreOf stores.now passes.items }
     ensures count { IfOk result (λ sessions. vec_len sessions ≡ length stores.now) }
     ensures passes { IfOk result (λ sessions. map (λ session. session.pass) sessions.items ≡ passes.items) }
-    ensures bases { IfOk result (λ sessions. AllZip (λ store session. session.base.now ≡ store.base) stores.now sessions.items) }
+    ensures bases { IfOk result (λ sessions. AllZip (λ store session. session.base.now ≡ store.base) stores.now
+        sessions.items) }
 {
     let mut sessions = Vec::new(alloc);
     for pass in passes {

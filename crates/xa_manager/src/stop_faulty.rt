@@ -112,6 +112,7 @@ pub fn faulty_lines<R: Wait>(
             &calls[place],
         )?;
     }
+    // If memory was refused in a store, a line may seem faulty for that alone. Then this fails, too.
     let _stores = fed_stores(alloc, manager)?;
     Ok(faults)
 }

@@ -4,7 +4,7 @@ ghost use Rattle.xa_manager.specs.Limits.{Passes};
 ghost use Rattle.xa_manager.specs.Managed.{whole_of};
 ghost use Rattle.xa_manager.specs.Whole.{IsPair};
 ghost use Rattle.xa_manager.specs.Counted.{own_of, other_of};
-ghost use Rattle.xa_manager.specs.Runs.{IsFresh};
+ghost use Rattle.xa_manager.specs.Runs.{IsFresh, passed};
 
 use crate::{CountedStore, Manager};
 use std::alloc::{AllocError, Global};
@@ -16,7 +16,6 @@ use xa_xid::NoMemory;
 fn fresh_session(alloc: Global) -> Fused<CountedStore>
     ensures pair { IsPair (own_of result.inner) (other_of result.inner) }
     ensures left { result.left ≡ 2 ^ 64 - 1 }
-    ensures given { result.inner.given ≡ 0 }
     ensures starved { result.inner.starved ≡ false }
 {
     let server = Server::new(alloc);
@@ -35,7 +34,6 @@ fn open_each(
     ensures pairs { IfOk result (λ opened. All (λ session. IsPair (own_of session.inner) (other_of session.inner)) opened.0.items) }
     ensures passes { IfOk result (λ opened. (store : ℕ) → store < length opened.0.items
         → Passes store (2 ^ 64 - 1) opened.0.items) }
-    ensures given { IfOk result (λ opened. All (λ session. session.inner.given ≡ 0) opened.0.items) }
     ensures starved { IfOk result (λ opened. All (λ session. session.inner.starved ≡ false) opened.0.items) }
 {
     let mut sessions = Vec::new(alloc);
@@ -73,11 +71,35 @@ pub fn fed_stores(
     let mut stores = Vec::new(alloc);
     for session in manager.into_sessions() {
         let store = session.into_inner();
-        // The calls were cut short there, so its count isn't theirs.
+        // The calls were cut short there.
         if store.starved {
             return Err(AllocError);
         }
         stores.push(store)?;
     }
     Ok(stores)
+}
+
+/// How many calls each session of a manager has passed on, whose limit was 2^64 - 1 at first. Memory was refused for
+/// no statement.
+///
+/// Errors: `NoMemory`, also if it was.
+pub fn passed_by(
+    alloc: Global,
+    manager: Manager<Fused<CountedStore>, LastingStore>,
+) -> Result<Vec<u64>, NoMemory>
+    ensures counts { IfOk result (λ counts. counts.items ≡ map passed (whole_of manager).sessions) }
+    ensures fed { IfOk result (λ _. All (λ session. session.inner.starved ≡ false) (whole_of manager).sessions) }
+{
+    let mut counts = Vec::new(alloc);
+    for session in manager.into_sessions() {
+        let left = session.left();
+        let store = session.into_inner();
+        // The calls were cut short there, so what was passed on isn't theirs.
+        if store.starved {
+            return Err(AllocError);
+        }
+        counts.push(u64::MAX - left)?;
+    }
+    Ok(counts)
 }

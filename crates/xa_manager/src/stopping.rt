@@ -58,6 +58,7 @@ fn with_recovery<R: Wait>(
         × ((stopped : ResponseOf) × (left.responses ≡ before.responses ++ stopped ∷ []))
         × (longer.items ≡ text.items ++ rest)) }
 {
+    // What is shown is what the recovery finds. The response to STOP says nothing about that.
     let _stopped = stop(rt, alloc, &mut manager)?;
     let response = recover(rt, alloc, &mut manager)?;
     // No session has a limit after the stop, so memory was refused.

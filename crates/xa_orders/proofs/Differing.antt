@@ -26,6 +26,7 @@ pub record Chosen (known : List Way) (keys : List (List ℕ)) (marks : BTreeSet 
   pub marked : All (λ one. contains nat_cmp marks (mark keys (config_of one)) ≡ true) chosen
   pub differ : AreDifferent chosen
 
+-- before the first way none was chosen
 pub chosen_none : (known : List Way) (keys : List (List ℕ)) (marks : BTreeSet ℕ) → Chosen known keys marks 0
 chosen_none known keys marks = record {
   chosen = [];
@@ -45,6 +46,7 @@ still_marked old new added number updates had = updates.0 number ∙ by (is_at (
     by true = refl
     by false = had
 
+-- numbers that were noted stay noted when one more is
 all_still_marked : (keys : List (List ℕ)) (old new : BTreeSet ℕ) (added : ℕ) (chosen : List Way)
     → Updates nat_cmp old new added true
     → All (λ one. contains nat_cmp old (mark keys (config_of one)) ≡ true) chosen
@@ -54,7 +56,7 @@ all_still_marked keys old new added chosen updates marked =
     (λ one. contains nat_cmp new (mark keys (config_of one)) ≡ true)
     (λ one had. still_marked old new added (mark keys (config_of one)) updates had) chosen marked
 
--- a way's number was there
+-- a way whose number was noted before isn't chosen
 pub chosen_same : (known : List Way) (keys : List (List ℕ)) (old new : BTreeSet ℕ) (count added : ℕ)
     → Updates nat_cmp old new added true
     → Chosen known keys old count → Chosen known keys new count
@@ -66,7 +68,7 @@ chosen_same known keys old new count added updates c = record {
   differ = c.differ;
 }
 
--- and here it wasn't
+-- one way more is chosen, if its number wasn't noted yet: it differs from all chosen before
 chosen_more : (known : List Way) (keys : List (List ℕ)) (old new : BTreeSet ℕ) (count : ℕ) (one : Way)
     → Any (λ way. way ≡ one) known
     → Updates nat_cmp old new (mark keys (config_of one)) true
@@ -87,6 +89,7 @@ chosen_more known keys old new count one among updates none c = record {
   );
 }
 
+-- a test whose negation holds fails
 not_there : (b : Bool) → not b ≡ true → b ≡ false
 not_there true e = absurd (false≢true e)
 not_there false e = refl
@@ -103,6 +106,7 @@ chosen_new known keys old new count place number one added within at is was new_
     (subst (λ n. Updates nat_cmp old new n true) is updates)
     (subst (λ n. contains nat_cmp old n ≡ false) is (not_there (contains nat_cmp old number) (sym was ∙ new_one))) c
 
+-- the chosen ways are different, since their numbers are
 pub chosen_differ : (known : List Way) (keys : List (List ℕ)) (marks : BTreeSet ℕ) (count : ℕ)
     → Chosen known keys marks count → HasDifferent count known
 chosen_differ known keys marks count c =

@@ -16,7 +16,7 @@ use Rattle.xa_orders.specs.Ends.{text_from, IsOutcomeAdded, AreOutcomes}
 use Rattle.xa_orders.proofs.Lists.{any_left, any_push, any_weaker, any_with, any_both, pairwise_push, pairwise_front}
 use Rattle.xa_orders.proofs.Lists.{at_most_trans}
 
--- one line more
+-- the loop over lines: the answer of one more is written
 pub told_text-more : (state : State) (lines : List Told) (index : ℕ) (line : Told) → index < length lines
     → line ≡ get_or lines index line
     → told_text state (drop index lines)
@@ -26,6 +26,7 @@ unfolding told_text
 told_text-more state lines index line below at =
     ap (told_text state) (drop_more lines index line below ∙ ap (λ l. l ∷ drop (index + 1) lines) (sym at))
 
+-- the lines from a place on: the one there, and then the others
 pub told_state-more : (state : State) (lines : List Told) (index : ℕ) (line : Told) → index < length lines
     → line ≡ get_or lines index line
     → told_state state (drop index lines) ≡ told_state (state_then state line.session (read_of line.text))
@@ -34,11 +35,13 @@ unfolding told_state
 told_state-more state lines index line below at =
     ap (told_state state) (drop_more lines index line below ∙ ap (λ l. l ∷ drop (index + 1) lines) (sym at))
 
+-- past the last line nothing is written
 pub told_text-end : (state : State) (lines : List Told) (index : ℕ) → length lines ≤ index
     → told_text state (drop index lines) ≡ []
 unfolding told_text
 told_text-end state lines index past = ap (told_text state) (drop_all index lines past)
 
+-- past the last line the state stays
 pub told_state-end : (state : State) (lines : List Told) (index : ℕ) → length lines ≤ index
     → told_state state (drop index lines) ≡ state
 unfolding told_state
@@ -64,6 +67,7 @@ told_step state new lines index line session said whole out answer more below at
     ∙ ap (λ s. out ++ (answer ++ told_text s rest)) (sym next)
     ∙ sym (append_assoc out answer (told_text new rest)) ∙ ap (λ t. t ++ told_text new rest) (sym appended)
 
+-- the loop's step: a line is carried out
 pub told_state_step : (first state new : State) (lines : List Told) (index : ℕ) (line : Told) (session : ℕ)
     (said : List ℕ) (last : State)
     → index < length lines
@@ -77,9 +81,11 @@ told_state_step first state new lines index line session said last below at by t
     before ∙ told_state-more state lines index line below at
     ∙ ap (λ s. told_state s (drop (index + 1) lines)) (sym next)
 
+-- the outcome is that of one of these ways: its order and its text
 abbrev pub IsOf : (Way → List ℕ) → List Way → Outcome → Type 0
 IsOf text_of ways one = Any (λ way. (one.order.items ≡ way.order.items) × (one.text.items ≡ text_of way)) ways
 
+-- among the outcomes is one with the way's text, by an order that isn't greater
 abbrev pub HasOutcome : (Way → List ℕ) → List Outcome → Way → Type 0
 HasOutcome text_of outcomes way =
     Any (λ one. (one.text.items ≡ text_of way) × AtMost one.order.items way.order.items) outcomes
@@ -148,7 +154,7 @@ module _ (text_of : Way → List ℕ) (front : List Way) (way : Way) (old : List
       subst (AreOutcomes text_of (front ++ way ∷ [])) (sym added.4)
       (outcome_added text added.0 text_is added.1 added.2 added.3)
 
--- the outcome of one way more
+-- the loop over ways: the outcome of one more is added
 pub outcome_step : (text_of : Way → List ℕ) (ways : List Way) (old new : List Outcome) (index : ℕ) (way : Way)
     (text : List ℕ) → index < length ways
     → way ≡ get_or ways index way
@@ -163,6 +169,7 @@ outcome_step text_of ways old new index way text below at ascending text_is adde
     (pairwise_front (λ one other. Precedes (order_of one) (order_of other)) ways index way below ascending))
     are new text text_is added)
 
+-- no ways have no outcomes
 pub outcomes_none : (text_of : Way → List ℕ) (outcomes : List Outcome) → outcomes ≡ [] → AreOutcomes text_of [] outcomes
 outcomes_none text_of outcomes none =
     subst (AreOutcomes text_of []) (sym none)

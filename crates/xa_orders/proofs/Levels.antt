@@ -15,7 +15,7 @@ use Rattle.xa_orders.proofs.Lists.{any_left, any_push, any_weaker, any_with, any
 use Rattle.xa_orders.proofs.Lists.{pairwise_front, split_last, precedes_append, precedes_last, at_most_append}
 use Rattle.xa_orders.proofs.Lists.{at_most_trans}
 
--- a turn more at the end
+-- an order of turns that leads somewhere leads on by one turn more
 pub leads_more : (lines : List Told) (old mid new : Config) (order : List ℕ) (session : ℕ) → LeadsTo lines old order mid
     → IsSession session
     → turn lines mid session ≡ Some new
@@ -24,7 +24,7 @@ leads_more lines old mid new [] session leads is at = (new, is, ap (λ c. turn l
 leads_more lines old mid new (first ∷ order) session leads is at =
     (leads.0, leads.1, leads.2, leads_more lines leads.0 mid new order session leads.3 is at)
 
--- the last turn
+-- an order leads somewhere by its turns before the last, and then by the last turn
 pub leads_last : (lines : List Told) (old new : Config) (order : List ℕ) (session : ℕ)
     → LeadsTo lines old (order ++ session ∷ []) new
     → (mid : Config) × LeadsTo lines old order mid × IsSession session × (turn lines mid session ≡ Some new)
@@ -33,6 +33,7 @@ leads_last lines old new (first ∷ order) session leads =
     let rest = leads_last lines leads.0 new order session leads.3 in
     (rest.0, (leads.0, leads.1, leads.2, rest.1), rest.2, rest.3)
 
+-- what was in a list stays in it when a way is added
 pub has_kept : (old new : List Way) (one : Way) (config : Config) (order : List ℕ) → AddsUnlessThere old one new
     → HasBy old config order → HasBy new config order
 has_kept old new one config order (inl was) has = subst (λ l. HasBy l config order) (sym was.1) has
@@ -46,13 +47,15 @@ IsFrom lines front way number new =
     Any (λ one. (session : ℕ) × IsTurn lines session one new) front
     ⊎ ((session : ℕ) × (session < number) × IsTurn lines session way new)
 
--- those before a way have had all their turns, and the way those of sessions below a number
+-- the loop over ways and sessions: ways before this one have had all turns, and this one those of sessions below a
+-- number
 pub record IsHalfway (lines : List Told) (front : List Way) (way : Way) (number : ℕ) (list : List Way) : Type 0 where
   pub each : All (IsFrom lines front way number) list
   pub fronts : All (λ one. Covers lines 17 one list) front
   pub own : Covers lines number way list
   pub ascending : IsAscending order_of list
 
+-- before the first session no turn was taken
 pub halfway_first : (lines : List Told) (front : List Way) (way : Way) (list : List Way) → IsNextOf lines front list
     → IsHalfway lines front way 1 list
 halfway_first lines front way list next = record {
@@ -82,6 +85,7 @@ below_more : (session number : ℕ) → session < number + 1 → (session < numb
 below_more session number below =
     elim (cases_lt session number) [ inl less ↦ inl less | inr most ↦ inr (omega (arith, below, most)) ]
 
+-- a way that a session up to this number leads to is one of sessions up to the next
 from_more : (lines : List Told) (front : List Way) (way : Way) (number : ℕ) (new : Way)
     → IsFrom lines front way number new
     → IsFrom lines front way (number + 1) new
@@ -166,7 +170,8 @@ module _ (lines : List Told) (front : List Way) (way : Way) (number : ℕ) (old 
       by session config is at (inl less) =
           kept config (way.order.items ++ session ∷ []) (half.own session config less is at)
       by session config is at (inr same) =
-          any_push (λ one. (config_of one ≡ config) × AtMost one.order.items (way.order.items ++ session ∷ [])) old next (
+          any_push (λ one. (config_of one ≡ config) × AtMost one.order.items (way.order.items ++ session ∷ [])) old
+          next (
             same_Some (config_of next) config (sym is_turn.leads ∙ ap (turn lines (config_of way)) (sym same) ∙ at),
             inl (is_turn.order_is ∙ ap (λ n. way.order.items ++ n ∷ []) (sym same)),
           )
@@ -184,6 +189,7 @@ module _ (lines : List Told) (front : List Way) (way : Way) (number : ℕ) (old 
       added next is_turn (inr is) =
           subst (IsHalfway lines front way (number + 1)) (sym is) (halfway_added next precede is_turn)
 
+-- after session 16 all turns were taken
 pub halfway_done : (lines : List Told) (front : List Way) (way : Way) (list : List Way)
     → IsHalfway lines front way 17 list
     → IsNextOf lines (front ++ way ∷ []) list
@@ -201,6 +207,7 @@ halfway_done lines front way list half = record {
     by new (inl any) = any_left (λ one. (session : ℕ) × IsTurn lines session one new) front (way ∷ []) any
     by new (inr own) = any_push (λ one. (session : ℕ) × IsTurn lines session one new) front way (own.0, own.2)
 
+-- no ways lead to no ways with a turn more
 pub next_none : (lines : List Told) (list : List Way) → list ≡ [] → IsNextOf lines [] list
 next_none lines list none =
     subst (IsNextOf lines []) (sym none)
@@ -210,7 +217,7 @@ next_none lines list none =
       ascending = tt;
     })
 
--- one turn more of what was reached is reached
+-- a way with one turn more than a way that is reached is reached with one turn more
 reached_more : (lines : List Told) (base : Config) (count session : ℕ) (way new : Way) → IsReached lines base count way
     → IsTurn lines session way new
     → IsReached lines base (count + 1) new
@@ -222,6 +229,7 @@ reached_more lines base count session way new reached is_turn = record {
       is_turn.leads);
 }
 
+-- ways with one turn more are reached with one turn more
 pub each_reached : (lines : List Told) (base : Config) (count : ℕ) (ways list : List Way)
     → All (IsReached lines base count) ways
     → All (λ new. Any (λ way. (session : ℕ) × IsTurn lines session way new) ways) list
@@ -234,7 +242,7 @@ each_reached lines base count ways list reached each =
     (λ way is by. reached_more lines base count by.0 way new is by.1) ways reached any)
     list each
 
--- the ways of one turn more
+-- the ways of one turn more, made from all ways of a level, are the next level
 pub level_next : (lines : List Told) (base : Config) (count : ℕ) (ways list : List Way) → IsLevel lines base count ways
     → IsNextOf lines ways list
     → IsLevel lines base (count + 1) list
@@ -272,6 +280,7 @@ level_next lines base count ways list level next = record {
         (by split.0 split.1 config (ap length (sym split.2) ∙ count_is)
         (subst (λ order. LeadsTo lines base order config) split.2 leads))
 
+-- with no turn there is one way
 pub level_first : (lines : List Told) (base : Config) (list : List Way) (one : Way) → list ≡ one ∷ []
     → config_of one ≡ base → one.order.items ≡ []
     → IsLevel lines base 0 list
@@ -295,7 +304,7 @@ level_first lines base list one is came none =
     all [] config count_is leads = inl (came ∙ sym leads, inl none)
     all (first ∷ rest) config count_is leads = absurd (omega (arith, count_is))
 
--- the turns of one way more
+-- one way of the level more: the turns that follow it are added to the next level
 pub level_step : (lines : List Told) (ways list new : List Way) (index : ℕ) (way : Way) → index < length ways
     → way ≡ get_or ways index way
     → IsAscending order_of ways
@@ -310,6 +319,7 @@ level_step lines ways list new index way below at ascending step next =
     (pairwise_front (λ one other. Precedes (order_of one) (order_of other)) ways index way below ascending))
     next)
 
+-- too many ways with a turn more: the search is too wide
 pub wide_level : (lines : List Told) (base : Config) (count limit : ℕ) (ways same : List Way)
     → IsLevel lines base count ways → same ≡ ways
     → IsWideNext lines same limit
@@ -324,6 +334,7 @@ wide_level lines base count limit ways same level is wide =
       reached = each_reached lines base count ways now.many level.each now.each;
     }
 
+-- if they aren't too many, they are the next level
 pub level_found : (lines : List Told) (base : Config) (count : ℕ) (ways same : List Way)
     (found : Option (Vec Way Global)) (next : Vec Way Global)
     → IsLevel lines base count ways → same ≡ ways → found ≡ Some next
@@ -332,6 +343,7 @@ level_found lines base count ways same found next level is some by =
     level_next lines base count ways next.items level
     (subst (λ w. IsNextOf lines w next.items) is (subst (λ o. IfSome o (λ n. IsNextOf lines same n.items)) some by))
 
+-- the ways that a search opens with are the first level
 pub level_opening : (lines : List Told) (state : State) (ways : List Way) → IsOpening lines state ways
     → IsLevel lines (opening lines state) 0 ways
 level_opening lines state ways is = level_first lines (opening lines state) ways is.0 is.1 is.2 is.3

@@ -72,6 +72,7 @@ module _ {A : Type 0} where
   split_last x [] = ([], x, refl)
   split_last x (y ∷ zs) = let rest = split_last y zs in (x ∷ rest.0, rest.1, ap (λ l. x ∷ l) rest.2)
 
+-- an order precedes another as a list of numbers does: of three, the first precedes the last
 pub precedes_trans : (a b c : List ℕ) → Precedes a b → Precedes b c → Precedes a c
 precedes_trans [] b c p q = absurd p
 precedes_trans (x ∷ a) [] c p q = absurd p
@@ -81,20 +82,24 @@ precedes_trans (x ∷ a) (y ∷ b) (z ∷ c) (inl p) (inr q) = inl (omega (arith
 precedes_trans (x ∷ a) (y ∷ b) (z ∷ c) (inr p) (inl q) = inl (omega (arith, p.0, q))
 precedes_trans (x ∷ a) (y ∷ b) (z ∷ c) (inr p) (inr q) = inr (p.0 ∙ q.0, precedes_trans a b c p.1 q.1)
 
+-- an order that precedes another does so with any turns behind both
 pub precedes_append : (a b c d : List ℕ) → Precedes a b → Precedes (a ++ c) (b ++ d)
 precedes_append [] b c d p = absurd p
 precedes_append (x ∷ a) [] c d p = absurd p
 precedes_append (x ∷ a) (y ∷ b) c d (inl p) = inl p
 precedes_append (x ∷ a) (y ∷ b) c d (inr p) = inr (p.0, precedes_append a b c d p.1)
 
+-- a smaller last number precedes a greater one
 pub precedes_last : (a : List ℕ) (s t : ℕ) → s < t → Precedes (a ++ s ∷ []) (a ++ t ∷ [])
 precedes_last [] s t below = inl below
 precedes_last (x ∷ a) s t below = inr (refl, precedes_last a s t below)
 
+-- an order that is another one or precedes it still is or does with the same turns behind both
 pub at_most_append : (a b c : List ℕ) → AtMost a b → AtMost (a ++ c) (b ++ c)
 at_most_append a b c (inl same) = inl (ap (λ l. l ++ c) same)
 at_most_append a b c (inr less) = inr (precedes_append a b c c less)
 
+-- of three orders, each the next or before it, the first is the last or before it
 pub at_most_trans : (a b c : List ℕ) → AtMost a b → AtMost b c → AtMost a c
 at_most_trans a b c (inl same) other = subst (λ l. AtMost l c) (sym same) other
 at_most_trans a b c (inr less) (inl same) = inr (subst (Precedes a) same less)

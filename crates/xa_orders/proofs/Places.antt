@@ -6,6 +6,7 @@ use Rattle.std.proofs.lemmas.Bool.Decides.{nat_tests}
 use Rattle.xa_lines.specs.Script.{is_empty_line}
 use Rattle.xa_orders.specs.Orders.{Told, is_left, next_place}
 
+-- a text of length 0 is the empty one
 is_empty_length : (text : List ℕ) → (length text == 0) ≡ is_empty_line text
 is_empty_length [] = grind (arith, nat_tests)
 is_empty_length (byte ∷ text) = grind (arith, nat_tests)
@@ -18,10 +19,11 @@ prefix_same p q (x ∷ xs) same =
     ap (λ b. cond (not b) (1 + prefix_len (λ z. not (p z)) xs) 0) (same x)
     ∙ ap (λ n. cond (not (q x)) (1 + n) 0) (prefix_same p q xs same)
 
+-- tests that agree find the same place
 position_same : {A : Type 0} (p q : A → Bool) (xs : List A) → ((x : A) → p x ≡ q x) → position p xs ≡ position q xs
 position_same p q xs same = rw (prefix_same p q xs same)
 
--- the place of a session's first line that has no text
+-- next_place is the first place of a line of the session that has no text yet
 pub next_is : (session : ℕ) (lines : List Told) (texts : List (List ℕ))
     → position (λ pair. (pair.0.session == session) && (length pair.1 == 0)) (zip lines texts)
     ≡ next_place session lines texts

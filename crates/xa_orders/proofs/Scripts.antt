@@ -15,7 +15,7 @@ use Rattle.xa_orders.specs.declared.outcome.Outcome.{Outcome}
 use Rattle.xa_orders.specs.Scripts.{Reading, read_more, read_lines, sessions_text, outcome_lines, outcomes_text}
 use Rattle.xa_orders.specs.Scripts.{IsExploredText, AppendsExplored, AppendsExploredPrefix, AfterExploreFault}
 
--- one line more was cut off
+-- the loop over lines: one more was cut off and read
 pub read_lines_cut : (read : Reading) (number : ℕ) (text line rest : List ℕ) → lines_of text ≡ line ∷ lines_of rest
     → read_lines read number (lines_of text) ≡ read_lines (read_more read number line) (number + 1) (lines_of rest)
 unfolding read_lines
@@ -29,7 +29,7 @@ read_lines_end read number [] empty = refl
 read_lines_end read number (x ∷ xs) empty =
     absurd (let none : length (x ∷ xs) ≡ 0 = grind (arith, common_steps) in omega arith)
 
--- one session more
+-- the loop over an order: the number of one session more is written
 pub sessions_step : (order : List ℕ) (index session : ℕ) (whole out one two : List ℕ) → index < length order
     → session ≡ get_or order index session
     → one ≡ out ++ codes " " → two ≡ one ++ decimal session
@@ -45,15 +45,17 @@ sessions_step order index session whole out one two below at first second before
     regroup : (a b c : List ℕ) → out ++ ((a ++ b) ++ c) ≡ ((out ++ a) ++ b) ++ c
     regroup a b c = simp append_assoc
 
+-- past the last session nothing is written
 pub sessions_end : (order : List ℕ) (index : ℕ) → length order ≤ index → sessions_text (drop index order) ≡ []
 unfolding sessions_text
 sessions_end order index past = ap sessions_text (drop_all index order past)
 
+-- the text of no sessions is empty
 pub sessions_none : sessions_text [] ≡ []
 unfolding sessions_text
 sessions_none = refl
 
--- one outcome more
+-- the loop over outcomes: the text of one more is written
 pub outcomes_step : (outcomes : List Outcome) (index number : ℕ) (one : Outcome) (whole out more : List ℕ)
     → index < length outcomes
     → one ≡ get_or outcomes index one → number ≡ index + 1
@@ -67,6 +69,7 @@ outcomes_step outcomes index number one whole out more below at count appended b
     ∙ sym (append_assoc out (outcome_lines number one) (outcomes_text (number + 1) (drop (index + 1) outcomes)))
     ∙ ap (λ t. t ++ outcomes_text (number + 1) (drop (index + 1) outcomes)) (sym appended)
 
+-- past the last outcome nothing is
 pub outcomes_end : (outcomes : List Outcome) (index number : ℕ) → length outcomes ≤ index
     → outcomes_text number (drop index outcomes) ≡ []
 unfolding outcomes_text
@@ -79,6 +82,7 @@ read_whole P None rest given read end p = tt
 read_whole P (Some x) None given read end p = absurd read
 read_whole P (Some x) (Some y) given read end p = subst P (sym (read ∙ ap (λ l. given ++ l) end ∙ append-nil given)) p
 
+-- the input was read and the whole text was written: what `explore` promises after Ok
 pub explored_written : (limit : ℕ) (result : Result Ended ScriptFault) (ended : Ended) (text given : List ℕ)
     (input rest old new : Option (List ℕ))
     → Consumes input rest given → IsAtEnd rest → IsExploredText given limit ended text
@@ -89,6 +93,7 @@ explored_written limit (Ok e) ended text given input rest old new read end is sa
     (text, subst (λ x. IsExploredText given limit x text) (sym same) is, written)
 explored_written limit (Err fault) ended text given input rest old new read end is same written = tt
 
+-- writing failed: a prefix of the text was written, which is what it promises after that fault
 pub explored_faulted : (limit : ℕ) (result : Result Ended ScriptFault) (ended : Ended) (text given : List ℕ)
     (input rest old new : Option (List ℕ))
     → Consumes input rest given → IsAtEnd rest → IsExploredText given limit ended text

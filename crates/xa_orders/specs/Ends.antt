@@ -12,8 +12,7 @@ use Rattle.xa_orders.specs.Orders.{Told, told_text, AtMost, Pairwise, Any, IsAsc
 abbrev pub text_from : List ℕ → List Told → Way → List ℕ
 text_from first later way = first ++ concat way.answers ++ told_text way.server later
 
--- one of the list has this text, and the list is as it was; or none has it, and the list has this outcome in
--- addition
+-- the list has an outcome with this text, and is as it was; or it had none, and has this outcome in addition
 abbrev pub IsOutcomeAdded : List ℕ → List ℕ → List Outcome → List Outcome → Type 0
 IsOutcomeAdded order text old new =
     (Any (λ one. one.text.items ≡ text) old × (new ≡ old))

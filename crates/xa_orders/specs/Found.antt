@@ -22,19 +22,20 @@ use Rattle.xa_orders.specs.Orders.{IsAscending}
 abbrev pub config_of : Way → Config
 config_of way = record { state = way.server; answers = way.answers }
 
+-- the sessions in the order in which they took their turns
 abbrev pub order_of : Way → List ℕ
 order_of way = way.order.items
 
--- its order has this many turns, and leads there
+-- the way's order has this many turns, and leads to the way's configuration
 pub record IsReached (lines : List Told) (base : Config) (count : ℕ) (way : Way) : Type 0 where
   pub count_is : length way.order.items ≡ count
   pub leads : LeadsTo lines base way.order.items (config_of way)
 
--- one of the list has this configuration, and an order that is at most this one
+-- some way of the list has this configuration, and an order that is at most this one
 abbrev pub HasBy : List Way → Config → List ℕ → Type 0
 HasBy ways config order = Any (λ way. (config_of way ≡ config) × AtMost way.order.items order) ways
 
--- these are the ways with this many turns
+-- the ways are all those with this many turns, each place once
 pub record IsLevel (lines : List Told) (base : Config) (count : ℕ) (ways : List Way) : Type 0 where
   pub each : All (IsReached lines base count) ways
   pub all : (order : List ℕ) (config : Config) → length order ≡ count → LeadsTo lines base order config
@@ -64,7 +65,7 @@ pub record IsNextOf (lines : List Told) (ways list : List Way) : Type 0 where
 abbrev pub AllPrecede : List Way → Way → Type 0
 AllPrecede ways way = All (λ one. Precedes one.order.items way.order.items) ways
 
--- one of the list has the same configuration, and the list is as it was; or it has this way in addition
+-- the list has a way with the same configuration, and is as it was; or it has this way in addition
 abbrev pub AddsUnlessThere : List Way → Way → List Way → Type 0
 AddsUnlessThere old one new = (Any (λ way. config_of way ≡ config_of one) old × (new ≡ old)) ⊎ (new ≡ old ++ one ∷ [])
 

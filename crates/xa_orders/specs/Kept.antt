@@ -3,6 +3,7 @@
 use Rattle.xa_orders.specs.declared.script.Script.{Script}
 use Rattle.xa_orders.specs.Scripts.{Reading}
 
+-- what was read of a script, as definitions see it
 abbrev pub read_kept : Script → Reading
 read_kept script =
     record {

@@ -14,16 +14,16 @@ with_word number word =
     let product = ((bit_xor number word + 1) % 2 ^ 64 * 11400714819323198485) % 2 ^ 64 in
     bit_xor product (product / 2 ^ 29)
 
--- after the bytes of a text
+-- the number of a configuration's parts so far, followed by the bytes of a text
 abbrev pub with_text : ℕ → List ℕ → ℕ
 with_text number bytes = fold with_word (with_word number (length bytes)) bytes
 
--- after a value, or none
+-- the number so far, followed by a value, or none
 abbrev pub with_value : ℕ → Option Text → ℕ
 with_value number None = with_word number 0
 with_value number (Some text) = with_text (with_word number 1) text.items
 
--- after the committed value of a row
+-- the number so far, followed by the committed value of a row
 abbrev pub with_key : State → ℕ → List ℕ → ℕ
 with_key state number key = with_value number (committed_value state key)
 

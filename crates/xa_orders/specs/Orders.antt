@@ -38,7 +38,7 @@ told_text state [] = []
 told_text state (told ∷ lines) = answer_to state told.session (read_of told.text)
     ++ told_text (state_then state told.session (read_of told.text)) lines
 
--- the state after them
+-- the state after these lines, one after another
 unfoldable pub told_state : State → List Told → State
 told_state state [] = state
 told_state state (told ∷ lines) = told_state (state_then state told.session (read_of told.text)) lines
@@ -48,7 +48,7 @@ pub record Config : Type 0 where
   pub state : State
   pub answers : List (List ℕ)
 
--- none of the lines is carried out yet
+-- the configuration in which none of the lines is carried out yet
 abbrev pub opening : List Told → State → Config
 opening lines state = record { state = state; answers = replicate (length lines) [] }
 
@@ -60,6 +60,7 @@ is_left session pair = (pair.0.session == session) && is_empty_line pair.1
 abbrev pub next_place : ℕ → List Told → List (List ℕ) → Option ℕ
 next_place session lines answers = position (is_left session) (zip lines answers)
 
+-- the text of the line at a place; the empty one if there is none
 abbrev pub text_at : List Told → ℕ → List ℕ
 text_at lines place = option_map_or (λ told. told.text) (slice_get lines place) []
 
@@ -76,6 +77,7 @@ unfoldable pub turn : List Told → Config → ℕ → Option Config
 turn lines config session = option_map (λ place. carried_out session (text_at lines place) config place)
     (next_place session lines config.answers)
 
+-- a session's number, from 1 to 16
 abbrev pub IsSession : ℕ → Type 0
 IsSession session = (1 ≤ session) × (session ≤ 16)
 
@@ -106,18 +108,21 @@ abbrev pub Precedes : List ℕ → List ℕ → Type 0
 Precedes (one ∷ order) (other ∷ others) = (one < other) ⊎ ((one ≡ other) × Precedes order others)
 Precedes order others = ⊥
 
+-- the order is the other one, or precedes it
 abbrev pub AtMost : List ℕ → List ℕ → Type 0
 AtMost order others = (order ≡ others) ⊎ Precedes order others
 
+-- any two elements are related as R says, the earlier one first
 abbrev pub Pairwise : {A : Type 0} → (A → A → Type 0) → List A → Type 0
 Pairwise R [] = Unit {0}
 Pairwise R (one ∷ list) = All (R one) list × Pairwise R list
 
+-- some element is as P says
 abbrev pub Any : {A : Type 0} → (A → Type 0) → List A → Type 0
 Any P [] = ⊥
 Any P (one ∷ list) = P one ⊎ Any P list
 
--- these have ascending orders
+-- the orders of these ascend, each once
 abbrev pub IsAscending : {A : Type 0} → (A → List ℕ) → List A → Type 0
 IsAscending order list = Pairwise (λ one other. Precedes (order one) (order other)) list
 

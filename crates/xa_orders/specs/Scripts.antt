@@ -35,13 +35,15 @@ pub record Reading : Type 0 where
   pub later : List Told
   pub faults : List ℕ
 
--- before the first line. Until a line BESIDE comes, lines count as side by side
+-- what is read before the first line. Until a line BESIDE comes, lines count as side by side
 abbrev pub nothing_read : Reading
 nothing_read = record { stage = First; before = []; beside = []; later = []; faults = [] }
 
+-- what is written for a line that can't be read, with the place of the fault in it
 abbrev pub fault_text : ℕ → ℕ → List ℕ
 fault_text number place = codes "LINE " ++ decimal number ++ codes " " ++ syntax_text place ++ codes "\n"
 
+-- the line of this number can't be read
 abbrev pub blamed : Reading → ℕ → ℕ → Reading
 blamed read number place = record read { faults = read.faults ++ fault_text number place }
 
@@ -57,11 +59,13 @@ with_after First read number = record read { stage = After }
 with_after Beside read number = record read { stage = After }
 with_after After read number = blamed read number 0
 
+-- a session's line, in the part that is read: side by side, or behind AFTER
 abbrev pub with_told : Stage → Reading → Told → Reading
 with_told First read told = record read { beside = read.beside ++ told ∷ [] }
 with_told Beside read told = record read { beside = read.beside ++ told ∷ [] }
 with_told After read told = record read { later = read.later ++ told ∷ [] }
 
+-- the line, if its text was read as a statement; else its fault
 abbrev pub with_statement : Reading → ℕ → Told → Result Statement ℕ → Reading
 with_statement read number told (Ok statement) = with_told read.stage read told
 with_statement read number told (Err place) = blamed read number place
@@ -87,6 +91,7 @@ read_more read number line =
     else (if is_word (codes "AFTER") line then with_after read.stage read number else with_line read number
     (line_of line)))
 
+-- lines one after another, of which the first has this number
 unfoldable pub read_lines : Reading → ℕ → List (List ℕ) → Reading
 read_lines read number [] = read
 read_lines read number (line ∷ lines) = read_lines (read_more read number line) (number + 1) lines
@@ -95,9 +100,11 @@ read_lines read number (line ∷ lines) = read_lines (read_more read number line
 unfoldable pub script_read : List ℕ → Reading
 script_read script = read_lines nothing_read 1 (lines_of script)
 
+-- the three parts of a script that was read
 abbrev pub parts_of : Reading → Parts
 parts_of read = record { before = read.before; beside = read.beside; later = read.later }
 
+-- the numbers of sessions, in the order of their turns
 unfoldable pub sessions_text : List ℕ → List ℕ
 sessions_text [] = []
 sessions_text (session ∷ order) = codes " " ++ decimal session ++ sessions_text order
@@ -108,6 +115,7 @@ outcome_lines number one =
     codes "OUTCOME " ++ decimal number ++ codes "\n" ++ one.text.items ++ codes "ORDER" ++ sessions_text one.order.items
     ++ codes "\n"
 
+-- the outcomes, numbered from this number on
 unfoldable pub outcomes_text : ℕ → List Outcome → List ℕ
 outcomes_text number [] = []
 outcomes_text number (one ∷ outcomes) = outcome_lines number one ++ outcomes_text (number + 1) outcomes
@@ -142,7 +150,7 @@ abbrev pub AppendsExplored : ℕ → Ended → List ℕ → Option (List ℕ) �
 AppendsExplored limit ended script old new =
     (text : List ℕ) × IsExploredText script limit ended text × Appends old new text
 
--- the writer got a prefix of that
+-- the writer got a prefix of what is written for the script, however exploring it ends
 abbrev pub AppendsExploredPrefix : ℕ → List ℕ → Option (List ℕ) → Option (List ℕ) → Type 0
 AppendsExploredPrefix limit script old new =
     (ended : Ended) × (text : List ℕ) × IsExploredText script limit ended text × AppendsPrefix old new text

@@ -118,7 +118,7 @@ impl Answers {
         Ok(Answers { texts, mark: 0 })
     }
 
-    /// A copy.
+    /// A copy of the answers, whose texts are shared.
     fn copy(&self, alloc: Global) -> Result<Answers, NoMemory>
         ensures { IfOk result (λ copy. copy ≡ self.now) }
     {

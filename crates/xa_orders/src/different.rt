@@ -53,6 +53,7 @@ pub fn is_wide(
 ) -> Result<bool, NoMemory>
     ensures { IfOk result (λ wide. wide ≡ true → IsSpread limit known.now) }
 {
+    // A list of at most this length can't have more different ways than the limit, so it isn't counted.
     if known.len() <= *most {
         return Ok(false);
     }

@@ -34,6 +34,7 @@ fn carry_out_all(server: &mut Server, since: &[Done]) -> Result<(), NoMemory>
     ensures { OnOk result (server.new ≡ state_since server.old since.now) }
 {
     for done in since {
+        // Only the state after them is wanted.
         let _reply = server.apply(done.session, done.statement.statement())?;
     }
     Ok(())
@@ -86,7 +87,8 @@ impl KeptServer {
         Ok(server)
     }
 
-    /// Tells whether it is known to be the same as this server. It never answers yes for a different one.
+    /// Tells whether the kept server is known to be the same as this server. It never answers yes for a different
+    /// one.
     ///
     /// May return `NoMemory`.
     pub fn is_like(&self, server: &Server) -> Result<bool, NoMemory>

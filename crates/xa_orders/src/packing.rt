@@ -155,6 +155,7 @@ impl Packing {
         self.add(since, session, &Wanted::Start(xid))?;
         let rows = server.rows_of(self.alloc, xid)?;
         self.add_holds(since, session, rows.as_slice())?;
+        // IDLE or PREPARED: its work has ended.
         if branch.phase != Phase::Active {
             self.add(since, session, &Wanted::End(xid))?;
         }
@@ -191,6 +192,7 @@ impl Packing {
             return Ok(None);
         };
         let since = self.since(free, own)?;
+        // More statements would take too long to carry out again at each look.
         if since.len() > MOST {
             return Ok(None);
         }

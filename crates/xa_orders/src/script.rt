@@ -56,7 +56,7 @@ fn note_row(written: &mut Vec<Key>, statement: &Statement) -> Result<(), NoMemor
 }
 
 impl<'a> Script<'a> {
-    /// Nothing was read yet.
+    /// A script of which nothing was read yet.
     fn new(alloc: Global) -> Script<'a>
         ensures { read_kept result ≡ nothing_read }
     {
@@ -81,7 +81,7 @@ impl<'a> Script<'a> {
         self.faults.extend_from_slice(b"\n")
     }
 
-    /// Takes a line BESIDE.
+    /// Takes a line BESIDE: the lines before it are carried out first. A second one is faulty at its first byte.
     fn take_beside(&mut self, alloc: Global, number: u64) -> Result<(), NoMemory>
         ensures { OnOk result (read_kept self.new ≡ with_beside self.old.stage (read_kept self.old) number) }
     {
@@ -96,7 +96,7 @@ impl<'a> Script<'a> {
         }
     }
 
-    /// Takes a line AFTER.
+    /// Takes a line AFTER: the lines behind it are carried out last. A second one is faulty at its first byte.
     fn take_after(&mut self, number: u64) -> Result<(), NoMemory>
         ensures { OnOk result (read_kept self.new ≡ with_after self.old.stage (read_kept self.old) number) }
     {

@@ -31,7 +31,8 @@ pub fn every_way(
     server: Server,
     limit: usize,
 ) -> Result<Option<Vec<Way>>, NoMemory>
-    ensures level { IfOk result (λ found. IfSome found (λ ways. IsLevel lines.now (opening lines.now server) (length lines.now) ways.items)) }
+    ensures level { IfOk result (λ found. IfSome found
+        (λ ways. IsLevel lines.now (opening lines.now server) (length lines.now) ways.items)) }
     ensures wide { IfOk result (λ found. found ≡ None → IsWide lines.now (opening lines.now server) limit) }
 {
     let mut keeper = Keeper::new(alloc, &server, lines, written)?;

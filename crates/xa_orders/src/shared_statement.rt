@@ -32,7 +32,7 @@ impl SharedStatement {
         })
     }
 
-    /// Returns one more owner.
+    /// Returns one more owner of the statement, which isn't copied.
     ///
     /// May return `NoMemory`.
     pub fn try_clone(&self) -> Result<SharedStatement, NoMemory>

@@ -42,7 +42,7 @@ impl SharedText {
         })
     }
 
-    /// Returns one more owner.
+    /// Returns one more owner of the text, which isn't copied.
     ///
     /// May return `NoMemory`.
     pub fn try_clone(&self) -> Result<SharedText, NoMemory>

@@ -58,6 +58,7 @@ fn pack_before(known: &mut Vec<Way>, packing: &Packing) -> Result<(), NoMemory>
     ensures { OnOk result (known.new.items ≡ known.old.items) }
 {
     let count = known.len();
+    // All of them are among the last.
     if count <= WHOLE {
         return Ok(());
     }

@@ -80,6 +80,7 @@ record IsRunAt (first : List Entry) (n : ℕ) (lines : List Told) (count index :
   pub statements : run.lines.items ≡ statements_of (index + n) lines
   pub holds : HoldsAll first (known_in run.session)
 
+-- the run at an index is that of the session of that place: with its number, its lines, and all of `first` seen
 run_at : (first : List Entry) (n : ℕ) (lines : List Told) (sessions : List EndlessSession) (runs : List LongRun)
     (index : ℕ) (run : LongRun) → AreRunsOf n lines sessions runs → AreNumbered n sessions
     → All (λ session. HoldsAll first (known_in session)) sessions → slice_get runs index ≡ Some run

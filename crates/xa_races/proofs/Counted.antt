@@ -17,16 +17,18 @@ use Rattle.xa_races.specs.Tallied.{texts_of, Tallied, IsCounted, tallies_text}
 use Rattle.xa_races.proofs.Law.{came_listed}
 use Rattle.xa_races.proofs.Counting.{came_texts_are, count_seen_is, counts_within}
 
+-- what holds of each of several and a last one holds of each of the several
 all_front : {A : Type 0} (P : A → Type 0) (xs : List A) (y : A) → All P (xs ++ y ∷ []) → All P xs
 all_front P [] y all = All-nil P
 all_front P (x ∷ xs) y all =
     All-cons P x xs (All-head P x (xs ++ y ∷ []) all) (all_front P xs y (All-tail P x (xs ++ y ∷ []) all))
 
+-- what holds of each of several and a last one holds of the last one
 all_last : {A : Type 0} (P : A → Type 0) (xs : List A) (y : A) → All P (xs ++ y ∷ []) → P y
 all_last P [] y all = All-head P y [] all
 all_last P (x ∷ xs) y all = all_last P xs y (All-tail P x (xs ++ y ∷ []) all)
 
--- before the first race
+-- before the first race no text has come, so all counts are 0
 pub counted_none : (parts : Parts) (xs : List CameTally) → All (λ one. one.came ≡ 0) xs → IsCounted parts 0 [] xs xs
 counted_none parts xs none = record {
   raced = record { count = refl; each = All-nil (HasCome parts) };
@@ -36,7 +38,7 @@ counted_none parts xs none = record {
   only = λ empty. subst (λ (l : List (List ℕ)). All (Contains []) l) (sym empty) (All-nil (Contains []));
 }
 
--- a race more came to a text
+-- after one race more, which came to a text, the counts are right again if that text was counted
 pub counted_next : (parts : Parts) (runs : ℕ) (came : List (List ℕ)) (old mid new : List CameTally) (text : List ℕ)
     → IsCounted parts runs came old mid → HasCome parts text
     → ((came : List (List ℕ)) → Tallied came mid → Tallied (came ++ text ∷ []) new)
@@ -59,15 +61,17 @@ counted_next parts runs came old mid new text counted come tallied there ascendi
   only = λ empty. only came (counted.only empty);
 }
 
--- so far no count is too great
+-- after so many races no count is above a million, so that counting up can't overflow
 pub counted_within : (parts : Parts) (runs : ℕ) (came : List (List ℕ)) (old new : List CameTally) → runs ≤ 1000000
     → IsCounted parts runs came old new → All (λ one. one.came ≤ 1000000) new
 counted_within parts runs came old new few counted =
     counts_within came new 1000000 (omega (arith, counted.raced.count, few)) counted.tallied
 
+-- how often each text came, and how many of the texts came at all
 abbrev pub counted_head : List CameTally → List ℕ
 counted_head xs = tallies_text 1 xs ++ codes "SEEN " ++ decimal (count_by (λ one. nat_lt 0 one.came) xs)
 
+-- the program's counts are those of the races that were held
 head_is : (came : List (List ℕ)) (xs : List CameTally) → Tallied came xs
     → counted_head xs ≡ came_texts 1 came (texts_of xs) ++ codes "SEEN " ++ decimal (count_seen came (texts_of xs))
 head_is came xs tallied =
@@ -75,7 +79,7 @@ head_is came xs tallied =
     (came_texts_are came 1 xs tallied.counts)
     ∙ ap (λ n. came_texts 1 came (texts_of xs) ++ codes "SEEN " ++ decimal n) (count_seen_is came xs tallied.counts)
 
--- all outcomes are listed
+-- if all outcomes are listed, each of them has its count
 all_there : (parts : Parts) (runs : ℕ) (came : List (List ℕ)) (outcomes : List Outcome) (old new : List CameTally)
     → IsExplored parts outcomes → IsCounted parts runs came old new
     → All (Contains (map (λ one. one.text.items) outcomes)) came
@@ -83,6 +87,7 @@ all_there parts runs came outcomes old new explored counted =
     All-weaker (HasCome parts) (Contains (map (λ (one : Outcome). one.text.items) outcomes))
     (λ t come. came_listed parts outcomes t explored come) came counted.raced.each
 
+-- what is written if all outcomes are listed: how often each came, and how many there are
 text_of_all : (parts : Parts) (runs : ℕ) (came : List (List ℕ)) (outcomes : List Outcome) (old new : List CameTally)
     (text : List ℕ) → IsExplored parts outcomes → texts_of old ≡ map (λ one. one.text.items) outcomes
     → IsCounted parts runs came old new → text ≡ counted_head new ++ codes " OF " ++ decimal (length new)
@@ -98,6 +103,7 @@ text_of_all parts runs came outcomes old new text explored listed counted is =
     (head_is came new counted.tallied)
     ∙ ap (λ (l : List (List ℕ)). seen_text came l) same
 
+-- what is written if all outcomes are listed, as the clause about a script's races states it
 pub seen_all : (parts : Parts) (runs : ℕ) (came : List (List ℕ)) (outcomes : List Outcome) (old new : List CameTally)
     (text : List ℕ) → IsExplored parts outcomes → texts_of old ≡ map (λ one. one.text.items) outcomes
     → IsCounted parts runs came old new → text ≡ counted_head new ++ codes " OF " ++ decimal (length new)
@@ -111,6 +117,7 @@ seen_all parts runs came outcomes old new text explored listed counted is = reco
   text_is = text_of_all parts runs came outcomes old new text explored listed counted is;
 }
 
+-- what is written if all outcomes are listed, as the clause about any races states it
 pub seen_of_all : (parts : Parts) (runs : ℕ) (came : List (List ℕ)) (outcomes : List Outcome)
     (old new : List CameTally) (text : List ℕ) → IsExplored parts outcomes
     → texts_of old ≡ map (λ one. one.text.items) outcomes
@@ -122,13 +129,14 @@ seen_of_all parts runs came outcomes old new text explored listed counted is = r
   text_is = inl (text_of_all parts runs came outcomes old new text explored listed counted is);
 }
 
--- only what came is listed
+-- what is written if not all outcomes can be listed: how often each text came
 text_of_some : (parts : Parts) (runs : ℕ) (came : List (List ℕ)) (old new : List CameTally) (text : List ℕ)
     → IsCounted parts runs came old new → text ≡ counted_head new ++ codes "\n"
     → text ≡ some_seen_text came (texts_of new)
 text_of_some parts runs came old new text counted is =
     is ∙ ap (λ h. h ++ codes "\n") (head_is came new counted.tallied)
 
+-- if there are too many ways to list the outcomes, only those that came are listed
 pub seen_some : (parts : Parts) (runs : ℕ) (came : List (List ℕ)) (old new : List CameTally) (text : List ℕ)
     → IsWide parts.beside (base_of parts) ways_limit → old ≡ []
     → IsCounted parts runs came old new
@@ -146,6 +154,7 @@ seen_some parts runs came old new text wide empty counted is =
       text_is = text_of_some parts runs came old new text counted is;
     }
 
+-- what is written if not all outcomes can be listed, as the clause about any races states it
 pub seen_of_some : (parts : Parts) (runs : ℕ) (came : List (List ℕ)) (old new : List CameTally) (text : List ℕ)
     → IsCounted parts runs came old new → text ≡ counted_head new ++ codes "\n" → IsSeenOf came text
 seen_of_some parts runs came old new text counted is = record {

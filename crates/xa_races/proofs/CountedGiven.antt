@@ -14,7 +14,7 @@ use Rattle.xa_orders.specs.Orders.{Told, IsSession}
 use Rattle.xa_races.specs.CountedRaced.{statement_by, statements_of}
 use Rattle.xa_races.specs.CountedHeld.{list_at, AreWithin, AreRunsOf}
 
--- one line more
+-- the loop over lines: one line more gives its session its statement
 pub statements_more : (session : ℕ) (lines : List Told) (index : ℕ) (told : Told) (old new : List Statement)
     → index < length lines
     → told ≡ get_or lines index told
@@ -31,18 +31,20 @@ statements_more session lines index told old new below at before pushed =
     alone None = refl
     alone (Some statement) = refl
 
+-- a list that was put behind others is found behind them
 pub list_push_at : {A : Type 0} (lists : List (List A)) (list : List A)
     → list_at (lists ++ list ∷ []) (length lists) ≡ list
 list_push_at [] list = refl
 list_push_at (one ∷ lists) list = list_push_at lists list
 
+-- putting a list behind others leaves those before it
 pub list_push_front : {A : Type 0} (lists : List (List A)) (list : List A) (index : ℕ) → index < length lists
     → list_at (lists ++ list ∷ []) index ≡ list_at lists index
 list_push_front [] list index below = absurd (omega arith)
 list_push_front (one ∷ lists) list zero below = refl
 list_push_front (one ∷ lists) list (suc index) below = list_push_front lists list index (omega (arith, below))
 
--- the greatest so far, and one line more
+-- the loop over lines: one more is of a session up to the greatest so far
 pub within_more : (lines : List Told) (index : ℕ) (told : Told) (old new : ℕ) → index < length lines
     → told ≡ get_or lines index told → IsSession told.session
     → old ≤ new
@@ -55,21 +57,24 @@ within_more lines index told old new below at is least own before =
     (λ one both. (both.0, omega (arith, both.1, least))) (take index lines) before)
     (subst (λ (one : Told). IsSession one.session × (one.session ≤ new)) at (is, own))
 
+-- lines of sessions up to a number are of sessions up to a greater one
 pub within_greater : (old new : ℕ) (lines : List Told) → old ≤ new → AreWithin old lines → AreWithin new lines
 within_greater old new lines least within =
     All-weaker (λ (one : Told). IsSession one.session × (one.session ≤ old))
     (λ (one : Told). IsSession one.session × (one.session ≤ new))
     (λ one both. (both.0, omega (arith, both.1, least))) lines within
 
+-- the first element, or this if there is none
 abbrev pub head_or : {A : Type 0} → List A → A → A
 head_or [] d = d
 head_or (x ∷ xs) d = x
 
+-- the elements after the first
 abbrev pub tail_of : {A : Type 0} → List A → List A
 tail_of [] = []
 tail_of (x ∷ xs) = xs
 
--- the runs of sessions and lists
+-- each session paired with its list of statements is the run of that session's lines
 pub runs_given : (n : ℕ) (lines : List Told) (runs : List LongRun) (sessions : List EndlessSession)
     (lists : List (Vec Statement Global))
     → map (λ run. (run.session, run.lines)) runs ≡ zip sessions lists → length sessions ≤ length lists
@@ -94,15 +99,17 @@ runs_given n lines (run ∷ runs) (session ∷ sessions) (list ∷ lists) zipped
       (let same : suc k + n ≡ k + (n + 1) = omega arith in same)),
 )
 
+-- before the first line a session has no statements
 pub statements_first : (session : ℕ) (statements : List Statement) → statements ≡ []
     → statements ≡ statements_of session []
 unfolding statements_of
 statements_first session statements none = none
 
+-- the statements of each session, as lists
 abbrev pub items_of : List (Vec Statement Global) → List (List Statement)
 items_of lists = map (λ (list : Vec Statement Global). list.items) lists
 
--- one list more
+-- the loop over sessions: the statements of one more are gathered
 pub lists_more : (lines : List Told) (old : List (Vec Statement Global)) (list : Vec Statement Global) (index : ℕ)
     → length old ≡ index
     → list.items ≡ statements_of (index + 1) lines

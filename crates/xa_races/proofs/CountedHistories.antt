@@ -28,9 +28,11 @@ pub record Said : Type 0 where
   pub statement : Statement
   pub answer : Answer
 
+-- the statements of a session's lines
 abbrev pub statements_in : List Said → List Statement
 statements_in lines = map (λ line. line.statement) lines
 
+-- what a session's lines were answered
 abbrev pub answers_in : List Said → List Answer
 answers_in lines = map (λ line. line.answer) lines
 
@@ -46,12 +48,14 @@ Drained base history place session [] = Unit {0}
 Drained base history place session (line ∷ lines) = line.answer.place ≡ place
     → enters (state_at base history place) session line.statement ≡ true
 
+-- the session's entries of a history whose first entry is its own
 entries_of-own : (session : ℕ) (entry : Entry) (list : List Entry) → entry.session ≡ session
     → entries_of session (entry ∷ list) ≡ entry ∷ entries_of session list
 entries_of-own session entry list own =
     ap (λ b. cond b (entry ∷ entries_of session list) (entries_of session list))
     (ap (λ (n : ℕ). is_of session (record entry { session = n })) own ∙ same_test session)
 
+-- a session's entries of a history whose first entry is another session's: those of the rest
 pub entries_of-other : (session : ℕ) (entry : Entry) (list : List Entry) → entry.session ≢ session
     → entries_of session (entry ∷ list) ≡ entries_of session list
 entries_of-other session entry list apart =
@@ -65,6 +69,7 @@ from_place [] place entry is = absurd (none-some entry is)
 from_place (x ∷ xs) zero entry is = ap (λ e. e ∷ xs) (same_Some x entry is)
 from_place (x ∷ xs) (suc place) entry is = from_place xs place entry is
 
+-- the session's entries from a place on, if the entry there is its own: that one, then those from the next place
 own_from : (history : List Entry) (place session : ℕ) (entry : Entry) → slice_get history place ≡ Some entry
     → entry.session ≡ session
     → entries_of session (drop place history) ≡ entry ∷ entries_of session (drop (suc place) history)
@@ -72,6 +77,7 @@ own_from history place session entry is own =
     ap (entries_of session) (from_place history place entry is)
     ∙ entries_of-own session entry (drop (suc place) history) own
 
+-- if it is another session's: those from the next place
 other_from : (history : List Entry) (place session : ℕ) (entry : Entry) → slice_get history place ≡ Some entry
     → entry.session ≢ session
     → entries_of session (drop place history) ≡ entries_of session (drop (suc place) history)
@@ -79,10 +85,12 @@ other_from history place session entry is apart =
     ap (entries_of session) (from_place history place entry is)
     ∙ entries_of-other session entry (drop (suc place) history) apart
 
+-- a list with one element more, or not, is at least as long
 more_of : (b : Bool) (entry : Entry) (list : List Entry) → length list ≤ length (cond b (entry ∷ list) list)
 more_of true entry list = omega arith
 more_of false entry list = omega arith
 
+-- dropping a front of the history leaves at most as many entries of a session
 count_drop : (session : ℕ) (list : List Entry) (count : ℕ)
     → length (entries_of session (drop count list)) ≤ length (entries_of session list)
 count_drop session list zero = omega arith
@@ -99,6 +107,7 @@ count_from session history first later order =
     (drop-drop (later - first) first history ∙ ap (λ (n : ℕ). drop n history) place)
     (count_drop session (drop first history) (later - first))
 
+-- the step of `fits`: one statement more, logged (`b`) or not, makes no more entries than the session has left
 fits_one : (base : State) (history : List Entry) (session from : ℕ) (statement : Statement) (answer : Answer)
     (statements : List Statement)
     (answers : List Answer) (b : Bool) → from ≤ answer.place
@@ -131,7 +140,7 @@ fits base history session from (statement ∷ statements) (answer ∷ answers) a
     (enters (state_at base history answer.place) session statement) answered.0 answered.1.next answered.2
     (λ place rest. fits base history session place statements answers rest)
 
--- behind a line that doesn't enter
+-- a line that doesn't enter the history leaves the rest of its session's lines to come, at the same place
 pub skipped : (base : State) (history : List Entry) (place session : ℕ) (line : Said) (rest : List Said)
     → Remains base history place session (line ∷ rest)
     → line.answer.place ≡ place
@@ -152,10 +161,11 @@ skipped base history place session line rest left at out =
           (entered base history session (statements_in rest) (answers_in rest))) no;
     }
 
+-- equal lists have equal rests
 tails : (first second : Entry) (xs ys : List Entry) → first ∷ xs ≡ second ∷ ys → xs ≡ ys
 tails first second xs ys same = cc
 
--- behind a line that enters
+-- behind a line whose statement entered at this place, the session has its other lines left from the next place on
 pub entering : (base : State) (history : List Entry) (place session : ℕ) (line : Said) (rest : List Said)
     (entry : Entry)
     → Remains base history place session (line ∷ rest) → line.answer.place ≡ place
@@ -192,7 +202,7 @@ enters_there base history place session line rest left at in' =
     sym (ap (slice_get history) at) ∙ left.answered.1.next
     (ap (λ (n : ℕ). enters (state_at base history n) session line.statement) at ∙ in')
 
--- behind an entry of another session
+-- behind an entry of another session, a session has left what it had left before it
 pub waiting : (base : State) (history : List Entry) (place session : ℕ) (lines : List Said) (entry : Entry)
     → Remains base history place session lines
     → Drained base history place session lines → slice_get history place ≡ Some entry
@@ -219,9 +229,11 @@ pub record Due (place : ℕ) (lines : List Said) : Type 0 where
   pub is : lines ≡ line ∷ rest
   pub at : line.answer.place ≡ place
 
+-- a list with a first element isn't empty
 some_left : (entry : Entry) (list : List Entry) → entry ∷ list ≡ [] → ⊥
 some_left entry list same = cc
 
+-- if the history's entry at a place is the session's, its next line is the one that was answered there
 pub due : (base : State) (history : List Entry) (place session : ℕ) (lines : List Said) (entry : Entry)
     → Remains base history place session lines
     → slice_get history place ≡ Some entry → entry.session ≡ session → Due place lines
@@ -240,7 +252,8 @@ due base history place session (line ∷ rest) entry left is own = elim (same_nu
         let many = ap length (sym (own_from history place session entry is own) ∙ left.mine) in
         omega (arith, few, many)
 
--- at the end of the history no line is left
+-- at the end of the history a session has no line left, unless one stands there without entering (`Drained` excludes
+-- it)
 pub ended : (base : State) (history : List Entry) (place session : ℕ) (lines : List Said)
     → Remains base history place session lines
     → Drained base history place session lines → place ≡ length history → lines ≡ []

@@ -19,6 +19,7 @@ use Rattle.xa_races.specs.CountedHeld.{list_at, answers_of, AreWithin}
 use Rattle.xa_races.proofs.CountedTests.{apart_test}
 use Rattle.xa_races.proofs.CountedHistories.{entries_of-other}
 
+-- past the last list there is the empty one
 list_past : {A : Type 0} (lists : List (List A)) (index : ℕ) → length lists ≤ index → list_at lists index ≡ []
 list_past [] index past = refl
 list_past (one ∷ lists) zero past = absurd (omega (arith, past))
@@ -38,7 +39,7 @@ given_none count session (told ∷ lines) within above =
     ∙ given_none count session lines (All-tail (λ (one : Told). IsSession one.session
     × (one.session ≤ count)) told lines within) above
 
--- and has no entry
+-- a session with a number above all sessions of a history has no entry in it
 none_of : (count session : ℕ) (list : List Entry) → AllOf count list → count < session → entries_of session list ≡ []
 none_of count session [] within above = refl
 none_of count session (entry ∷ list) within above =
@@ -48,6 +49,7 @@ none_of count session (entry ∷ list) within above =
     ∙ none_of count session list (All-tail (λ (e : Entry). (1 ≤ e.session) × (e.session ≤ count)) entry list within)
     above
 
+-- a session's index in a list is its number less 1: sessions count from 1, lists from 0
 pred : (index : ℕ) → suc index - 1 ≡ index
 pred index = omega arith
 

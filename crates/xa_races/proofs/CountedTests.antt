@@ -5,6 +5,7 @@ use Rattle.std.specs.Prelude.{slice_get, nat_lt}
 use Rattle.std.specs.List.{prefix_len, position_or_len}
 use Rattle.std.proofs.lemmas.Bool.Decides.{nat_tests}
 
+-- two numbers are the same or not
 pub same_number : (m n : ℕ) → (m ≡ n) ⊎ (m ≢ n)
 same_number zero zero = inl refl
 same_number zero (suc n) = inr (λ e. absurd (omega arith))
@@ -12,15 +13,19 @@ same_number (suc m) zero = inr (λ e. absurd (omega arith))
 same_number (suc m) (suc n) =
     elim (same_number m n) [ inl is ↦ inl (ap suc is) | inr apart ↦ inr (λ e. apart (omega arith)) ]
 
+-- a number is equal to itself by the test
 pub same_test : (n : ℕ) → (n == n) ≡ true
 same_test n = grind (arith, nat_tests)
 
+-- different numbers are unequal by the test
 pub apart_test : (m n : ℕ) → m ≢ n → (m == n) ≡ false
 apart_test m n apart = grind (arith, nat_tests)
 
+-- numbers that are equal by the test are the same
 pub same_of_test : (m n : ℕ) → (m == n) ≡ true → m ≡ n
 same_of_test m n test = grind (arith, nat_tests)
 
+-- a smaller number is below by the test
 below_test : (m n : ℕ) → m < n → nat_lt m n ≡ true
 below_test m n below = grind (arith, nat_tests)
 
@@ -39,6 +44,7 @@ module _ {A : Type 0} (p : A → Bool) where
       ap (λ n. cond (nat_lt n (length xs)) (Some n) None) is
       ∙ ap (λ b. cond b (Some place) None) (below_test place (length xs) below)
 
+-- within a list there is an element
 pub get_within : {A : Type 0} (xs : List A) (i : ℕ) → i < length xs → (x : A) × (slice_get xs i ≡ Some x)
 get_within [] i within = absurd (omega arith)
 get_within (y ∷ xs) zero within = (y, refl)

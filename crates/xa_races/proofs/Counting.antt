@@ -25,9 +25,11 @@ apart_bytes one other apart = by (pointwise nat_eq one other) refl
     by true same = absurd (apart ((bytes_decides one other).0 same))
     by false other' = other'
 
+-- equal texts are equal byte by byte, by the test
 pub same_bytes : (one other : List ℕ) → one ≡ other → pointwise nat_eq one other ≡ true
 same_bytes one other same = (bytes_decides one other).1 same
 
+-- a text that isn't among those that came came 0 times
 times_none : (text : List ℕ) (came : List (List ℕ)) → All (λ one. one ≢ text) came → times text came ≡ 0
 times_none text [] none = refl
 times_none text (one ∷ came) none =
@@ -38,27 +40,33 @@ times_none text (one ∷ came) none =
     add_none : (n : ℕ) → n ≡ 0 → 0 + n ≡ 0
     add_none n is = omega arith
 
+-- how often a text came, after one more came
 pub times_push : (text one : List ℕ) (came : List (List ℕ))
     → times text (came ++ one ∷ []) ≡ times text came + once_if one text
 times_push text one came = sum_by_push (λ (o : List ℕ). cond (pointwise nat_eq o text) 1 0) came one
 
+-- the texts of two lists of counts, one behind the other, are the texts of each
 pub texts_append : (xs ys : List CameTally) → texts_of (xs ++ ys) ≡ texts_of xs ++ texts_of ys
 texts_append xs ys = map-append (λ (one : CameTally). one.text.items) xs ys
 
+-- counting a text up changes no text
 pub texts_counted : (text : List ℕ) (xs : List CameTally) → texts_of (map (counted_up text) xs) ≡ texts_of xs
 texts_counted text [] = refl
 texts_counted text (one ∷ xs) = ap (λ l. one.text.items ∷ l) (texts_counted text xs)
 
+-- the texts of the first counts are the first texts
 take_texts : (n : ℕ) (xs : List CameTally) → texts_of (take n xs) ≡ take n (texts_of xs)
 take_texts zero xs = refl
 take_texts (suc n) [] = refl
 take_texts (suc n) (one ∷ xs) = ap (λ l. one.text.items ∷ l) (take_texts n xs)
 
+-- the texts of the later counts are the later texts
 drop_texts : (n : ℕ) (xs : List CameTally) → texts_of (drop n xs) ≡ drop n (texts_of xs)
 drop_texts zero xs = refl
 drop_texts (suc n) [] = refl
 drop_texts (suc n) (one ∷ xs) = drop_texts n xs
 
+-- putting a count in puts its text in at the same place
 pub texts_insert : (xs : List CameTally) (n : ℕ) (one : CameTally)
     → texts_of (insert xs n one) ≡ insert (texts_of xs) n one.text.items
 texts_insert xs n one =
@@ -71,12 +79,15 @@ pub all_inserted : {A : Type 0} (P : A → Type 0) (xs : List A) (n : ℕ) (x : 
 all_inserted P xs n x all p =
     All-append P (take n xs) (x ∷ drop n xs) (All-take P n xs all) (All-cons P x (drop n xs) p (All-drop P n xs all))
 
+-- what was put in is there
 contains_new : {A : Type 0} (xs : List A) (n : ℕ) (x : A) → Contains (insert xs n x) x
 contains_new xs n x = Contains-append_right (take n xs) (x ∷ drop n xs) x (0, omega arith, refl)
 
+-- what is in a list is in it with one element more in front
 contains_cons : {A : Type 0} (xs : List A) (y x : A) → Contains xs x → Contains (y ∷ xs) x
 contains_cons xs y x found = (suc found.0, omega (arith, found.1), found.2)
 
+-- what is in a list is in it with one element put in anywhere
 pub contains_inserted : {A : Type 0} (xs : List A) (n : ℕ) (y x : A) → Contains xs x → Contains (insert xs n y) x
 contains_inserted xs zero y x found = contains_cons xs y x found
 contains_inserted [] (suc n) y x found = absurd (omega (arith, found.1))
@@ -100,12 +111,14 @@ pairwise_inserted R trans (y ∷ xs) (suc n) x pairs before behind = (
       (λ one below at. behind one (omega (arith, below)) at),
 )
 
+-- if no count is of a text, the text isn't among those of the counts
 pub apart_listed : (text : List ℕ) (xs : List CameTally) → All (λ one. one.text.items ≢ text) xs → (one : List ℕ)
     → Contains (texts_of xs) one → one ≢ text
 apart_listed text xs none one found =
     All-contains (λ (o : List ℕ). o ≢ text) (texts_of xs) one
     (All-map (λ (o : List ℕ). o ≢ text) (λ (c : CameTally). c.text.items) xs none) found
 
+-- a new text with the count 0 may be put in: it hasn't come
 pub tallied_inserted : (came : List (List ℕ)) (xs : List CameTally) (n : ℕ) (one : CameTally) → one.came ≡ 0
     → All (λ c. c.text.items ≢ one.text.items) xs
     → Tallied came xs → Tallied came (insert xs n one)
@@ -122,12 +135,14 @@ tallied_inserted came xs n one none apart tallied = record {
       tallied.listed;
 }
 
+-- after a count was put in, its text is listed
 pub listed_inserted : (xs : List CameTally) (n : ℕ) (one : CameTally)
     → Contains (texts_of (insert xs n one)) one.text.items
 listed_inserted xs n one =
     subst (λ (l : List (List ℕ)). Contains l one.text.items) (sym (texts_insert xs n one))
     (contains_new (texts_of xs) n one.text.items)
 
+-- after a text came that is listed, counting it up keeps all counts right
 pub tallied_counted : (came : List (List ℕ)) (text : List ℕ) (xs : List CameTally) → Contains (texts_of xs) text
     → Tallied came xs
     → Tallied (came ++ text ∷ []) (map (counted_up text) xs)
@@ -150,6 +165,7 @@ counts_within came xs most few tallied =
     (λ c is. let all = count_by-le-length (λ (o : List ℕ). pointwise nat_eq o c.text.items) came in
     omega (arith, is, all, few)) xs tallied.counts
 
+-- right counts are written as the number of times that each text came
 pub came_texts_are : (came : List (List ℕ)) (number : ℕ) (xs : List CameTally)
     → All (λ one. one.came ≡ times one.text.items came) xs
     → tallies_text number xs ≡ came_texts number came (texts_of xs)
@@ -161,6 +177,7 @@ came_texts_are came number (one ∷ xs) counts =
     ∙ ap (λ t. came_text number (times one.text.items came) one.text.items ++ t)
     (came_texts_are came (number + 1) xs (All-tail (λ (c : CameTally). c.came ≡ times c.text.items came) one xs counts))
 
+-- how many counts are above 0 is how many of the listed texts came
 pub count_seen_is : (came : List (List ℕ)) (xs : List CameTally) → All (λ one. one.came ≡ times one.text.items came) xs
     → count_by (λ one. nat_lt 0 one.came) xs ≡ count_seen came (texts_of xs)
 count_seen_is came [] counts = refl
@@ -172,7 +189,7 @@ count_seen_is came (one ∷ xs) counts =
     (count_seen_is came xs (All-tail (λ (c : CameTally). c.came ≡ times c.text.items came) one xs counts))
     ∙ sym (sum_by-cons (λ (t : List ℕ). cond (nat_lt 0 (times t came)) 1 0) one.text.items (texts_of xs))
 
--- one more of a list was changed
+-- the loop that changes a list's elements: one more was changed
 pub set_next : {A : Type 0} (f : A → A) (xs : List A) (n : ℕ) (x : A) → n < length xs → get_or xs n x ≡ x
     → set (map f (take n xs) ++ drop n xs) n (f x) ≡ map f (take (n + 1) xs) ++ drop (n + 1) xs
 set_next f [] n x below at = absurd (omega (arith, below))
@@ -182,12 +199,14 @@ set_next f (y ∷ xs) (suc n) x below at =
     ap (λ l. f y ∷ l) (set_next f xs n x (omega (arith, below)) at)
     ∙ ap (λ m. map f (take m (y ∷ xs)) ++ drop m (y ∷ xs)) (sym next)
 
+-- a loop that changes an element at a time: the one at its place isn't changed yet
 pub get_next : {A : Type 0} (f : A → A) (xs : List A) (n : ℕ) (d : A) → n < length xs
     → get_or (map f (take n xs) ++ drop n xs) n d ≡ get_or xs n d
 get_next f [] n d below = absurd (omega (arith, below))
 get_next f (y ∷ xs) zero d below = refl
 get_next f (y ∷ xs) (suc n) d below = get_next f xs n d (omega (arith, below))
 
+-- texts that compare as equal are the same
 cmp_same : (xs ys : List ℕ) → slice_cmp nat_cmp xs ys ≡ Equal → xs ≡ ys
 cmp_same [] [] equal = refl
 cmp_same [] (y ∷ ys) equal = absurd cc
@@ -203,13 +222,15 @@ cmp_same (x ∷ xs) (y ∷ ys) equal = by (λ rest. cmp_same xs ys rest) (nat_cm
     by later Greater is =
         absurd (let wrong : Greater ≡ Equal = ap (λ o. ordering_then o (slice_cmp nat_cmp xs ys)) is ∙ equal in cc)
 
--- of two texts that are apart the one comes before, or the other
+-- different texts don't compare as equal
 pub behind_equal : (one other : List ℕ) → Equal ≡ slice_cmp nat_cmp one other → one ≢ other → ComesBefore other one
 behind_equal one other equal apart = absurd (apart (cmp_same one other (sym equal)))
 
+-- a text that compares as greater comes behind the other in the list
 pub behind_greater : (one other : List ℕ) → Greater ≡ slice_cmp nat_cmp one other → ComesBefore other one
 behind_greater one other greater = nat_list_cmp_total.antisymm other one ∙ ap ordering_reverse (sym greater)
 
+-- a text found at a place is that of the count there
 texts_at : (xs : List CameTally) (index : ℕ) (text : List ℕ) → index < length (texts_of xs)
     → get_or (texts_of xs) index text ≡ text
     → (one : CameTally) × (index < length xs) × (get_or xs index one ≡ one) × (one.text.items ≡ text)
@@ -239,6 +260,7 @@ ascending_inserted xs place one apart before behind pairs =
     All-apart : (c : CameTally) → place < length xs → get_or xs place c ≡ c → c.text.items ≢ one.text.items
     All-apart c below at = subst (λ (d : CameTally). d.text.items ≢ one.text.items) at (apart place c below)
 
+-- a list of which a front was changed is as long as before
 pub half_long : {A : Type 0} (f : A → A) (xs : List A) (n : ℕ) → n ≤ length xs
     → length (map f (take n xs) ++ drop n xs) ≡ length xs
 half_long f xs zero within = refl

@@ -25,16 +25,18 @@ use Rattle.xa_orders.specs.Orders.{Told}
 use Rattle.xa_races.specs.CountedRaced.{line_text, rank_in, laid_texts}
 use Rattle.xa_races.specs.CountedHeld.{list_at, answers_of}
 
+-- the same answer, with its place counted from the race's beginning instead of the history's
 abbrev pub earlier : ℕ → Answer → Answer
 earlier count answer = record { place = answer.place - count; reply = answer.reply }
 
--- the state after two histories, one behind the other
+-- the state after two histories, one behind the other, is the one after the second, from the first's
 pub state_over : (base : State) (first second : List Entry)
     → state_after base (first ++ second) ≡ state_after (state_after base first) second
 unfolding state_after
 state_over base [] second = refl
 state_over base (entry ∷ first) second = state_over (after base entry.session entry.statement) first second
 
+-- a front of two lists that is longer than the first: all of the first, and a front of the second
 take_over : (first second : List Entry) (place : ℕ) → length first ≤ place
     → take place (first ++ second) ≡ first ++ take (place - length first) second
 take_over [] second place low = ap (λ n. take n second) (omega arith)
@@ -44,6 +46,7 @@ take_over (entry ∷ first) second (suc place) low =
     ap (λ rest. entry ∷ rest) (take_over first second place (omega (arith, low))
     ∙ ap (λ n. first ++ take n second) (sym next))
 
+-- a place past the first list is a place of the second
 get_over : (first second : List Entry) (place : ℕ) → length first ≤ place
     → slice_get second (place - length first) ≡ slice_get (first ++ second) place
 get_over [] second place low = ap (slice_get second) (omega arith)
@@ -52,6 +55,7 @@ get_over (entry ∷ first) second (suc place) low =
     let next : suc place - suc (length first) ≡ place - length first = omega arith in
     ap (slice_get second) next ∙ get_over first second place (omega (arith, low))
 
+-- lists that are equal with the same front are equal
 same_rest : (xs ys zs : List Entry) → xs ++ ys ≡ xs ++ zs → ys ≡ zs
 same_rest [] ys zs is = is
 same_rest (x ∷ xs) ys zs is = same_rest xs ys zs cc
@@ -138,6 +142,7 @@ module _ (base : State) (first second : List Entry) (session : ℕ) where
   answered_low from (s ∷ statements) [] before = absurd before
   answered_low from (s ∷ statements) (a ∷ answers) before = (omega arith, before.1, before.2)
 
+-- answers that are right after a history `first` are right for a store whose base is the state after it
 pub legal_earlier : (base : State) (first second : List Entry) (known : Known) (statements : List Statement)
     (answers : List Answer) → HoldsAll first known
     → IsLegal base (first ++ second) known statements answers
@@ -160,18 +165,21 @@ legal_earlier base first second known statements answers holds legal =
           (length known.seen) statements answers low legal.answered)));
     }
 
+-- the printed text of an answer has no place in it
 text_earlier : (count : ℕ) (told : Told) (answers : List Answer) (rank : ℕ)
     → line_text told (slice_get (map (earlier count) answers) rank) ≡ line_text told (slice_get answers rank)
 text_earlier count told [] rank = refl
 text_earlier count told (answer ∷ answers) zero = refl
 text_earlier count told (answer ∷ answers) (suc rank) = text_earlier count told answers rank
 
+-- reading at an index of lists that were mapped gives the mapped list that is there
 list_mapped : (f : List Answer → List Answer) → f [] ≡ [] → (lists : List (List Answer)) (index : ℕ)
     → list_at (map f lists) index ≡ f (list_at lists index)
 list_mapped f none [] index = sym none
 list_mapped f none (list ∷ lists) zero = refl
 list_mapped f none (list ∷ lists) (suc index) = list_mapped f none lists index
 
+-- counting places of answers from the race's beginning changes no printed line
 pub laid_earlier : (count : ℕ) (front lines : List Told) (lists : List (List Answer))
     → laid_texts front (answers_of (map (map (earlier count)) lists)) lines ≡ laid_texts front (answers_of lists) lines
 unfolding laid_texts

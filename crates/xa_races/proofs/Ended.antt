@@ -31,6 +31,7 @@ use Rattle.xa_races.proofs.Earlier.{earlier, laid_earlier, state_over}
 use Rattle.xa_races.proofs.Stores.{runs_mine, sessions_mine, sessions_numbered, sessions_long, runs_low, legal_each}
 use Rattle.xa_races.proofs.Stores.{answers_long, whole_begins}
 
+-- each session's answers, as lists
 abbrev pub lists_in : LongOutcome → List (List Answer)
 lists_in outcome = map (λ (answers : Vec Answer Global). answers.items) outcome.answers.items
 

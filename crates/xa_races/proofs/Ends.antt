@@ -39,16 +39,19 @@ get_drop (suc from) (suc place) (entry ∷ list) low =
     let e : suc place - suc from ≡ place - from = omega arith in
     ap (slice_get (drop from list)) e ∙ get_drop from place list (omega (arith, low))
 
+-- what holds of each mapped element holds of each element's image
 pub all_of_mapped : {A B : Type 0} (P : B → Type 0) (f : A → B) (xs : List A) → All P (map f xs) → All (λ x. P (f x)) xs
 all_of_mapped P f [] all = All-nil (λ x. P (f x))
 all_of_mapped P f (x ∷ xs) all = All-cons (λ y. P (f y)) x xs (All-head P (f x) (map f xs) all)
     (all_of_mapped P f xs (All-tail P (f x) (map f xs) all))
 
+-- how many entries there are from a place on
 pub length_drop : (from : ℕ) (list : List Entry) → length (drop from list) ≡ length list - from
 length_drop zero list = omega arith
 length_drop (suc from) [] = omega arith
 length_drop (suc from) (entry ∷ list) = let rest = length_drop from list in omega (arith, rest)
 
+-- what holds of each element's image holds of each mapped element
 pub all_mapped : {A B : Type 0} (P : B → Type 0) (f : A → B) (xs : List A) → All (λ x. P (f x)) xs → All P (map f xs)
 all_mapped P f [] all = All-nil P
 all_mapped P f (x ∷ xs) all = All-cons P (f x) (map f xs) (All-head (λ y. P (f y)) x xs all)
@@ -60,6 +63,7 @@ pub listed_within : (whole : List Entry) (limit from : ℕ) (added : Added) → 
 listed_within whole limit from added is low =
     record { at = get_drop from added.place whole low ∙ is.at; some = is.some; few = is.few }
 
+-- entries of the whole history that were added in the race fit at their places counted from the race's beginning
 pub lists_within : (whole : List Entry) (limit from : ℕ) (raced : List Raced)
     → All (λ one. All (IsListed whole limit) one.said.added.items) raced
     → All (λ one. All (IsWithin (drop from whole) limit from) one.said.added.items) raced
@@ -78,7 +82,7 @@ zip_with R P [] (y ∷ ys) zip all = absurd zip
 zip_with R P (x ∷ xs) [] zip all = absurd zip
 zip_with R P (x ∷ xs) (y ∷ ys) zip all = ((zip.0, all.0), zip_with R P xs ys zip.1 all.1)
 
--- and of each first
+-- what holds of each first element may be added to what holds of pairs
 pub zip_beside : {A B : Type 0} (R : A → B → Type 0) (P : A → Type 0) (xs : List A) (ys : List B) → AllZip R xs ys
     → AllByRecursion P xs
     → AllZip (λ x y. R x y × P x) xs ys
@@ -115,6 +119,7 @@ of_one gate store runs raced all zip = record {
       (recursion_from_All (λ run. run.session.store.value ≡ store) runs all))));
 }
 
+-- a session that raced without a fault has answered all its lines
 answered_of : (gate : ℕ → ℕ → Bool → Type 0) (run : LongRun) (one : Raced) → one.fault ≡ None
     → (is : HasRaced gate run.session run.lines.items one)
     → HasAnswered gate no_state (known_in run.session) (known_in is.mid) run.lines.items one.said.answers.items
@@ -141,11 +146,12 @@ listed_of gate whole limit run one is taken some few =
 pub numbered : (session : EndlessSession) → 1 ≤ (known_in session).number
 numbered session = session.member.pass.state.first
 
--- at most so much as all of them together
+-- a bound for the sessions' numbers: all of them together
 abbrev total : List LongRun → ℕ
 total [] = 0
 total (run ∷ runs) = (known_in run.session).number + total runs
 
+-- no session's number is above the total
 few_of : (runs : List LongRun) (bound : ℕ) → total runs ≤ bound
     → AllByRecursion (λ run. (known_in run.session).number ≤ bound) runs
 few_of [] bound le = tt

@@ -17,15 +17,19 @@ use Rattle.xa_races.proofs.Statements.{own_part}
 abbrev pub Meets : EndlessSession → EndlessSession → Type 0
 Meets old new = (new.store.value ≡ old.store.value) × MeetsFirst (known_in old) (known_in new)
 
+-- a session that does nothing has met others no less than before
 pub meets_itself : (session : EndlessSession) → Meets session session
 meets_itself session = (refl, meets_nobody (known_in session))
 
+-- two meetings, one after the other, are one
 pub meets_through : (old now new : EndlessSession) → Meets old now → Meets now new → Meets old new
 meets_through old now new s t = (t.0 ∙ s.0, meets_again (known_in old) (known_in now) (known_in new) s.1 t.1)
 
+-- a session that does nothing keeps what it had
 pub stays_itself : (session : EndlessSession) → Keeps session session
 stays_itself session = record { store = refl; adds_nothing = keeps_itself (known_in session) }
 
+-- what a session keeps through each of two calls it keeps through both
 pub stays_through : (old now new : EndlessSession) → Keeps old now → Keeps now new → Keeps old new
 stays_through old now new s t =
     record {
@@ -34,7 +38,7 @@ stays_through old now new s t =
           (known_in new) s.adds_nothing t.adds_nothing;
     }
 
--- one element more has changed
+-- the loop over elements: one more has changed as the relation says
 pub zip_set : {S : Type 0} (R : S → S → Type 0) → ((a b c : S) → R a b → R b c → R a c)
     → (before now : List S) (index : ℕ) (new d : S) → index < length now
     → AllZip R before now → R (get_or now index d) new → AllZip R before (set now index new)
@@ -45,7 +49,7 @@ zip_set R through (s ∷ before) (t ∷ now) zero new d below zip step = (throug
 zip_set R through (s ∷ before) (t ∷ now) (suc index) new d below zip step =
     (zip.0, zip_set R through before now index new d (omega (arith, below)) zip.1 step)
 
--- what is true of each changed element was true of it before, where its change keeps it
+-- what is true of each changed element was true of each before, if the change keeps it
 pub all_back : {S : Type 0} (R : S → S → Type 0) (P Q : S → Type 0) → ((a b : S) → R a b → Q b → P a)
     → (before now : List S) → AllZip R before now
     → All Q now → All P before

@@ -6,12 +6,14 @@ use Rattle.xa_races.specs.Race.{part_at, statements_of}
 use Rattle.xa_races.specs.Outcome.{AreListsFrom, IsRacedInLog, IsRacedOn}
 use Rattle.xa_races.specs.HeldOn.{IsHeldInLog, IsHeldEndless}
 
+-- a race held at a gate over a log is a race over that log: the gate only delays sessions
 pub raced_in_log : (gate : ℕ → ℕ → Bool → Type 0) (capacity : ℕ) (lines : List (List ℕ)) (text : List ℕ)
     → IsHeldInLog gate capacity lines text
     → IsRacedInLog capacity lines text
 raced_in_log gate capacity lines text is =
     record { runs = is.runs; outcome = is.outcome; are_runs = is.are_runs; held = is.held; text_is = is.text_is }
 
+-- a race held at a gate over a store without an end is a race over that store: the gate only delays sessions
 pub raced_on : (gate : ℕ → ℕ → Bool → Type 0) (rows : ℕ) (lines : List (List ℕ)) (text : List ℕ)
     → IsHeldEndless gate rows lines text
     → IsRacedOn lines text

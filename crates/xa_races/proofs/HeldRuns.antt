@@ -33,11 +33,13 @@ use Rattle.xa_races.proofs.AtGate.{shut_beside}
 use Rattle.xa_races.proofs.Ended.{ended_over}
 use Rattle.xa_races.proofs.Written.{read_whole}
 
+-- a fault that is passed on has the cause that it had where it arose
 pub passed_on : {A : Type 0} (P : ScriptFault → Type 0) (result : Result A ScriptFault) (passed cause : ScriptFault)
     → result ≡ Err passed → passed ≡ cause → P cause → IfErr result P
 passed_on {A} P result passed cause is same p =
     subst (λ (r : Result A ScriptFault). IfErr r P) (sym is) (subst P (sym same) p)
 
+-- a race of sessions that fails, as a failed race of their lines
 pub ends_beside : (gate : ℕ → ℕ → Bool → Type 0) (capacity : ℕ) (renews : Bool) (from : ℕ) (lines : List Told)
     (before : List EndlessSession) (runs : List LongRun) → AreRunsOf 1 lines before runs → length before ≤ 16
     → AreNumbered 1 before → All (λ session. HoldsAll (seen_by_last before) (known_in session)) before
@@ -58,6 +60,7 @@ ends_beside gate capacity renews from lines before runs are few numbers holds fr
 ends_beside gate capacity renews from lines before runs are few numbers holds from_is within read fault.ThreadRefused
     ends = tt
 
+-- how a race ended depends on state and lines alone, so equal ones may take their place
 pub ends_same : (gate : ℕ → ℕ → Bool → Type 0) (capacity : ℕ) (renews : Bool) (base new : State)
     (lines others : List Told) (f : ScriptFault) → base ≡ new → lines ≡ others
     → EndsBeside gate capacity renews base lines f → EndsBeside gate capacity renews new others f
@@ -65,7 +68,7 @@ ends_same gate capacity renews base new lines others f state same ends =
     subst (λ (s : State). EndsBeside gate capacity renews s others f) state
     (subst (λ (l : List Told). EndsBeside gate capacity renews base l f) same ends)
 
--- in terms of the whole script that was read
+-- how races of a script that was read ended, as a fact on the whole script
 pub ends_read : {A : Type 0} (gate : ℕ → ℕ → Bool → Type 0) (capacity : ℕ) (renews : Bool)
     (result : Result A ScriptFault) (passed cause : ScriptFault) (input rest : Option (List ℕ)) (slice given : List ℕ)
     → result ≡ Err passed
@@ -77,6 +80,7 @@ ends_read gate capacity renews result passed cause input rest slice given is tol
     (read_whole (λ t. EndsRuns gate capacity renews t cause) input rest given read end
     (subst (λ (t : List ℕ). EndsRuns gate capacity renews t cause) same ends))
 
+-- at a gate that is always open a race can't fail since the gate was shut
 pub of_open : (gate : ℕ → ℕ → Bool → Type 0) (capacity : ℕ) (base : State) (lines : List Told)
     → ((session line : ℕ) → gate session line false → ⊥) → (f : ScriptFault) → IsOfRace true f
     → EndsBeside gate capacity true base lines f → IsOfOpen f
@@ -88,6 +92,7 @@ of_open gate capacity base lines never fault.Full of ends = absurd cc
 of_open gate capacity base lines never fault.GateShut of ends = absurd (never ends.session ends.line ends.shut.shut)
 of_open gate capacity base lines never fault.ThreadRefused of ends = inr refl
 
+-- the state after a race is what a session of that store has seen in the end
 pub left_in : (opened : Opened) (rows : ℕ) → opened.store.value.log.rows ≡ rows → 1 ≤ length opened.sessions.items
     → IsLeftIn rows (base_of opened)
 left_in opened rows rows_are some = record {
@@ -99,6 +104,7 @@ left_in opened rows rows_are some = record {
   state_is = refl;
 }
 
+-- the three parts of a script, each with its answers, are one race's text
 pub held_whole : (gate : ℕ → ℕ → Bool → Type 0) (capacity : ℕ) (renews : Bool) (parts : Parts)
     (base first behind : State) (one answers two three : List ℕ) → base ≡ no_state
     → one ≡ told_text base parts.before
@@ -120,11 +126,13 @@ held_whole gate capacity renews parts base first behind one answers two three em
           ∙ ap (λ a. told_text no_state parts.before ++ a) raced.2);
     }
 
+-- before the first race there is no text
 pub held_none : (gate : ℕ → ℕ → Bool → Type 0) (capacity : ℕ) (renews : Bool) (parts : Parts)
     → AreHeld gate capacity renews 0 parts []
 held_none gate capacity renews parts =
     record { count = refl; each = All-nil (IsHeldOnce gate capacity renews parts) }
 
+-- the loop over races: one more gave one text more
 pub held_next : (gate : ℕ → ℕ → Bool → Type 0) (capacity : ℕ) (renews : Bool) (runs : ℕ) (parts : Parts)
     (came : List (List ℕ)) (text : List ℕ) → AreHeld gate capacity renews runs parts came
     → IsHeldOnce gate capacity renews parts text → AreHeld gate capacity renews (runs + 1) parts (came ++ text ∷ [])
@@ -133,6 +141,7 @@ held_next gate capacity renews runs parts came text held once = record {
   each = All-push (IsHeldOnce gate capacity renews parts) came text held.each once;
 }
 
+-- all input was read and the races were held: what is written is what they gave, or a prefix if writing failed
 pub held_written : {A : Type 0} (gate : ℕ → ℕ → Bool → Type 0) (capacity : ℕ) (renews : Bool) (runs : ℕ)
     (result : Result A ScriptFault) (came : List (List ℕ)) (text given : List ℕ) (input rest old new : Option (List ℕ))
     → Consumes input rest given → IsAtEnd rest

@@ -29,6 +29,7 @@ use Rattle.xa_races.proofs.CountedHistories.{Remains, statements_in, answers_in}
 use Rattle.xa_races.proofs.Turns.{Lines, Stands, Goes, said_of, opening_agrees, opening_left, all_empty}
 use Rattle.xa_races.proofs.CountedSchedules.{Ready, goes}
 
+-- what holds of each element holds of the one at a place
 all_at : {A : Type 0} (P : A → Type 0) (list : List A) (place : ℕ) (x : A) → All P list → slice_get list place ≡ Some x
     → P x
 all_at P list place x all found =
@@ -43,6 +44,7 @@ pub record Leads (base : State) (lines : List Told) (texts : List (List ℕ)) (n
   pub state : config.state ≡ new
   pub count : length order ≡ length lines
 
+-- a session has as many answers as statements
 answered_long : (base : State) (history : List Entry) (session : ℕ) (statements : List Statement)
     (answers : List Answer) (from : ℕ)
     → Answered base history session from statements answers → length answers ≡ length statements
@@ -53,6 +55,7 @@ answered_long base history session (statement ∷ statements) (answer ∷ answer
     ap suc (answered_long base history session statements answers
     (next_place base history session statement answer) answered.2)
 
+-- lines made of statements and answers have these statements
 said_statements : (statements : List Statement) (answers : List Answer) → length answers ≡ length statements
     → statements_in (said_of statements answers) ≡ statements
 said_statements [] answers long = refl
@@ -60,6 +63,7 @@ said_statements (statement ∷ statements) [] long = absurd (omega arith)
 said_statements (statement ∷ statements) (answer ∷ answers) long =
     ap (λ l. statement ∷ l) (said_statements statements answers (omega (arith, long)))
 
+-- lines made of statements and answers have these answers
 said_answers : (statements : List Statement) (answers : List Answer) → length answers ≡ length statements
     → answers_in (said_of statements answers) ≡ answers
 said_answers [] [] long = refl
@@ -144,6 +148,7 @@ turn_one base told session mid is = by (told.session == session) refl
     )
     by false other = absurd (none-some mid (sym (ap at other) ∙ is))
 
+-- an order of a single line has one turn, which carries that line out
 one_turn : (base : State) (told : Told) (order : List ℕ) (config : Config) → length order ≡ 1
     → LeadsTo (told ∷ []) (opening (told ∷ []) base) order config
     → config ≡ carried_out told.session told.text (opening (told ∷ []) base) 0
@@ -153,6 +158,7 @@ one_turn base told (session ∷ []) config one leads =
     leads.3 ∙ turned.1 ∙ ap (λ n. carried_out n told.text (opening (told ∷ []) base) 0) (sym turned.0)
 one_turn base told (session ∷ other ∷ order) config one leads = absurd (omega (arith, one))
 
+-- a race of a single line answers it as the sequential server does
 pub one_line : (base : State) (told : Told) (texts : List (List ℕ)) (new : State) → IsRaced base (told ∷ []) texts new
     → (concat texts ≡ answer_to base told.session (read_of told.text))
     × (new ≡ state_then base told.session (read_of told.text))
@@ -165,6 +171,7 @@ one_line base told texts new raced =
       sym led.state ∙ ap (λ (c : Config). c.state) is,
     )
 
+-- a text that came is given by some order of the lines: the law that a race shows no other outcome
 pub came_given : (parts : Parts) (text : List ℕ) → HasCome parts text → (order : List ℕ) × Gives parts order text
 came_given parts text came =
     let led : Leads (told_state no_state parts.before) parts.beside came.texts came.state =
@@ -182,6 +189,7 @@ came_given parts text came =
       },
     )
 
+-- if some outcome has the text, the text is among those of the outcomes
 in_mapped : (outcomes : List Outcome) (order text : List ℕ)
     → Any (λ one. (one.text.items ≡ text) × AtMost one.order.items order) outcomes
     → Contains (map (λ one. one.text.items) outcomes) text
@@ -199,6 +207,7 @@ came_outcome parts outcomes text explored came =
     let given = came_given parts text came in
     (given.0, explored.all given.0 text given.1)
 
+-- a text that came is among the outcomes, if all are listed
 pub came_listed : (parts : Parts) (outcomes : List Outcome) (text : List ℕ) → IsExplored parts outcomes
     → HasCome parts text
     → Contains (map (λ one. one.text.items) outcomes) text

@@ -25,7 +25,7 @@ use Rattle.xa_races.specs.LongRace.{IsNewRun, AreNewRuns, AllAnswered, AllLetIn,
 use Rattle.xa_races.specs.declared.long_run.LongRun.{LongRun}
 use Rattle.xa_races.specs.declared.long_outcome.LongOutcome.{LongOutcome}
 
--- one run more
+-- one session and its run more, in a race over a new store
 pub new_more : (store : EndlessStore) (n m : ℕ) (lists : List (List Statement)) (runs : List LongRun)
     (statements : List Statement) (run : LongRun)
     → AreNewRuns store n lists runs → m ≡ length lists + n → IsNewRun store m statements run
@@ -37,6 +37,7 @@ new_more store n m (l ∷ lists) [] statements run are at is = absurd are
 new_more store n m (l ∷ lists) (r ∷ runs) statements run are at is =
     (are.0, new_more store (n + 1) m lists runs statements run are.1 (omega (arith, at)) is)
 
+-- each run of a race over a new store is of a session of that store
 pub new_mine : (store : EndlessStore) (n : ℕ) (lists : List (List Statement)) (runs : List LongRun)
     → AreNewRuns store n lists runs
     → All (λ run. run.session.store.value ≡ store) runs
@@ -47,6 +48,7 @@ new_mine store n (l ∷ lists) (run ∷ runs) are =
     All-cons (λ (r : LongRun). r.session.store.value ≡ store) run runs are.0.store_is
     (new_mine store (n + 1) lists runs are.1)
 
+-- there is a run for each list of statements
 new_long : (store : EndlessStore) (n : ℕ) (lists : List (List Statement)) (runs : List LongRun)
     → AreNewRuns store n lists runs → length runs ≡ length lists
 new_long store n [] [] are = refl
@@ -54,7 +56,7 @@ new_long store n [] (run ∷ runs) are = absurd are
 new_long store n (l ∷ lists) [] are = absurd are
 new_long store n (l ∷ lists) (run ∷ runs) are = ap suc (new_long store (n + 1) lists runs are.1)
 
--- no number is above that of the last
+-- no session of a new race has a number above that of the last
 new_low : (store : EndlessStore) (n count : ℕ) (lists : List (List Statement)) (runs : List LongRun)
     → AreNewRuns store n lists runs
     → n + length lists ≤ count + 1 → All (λ run. (known_in run.session).number ≤ count) runs
@@ -82,6 +84,7 @@ legal_new base history n known statements answers number seen mine legal = recor
       (legal.mine ∙ ap (λ (l : List Entry). l ++ entered base history known.number statements answers) mine);
 }
 
+-- runs that were answered legally, as an answer to each list of statements
 answered_new : (store : EndlessStore) (history : List Entry) (n : ℕ) (lists : List (List Statement))
     (runs : List LongRun) (answers : List (List Answer))
     → AreNewRuns store n lists runs
@@ -98,6 +101,7 @@ answered_new store history n (l ∷ lists) (run ∷ runs) (a ∷ answers) are zi
   answered_new store history (n + 1) lists runs answers are.1 zip.1,
 )
 
+-- if the gate lets in the sessions of new runs, it lets in their lists of statements
 let_in_new : (gate : ℕ → ℕ → Bool → Type 0) (store : EndlessStore) (n : ℕ) (lists : List (List Statement))
     (runs : List LongRun) → AreNewRuns store n lists runs
     → AllByRecursion (λ run. LetsIn gate (known_in run.session).number (length run.lines.items)) runs
@@ -111,7 +115,7 @@ let_in_new gate store n (l ∷ lists) (run ∷ runs) are all = (
   let_in_new gate store (n + 1) lists runs are.1 all.1,
 )
 
--- what the runs of a new store give
+-- what the new runs of a new store come to is the outcome of a long race
 pub long_race : (gate : ℕ → ℕ → Bool → Type 0) (rows count : ℕ) (store : EndlessStore) (lists : List (List Statement))
     (runs : List LongRun)
     (outcome : LongOutcome) → Opens rows count store → AreNewRuns store 1 lists runs → IsLongOutcome gate 0 runs outcome
@@ -147,11 +151,13 @@ long_race gate rows count store lists runs outcome opens are is =
     mine_all (run ∷ runs) [] all zip = absurd zip
     mine_all (run ∷ runs) (session ∷ sessions) all zip = (zip.0.0 ∙ all.0, mine_all runs sessions all.1 zip.1)
 
+-- the run at an index is that of the list there, of a new session with the number `index + n`
 record NewAt (store : EndlessStore) (n index : ℕ) (lists : List (List Statement)) (run : LongRun) : Type 0 where
   pub statements : List Statement
   pub found : slice_get lists index ≡ Some statements
   pub is : IsNewRun store (index + n) statements run
 
+-- the run at an index is that of the list there, of a new session with its number
 new_at : (store : EndlessStore) (n : ℕ) (lists : List (List Statement)) (runs : List LongRun) (index : ℕ)
     (run : LongRun) → AreNewRuns store n lists runs
     → slice_get runs index ≡ Some run → NewAt store n index lists run
@@ -177,7 +183,7 @@ new_at store n (l ∷ lists) (r ∷ runs) (suc index) run are found =
           (λ (m : ℕ). IsNewRun store m at.statements run) same at.is;
     }
 
--- why a race of them fails
+-- a fault that blames one of the new runs blames the race of their lists
 pub blames_race : (gate : ℕ → ℕ → Bool → Type 0) (store : EndlessStore) (lists : List (List Statement))
     (runs : List LongRun) (fault : RaceFault)
     → AreNewRuns store 1 lists runs → BlamesLong gate runs fault → BlamesRace gate lists fault

@@ -23,11 +23,13 @@ use Rattle.xa_races.specs.Overlapping.{RunLine, Lines, AreFreshRuns, AreLinesOf,
 use Rattle.xa_races.proofs.OverlapHistories.{Remains, statements_in, answers_in, entries_of-other}
 use Rattle.xa_races.proofs.OverlapSchedules.{overlap_explained}
 
+-- what holds of each element holds of the one at a place
 all_at : {A : Type 0} (P : A → Type 0) (list : List A) (place : ℕ) (x : A) → All P list → slice_get list place ≡ Some x
     → P x
 all_at P list place x all found =
     subst P (get_or_from_slice_get list place x x found) (all place x (slice_get_within list place x found))
 
+-- what holds place by place of two lists holds of their elements at a place
 zip_at : {A B : Type 0} (R : A → B → Type 0) (xs : List A) (ys : List B) (place : ℕ) (x : A) (y : B) → AllZip R xs ys
     → slice_get xs place ≡ Some x
     → slice_get ys place ≡ Some y → R x y
@@ -37,7 +39,7 @@ zip_at R (a ∷ xs) (b ∷ ys) zero x y all at there =
     subst (λ v. R v y) (same_Some a x at) (subst (R a) (same_Some b y there) all.0)
 zip_at R (a ∷ xs) (b ∷ ys) (suc place) x y all at there = zip_at R xs ys place x y all.1 at there
 
--- a session above all that have entries has none
+-- a session whose number is above that of every session with an entry has no entry
 none_of : (count session : ℕ) (list : List Entry) → ((place : ℕ) (entry : Entry) → slice_get list place ≡ Some entry
     → entry.session ≤ count) → count < session
     → entries_of session list ≡ []
@@ -47,7 +49,7 @@ none_of count session (entry ∷ list) within above =
     entries_of-other session entry list (λ same. absurd (omega arith))
     ∙ none_of count session list (λ place other at. within (suc place) other at) above
 
--- what a run's answers say of its lines
+-- if a new session's answers are legal, all lines of its run remain to be laid into the history from place 0 on
 run_remains : (base : State) (history : List Entry) (session : ℕ) (known : Known) (statements : List Statement)
     (answers : List Answer) (lines : List RunLine)
     → IsLegal base history known statements answers → known ≡ newcomer session
@@ -60,6 +62,7 @@ run_remains base history session known statements answers lines legal fresh give
     (subst (λ (a : List Answer). IsLegal base history (newcomer session) statements a) (sym told) new) in
     record { answered = own.answered; mine = own.mine }
 
+-- a session without lines and without entries has nothing left at the history's beginning
 no_lines : (base : State) (history : List Entry) (session : ℕ) (lines : List RunLine) → lines ≡ []
     → entries_of session history ≡ []
     → Remains base history 0 session lines

@@ -42,7 +42,7 @@ abbrev pub client_of : List RunLine → ClientState
 client_of [] = Idle
 client_of (line ∷ lines) = Called (Given line.statement)
 
--- each session stands so
+-- each session with lines left has called for the next of them, and each other one is idle
 abbrev pub Stands : Lines → Config → Type 0
 Stands lines config = (session : ℕ) → IsSession session
     → slice_get config.clients session ≡ Some (client_of (lines session))
@@ -53,7 +53,7 @@ pub record Goes (lines : Lines) (config : Config) : Type 0 where
   pub overlap : Overlap lines events
   pub run : RunsOn config events
 
--- the session's statement takes effect
+-- the statement that a session has called for can take effect
 effect_now : (config : Config) (session : ℕ) (line : RunLine)
     → slice_get config.clients session ≡ Some (Called (Given line.statement))
     → effect_of config session ItsStatement
@@ -64,7 +64,7 @@ effect_now : (config : Config) (session : ℕ) (line : RunLine)
 unfolding effect_of carried_out
 effect_now config session line found = ap (λ (o : Option ClientState). carried_out o config session) found
 
--- its call returns
+-- the call of a session that has its answer returns what the answer shows
 return_now : (config : Config) (session : ℕ) (line : RunLine) (answer : Answer)
     → slice_get config.clients session ≡ Some (Answered answer)
     → shows_answer line.seen answer ≡ true
@@ -74,7 +74,7 @@ return_now config session line answer found shows =
     ap (λ (o : Option ClientState). returned o config session line.seen) found
     ∙ ap (λ b. cond b (Some (with_client config session Idle)) None) shows
 
--- an idle session calls
+-- an idle session calls for its next line
 call_now : (config : Config) (session : ℕ) (line : RunLine) → slice_get config.clients session ≡ Some Idle
     → observed config (Call session (Given line.statement))
     ≡ Some (with_client config session (Called (Given line.statement)))
@@ -102,9 +102,11 @@ effected config session line =
       clients = set config.clients session (Answered (Replied (reply_to config.state session line.statement)));
     }
 
+-- the configuration after the line took effect and its call returned
 abbrev pub idle_again : Config → ℕ → RunLine → Config
 idle_again config session line = with_client (effected config session line) session Idle
 
+-- after its statement took effect the session has the server's answer to it
 answered_there : (config : Config) (session : ℕ) (line : RunLine)
     → slice_get config.clients session ≡ Some (Called (Given line.statement))
     → slice_get (effected config session line).clients session
@@ -113,6 +115,7 @@ answered_there config session line found =
     get_written config.clients session (Called (Given line.statement))
     (Answered (Replied (reply_to config.state session line.statement))) found
 
+-- after the return the session is idle
 idle_there : (config : Config) (session : ℕ) (line : RunLine)
     → slice_get config.clients session ≡ Some (Called (Given line.statement))
     → slice_get (idle_again config session line).clients session ≡ Some Idle
@@ -121,6 +124,7 @@ idle_there config session line found =
     (Answered (Replied (reply_to config.state session line.statement))) Idle
     (answered_there config session line found)
 
+-- the other sessions stand where they stood
 others_there : (config : Config) (session : ℕ) (line : RunLine) (other : ℕ) → session ≢ other
     → slice_get (idle_again config session line).clients other ≡ slice_get config.clients other
 others_there config session line other apart =
@@ -133,6 +137,7 @@ pub record GoesNext (lines : Lines) (session : ℕ) (rest : List RunLine) (confi
   pub overlap : Overlap (with_lines lines session rest) events
   pub run : RunsOn config (next_call session rest ++ events)
 
+-- the step: one line of a session, in front of events that go on from the state after it
 goes_next : (lines : Lines) (session : ℕ) (line : RunLine) (rest : List RunLine) (config : Config) → Stands lines config
     → slice_get config.clients session ≡ Some (Called (Given line.statement))
     → ((new : Config) → new.state ≡ after config.state session line.statement
@@ -212,6 +217,7 @@ pub record BegunOne (count : ℕ) (lines : Lines) (config : Config) (left : List
   pub called : HaveCalled count lines new
   pub back : (events : List Event) → RunsOn new events → RunsOn config (next_call (suc count) left ++ events)
 
+-- the step: one session more calls for its first line, if it has one, before anything takes effect
 begins_one : (count : ℕ) → count < 16 → (lines : Lines) (config : Config) (left : List RunLine)
     → lines (suc count) ≡ left → HaveCalled (suc count) lines config
     → BegunOne count lines config left
@@ -291,7 +297,7 @@ begins (suc count) within lines config have =
           (one.back (first_calls count lines ++ events) (all.back events run));
     }
 
--- before all calls every session is idle
+-- before the first call every session is idle
 pub none_called : (lines : Lines) (base : State) → HaveCalled 16 lines (opening_config base)
 unfolding opening_config
 none_called lines base = record {
@@ -299,6 +305,7 @@ none_called lines base = record {
   above = λ session own high. absurd (omega arith);
 }
 
+-- the first configuration has the store's base as its state
 pub opening-state : (base : State) → (opening_config base).state ≡ base
 unfolding opening_config
 opening-state base = refl

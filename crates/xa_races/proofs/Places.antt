@@ -10,6 +10,7 @@ use Rattle.decision_log.specs.Known.{AllOf}
 use Rattle.decision_log.proofs.Histories.{all_from_places}
 use Rattle.xa_races.specs.Assembled.{Fits, HasOnly}
 
+-- after an element was set, a place has the new one if it is that place, and else the old one
 get_set : {A : Type 0} (xs : List A) (i k : ℕ) (v w : A) → slice_get (set xs i v) k ≡ Some w
     → ((k ≡ i) × (v ≡ w)) ⊎ (slice_get xs k ≡ Some w)
 get_set [] i k v w is = inr is
@@ -19,7 +20,7 @@ get_set (x ∷ xs) (suc i) zero v w is = inr is
 get_set (x ∷ xs) (suc i) (suc k) v w is =
     ⊎_elim (λ both. inl (ap suc both.0, both.1)) (λ old. inr old) (get_set xs i k v w is)
 
--- one entry more that fits
+-- an entry that fits may be put to its place: the places still have only entries that fit
 pub only_set : (list : List Entry) (limit : ℕ) (places : List (Option Entry)) (index : ℕ) (entry : Entry)
     → HasOnly list limit places
     → Fits list limit index entry → HasOnly list limit (set places index (Some entry))
@@ -30,23 +31,27 @@ only_set list limit places index entry only fits place one is =
     subst (λ n. Fits list limit n one) (sym both.0) (subst (λ e. Fits list limit index e) same fits))
     (λ old. only place one old) (get_set places index place (Some entry) (Some one) is)
 
+-- if every place is empty, no place has an entry
 empty_get : (places : List (Option Entry)) → AllByRecursion (λ place. place ≡ None) places → (place : ℕ) (entry : Entry)
     → slice_get places place ≡ Some (Some entry) → ⊥
 empty_get [] all place entry is = none-some (Some entry) is
 empty_get (one ∷ places) all zero entry is = none-some entry (sym all.0 ∙ same_Some one (Some entry) is)
 empty_get (one ∷ places) all (suc place) entry is = empty_get places all.1 place entry is
 
+-- empty places have only entries that fit
 pub only_none : (list : List Entry) (limit : ℕ) (places : List (Option Entry)) → All (λ place. place ≡ None) places
     → HasOnly list limit places
 only_none list limit places all place entry is =
     absurd (empty_get places (recursion_from_All (λ one. one ≡ None) places all) place entry is)
 
+-- places that are all filled have the entries of the list
 get_some : (entries : List Entry) (place : ℕ) (entry : Entry) → slice_get entries place ≡ Some entry
     → slice_get (map Some entries) place ≡ Some (Some entry)
 get_some [] place entry is = absurd (none-some entry is)
 get_some (one ∷ entries) zero entry is = ap Some is
 get_some (one ∷ entries) (suc place) entry is = get_some entries place entry is
 
+-- lists of one length with the same elements at all places are the same
 same_lists : (xs ys : List Entry) → length xs ≡ length ys
     → ((place : ℕ) (entry : Entry) → slice_get xs place ≡ Some entry → slice_get ys place ≡ Some entry)
     → xs ≡ ys
@@ -58,6 +63,7 @@ same_lists (x ∷ xs) (y ∷ ys) long at =
     ap (λ e. e ∷ xs) (sym first) ∙ ap (λ l. y ∷ l) (same_lists xs ys (omega (arith, long))
     (λ place entry is. at (suc place) entry is))
 
+-- filled places are as many as entries
 length_some : (entries : List Entry) → length (map Some entries) ≡ length entries
 length_some [] = refl
 length_some (entry ∷ entries) = ap suc (length_some entries)

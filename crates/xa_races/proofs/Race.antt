@@ -21,6 +21,7 @@ pub faults_text-line : (number : ℕ) (text line rest : List ℕ) → lines_of t
 unfolding faults_text
 faults_text-line number text line rest cut = rw cut refl
 
+-- no line is left: no fault is
 pub faults_text-end : (number : ℕ) (text : List ℕ) → (length text == 0) ≡ true → faults_text number (lines_of text) ≡ []
 unfolding faults_text lines_of
 faults_text-end number [] empty = refl
@@ -33,11 +34,13 @@ pub last_session-line : (text line rest : List ℕ) → lines_of text ≡ line �
 unfolding last_session
 last_session-line text line rest cut = rw cut refl
 
+-- no line is left: no session is named
 pub last_session-end : (text : List ℕ) → (length text == 0) ≡ true → last_session (lines_of text) ≡ 0
 unfolding last_session lines_of
 last_session-end [] empty = refl
 last_session-end (x ∷ xs) empty = absurd (let none : length (x ∷ xs) ≡ 0 = grind (arith, common_steps) in omega arith)
 
+-- an element, if there is one, in front of a list
 cons_option-list : {A : Type 0} (first : Option A) (rest : List A)
     → cons_option first rest ≡ option_to_list first ++ rest
 cons_option-list None rest = refl
@@ -52,6 +55,7 @@ statements_of-line session text line rest cut =
     rw cut (cons_option-list (statement_by session (line_of line))
     (filter_map (λ l. statement_by session (line_of l)) (lines_of rest)))
 
+-- no line is left: no statement is
 pub statements_of-end : (session : ℕ) (text : List ℕ) → (length text == 0) ≡ true
     → statements_of session (lines_of text) ≡ []
 unfolding statements_of lines_of
@@ -59,6 +63,7 @@ statements_of-end session [] empty = refl
 statements_of-end session (x ∷ xs) empty =
     absurd (let none : length (x ∷ xs) ≡ 0 = grind (arith, common_steps) in omega arith)
 
+-- the text of two lists of entries: the second's places go on from the first's
 entries_text-append : (place : ℕ) (entries more : List Entry)
     → entries_text place (entries ++ more) ≡ entries_text place entries ++ entries_text (place + length entries) more
 unfolding entries_text
@@ -71,16 +76,18 @@ entries_text-append place (entry ∷ entries) more =
     ∙ sym (append_assoc (entry_text place entry) (entries_text (place + 1) entries)
     (entries_text (place + length (entry ∷ entries)) more))
 
+-- the text of a list of one entry is that entry's text
 entries_text-one : (place : ℕ) (entry : Entry) → entries_text place (entry ∷ []) ≡ entry_text place entry
 unfolding entries_text
 entries_text-one place entry = append-nil (entry_text place entry)
 
+-- a front of a list has the length asked for, within the list
 length_front : {A : Type 0} (xs : List A) (i : ℕ) → i < length xs → length (take i xs) ≡ i
 length_front [] i below = absurd (omega arith)
 length_front (x ∷ xs) zero below = refl
 length_front (x ∷ xs) (suc i) below = ap suc (length_front xs i (omega (arith, below)))
 
--- one entry more
+-- the loop over entries: the text of one more is written
 pub entries_text-more : (entries : List Entry) (place : ℕ) (entry : Entry) → place < length entries
     → entry ≡ get_or entries place entry
     → entries_text 0 (take (place + 1) entries) ≡ entries_text 0 (take place entries) ++ entry_text place entry
@@ -91,11 +98,12 @@ entries_text-more entries place entry below is =
     ∙ ap (λ n. entries_text 0 (take place entries) ++ entries_text n (entry ∷ [])) far
     ∙ ap (λ text. entries_text 0 (take place entries) ++ text) (entries_text-one place entry)
 
+-- the text of no entries is empty
 pub entries_text-none : (place : ℕ) → entries_text place [] ≡ []
 unfolding entries_text
 entries_text-none place = refl
 
--- one answer more
+-- the loop over a session's answers: the text of one more is written
 pub session_text-more : (session : ℕ) (statements : List Bool) (answers : List Answer) (i : ℕ) (statement : Bool)
     (answer : Answer)
     → i < length statements → i < length answers
@@ -128,11 +136,13 @@ session_text-whole session (x ∷ statements) (y ∷ answers) (suc n) enough =
     ap (λ text. placed_text session x y ++ text) (session_text-whole session statements answers n
     (omega (arith, enough)))
 
+-- the text of none of a session's answers is empty
 pub session_text-none : (session : ℕ) (statements : List Bool) (answers : List Answer)
     → session_text session (take 0 statements) (take 0 answers) ≡ []
 unfolding session_text
 session_text-none session statements answers = refl
 
+-- the text of two lists of sessions' answers: the second's numbers go on from the first's
 answers_text-append : (session : ℕ) (lines : List (List ℕ)) (answers more : List (List Answer))
     → answers_text session lines (answers ++ more) ≡ answers_text session lines answers
     ++ answers_text (session + length answers) lines more
@@ -146,6 +156,7 @@ answers_text-append session lines (one ∷ answers) more =
     ∙ sym (append_assoc text (answers_text (session + 1) lines answers)
     (answers_text (session + length (one ∷ answers)) lines more))
 
+-- the text of a list of one session's answers is that session's text
 answers_text-one : (session : ℕ) (lines : List (List ℕ)) (answers : List Answer)
     → answers_text session lines (answers ∷ []) ≡ session_text session
     (map converts (statements_of session lines)) answers
@@ -153,16 +164,19 @@ unfolding answers_text
 answers_text-one session lines answers =
     append-nil (session_text session (map converts (statements_of session lines)) answers)
 
+-- the text of no sessions' answers is empty
 pub answers_text-none : (session : ℕ) (lines : List (List ℕ)) → answers_text session lines [] ≡ []
 unfolding answers_text
 answers_text-none session lines = refl
 
+-- mapping a front is taking the front of the mapped list
 map_take : {A B : Type 0} (f : A → B) (xs : List A) (n : ℕ) → map f (take n xs) ≡ take n (map f xs)
 map_take f [] zero = refl
 map_take f [] (suc n) = refl
 map_take f (x ∷ xs) zero = refl
 map_take f (x ∷ xs) (suc n) = ap (λ l. f x ∷ l) (map_take f xs n)
 
+-- mapping a front that is one longer adds the mapped element at the end
 pub map_more : {A B : Type 0} (f : A → B) (xs : List A) (i : ℕ) (x : A) → i < length xs → x ≡ get_or xs i x
     → map f (take (i + 1) xs) ≡ map f (take i xs) ++ f x ∷ []
 map_more f [] i x below is = absurd (omega arith)
@@ -171,7 +185,7 @@ map_more f (y ∷ xs) (suc i) x below is =
     let next : suc i + 1 ≡ suc (i + 1) = omega arith in
     rw next (ap (λ l. f y ∷ l) (map_more f xs i x (omega (arith, below)) is))
 
--- what f gives of one item more
+-- the step of a loop that maps: with f of one item more, the items done are mapped
 pub mapped_more : {A B : Type 0} (f : A → B) (xs : List A) (i : ℕ) (x : A) (done now : List B) (y : B) → i < length xs
     → x ≡ get_or xs i x
     → done ≡ map f (take i xs) → y ≡ f x → now ≡ done ++ y ∷ [] → now ≡ map f (take (i + 1) xs)
@@ -179,6 +193,7 @@ mapped_more f xs i x done now y below is before gives pushed =
     pushed ∙ ap (λ l. l ++ y ∷ []) before ∙ ap (λ b. map f (take i xs) ++ b ∷ []) gives
     ∙ sym (map_more f xs i x below is)
 
+-- a mapped front has the front's length
 length_map_take : {A B : Type 0} (f : A → B) (xs : List A) (i : ℕ) → i < length xs → length (map f (take i xs)) ≡ i
 length_map_take f [] i below = absurd (omega arith)
 length_map_take f (x ∷ xs) zero below = refl
@@ -209,6 +224,7 @@ pub moved : {A : Type 0} (whole before now left piece rest : List A) → whole �
 moved whole before now left piece rest w l n =
     w ∙ ap (λ t. before ++ t) l ∙ sym (append_assoc before piece rest) ∙ ap (λ t. t ++ rest) (sym n)
 
+-- elements that were moved one by one to another list: when none is left, all are there
 pub moved_whole : {A : Type 0} (whole now left : List A) → whole ≡ now ++ left → left ≡ [] → now ≡ whole
 moved_whole whole now left w none = sym (w ∙ ap (λ t. now ++ t) none ∙ append-nil now)
 

@@ -15,22 +15,27 @@ use Rattle.xa_store.specs.declared.run.Run.{Run}
 use Rattle.xa_xid.specs.declared.statement.Statement.{Statement}
 use Rattle.xa_races.specs.Race.{AreRunsFrom, part_at, statements_of}
 
+-- mapping a list with one element behind it puts the mapped element behind
 pub map_push : {A B : Type 0} (f : A → B) (xs : List A) (x : A) → map f (xs ++ x ∷ []) ≡ map f xs ++ f x ∷ []
 map_push f [] x = refl
 map_push f (y ∷ xs) x = ap (λ l. f y ∷ l) (map_push f xs x)
 
+-- mapping leaves the length
 pub length_mapped : {A B : Type 0} (f : A → B) (xs : List A) → length (map f xs) ≡ length xs
 length_mapped f [] = refl
 length_mapped f (x ∷ xs) = ap suc (length_mapped f xs)
 
+-- what holds of each mapped element holds of each element's image
 pub all_of_mapped : {A B : Type 0} (P : B → Type 0) (f : A → B) (xs : List A) → All P (map f xs) → All (λ x. P (f x)) xs
 all_of_mapped P f [] all = All-nil (λ x. P (f x))
 all_of_mapped P f (x ∷ xs) all = All-cons (λ y. P (f y)) x xs (All-head P (f x) (map f xs) all)
     (all_of_mapped P f xs (All-tail P (f x) (map f xs) all))
 
+-- None is never Some
 never : {A : Type 0} (x : A) → None ≡ Some x → ⊥
 never x is = cc
 
+-- what is found in a front is in the list
 pub get_taken : {A : Type 0} (n : ℕ) (xs : List A) (place : ℕ) (x : A) → slice_get (take n xs) place ≡ Some x
     → slice_get xs place ≡ Some x
 get_taken zero xs place x is = absurd (never x is)
@@ -49,7 +54,7 @@ runs_belong identity n passes taken runs belong cut are =
     let AllBelong : List Pass → Type 0 = λ list. All Belongs list in
     all_of_mapped Belongs (λ run. run.pass) runs (subst AllBelong (sym (are ∙ cut)) (All-take Belongs n passes belong))
 
--- their log has the room that it was opened with
+-- the log of all runs has the room that it was opened with
 pub have_room : (identity : LogIdentity) (capacity : ℕ) (runs : List Run) → All (λ run. log_of run.pass ≡ identity) runs
     → identity.capacity ≡ capacity
     → All (λ run. (log_of run.pass).capacity ≡ capacity) runs
@@ -60,10 +65,12 @@ have_room identity capacity (run ∷ runs) belong room =
     (ap (λ i. i.capacity) (All-head Belongs run runs belong) ∙ room)
     (have_room identity capacity runs (All-tail Belongs run runs belong) room)
 
+-- the first element, or this if there is none
 abbrev head_or : {A : Type 0} → List A → A → A
 head_or [] d = d
 head_or (x ∷ xs) d = x
 
+-- the elements after the first
 abbrev tail_of : {A : Type 0} → List A → List A
 tail_of [] = []
 tail_of (x ∷ xs) = xs
@@ -94,7 +101,7 @@ runs_from session lines (run ∷ runs) (pass ∷ passes) (list ∷ lists) zipped
           (let same : suc index + session ≡ index + (session + 1) = omega arith in same)),
     )
 
--- their passes are the passes, where there is a list for each
+-- the passes of runs are those that they were made of, if there is a list for each
 pub passes_of : (runs : List Run) (passes : List Pass) (lists : List (Vec Statement Global))
     → map (λ run. (run.pass, run.lines)) runs ≡ zip passes lists
     → length passes ≤ length lists
@@ -117,12 +124,14 @@ part_within items [] index d below = absurd (omega arith)
 part_within items (one ∷ lists) zero d below = refl
 part_within items (one ∷ lists) (suc index) d below = part_within items lists index d (omega (arith, below))
 
+-- past the last list there is the empty one
 pub part_beyond : {V A : Type 0} (items : V → List A) (lists : List V) (index : ℕ) → length lists ≤ index
     → [] ≡ part_at (map items lists) index
 part_beyond items [] index beyond = refl
 part_beyond items (one ∷ lists) zero beyond = absurd (omega (arith, beyond))
 part_beyond items (one ∷ lists) (suc index) beyond = part_beyond items lists index (omega (arith, beyond))
 
+-- within a list the value for a missing element doesn't matter
 pub get_or-any : {A : Type 0} (xs : List A) (index : ℕ) (d e : A) → index < length xs
     → get_or xs index d ≡ get_or xs index e
 get_or-any [] index d e below = absurd (omega arith)
@@ -136,11 +145,12 @@ part_at-map items f [] index = refl
 part_at-map items f (list ∷ lists) zero = refl
 part_at-map items f (list ∷ lists) (suc index) = part_at-map items f lists index
 
+-- pairs that are taken apart and put together are the same
 pub map_same : {A B : Type 0} (pairs : List (A × B)) → map (λ p. (p.0, p.1)) pairs ≡ pairs
 map_same [] = refl
 map_same (pair ∷ pairs) = ap (λ l. pair ∷ l) (map_same pairs)
 
--- as many runs as passes were kept
+-- there are as many runs as passes that were kept: as many as sessions are named, and at least one
 pub runs_count : (n : ℕ) (passes taken : List Pass) (runs : List Run) → length passes ≡ max n 1 → taken ≡ take n passes
     → map (λ run. run.pass) runs ≡ taken
     → length runs ≡ n

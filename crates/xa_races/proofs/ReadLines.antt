@@ -16,7 +16,7 @@ use Rattle.xa_races.proofs.RaceRuns.{map_push}
 use Rattle.xa_races.proofs.Race.{faults_text-line, faults_text-end, last_session-line, last_session-end}
 use Rattle.xa_races.proofs.Race.{statements_of-line, statements_of-end, moved, moved_whole}
 
--- one empty list more
+-- an empty list behind others changes nothing: past the last list there is the empty one anyway
 pub part_at-more : {A : Type 0} (lists : List (List A)) (index : ℕ)
     → part_at (lists ++ [] ∷ []) index ≡ part_at lists index
 part_at-more [] zero = refl
@@ -24,6 +24,7 @@ part_at-more [] (suc index) = refl
 part_at-more (list ∷ lists) zero = refl
 part_at-more (list ∷ lists) (suc index) = part_at-more lists index
 
+-- lists that are all empty still are with an empty one behind them
 pub empty_more : {V A : Type 0} (items : V → List A) (lists new : List V) (one : V) → new ≡ lists ++ one ∷ []
     → items one ≡ []
     → ((index : ℕ) → part_at (map items lists) index ≡ []) → (index : ℕ) → part_at (map items new) index ≡ []
@@ -50,10 +51,11 @@ gains_at items (one ∷ lists) (suc place) list d x below is (suc index) =
     let same : (suc place == suc index) ≡ (place == index) = grind (arith, nat_tests) in
     rw same (gains_at items lists place list d x (omega (arith, below)) is index)
 
--- sessions are counted from 1
+-- sessions are counted from 1 and their lists from 0
 same_place : (session index : ℕ) → 1 ≤ session → (session - 1 == index) ≡ (session == index + 1)
 same_place session index some = grind (arith, nat_tests)
 
+-- a statement put behind a session's list: that session gains it, and the others gain nothing
 pub gains : {V : Type 0} (items : V → List Statement) (lists new : List V) (session place : ℕ) (list d : V)
     (statement : Statement) → 1 ≤ session
     → place ≡ session - 1 → place < length lists → new ≡ slice_set lists place list
@@ -64,16 +66,18 @@ gains items lists new session place list d statement some at below now is index 
     ∙ ap (λ b. part_at (map items lists) index ++ option_to_list (cond b (Some statement) None))
     (ap (λ n. n == index) at ∙ same_place session index some)
 
+-- a fault of reading a line's text, as the reader of statements reports it
 pub unread_at : (read : Result Statement ℕ) (fault : SyntaxFault) → Err fault ≡ seen_of read → read ≡ Err fault.at
 unread_at (Ok statement) fault is = cc
 unread_at (Err place) fault is = cc
 
+-- a line that can't be read gives no statement to any session
 given_nothing : (b : Bool) (read : Result Statement ℕ) (place : ℕ) → read ≡ Err place
     → cond b (statement_read read) None ≡ None
 given_nothing true read place is = ap statement_read is
 given_nothing false read place is = refl
 
--- a line whose statement isn't read
+-- a line whose statement isn't read adds one fault to the script, and no statement
 pub takes_unread : {A E : Type 0} (result : Result A E) (number session : ℕ) (text : List ℕ) (place : ℕ)
     (old new : RaceScript) → read_of text ≡ Err place
     → OnOk result (new.faults.items ≡ old.faults.items ++ fault_text number (Some place))
@@ -96,11 +100,13 @@ pub record IsReadUpTo (script rest : List ℕ) (number : ℕ) (given : RaceScrip
   pub lists : (index : ℕ) → statements_of (index + 1) (lines_of script)
       ≡ part_at (map (λ list. list.items) given.lists.items) index ++ statements_of (index + 1) (lines_of rest)
 
+-- before the first line nothing was read
 pub has_read_nothing : (given : RaceScript) → given.faults.items ≡ [] → given.greatest ≡ 0
     → ((index : ℕ) → part_at (map (λ list. list.items) given.lists.items) index ≡ []) → HasRead [] given
 unfolding faults_text last_session statements_of
 has_read_nothing given faults greatest empty = record { faults = faults; greatest = greatest; lists = empty }
 
+-- before the first line nothing was read, as the loop over the lines states it
 pub read_nothing : (script : List ℕ) (given : RaceScript) → HasRead [] given → IsReadUpTo script script 1 given
 unfolding faults_text last_session statements_of
 read_nothing script given r = record {
@@ -109,6 +115,7 @@ read_nothing script given r = record {
   lists = λ index. ap (λ l. l ++ statements_of (index + 1) (lines_of script)) (sym (r.lists index));
 }
 
+-- the loop over lines: one was read, and those after it are left
 pub read_more : (script rest line lines : List ℕ) (number : ℕ) (given new : RaceScript)
     → lines_of rest ≡ line ∷ lines_of lines
     → TakesLine number (line_of line) given new → IsReadUpTo script rest number given
@@ -120,6 +127,7 @@ read_more script rest line lines number given new cut takes r = record {
       (takes.lists index);
 }
 
+-- when no text is left, all lines of the script were read
 pub read_all_lines : (script rest : List ℕ) (number : ℕ) (given : RaceScript) → (length rest == 0) ≡ true
     → IsReadUpTo script rest number given
     → HasRead (lines_of script) given

@@ -108,11 +108,12 @@ entered_where_longer statement answer old new answered longer =
     by true is = is
     by false is = let whole = (answered.outside is).whole in absurd (omega (arith, whole, longer))
 
--- a session that rests
+-- a session that says nothing adds nothing
 pub rests_itself : (known : Known) → AddsNothing known known
 rests_itself known =
     record { number = refl; seen = begins_itself known.seen; mine = refl; looks = omega arith; tries = refl }
 
+-- a session that adds nothing, and then only sees more, adds nothing in both calls together
 pub rests_more : (old now new : Known) → AddsNothing old now → HasOnlySeen now new → AddsNothing old new
 rests_more old now new rests seen = record {
   number = seen.number ∙ rests.number;

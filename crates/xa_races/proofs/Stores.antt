@@ -25,6 +25,7 @@ use Rattle.xa_races.specs.CountedHeld.{list_at, AreNumbered, AreRunsOf}
 use Rattle.xa_races.specs.Came.{IsOfRace}
 use Rattle.xa_races.proofs.Earlier.{earlier, legal_earlier}
 
+-- the fault of a race over a store without an end is one that the clauses on races allow
 pub race_fault : (gate : ℕ → ℕ → Bool → Type 0) (renews : Bool) (runs : List LongRun) (fault : RaceFault)
     → BlamesLong gate runs fault
     → IsOfRace renews (script_fault_of fault)
@@ -46,7 +47,7 @@ runs_mine store n lines (session ∷ sessions) (run ∷ runs) are all =
     (ap (λ (s : EndlessSession). s.store.value) are.0 ∙ All-head Mine session sessions all)
     (runs_mine store (n + 1) lines sessions runs are.2 (All-tail Mine session sessions all))
 
--- and so are the sessions that come back
+-- the sessions that come back from runs are of the same store as those that went out
 pub sessions_mine : (store : EndlessStore) (runs : List LongRun) (sessions : List EndlessSession)
     → All (λ run. run.session.store.value ≡ store) runs
     → AllZip (λ run session. (session.store.value ≡ run.session.store.value)
@@ -60,7 +61,7 @@ sessions_mine store (run ∷ runs) (session ∷ sessions) all zip =
     All-cons (λ (s : EndlessSession). s.store.value ≡ store) session sessions (zip.0.0 ∙ All-head Mine run runs all)
     (sessions_mine store runs sessions (All-tail Mine run runs all) zip.1)
 
--- each has its number
+-- the sessions that come back are numbered as those that went out
 pub sessions_numbered : (n : ℕ) (lines : List Told) (before : List EndlessSession) (runs : List LongRun)
     (sessions : List EndlessSession)
     → AreRunsOf n lines before runs → AreNumbered n before
@@ -77,7 +78,7 @@ sessions_numbered n lines (one ∷ before) (run ∷ runs) (session ∷ sessions)
   sessions_numbered (n + 1) lines before runs sessions are.2 numbered.1 zip.1,
 )
 
--- there are as many
+-- as many sessions come back as went out
 pub sessions_long : (n : ℕ) (lines : List Told) (before : List EndlessSession) (runs : List LongRun)
     (sessions : List EndlessSession)
     → AreRunsOf n lines before runs
@@ -142,6 +143,7 @@ legal_each first second n lines (session ∷ sessions) (run ∷ runs) (own ∷ a
     (legal_each first second (n + 1) lines sessions runs answers are.2 numbered.1
     (All-tail Holds session sessions holds) legal.1 index (omega (arith, below)))
 
+-- there are as many lists of answers as sessions: each session has a run, and each run its answers
 pub answers_long : (first second : List Entry) (n : ℕ) (lines : List Told) (sessions : List EndlessSession)
     (runs : List LongRun) (answers : List (List Answer))
     → AreRunsOf n lines sessions runs

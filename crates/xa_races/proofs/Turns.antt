@@ -42,12 +42,14 @@ Agrees lines answers texts = ⊥
 abbrev pub Owed : Type 0
 Owed = Result Statement ℕ × List ℕ
 
+-- the lines of a session that have no answer yet (an empty text), each with the answer that it is to get
 abbrev pub left : ℕ → List Told → List (List ℕ) → List (List ℕ) → List Owed
 left session (told ∷ lines) (answer ∷ answers) (text ∷ texts) =
     cond (is_left session (told, answer)) ((read_of told.text, text) ∷ left session lines answers texts)
     (left session lines answers texts)
 left session lines answers texts = []
 
+-- how many lines have no answer yet
 abbrev pub empties : List (List ℕ) → ℕ
 empties [] = 0
 empties (answer ∷ answers) = cond (is_empty_line answer) (suc (empties answers)) (empties answers)
@@ -65,14 +67,17 @@ pub record Next (session : ℕ) (lines : List Told) (answers texts : List (List 
       ≡ left other lines answers texts
   pub fewer : empties answers ≡ suc (empties (slice_set answers place text))
 
+-- the first element, or this if there is none
 abbrev head_or : {A : Type 0} → List A → A → A
 head_or [] d = d
 head_or (x ∷ xs) d = x
 
+-- the elements after the first
 abbrev tail_of : {A : Type 0} → List A → List A
 tail_of [] = []
 tail_of (x ∷ xs) = xs
 
+-- equal lists of pairs have equal first pairs and equal rests
 heads : {A B : Type 0} (x y : A) (a b : B) (xs ys : List (A × B)) → (x, a) ∷ xs ≡ (y, b) ∷ ys
     → (x ≡ y) × (a ≡ b) × (xs ≡ ys)
 heads {A} {B} x y a b xs ys same = (
@@ -81,14 +86,17 @@ heads {A} {B} x y a b xs ys same = (
   ap (λ (l : List (A × B)). tail_of {A = A × B} l) same,
 )
 
+-- if both of two tests hold, so does the first
 and_first : (a b : Bool) → (a && b) ≡ true → a ≡ true
 and_first true b both = refl
 and_first false b both = both
 
+-- if both of two tests hold, so does the second
 and_second : (a b : Bool) → (a && b) ≡ true → b ≡ true
 and_second true b both = both
 and_second false b both = absurd cc
 
+-- both don't hold if the second doesn't
 and_false : (a : Bool) → (a && false) ≡ false
 and_false true = refl
 and_false false = refl
@@ -100,11 +108,13 @@ not_its session other told answer its apart =
     ap (λ b. b && is_empty_line answer) (apart_test told.session other
     (λ same. apart (sym same ∙ same_of_test told.session session its)))
 
+-- a line that has an answer isn't left
 filled_not : (session : ℕ) (told : Told) (text : List ℕ) → is_empty_line text ≡ false
     → is_left session (told, text) ≡ false
 filled_not session told text filled =
     ap (λ b. (told.session == session) && b) filled ∙ and_false (told.session == session)
 
+-- the first line that a session has left can be answered next; the other sessions' lines stay as they are
 pub next : (session : ℕ) (lines : List Told) (answers texts : List (List ℕ)) (read : Result Statement ℕ) (text : List ℕ)
     (rest : List Owed)
     → is_empty_line text ≡ false → Agrees lines answers texts → left session lines answers texts ≡ (read, text) ∷ rest
@@ -189,22 +199,28 @@ next session (told ∷ lines) (answer ∷ answers) (last ∷ texts) read text re
 abbrev pub Lines : Type 0
 Lines = ℕ → List Said
 
+-- the lines of all sessions, with those of one session replaced
 abbrev pub with_lines : Lines → ℕ → List Said → Lines
 with_lines lines session rest = λ other. cond (other == session) rest (lines other)
 
+-- after a session's lines were replaced, it has the new ones
 pub lines_own : (lines : Lines) (session : ℕ) (rest : List Said) → with_lines lines session rest session ≡ rest
 lines_own lines session rest = ap (λ b. cond b rest (lines session)) (same_test session)
 
+-- replacing one session's lines leaves those of the others
 pub lines_other : (lines : Lines) (session other : ℕ) (rest : List Said) → other ≢ session
     → with_lines lines session rest other ≡ lines other
 lines_other lines session other rest apart = ap (λ b. cond b rest (lines other)) (apart_test other session apart)
 
+-- the printed answer of a session's line
 abbrev pub said_text : ℕ → Said → List ℕ
 said_text session said = answer_text (decimal session) (reply_text (converts said.statement) said.answer.reply)
 
+-- the statements of a session's lines, each with the answer that it is to get
 abbrev pub owed_by : ℕ → List Said → List Owed
 owed_by session said = map (λ one. (Ok one.statement, said_text session one)) said
 
+-- a printed answer isn't empty, so that an empty text can mark a line without one
 said_filled : (session : ℕ) (said : Said) → is_empty_line (said_text session said) ≡ false
 said_filled session said = ends (decimal session) (reply_text (converts said.statement) said.answer.reply)
   where
@@ -287,7 +303,7 @@ module _ (told : List Told) (texts : List (List ℕ)) (end : State) where
         count = ap suc next'.count ∙ sym found.fewer;
       }
 
--- where no session has anything left, all lines were carried out
+-- if no session has a line left, all lines were carried out
 pub all_filled : (told : List Told) (answers texts : List (List ℕ)) → Agrees told answers texts
     → All (λ one. IsSession one.session) told
     → ((session : ℕ) → IsSession session → left session told answers texts ≡ [])
@@ -329,10 +345,12 @@ all_filled (told ∷ lines) (answer ∷ answers) (text ∷ texts) agrees session
           ap (λ b. cond b (suc (empties answers)) (empties answers)) filled ∙ rest.1,
         )
 
+-- at the beginning no line has an answer
 pub all_empty : (lines : List Told) → empties (replicate (length lines) []) ≡ length lines
 all_empty [] = refl
 all_empty (told ∷ lines) = ap suc (all_empty lines)
 
+-- lines without an answer yet agree with the answers that they are to get
 pub opening_agrees : (front : List Told) (answers : ℕ → List Answer) (lines : List Told)
     → Agrees lines (replicate (length lines) []) (laid_texts front answers lines)
 unfolding laid_texts
@@ -346,12 +364,14 @@ said_of (statement ∷ statements) [] = []
 said_of (statement ∷ statements) (answer ∷ answers) =
     record { statement = statement; answer = answer } ∷ said_of statements answers
 
+-- a session's line counts one more of it: the next line of it gets its next answer
 rank_own : (front : List Told) (told : Told) (session : ℕ) → (told.session == session) ≡ true
     → rank_in (front ++ told ∷ []) session ≡ rank_in front session + 1
 rank_own front told session its =
     sum_by-append (λ one. cond (one.session == session) 1 0) front (told ∷ [])
     ∙ ap (λ b. rank_in front session + sum_by (λ (n : ℕ). n) (cond b 1 0 ∷ [])) its
 
+-- a line of another session doesn't change the session's rank, which counts its own lines
 rank_other : (front : List Told) (told : Told) (session : ℕ) → (told.session == session) ≡ false
     → rank_in (front ++ told ∷ []) session ≡ rank_in front session
 rank_other front told session not_its' =
@@ -371,6 +391,7 @@ from_there (x ∷ xs) (suc place) below =
     let next : suc place + 1 ≡ suc (place + 1) = omega arith in
     (rest.0, rest.1, rest.2 ∙ ap (λ n. rest.0 ∷ drop n (x ∷ xs)) (sym next))
 
+-- a line of the session gives it its statement
 given_own : (session : ℕ) (told : Told) (lines : List Told) (statement : Statement) → (told.session == session) ≡ true
     → read_of told.text ≡ Ok statement
     → statements_of session (told ∷ lines) ≡ statement ∷ statements_of session lines
@@ -379,6 +400,7 @@ given_own session told lines statement its read =
     ap (λ (o : Option Statement). cons_option o (statements_of session lines))
     (ap (λ b. cond b (statement_in (read_of told.text)) None) its ∙ ap statement_in read)
 
+-- a line of another session adds no statement to this session's
 given_other : (session : ℕ) (told : Told) (lines : List Told) → (told.session == session) ≡ false
     → statements_of session (told ∷ lines) ≡ statements_of session lines
 unfolding statements_of
@@ -386,10 +408,12 @@ given_other session told lines other =
     ap (λ (o : Option Statement). cons_option o (statements_of session lines))
     (ap (λ b. cond b (statement_in (read_of told.text)) None) other)
 
+-- no lines give a session no statement
 given_none : (session : ℕ) → statements_of session [] ≡ []
 unfolding statements_of
 given_none session = refl
 
+-- the answers laid out along the lines: each line takes the next answer of its session
 pub laid_one : (front : List Told) (answers : ℕ → List Answer) (told : Told) (lines : List Told)
     → laid_texts front answers (told ∷ lines)
     ≡ line_text told (slice_get (answers told.session) (rank_in front told.session)) ∷ laid_texts
@@ -397,6 +421,7 @@ pub laid_one : (front : List Told) (answers : ℕ → List Answer) (told : Told)
 unfolding laid_texts
 laid_one front answers told lines = refl
 
+-- along no lines no answer is laid
 pub laid_none : (front : List Told) (answers : ℕ → List Answer) → laid_texts front answers [] ≡ []
 unfolding laid_texts
 laid_none front answers = refl
@@ -405,6 +430,7 @@ laid_none front answers = refl
 abbrev left_with : ℕ → Told → List Told → List (List ℕ) → List Owed
 left_with session told lines texts = left session (told ∷ lines) (replicate (length (told ∷ lines)) []) texts
 
+-- at the beginning a session has its own line left, with its answer
 left_own : (session : ℕ) (told : Told) (lines : List Told) (text : List ℕ) (texts : List (List ℕ))
     → (told.session == session) ≡ true
     → left_with session told lines (text ∷ texts) ≡ (read_of told.text, text) ∷ left session lines
@@ -414,6 +440,7 @@ left_own session told lines text texts its =
     (left session lines (replicate (length lines) []) texts))
     its
 
+-- at the beginning a session has no line of another session left
 left_other : (session : ℕ) (told : Told) (lines : List Told) (text : List ℕ) (texts : List (List ℕ))
     → (told.session == session) ≡ false
     → left_with session told lines (text ∷ texts) ≡ left session lines (replicate (length lines) []) texts
@@ -422,6 +449,7 @@ left_other session told lines text texts other =
     (left session lines (replicate (length lines) []) texts))
     other
 
+-- the answer that is laid at a line is the printed answer of that statement
 line_said : (front : List Told) (answers : ℕ → List Answer) (told : Told) (session : ℕ) (statement : Statement)
     (answer : Answer) → told.session ≡ session
     → read_of told.text ≡ Ok statement

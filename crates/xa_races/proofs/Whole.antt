@@ -15,7 +15,7 @@ use Rattle.xa_races.specs.CountedHeld.{AreWithin}
 use Rattle.xa_races.proofs.Turns.{laid_one, laid_none}
 use Rattle.xa_races.proofs.Law.{one_line}
 
--- one line more was laid out
+-- the loop over lines: the answer of one more was laid out
 pub laid_step : (lines : List Told) (answers : ℕ → List Answer) (index : ℕ) (told : Told) (session rank : ℕ)
     (front : List Told) (own : List Answer)
     (whole out more : List ℕ) → index < length lines → told ≡ get_or lines index told → session ≡ told.session
@@ -45,25 +45,27 @@ laid_step lines answers index told session rank front own whole out more below a
     ∙ ap (λ f. more ++ concat (laid_texts f answers (drop (index + 1) lines)))
     (ap (λ t. take index lines ++ t ∷ []) at ∙ sym (take_more lines index told below))
 
+-- past the last line nothing is laid out
 pub laid_end : (lines : List Told) (answers : ℕ → List Answer) (index : ℕ) → length lines ≤ index
     → concat (laid_texts (take index lines) answers (drop index lines)) ≡ []
 laid_end lines answers index past =
     ap (λ l. concat (laid_texts (take index lines) answers l)) (drop_all index lines past)
     ∙ ap concat (laid_none (take index lines) answers)
 
--- the one line at a place
+-- the lines from a place on, cut after one, are the line there
 pub one_there : (lines : List Told) (index : ℕ) (told : Told) → index < length lines → get_or lines index told ≡ told
     → take (index + 1 - index) (drop index lines) ≡ told ∷ []
 one_there lines index told below at =
     let one : index + 1 - index ≡ 1 = omega arith in
     ap (λ n. take n (drop index lines)) one ∙ ap (take 1) (drop_more lines index told below) ∙ ap (λ t. t ∷ []) at
 
+-- what holds of each line holds of a list of one of them
 pub all_of_one : {A : Type 0} (P : A → Type 0) (xs one : List A) (index : ℕ) (x : A) → index < length xs
     → get_or xs index x ≡ x → one ≡ x ∷ [] → All P xs → All P one
 all_of_one P xs one index x below at is all =
     subst (All P) (sym is) (All-cons P x [] (subst P at (All-get_or P xs index x below all)) (All-nil P))
 
--- one line was carried out
+-- a race of one line answered it as the sequential server does
 pub one_raced : (base new : State) (one : List Told) (told : Told) (text : List ℕ) → one ≡ told ∷ []
     → GivesRaced base one text new
     → (text ≡ answer_to base told.session (read_of told.text))
@@ -72,6 +74,7 @@ one_raced base new one told text is raced =
     let line = one_line base told raced.0 new (subst (λ (l : List Told). IsRaced base l raced.0 new) is raced.1) in
     (raced.2 ∙ line.0, line.1)
 
+-- the loop's step: the answer of one line is appended, and the lines after it are still to be answered
 pub each_step : (lines : List Told) (index : ℕ) (told : Told) (state new : State) (answer whole out more : List ℕ)
     → index < length lines
     → get_or lines index told ≡ told
@@ -90,6 +93,7 @@ each_step lines index told state new answer whole out more below at answered is 
     (sym appended)
     ∙ ap (λ s. more ++ told_text s (drop (index + 1) lines)) (sym is)
 
+-- the loop's step: the state goes on by one line
 pub state_step : (lines : List Told) (index : ℕ) (told : Told) (state new whole : State) → index < length lines
     → get_or lines index told ≡ told
     → new ≡ state_then state told.session (read_of told.text)
@@ -99,17 +103,19 @@ state_step lines index told state new whole below at is before =
     before ∙ ap (told_state state) (drop_more lines index told below ∙ ap (λ t. t ∷ drop (index + 1) lines) at)
     ∙ ap (λ s. told_state s (drop (index + 1) lines)) (sym is)
 
+-- past the last line nothing is written
 pub each_end : (lines : List Told) (index : ℕ) (state : State) → length lines ≤ index
     → told_text state (drop index lines) ≡ []
 unfolding told_text
 each_end lines index state past = ap (told_text state) (drop_all index lines past)
 
+-- past the last line the state stays
 pub state_end : (lines : List Told) (index : ℕ) (state : State) → length lines ≤ index
     → told_state state (drop index lines) ≡ state
 unfolding told_state
 state_end lines index state past = ap (told_state state) (drop_all index lines past)
 
--- the parts were raced
+-- the answers of the three parts of a script, of which the middle one was raced, are a text that came
 pub come_whole : (parts : Parts) (base first behind : State) (one answers two three : List ℕ) → base ≡ no_state
     → one ≡ told_text base parts.before
     → first ≡ told_state base parts.before
@@ -127,14 +133,17 @@ come_whole parts base first behind one answers two three empty before state race
       ∙ ap (λ a. told_text no_state parts.before ++ a) raced.2);
 }
 
+-- within a list there is an element
 pub some_at : {A : Type 0} (xs : List A) (index : ℕ) → index < length xs → (x : A) × (get_or xs index x ≡ x)
 some_at [] index below = absurd (omega arith)
 some_at (x ∷ xs) zero below = (x, refl)
 some_at (x ∷ xs) (suc index) below = some_at xs index (omega (arith, below))
 
+-- lines of sessions up to a number, for equal numbers and lines
 pub within_by : (n m : ℕ) (xs ys : List Told) → n ≡ m → ys ≡ xs → AreWithin m xs → AreWithin n ys
 within_by n m xs ys count same within =
     subst (λ (k : ℕ). AreWithin k ys) (sym count) (subst (λ (l : List Told). AreWithin m l) (sym same) within)
 
+-- lines that can be read, for an equal list
 pub read_by : (xs ys : List Told) → ys ≡ xs → All IsReadLine xs → All IsReadLine ys
 read_by xs ys same read = subst (λ (l : List Told). All IsReadLine l) (sym same) read

@@ -16,6 +16,7 @@ read_whole P None rest given read end p = tt
 read_whole P (Some x) None given read end p = absurd read
 read_whole P (Some x) (Some y) given read end p = subst P (sym (read ∙ ap (λ l. given ++ l) end ∙ append-nil given)) p
 
+-- the input was read and the whole text was written: what the job promises after Ok
 pub runs_written : (runs : ℕ) (result : Result Ended ScriptFault) (ended : Ended) (text given : List ℕ)
     (input rest old new : Option (List ℕ))
     → Consumes input rest given → IsAtEnd rest → IsRunsText runs given ended text
@@ -26,6 +27,7 @@ runs_written runs (Ok e) ended text given input rest old new read end is same wr
     (text, subst (λ x. IsRunsText runs given x text) (sym same) is, written)
 runs_written runs (Err fault) ended text given input rest old new read end is same written = tt
 
+-- writing failed: a prefix of the text was written, which is what the job promises after that fault
 pub runs_cut : (renews : Bool) (runs : ℕ) (result : Result Ended ScriptFault) (ended : Ended) (text given : List ℕ)
     (input rest old new : Option (List ℕ))
     → Consumes input rest given → IsAtEnd rest → IsRunsText runs given ended text
@@ -52,10 +54,12 @@ runs_ended renews runs fault.GateShut given input rest old read end keeps of =
 runs_ended renews runs fault.ThreadRefused given input rest old read end keeps of =
     (keeps, read_whole IsWellRead input rest given read end of.1)
 
+-- what wasn't written to is as it was
 keeps_same : (known : Option (List ℕ)) → Keeps known known
 keeps_same None = tt
 keeps_same (Some text) = refl
 
+-- a race failed: nothing was written, and the fault has a cause that the job's clauses name
 pub runs_failed : (renews : Bool) (runs : ℕ) (result : Result Ended ScriptFault) (passed cause : ScriptFault)
     (given : List ℕ)
     (input rest old : Option (List ℕ)) → result ≡ Err passed → passed ≡ cause → Consumes input rest given → IsAtEnd rest
@@ -77,6 +81,7 @@ of_runs renews script fault.Full well of = (of, well)
 of_runs renews script fault.GateShut well of = (of, well)
 of_runs renews script fault.ThreadRefused well of = (of, well)
 
+-- a fault of one race is a fault of the races of a script that is read without a fault
 pub of_runs_failed : {A : Type 0} (renews : Bool) (script : List ℕ) (result : Result A ScriptFault)
     (passed cause : ScriptFault) → result ≡ Err passed
     → passed ≡ cause → IsWellRead script → IsOfRace renews cause → IfErr result (λ f. IsOfRuns renews script f)

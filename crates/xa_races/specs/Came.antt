@@ -34,7 +34,7 @@ IsRunCount runs = (1 ≤ runs) × (runs ≤ 1000000)
 abbrev pub ways_limit : ℕ
 ways_limit = 100000
 
--- how often the text came
+-- how often a text is among those that came
 abbrev pub times : List ℕ → List (List ℕ) → ℕ
 times text came = count_by (λ one. pointwise nat_eq one text) came
 
@@ -59,7 +59,7 @@ seen_text came listed =
     came_texts 1 came listed ++ codes "SEEN " ++ decimal (count_seen came listed) ++ codes " OF "
     ++ decimal (length listed) ++ codes " OUTCOMES\n"
 
--- the same if it isn't known how many outcomes there are
+-- what is written for texts that came, if it isn't known how many outcomes there are
 abbrev pub some_seen_text : List (List ℕ) → List (List ℕ) → List ℕ
 some_seen_text came listed = came_texts 1 came listed ++ codes "SEEN " ++ decimal (count_seen came listed) ++ codes "\n"
 
@@ -116,12 +116,12 @@ IsSomeRunsText runs script text = (ended : Ended) × IsRunsText runs script ende
 abbrev pub AppendsRuns : ℕ → Ended → List ℕ → Option (List ℕ) → Option (List ℕ) → Type 0
 AppendsRuns runs ended script old new = (text : List ℕ) × IsRunsText runs script ended text × Appends old new text
 
--- the writer got a prefix of that
+-- the writer got a prefix of what is written for the script, however its runs end
 abbrev pub AppendsRunsPrefix : ℕ → List ℕ → Option (List ℕ) → Option (List ℕ) → Type 0
 AppendsRunsPrefix runs script old new =
     (ended : Ended) × (text : List ℕ) × IsRunsText runs script ended text × AppendsPrefix old new text
 
--- no line is faulty
+-- no line of the script is faulty
 abbrev pub IsWellRead : List ℕ → Type 0
 IsWellRead script = (script_read script).faults ≡ []
 

@@ -28,12 +28,12 @@ answers_of lists session = list_at lists (session - 1)
 abbrev pub AreWithin : ℕ → List Told → Type 0
 AreWithin sessions lines = All (λ told. IsSession told.session × (told.session ≤ sessions)) lines
 
--- sessions of consecutive numbers, this one first
+-- sessions of consecutive numbers, of which the first has this number
 abbrev pub AreNumbered : ℕ → List EndlessSession → Type 0
 AreNumbered number [] = Unit {0}
 AreNumbered number (session ∷ sessions) = ((known_in session).number ≡ number) × AreNumbered (number + 1) sessions
 
--- so many consecutive numbers, this one first
+-- so many consecutive numbers, of which the first is this one
 abbrev pub numbers_from : ℕ → ℕ → List ℕ
 numbers_from number zero = []
 numbers_from number (suc count) = number ∷ numbers_from (number + 1) count

@@ -60,6 +60,7 @@ laid_texts front answers (told ∷ lines) =
 abbrev pub IsReadLine : Told → Type 0
 IsReadLine told = (statement : Statement) × (read_of told.text ≡ Ok statement)
 
+-- each line of the three parts of a script is one that can be read
 pub record AreRead (parts : Parts) : Type 0 where
   pub before : All IsReadLine parts.before
   pub beside : All IsReadLine parts.beside
@@ -78,7 +79,7 @@ pub record IsRaced (base : State) (lines : List Told) (texts : List (List ℕ)) 
   pub texts_are : texts ≡ laid_texts [] answers lines
   pub new_is : new ≡ state_after base history
 
--- the same, with the texts joined
+-- a race of these lines from this state gave these answers, as one text, and left the new state
 abbrev pub GivesRaced : State → List Told → List ℕ → State → Type 0
 GivesRaced base lines text new = (texts : List (List ℕ)) × IsRaced base lines texts new × (text ≡ concat texts)
 

@@ -41,7 +41,7 @@ pub record IsHeldInLog (gate : ℕ → ℕ → Bool → Type 0) (capacity : ℕ)
   pub held : IsHeld capacity runs outcome
   pub text_is : text ≡ outcome_text lines outcome.history.items (map (λ answers. answers.items) outcome.answers.items)
 
--- the same over a store without an end, whose ring has so many rows
+-- a race held at a gate over a store without an end, whose ring has so many rows, printed this text
 pub record IsHeldEndless (gate : ℕ → ℕ → Bool → Type 0) (rows : ℕ) (lines : List (List ℕ))
     (text : List ℕ) : Type 0 where
   pub lists : List (List Statement)
@@ -68,16 +68,16 @@ pub record EndsEndless (gate : ℕ → ℕ → Bool → Type 0) (lines : List (L
   pub told : fault ≡ script_fault_of raced
   pub blamed : BlamesRace gate lists raced
 
--- NoMemory may come from anywhere; each other fault comes from such a race
+-- why holding a race failed: `NoMemory` may come from anywhere, each other fault comes from the race
 abbrev pub IsCaused : (ScriptFault → Type 0) → ScriptFault → Type 0
 IsCaused Ends fault = (fault ≡ NoMemory) ⊎ Ends fault
 
--- the writer got the text of such a race
+-- the writer got the text of a race that was held so
 abbrev pub AppendsHeld : (List (List ℕ) → List ℕ → Type 0) → List ℕ → Option (List ℕ) → Option (List ℕ) → Type 0
 AppendsHeld IsHeldText script old new = IsReadable script
     → (text : List ℕ) × IsHeldText (lines_of script) text × Appends old new text
 
--- a fault of a stream isn't a race's, and memory may be missing anywhere; each other fault comes from such a race
+-- why a script's race failed: in a stream, for want of memory, which may be missing anywhere, or in the race itself
 abbrev pub IsCausedIn : (List (List ℕ) → ScriptFault → Type 0) → List ℕ → ScriptFault → Type 0
 IsCausedIn Ends script Read = Unit {0}
 IsCausedIn Ends script TooLong = Unit {0}

@@ -53,7 +53,7 @@ pub record IsRacedBy (gate : ℕ → ℕ → Bool → Type 0) (capacity : ℕ) (
   pub fits : FitsIn capacity renews raced.history
   pub opened : AllOpened gate lines
 
--- the same, with the texts joined
+-- a race of these lines at this gate, with so much room, gave these answers, as one text, and left the new state
 abbrev pub GivesRacedBy : (ℕ → ℕ → Bool → Type 0) → ℕ → Bool → State → List Told → List ℕ → State → Type 0
 GivesRacedBy gate capacity renews base lines text new =
     (texts : List (List ℕ)) × IsRacedBy gate capacity renews base lines texts new × (text ≡ concat texts)

@@ -124,7 +124,7 @@ pub record AreOfOne (sessions : List EndlessSession) : Type 0 where
   pub identity : LogIdentity
   pub belong : All (λ session. log_of session.member.pass ≡ identity) sessions
 
--- it is of the same store, has added nothing, and may have seen more
+-- the session is of the same store, has added nothing, and may have seen more
 pub record Keeps (old new : EndlessSession) : Type 0 where
   pub store : new.store.value ≡ old.store.value
   pub adds_nothing : AddsNothing (known_in old) (known_in new)
@@ -144,7 +144,7 @@ pub record IsListed (history : List Entry) (limit : ℕ) (added : Added) : Type 
 abbrev pub seen_by_last : List EndlessSession → List Entry
 seen_by_last sessions = (last_known (map known_in sessions)).seen
 
--- after their threads the sessions have met, and the entries that they added are put together
+-- once their threads ended, the sessions have met, and the entries that they added are put together
 pub record Settles (from : ℕ) (raced : List Raced) (outcome : LongOutcome) : Type 0 where
   pub taken : All (λ one. IsTakenIn (seen_by_last outcome.sessions.items) (known_in one.session)) raced
   pub keeps : AllZip (λ one session. Keeps one.session session) raced outcome.sessions.items

@@ -28,7 +28,7 @@ pub record IsNewRun (store : EndlessStore) (number : ℕ) (statements : List Sta
   pub mine : (known_in run.session).mine ≡ []
   pub lines : run.lines.items ≡ statements
 
--- the runs of consecutive sessions, this one first
+-- runs of consecutive sessions that haven't begun; the first session has this number
 abbrev pub AreNewRuns : EndlessStore → ℕ → List (List Statement) → List LongRun → Type 0
 AreNewRuns store session [] [] = Unit {0}
 AreNewRuns store session [] (run ∷ runs) = ⊥

@@ -110,7 +110,7 @@ pub record IsRacedOn (lines : List (List ℕ)) (text : List ℕ) : Type 0 where
   pub own : AllOf (length lists) history
   pub text_is : text ≡ outcome_text lines history answers
 
--- the text of an outcome
+-- the text is one of a race of these lines, over a log of this capacity or a store without an end
 abbrev pub IsRaced : Option ℕ → List (List ℕ) → List ℕ → Type 0
 IsRaced (Some capacity) lines text = IsRacedInLog capacity lines text
 IsRaced None lines text = IsRacedOn lines text
@@ -128,7 +128,7 @@ IsRaceText room script text = IsRaceTold (faults_text 1 (lines_of script)) room 
 abbrev pub AppendsRace : Option ℕ → List ℕ → Option (List ℕ) → Option (List ℕ) → Type 0
 AppendsRace room script old new = (text : List ℕ) × IsRaceText room script text × Appends old new text
 
--- the writer got a prefix of that
+-- the writer got a prefix of what a race of the script writes
 abbrev pub AppendsRacePrefix : Option ℕ → List ℕ → Option (List ℕ) → Option (List ℕ) → Type 0
 AppendsRacePrefix room script old new = (text : List ℕ) × IsRaceText room script text × AppendsPrefix old new text
 

@@ -35,7 +35,7 @@ pub record RunLine : Type 0 where
 abbrev pub Lines : Type 0
 Lines = ℕ → List RunLine
 
--- the same, but this session has these lines
+-- the lines of all sessions, with those of one session replaced
 abbrev pub with_lines : Lines → ℕ → List RunLine → Lines
 with_lines lines session rest = λ other. cond (other == session) rest (lines other)
 

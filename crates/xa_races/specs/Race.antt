@@ -89,7 +89,7 @@ pub record TakesLine (number : ℕ) (line : Line) (old new : RaceScript) : Type 
   pub lists : Gains (λ session. statement_by session line) (map (λ list. list.items) old.lists.items)
       (map (λ list. list.items) new.lists.items)
 
--- these lines were read
+-- what was read of a script: its faults, its greatest session's number, and each session's statements
 pub record HasRead (lines : List (List ℕ)) (given : RaceScript) : Type 0 where
   pub faults : given.faults.items ≡ faults_text 1 lines
   pub greatest : given.greatest ≡ last_session lines
@@ -100,7 +100,7 @@ pub record IsRun (session : ℕ) (lines : List (List ℕ)) (run : Run) : Type 0 
   pub pass : known_of run.pass ≡ newcomer session
   pub statements : run.lines.items ≡ statements_of session lines
 
--- the runs of consecutive sessions, this one first
+-- the runs of consecutive sessions, of which the first has this number
 abbrev pub AreRunsFrom : ℕ → List (List ℕ) → List Run → Type 0
 AreRunsFrom session lines [] = Unit {0}
 AreRunsFrom session lines (run ∷ runs) = IsRun session lines run × AreRunsFrom (session + 1) lines runs

@@ -20,10 +20,14 @@ pub struct Opened {
     pub store: Arc<EndlessStore>,
     /// Its sessions, from number 1 on, at most 16.
     pub sessions: Vec<EndlessSession>,
+    // All sessions are of this store,
     ghost mine: { All (λ session. session.store.value ≡ store.value) sessions.items },
+    // at most as many as it may have,
     ghost few: { length sessions.items ≤ 16 },
+    // numbered 1, 2, .. in their order.
     ghost numbers: { map (λ session. (known_in session).number) sessions.items
         ≡ numbers_from 1 (length sessions.items) },
+    // The last session has met the others: what it has seen they all have.
     ghost holds: { All (λ session. HoldsAll (seen_by_last sessions.items) (known_in session)) sessions.items },
 }
 

@@ -12,6 +12,8 @@ pub struct RaceScript {
     pub greatest: u64,
     /// The statements of each of the sessions 1 to 16, in order.
     pub lists: Vec<Vec<Statement>>,
+    // Session numbers are at most 16,
     ghost within: { greatest ≤ 16 },
+    // and each has its list of statements.
     ghost all: { vec_len lists ≡ 16 },
 }

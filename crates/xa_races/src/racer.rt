@@ -20,9 +20,13 @@ pub(crate) struct Racer<'g, G> {
     pub(crate) said: Said,
     /// The gate that is asked before each statement.
     pub(crate) gate: &'g G,
+    // Before its thread runs it has no answer,
     ghost none: { said.answers.items ≡ [] },
+    // and no entry.
     ghost nothing: { said.added.items ≡ [] },
+    // There is room for all answers, so no thread takes memory for them.
     ghost answers: { length lines.items ≤ vec_capacity said.answers },
+    // There is room for all entries that it may add, too.
     ghost added: { length lines.items ≤ vec_capacity said.added },
 }
 

@@ -52,6 +52,7 @@ impl Gate for ReshuffledGate {
     ghost may_answer = { λ _ _ _ opened. IsTrue opened };
 
     fn announce(&self, runs: u64) {
+        // Each race begins with the next seed, so it is shuffled otherwise.
         let _before = self.seed.fetch_add(1, Ordering::SeqCst);
         self.together.announce(runs);
     }

@@ -72,6 +72,7 @@ fn place_of(tallies: &[CameTally], text: &[u8]) -> usize
         → ComesBefore text.now one.text.items }
 {
     let mut place = 0;
+    // The texts ascend, so the place is behind all that come before this one.
     while place < tallies.len() && comes_before(tallies[place].text.as_slice(), text) {
         place += 1;
     }

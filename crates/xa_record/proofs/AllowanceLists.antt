@@ -10,21 +10,24 @@ use Rattle.xa_record.specs.declared.statement_kind.StatementKind.{StatementKind}
 use Rattle.xa_record.specs.Allowances.{lets_stand, allowed_for, first_allows, line_allows, allowances_in}
 use Rattle.xa_record.proofs.Effects.{dropped}
 
+-- what is put in front if a test holds, as a list of its own
 if-front : (b : Bool) (x : ℕ) (xs : List ℕ) → (if b then x ∷ xs else xs) ≡ (if b then x ∷ [] else []) ++ xs
 if-front true x xs = refl
 if-front false x xs = refl
 
+-- which of several allowances count for a call: the first, if it does, and then those of the others
 allowed_for-front : (one : Allowance) (more : List Allowance) (kind : StatementKind) (number : ℕ)
     → allowed_for (one ∷ more) kind number ≡ allowed_for (one ∷ []) kind number ++ allowed_for more kind number
 allowed_for-front one more kind number = if-front (lets_stand one kind number) one.rules (allowed_for more kind number)
 
+-- within a list the value for a missing element doesn't matter
 get_or-within : (list : List Allowance) (index : ℕ) (any other : Allowance) → index < length list
     → get_or list index any ≡ get_or list index other
 get_or-within [] index any other within = absurd (omega (arith, within))
 get_or-within (first ∷ more) zero any other within = refl
 get_or-within (first ∷ more) (suc index) any other within = get_or-within more index any other (omega (arith, within))
 
--- one allowance more was gone through
+-- the loop over allowances: one more was gone through
 pub allowed_for-next : (allowances : List Allowance) (kind : StatementKind) (number : ℕ) (whole others longer : List ℕ)
     (index : ℕ) (any : Allowance)
     → index < length allowances → whole ≡ others ++ allowed_for (drop index allowances) kind number
@@ -39,7 +42,7 @@ allowed_for-next allowances kind number whole others longer index any within is 
     (allowed_for (drop (index + 1) allowances) kind number))
     ∙ ap (λ (l : List ℕ). l ++ allowed_for (drop (index + 1) allowances) kind number) (sym parts)
 
--- all were
+-- the loop over allowances ends: all were gone through, and what was collected is what all of them allow
 pub allowed_for-whole : (allowances : List Allowance) (kind : StatementKind) (number : ℕ) (whole others : List ℕ)
     (index : ℕ) → length allowances ≤ index
     → whole ≡ others ++ allowed_for (drop index allowances) kind number → others ≡ whole
@@ -47,11 +50,12 @@ allowed_for-whole allowances kind number whole others index past is =
     sym (is ∙ ap (λ (l : List Allowance). others ++ allowed_for l kind number) (drop_all index allowances past)
     ∙ append-nil others)
 
--- these allowances stand before what is read
+-- the allowances read before, in front of what the lines left allow, unless one of them is faulty
 abbrev pub prepended : List Allowance → Result (List Allowance) ℕ → Result (List Allowance) ℕ
 prepended list (Ok more) = Ok (list ++ more)
 prepended list (Err number) = Err number
 
+-- an allowance that a line gives, if it gives one, goes to the end of those read before
 prepended-first : (list : List Allowance) (found : Option Allowance) (rest : Result (List Allowance) ℕ)
     → prepended list (first_allows (Ok found) rest) ≡ prepended (list ++ option_to_list found) rest
 prepended-first list None (Ok more) = ap (λ (l : List Allowance). Ok (l ++ more)) (sym (append-nil list))
@@ -59,11 +63,12 @@ prepended-first list None (Err number) = refl
 prepended-first list (Some one) (Ok more) = ap (λ (l : List Allowance). Ok l) (sym (append_assoc list (one ∷ []) more))
 prepended-first list (Some one) (Err number) = refl
 
+-- before the first line no allowances were read
 pub prepended-none : (rest : Result (List Allowance) ℕ) → rest ≡ prepended [] rest
 prepended-none (Ok more) = refl
 prepended-none (Err number) = refl
 
--- one line was cut off, and it isn't faulty
+-- the loop over lines: one was cut off that isn't faulty
 pub allowances_in-line : (whole : Result (List Allowance) ℕ) (list longer : List Allowance) (number : ℕ)
     (text line rest : List ℕ) (found : Option Allowance)
     → whole ≡ prepended list (allowances_in number (lines_of text)) → lines_of text ≡ line ∷ lines_of rest
@@ -76,7 +81,7 @@ allowances_in-line whole list longer number text line rest found is cut said par
     ∙ ap (λ (r : Result (Option Allowance) ℕ). prepended list (first_allows r below)) (sym said)
     ∙ prepended-first list found below ∙ ap (λ (l : List Allowance). prepended l below) (sym parts)
 
--- one line was cut off, and it is faulty
+-- the loop over lines: one was cut off that is faulty, and the loop ends
 pub allowances_in-faulty : (whole : Result (List Allowance) ℕ) (list : List Allowance) (number : ℕ)
     (text line rest : List ℕ) (faulty : ℕ)
     → whole ≡ prepended list (allowances_in number (lines_of text)) → lines_of text ≡ line ∷ lines_of rest
@@ -88,7 +93,7 @@ allowances_in-faulty whole list number text line rest faulty is cut said =
     is ∙ ap (λ (l : List (List ℕ)). prepended list (allowances_in number l)) cut
     ∙ ap (λ (r : Result (Option Allowance) ℕ). prepended list (first_allows r below)) (sym said)
 
--- no line is left
+-- the loop over lines ends: no line is left, and the list read so far is the result
 pub allowances_in-end : (whole : Result (List Allowance) ℕ) (list : List Allowance) (number : ℕ) (text : List ℕ)
     → (length text == 0) ≡ true
     → whole ≡ prepended list (allowances_in number (lines_of text)) → whole ≡ Ok list

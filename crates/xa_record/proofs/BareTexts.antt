@@ -27,14 +27,17 @@ use Rattle.xa_record.proofs.TextsTold.{text-tells}
 first_of : (byte : ℕ) (text : List ℕ) → HasNoFeed (byte ∷ text) → not (byte == 10) ≡ true
 first_of byte text free = both_first (not (byte == 10)) (list_all (λ b. not (b == 10)) text) free
 
+-- the bytes after the first have no line feed either
 rest_of : (byte : ℕ) (text : List ℕ) → HasNoFeed (byte ∷ text) → HasNoFeed text
 rest_of byte text free = both_second (not (byte == 10)) (list_all (λ b. not (b == 10)) text) free
 
+-- a text without a line feed has none from a place on
 feed-drop : (count : ℕ) (text : List ℕ) → HasNoFeed text → HasNoFeed (drop count text)
 feed-drop zero text free = free
 feed-drop (suc count) [] free = refl
 feed-drop (suc count) (byte ∷ text) free = feed-drop count text (rest_of byte text free)
 
+-- a text without a line feed has none after its leading blanks
 feed-unblank : (text : List ℕ) → HasNoFeed text → HasNoFeed (unblank text)
 unfolding behind
 feed-unblank [] free = refl
@@ -45,6 +48,7 @@ feed-unblank (byte ∷ text) free = by (belongs BlankByte byte) (feed-unblank te
     by true later = later
     by false later = free
 
+-- a text without a line feed has none backwards
 feed-reverse : (text : List ℕ) → HasNoFeed text → HasNoFeed (reverse text)
 feed-reverse [] free = refl
 feed-reverse (byte ∷ text) free =
@@ -65,6 +69,7 @@ unblank_end (first ∷ text) byte full = by (belongs BlankByte first) (unblank_e
     by true later = later
     by false later = refl
 
+-- what is left after the leading blanks begins with no blank
 begins_full : (text : List ℕ) (byte : ℕ) (more : List ℕ) → unblank text ≡ byte ∷ more → belongs BlankByte byte ≡ false
 unfolding behind
 begins_full [] byte more is = absurd (cc)
@@ -76,6 +81,7 @@ begins_full (first ∷ text) byte more is = by (belongs BlankByte first) refl (b
     by false full later same = let alike : first ≡ byte = cc in
         subst (λ (n : ℕ). belongs BlankByte n ≡ false) alike full
 
+-- trimming the end of a text that begins with no blank leaves its first byte
 trimmed_begins : (byte : ℕ) (more : List ℕ) → belongs BlankByte byte ≡ false
     → trimmed (byte ∷ more) ≡ byte ∷ reverse (unblank (reverse more))
 unfolding trimmed
@@ -84,10 +90,12 @@ trimmed_begins byte more full =
     ∙ ap reverse (unblank_end (reverse more) byte full)
     ∙ reverse-append (unblank (reverse more)) (byte ∷ [])
 
+-- a text that begins with no blank has no leading blanks to drop
 stands_full : (byte : ℕ) (more : List ℕ) → belongs BlankByte byte ≡ false → unblank (byte ∷ more) ≡ byte ∷ more
 unfolding behind
 stands_full byte more full = rw full refl
 
+-- a text without leading blanks has none after its end is trimmed
 bare_where : (text : List ℕ) → ((byte : ℕ) (more : List ℕ) → text ≡ byte ∷ more → belongs BlankByte byte ≡ false)
     → unblank (trimmed text) ≡ trimmed text
 unfolding trimmed behind
@@ -97,41 +105,49 @@ bare_where (byte ∷ more) full =
     let shape : trimmed (byte ∷ more) ≡ byte ∷ reverse (unblank (reverse more)) = trimmed_begins byte more is in
     ap unblank shape ∙ stands_full byte (reverse (unblank (reverse more))) is ∙ sym shape
 
+-- trimming the end of a text without a line feed makes none
 feed-trimmed : (text : List ℕ) → HasNoFeed text → HasNoFeed (trimmed text)
 unfolding trimmed
 feed-trimmed text free = feed-reverse (unblank (reverse text)) (feed-unblank (reverse text) (feed-reverse text free))
 
+-- the text that a line names is bare: it begins with no blank and has no line feed
 trimmed_bare : (text : List ℕ) → HasNoFeed text → IsBare (trimmed (unblank text))
 trimmed_bare text free = record {
   bare = bare_where (unblank text) (λ byte more is. begins_full text byte more is);
   whole = feed-trimmed (unblank text) (feed-unblank text free);
 }
 
--- where a line says that a session calls for a text, that is bare
+-- if a line says that a session calls for a text, that text is bare: no leading blank, no line feed
 abbrev CallsBare : LineSaid → Type 0
 CallsBare (Says (Calls session text)) = IsBare text
 CallsBare said = Unit {0}
 
+-- each reading of a line in turn: of two of which a test takes one, both call for a bare text, or for none
 either : (b : Bool) (one two : LineSaid) → CallsBare one → CallsBare two → CallsBare (if b then one else two)
 either true one two first second = first
 either false one two first second = second
 
+-- a word alone on its line calls for none
 alone_bare : (said : LineSaid) (text : List ℕ) → CallsBare said → CallsBare (alone said text)
 alone_bare said [] is = is
 alone_bare said (byte ∷ text) is = tt
 
+-- a line with a returned value calls for no text, so there is nothing to show
 value_bare : (session : ℕ) (reading : Reading Text) → CallsBare (value_said session reading)
 value_bare session (Ok (value, rest)) = alone_bare (Says (Returns session (ShowsValue (Some value)))) (unblank rest) tt
 value_bare session (Err fault) = tt
 
+-- a line with the number of returned rows calls for no text
 rows_bare : (session : ℕ) (count : Option ℕ) (rest : List ℕ) → CallsBare (rows_said session count rest)
 rows_bare session None rest = tt
 rows_bare session (Some count) rest = alone_bare (Awaits session count) rest tt
 
+-- a line with a returned refusal calls for no text
 error_bare : (session : ℕ) (number : Option ℕ) → CallsBare (error_said session number)
 error_bare session None = tt
 error_bare session (Some number) = either (nat_lt number 65536) _ Bad tt tt
 
+-- a line of a return, of any kind, calls for no text
 return_bare : (session : ℕ) (word text : List ℕ) → CallsBare (return_said session word text)
 unfolding return_said
 return_bare session word text =
@@ -141,12 +157,14 @@ return_bare session word text =
     (either (bytes_eq word (codes "ROWS")) _ _ (rows_bare session (number_of_word (first_word text)) (behind_word text))
     (either (bytes_eq word (codes "ERROR")) _ Bad (error_bare session (leading_number text)) tt))))
 
+-- a line of a lost client calls for no text
 loss_bare : (session : ℕ) (word text : List ℕ) → CallsBare (loss_said session word text)
 unfolding loss_said
 loss_bare session word text =
     either (bytes_eq word (codes "LOST")) _ _ (alone_bare (Says (Leaves session)) text tt)
     (either (bytes_eq word (codes "GONE")) _ Bad (alone_bare (Closed session) text tt) tt)
 
+-- what follows a session's number calls for a bare text at most
 given_bare : (session : ℕ) (text : List ℕ) → HasNoFeed text
     → CallsBare (session_said session (first_word text) (behind_word text))
 unfolding session_said
@@ -160,15 +178,18 @@ given_bare session text free =
     (Says (ReturnsUnknown session)) Bad tt tt)
     (either (bytes_eq sign (codes "!")) _ Bad (loss_bare session (first_word rest) (behind_word rest)) tt)))
 
+-- a line, by the session that it names: what it calls for is bare
 named_bare : (session : Option ℕ) (text : List ℕ) → HasNoFeed text → CallsBare (filled_said (line_given session text))
 named_bare None text free = tt
 named_bare (Some session) text free = given_bare session text free
 
+-- of two readings of a line, of which a test takes one, both call for a bare text or for none
 said_bare : (b : Bool) (one two : Line) → CallsBare (filled_said one) → CallsBare (filled_said two)
     → CallsBare (filled_said (cond b one two))
 said_bare true one two first second = first
 said_bare false one two first second = second
 
+-- whatever a line without a line feed calls for is bare
 line_bare : (line : List ℕ) → HasNoFeed line → CallsBare (reading_of_line line)
 unfolding reading_of_line line_of
 line_bare line free =
@@ -179,14 +200,17 @@ line_bare line free =
     (named_bare (session_named (first_word text)) (behind_word text)
     (feed-unblank (after_word text) (feed-drop (prefix_len is_no_blank text) text whole))))
 
+-- what holds of each element of two lists holds of each of both together
 All-append : {A : Type 0} (P : A → Type 0) (xs ys : List A) → All P xs → All P ys → All P (xs ++ ys)
 All-append P [] ys first second = second
 All-append P (x ∷ xs) ys first second = (first.0, All-append P xs ys first.1 second)
 
+-- what holds of each element of two lists together holds of each of either
 All-parts : {A : Type 0} (P : A → Type 0) (xs ys : List A) → All P (xs ++ ys) → All P xs × All P ys
 All-parts P [] ys all = (tt, all)
 All-parts P (x ∷ xs) ys all = let parts = All-parts P xs ys all.1 in ((all.0, parts.0), parts.1)
 
+-- the texts that lines without a line feed call for are bare, each of them
 tells-bare : (lines : List (List ℕ)) (list : List NumberedEvent) → Tells lines list → All HasNoFeed lines → AreBare list
 tells-bare lines list no_line free = tt
 tells-bare lines list (silent_line before line same tells is) free =
@@ -213,12 +237,13 @@ tells-bare lines list (gone_line before line front back session tells is ends_so
     (tells-bare before (front ++ back) tells (All-parts HasNoFeed before (line ∷ []) free).0) in
     All-append (λ one. IsBareTold one.told) front (on_next_line before (Leaves session) ∷ back) all.0 (tt, all.1)
 
--- lines are cut at line feeds
+-- a byte that is no line feed, put before the first line, leaves all lines without line feeds
 first-feed : (byte : ℕ) (lines : List (List ℕ)) → (byte == 10) ≡ false → All HasNoFeed lines
     → All HasNoFeed (with_first byte lines)
 first-feed byte [] apart free = (both _ _ (ap not apart) refl, tt)
 first-feed byte (line ∷ lines) apart free = (both _ _ (ap not apart) free.0, free.1)
 
+-- the lines of a text have no line feed
 lines-feed : (text : List ℕ) → All HasNoFeed (lines_of text)
 unfolding lines_of
 lines-feed [] = tt

@@ -24,7 +24,7 @@ pub text_of_last : (all : List NumberedEvent) (places : List (Option ℕ)) (sess
     → slice_get (map (text_at all) places) session ≡ Some (text_at all place)
 text_of_last all places session place at = slice_get-map (text_at all) places session ∙ ap (option_map (text_at all)) at
 
--- the line of an effect was written
+-- once the line of an effect is written, what is left to write is the order's rest
 pub moved_effect : (out new : List ℕ) (calls : List (List ℕ)) (numbered : List NumberedEvent) (session : ℕ) (act : Act)
     (moves : List Move)
     → new ≡ out ++ effect_text calls session act
@@ -34,13 +34,13 @@ moved_effect out new calls numbered session act moves written =
     sym (append_assoc out (effect_text calls session act) (order_text calls numbered moves))
     ∙ ap (λ l. l ++ order_text calls numbered moves) (sym written)
 
--- nothing is left to happen
+-- where no event is left, a move that goes over one writes nothing
 pub moved_over : (out : List ℕ) (calls : List (List ℕ)) (moves : List Move)
     → out ++ order_text calls [] (Seeing ∷ moves) ≡ out ++ order_text calls [] moves
 unfolding order_text
 moved_over out calls moves = refl
 
--- one thing more has happened
+-- a move that goes over an event puts its call's text in its session's place, and writes nothing
 pub moved_event : (out : List ℕ) (calls new : List (List ℕ)) (one : NumberedEvent) (more : List NumberedEvent)
     (moves : List Move) → new ≡ with_call one.told calls
     → out ++ order_text calls (one ∷ more) (Seeing ∷ moves) ≡ out ++ order_text new more moves
@@ -53,7 +53,7 @@ pub dropped : {A : Type 0} (list : List A) (index : ℕ) (next : A) → index < 
 dropped list index next within at =
     rw add-one (drop-cons list index next within ∙ ap (λ x. x ∷ drop (suc index) list) (sym at))
 
--- no move is left
+-- the loop over moves ends: no move is left, and all lines of the order are written
 pub moved_whole : (whole out : List ℕ) (calls : List (List ℕ)) (numbered : List NumberedEvent) (moves : List Move)
     (index : ℕ) → length moves ≤ index
     → whole ≡ out ++ order_text calls numbered (drop index moves) → out ≡ whole
@@ -61,6 +61,7 @@ unfolding order_text
 moved_whole whole out calls numbered moves index past is =
     sym (is ∙ ap (λ m. out ++ order_text calls numbered m) (drop_all index moves past) ∙ append-nil out)
 
+-- events from a place on, as the program keeps them: the one there, then those from the next place on
 mapped : (numbered : List NumberedRead) (place : ℕ) (one : NumberedRead) → place < length numbered
     → one ≡ get_or numbered place one
     → drop place (map numbered_kept numbered) ≡ numbered_kept one ∷ drop (place + 1) (map numbered_kept numbered)
@@ -68,6 +69,7 @@ mapped numbered place one within at =
     drop-map numbered_kept place numbered ∙ ap (map numbered_kept) (dropped numbered place one within at)
     ∙ ap (λ l. numbered_kept one ∷ l) (sym (drop-map numbered_kept (place + 1) numbered))
 
+-- the texts of the sessions' last calls, if the program keeps a place for each text
 calls-followed : (all : List NumberedEvent) (places : List (Option ℕ)) (place : ℕ) (told : Told)
     → text_at all (Some place) ≡ text_told told
     → map (text_at all) (with_place place told places) ≡ with_call told (map (text_at all) places)
@@ -77,7 +79,7 @@ calls-followed all places place (Returns session shown) at = refl
 calls-followed all places place (ReturnsUnknown session) at = refl
 calls-followed all places place (Leaves session) at = refl
 
--- one thing more of the list as the program keeps it has happened
+-- the loop over moves, in the program's form of the list: one event more was gone over
 pub moved_event_at : (out : List ℕ) (old new : LastCalls) (numbered : List NumberedRead) (place : ℕ)
     (one : NumberedRead) (moves : List Move)
     → place < length numbered → one ≡ get_or numbered place one
@@ -93,6 +95,7 @@ moved_event_at out old new numbered place one moves within at next =
     (ap (map (text_at all)) next ∙ calls-followed all old.places place (told_kept one.line_event)
     (sym (text_at-kept numbered place one within at)))
 
+-- past the last event a move that goes over an event writes nothing
 pub moved_over_at : (out : List ℕ) (calls : List (List ℕ)) (numbered : List NumberedRead) (place : ℕ)
     (moves : List Move) → length numbered ≤ place
     → out ++ order_text calls (drop place (map numbered_kept numbered)) (Seeing ∷ moves) ≡ out

@@ -17,13 +17,14 @@ unfoldable pub kinds_through : List Event → List (Option StatementKind) → Li
 kinds_through [] kinds = kinds
 kinds_through (event ∷ events) kinds = kinds_through events (kinds_after event kinds)
 
+-- the last kinds after one event more are those before it, changed by that event
 pub kinds_through-more : (events : List Event) (event : Event) (kinds : List (Option StatementKind))
     → kinds_through (events ++ event ∷ []) kinds ≡ kinds_after event (kinds_through events kinds)
 unfolding kinds_through
 kinds_through-more [] event kinds = refl
 kinds_through-more (first ∷ events) event kinds = kinds_through-more events event (kinds_after first kinds)
 
--- before all of them
+-- before the loop over lines no events are right for no lines
 pub AreEvents-none : (allowances : List Allowance) (numbered : List NumberedRead) (events : List Event) → events ≡ []
     → AreEvents allowances (map numbered_kept (take 0 numbered)) events
 unfolding AreEventsAfter
@@ -31,12 +32,13 @@ AreEvents-none allowances [] events none = subst (λ (l : List Event). AreEvents
 AreEvents-none allowances (one ∷ numbered) events none =
     subst (λ (l : List Event). AreEvents allowances [] l) (sym none) tt
 
+-- before the first event no session has called for anything
 pub kinds_through-none : (events : List Event) (kinds : List (Option StatementKind)) → events ≡ [] → kinds ≡ no_kinds
     → kinds ≡ kinds_through events no_kinds
 unfolding kinds_through
 kinds_through-none events kinds none is = is ∙ sym (ap (λ (l : List Event). kinds_through l no_kinds) none)
 
--- one event more
+-- the loop's step: one line and one event more, right for the kinds that sessions called for last
 pub AreEventsAfter-more : (allowances : List Allowance) (kinds : List (Option StatementKind))
     (numbered : List NumberedEvent) (events : List Event) (one : NumberedEvent)
     (event : Event) → AreEventsAfter allowances kinds numbered events
@@ -49,7 +51,7 @@ AreEventsAfter-more allowances kinds (first ∷ numbered) [] one event are is = 
 AreEventsAfter-more allowances kinds (first ∷ numbered) (next ∷ events) one event are is =
     (are.0, AreEventsAfter-more allowances (kinds_after next kinds) numbered events one event are.1 is)
 
--- an event that is what happens is the call, where it is one
+-- if an event stands for what a record tells, and is a call, it is the call that is told
 pub IsCallOf-event : (allowances : List Allowance) (kinds : List (Option StatementKind)) (told : Told) (event : Event)
     → IsEvent allowances kinds told event → IsCallOf told event
 IsCallOf-event allowances kinds (Calls session text) event is = is
@@ -57,6 +59,7 @@ IsCallOf-event allowances kinds (Returns session shown) event is = tt
 IsCallOf-event allowances kinds (ReturnsUnknown session) event is = tt
 IsCallOf-event allowances kinds (Leaves session) event is = tt
 
+-- events that are right for their kinds of statements are calls where the lines say calls
 pub AreCalls-events : (allowances : List Allowance) (kinds : List (Option StatementKind))
     (numbered : List NumberedEvent) (events : List Event)
     → AreEventsAfter allowances kinds numbered events → AreCalls numbered events
@@ -80,12 +83,13 @@ AreCalls-whole allowances numbered events index past are =
     (subst (λ (l : List NumberedRead). AreEvents allowances (map numbered_kept l) events)
     (take_all index numbered past) are)
 
+-- the numbered events as definitions see them, with one more, have that one at the end
 pub map-push : (list : List NumberedRead) (one : NumberedRead)
     → map numbered_kept (list ++ one ∷ []) ≡ map numbered_kept list ++ numbered_kept one ∷ []
 map-push [] one = refl
 map-push (first ∷ list) one = ap (λ l. numbered_kept first ∷ l) (map-push list one)
 
--- one event more, of the thing that happens at this place
+-- the loop over lines: the event of one more is right for it
 pub AreEvents-next : (allowances : List Allowance) (numbered : List NumberedRead) (events longer : List Event)
     (index : ℕ) (one : NumberedRead) (event : Event)
     (kinds : List (Option StatementKind)) → index < length numbered → one ≡ get_or numbered index one

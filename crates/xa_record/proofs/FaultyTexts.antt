@@ -32,19 +32,23 @@ use Rattle.xa_record.proofs.RecordLines.{cause-shown, filled-silent, filled-one}
 use Rattle.xa_record.proofs.RecordReads.{first-awaited, zero-missing, some-missing}
 use Rattle.xa_record.proofs.SessionsWithin.{Within, line_within}
 
--- tests of numbers
+-- no number is below 0
 none-less : (n : ℕ) → nat_lt n 0 ≡ false
 none-less n = grind (arith, nat_tests)
 
+-- no successor is below 1
 less-one : (m n : ℕ) → m ≡ suc n → nat_lt m 1 ≡ false
 less-one m n is = grind (arith, nat_tests)
 
+-- a number that tests as below another still does when both are one greater
 less-true : (m n : ℕ) → nat_lt m n ≡ true → nat_lt (suc m) (suc n) ≡ true
 less-true m n is = grind (arith, nat_tests)
 
+-- a number that doesn't test as below another still doesn't when both are one greater
 less-false : (m n : ℕ) → nat_lt m n ≡ false → nat_lt (suc m) (suc n) ≡ false
 less-false m n is = grind (arith, nat_tests)
 
+-- whether a number tests as below another doesn't change when both are one greater
 less-both : (m n : ℕ) → nat_lt (suc m) (suc n) ≡ nat_lt m n
 less-both m n = by (nat_lt m n) refl
   where
@@ -52,16 +56,18 @@ less-both m n = by (nat_lt m n) refl
     by true is = less-true m n is ∙ sym is
     by false is = less-false m n is ∙ sym is
 
+-- 0 is below each successor
 zero-less : (n : ℕ) → nat_lt 0 (suc n) ≡ true
 zero-less n = grind (arith, nat_tests)
 
--- one line more
+-- how many rows are to come after several lines and one more, which counts as a row if some were
 due-append : (due : ℕ) (lines : List (List ℕ)) (line : List ℕ)
     → rows_due due (lines ++ line ∷ []) ≡ due_after (rows_due due lines) line
 unfolding rows_due
 due-append due [] line = refl
 due-append due (one ∷ lines) line = due-append (due_after due one) lines line
 
+-- what lines say (rows left out, of which `due` come first) after one line more
 said-append : (due : ℕ) (lines : List (List ℕ)) (line : List ℕ)
     → said_by due (lines ++ line ∷ []) ≡ said_by due lines ++ said_alone (rows_due due lines) line
 unfolding rows_due said_by
@@ -71,6 +77,7 @@ said-append due (one ∷ lines) line =
     ∙ sym (append_assoc (said_alone due one) (said_by (due_after due one) lines)
     (said_alone (rows_due (due_after due one) lines) line))
 
+-- a session's presence after two lists of lines: begin the second with what the first leaves
 presence-append : (session : ℕ) (presence : Presence) (xs ys : List LineSaid)
     → presence_said_from session presence (xs ++ ys)
     ≡ presence_said_from session (presence_said_from session presence xs) ys
@@ -83,6 +90,7 @@ presence-append session presence (one ∷ xs) ys =
 abbrev Known : List Presence → List LineSaid → Type 0
 Known presence said = (session : ℕ) → session < 17 → slice_get presence session ≡ Some (presence_said session said)
 
+-- before the first line every session is idle
 known-first : Known (replicate 17 Idle) []
 unfolding presence_said_from
 known-first session within = replicated 17 session Idle within
@@ -100,24 +108,26 @@ then-same Open (ReturnsUnknown session) fault is = absurd (none-some _ is)
 then-same Open (Leaves session) fault is = absurd (none-some _ is)
 then-same Lost told fault is = refl
 
--- after this, and nothing else, that is said
+-- after one line more, sessions are as they were before it and this event
 abbrev Follows : List LineSaid → List LineSaid → Told → Type 0
 Follows said after told =
     (session : ℕ) → presence_said session after ≡ presence_by session (presence_said session said) (Some told)
 
+-- a line that says an event is followed by that event
 follows-one : (said : List LineSaid) (one : LineSaid) (told : Told) → told_by one ≡ Some told
     → Follows said (said ++ one ∷ []) told
 unfolding presence_said_from
 follows-one said one told is session =
     presence-append session Idle said (one ∷ []) ∙ ap (presence_by session (presence_said session said)) is
 
--- what a return shows doesn't count
+-- whether a session is open after a return doesn't depend on what the return shows
 then-shown : (presence : Presence) (session : ℕ) (one two : Shown)
     → presence_then presence (Returns session one) ≡ presence_then presence (Returns session two)
 then-shown Idle session one two = refl
 then-shown Open session one two = refl
 then-shown Lost session one two = refl
 
+-- a line that announces rows is followed by the return of its session, whatever rows it will show
 follows-rows : (said : List LineSaid) (session count : ℕ) (shown : Shown)
     → Follows said (said ++ Awaits session count ∷ []) (Returns session shown)
 follows-rows said session count shown other =
@@ -125,6 +135,7 @@ follows-rows said session count shown other =
     ∙ ap (λ (p : Presence). if session == other then p else presence_said other said)
     (then-shown (presence_said other said) session (ShowsRows []) shown)
 
+-- a line that says no event changes nothing that is known of sessions
 known-quiet : (presence : List Presence) (said : List LineSaid) (one : LineSaid) → told_by one ≡ None
     → Known presence said → Known presence (said ++ one ∷ [])
 unfolding presence_said_from
@@ -139,7 +150,7 @@ cause-known : (presence : List Presence) (said : List LineSaid) (told : Told) �
 cause-known presence said told within known =
     ap (λ (o : Option Presence). cause_of o told) (known (session_of told) within)
 
--- what counts of this for its own session
+-- what a line tells of its own session changes that session's presence
 own-then : (said after : List LineSaid) (told : Told) (session : ℕ) → Follows said after told
     → session_of told ≡ session → (session_of told == session) ≡ true
     → presence_said session after ≡ presence_then (presence_said (session_of told) said) told
@@ -148,6 +159,7 @@ own-then said after told session follows same is =
     ∙ ap (λ (b : Bool). if b then presence_then (presence_said session said) told else presence_said session said) is
     ∙ ap (λ (s : ℕ). presence_then (presence_said s said) told) (sym same)
 
+-- an event of another session leaves this session's presence as it was
 other-then : (said after : List LineSaid) (told : Told) (session : ℕ) → Follows said after told
     → (session_of told == session) ≡ false
     → presence_said session after ≡ presence_said session said
@@ -155,6 +167,7 @@ other-then said after told session follows is =
     follows session
     ∙ ap (λ (b : Bool). if b then presence_then (presence_said session said) told else presence_said session said) is
 
+-- an event that can happen: what is kept is changed as what was said is
 known-next : (presence : List Presence) (said after : List LineSaid) (told : Told) → session_of told < 17
     → Known presence said → Follows said after told
     → cause_of (slice_get presence (session_of told)) told ≡ None
@@ -179,6 +192,7 @@ known-next presence said after told within known follows none session below = by
         (λ same. apart_test (session_of told) session is (sym same))
         ∙ known session below ∙ ap Some (sym (other-then said after told session follows is))
 
+-- an event that can't happen: both stay as they were
 known-blamed : (presence : List Presence) (said after : List LineSaid) (told : Told) (fault : LineFault)
     → session_of told < 17 → Known presence said → Follows said after told
     → cause_of (slice_get presence (session_of told)) told ≡ Some fault
@@ -202,6 +216,7 @@ known-blamed presence said after told fault within known follows some session be
 abbrev made : List NumberedEvent → List ℕ → List Presence → Notes
 made list faults presence = record { told = list; faults = faults; presence = presence; awaited = None }
 
+-- notes with these events, faults and presences, that hold a return back until its rows have come
 abbrev held : List NumberedEvent → List ℕ → List Presence → Awaited → Notes
 held list faults presence a = record { told = list; faults = faults; presence = presence; awaited = Some a }
 
@@ -212,10 +227,12 @@ record Goes (notes : Notes) (faults : List ℕ) (said : List LineSaid) : Type 0 
   known : Known presence said
   is : notes ≡ made list faults presence
 
+-- the text may be replaced by an equal one
 goes-as : (notes : Notes) (one two : List ℕ) (said : List LineSaid) → one ≡ two → Goes notes one said
     → Goes notes two said
 goes-as notes one two said same goes = subst (λ (f : List ℕ). Goes notes f said) same goes
 
+-- a step that writes nothing goes on with the text as it was
 goes-none : (list : List NumberedEvent) (faults : List ℕ) (presence : List Presence) (said : List LineSaid)
     → Known presence said → Goes (made list faults presence) (faults ++ []) said
 goes-none list faults presence said known =
@@ -226,6 +243,7 @@ goes-none list faults presence said known =
       is = ap (λ (f : List ℕ). made list f presence) (sym (append-nil faults));
     }
 
+-- an event, with `o` as its fault if it has one: it writes that fault's text
 noted-goes : (o : Option LineFault) (list : List NumberedEvent) (faults : List ℕ) (presence : List Presence)
     (number : ℕ) (told : Told) (said after : List LineSaid)
     → cause_of (slice_get presence (session_of told)) told ≡ o → session_of told < 17
@@ -244,7 +262,7 @@ noted-goes (Some fault) list faults presence number told said after is within kn
       is = refl;
     }
 
--- the same if calls may be tested: the fault of a call comes behind
+-- an event that is tested as a call's text may be: its own fault is written, or else that of the text
 tested-goes : (o called : Option LineFault) (list : List NumberedEvent) (faults : List ℕ) (presence : List Presence)
     (number : ℕ) (told : Told) (said after : List LineSaid)
     → cause_of (slice_get presence (session_of told)) told ≡ o → session_of told < 17
@@ -264,10 +282,12 @@ tested-goes None (Some fault) list faults presence number told said after is wit
       is = refl;
     }
 
+-- if there is no second cause, the first of two is the first one
 first-none : (o : Option LineFault) → o ≡ first_fault o None
 first-none None = refl
 first-none (Some fault) = refl
 
+-- an event, with or without the test of calls' texts: it writes the first of its two possible faults
 strict-goes : (strict : Bool) (list : List NumberedEvent) (faults : List ℕ) (presence : List Presence)
     (number : ℕ) (told : Told) (said after : List LineSaid) → session_of told < 17
     → Known presence said → Follows said after told
@@ -286,6 +306,7 @@ strict-goes true list faults presence number told said after within known follow
     (cause-known presence said told within known))
     (tested-goes o (fault_called told) list faults presence number told said after refl within known follows)
 
+-- a connection found closed: it writes its fault's text, if it has one
 closed-goes : (o : Option LineFault) (list : List NumberedEvent) (faults : List ℕ) (presence : List Presence)
     (number session : ℕ) (said after : List LineSaid)
     → cause_of (slice_get presence session) (Leaves session) ≡ o → session < 17
@@ -304,7 +325,7 @@ closed-goes (Some fault) list faults presence number session said after is withi
       is = refl;
     }
 
--- these lines are faulty too
+-- lines that are faulty among a return's rows are written behind
 too-goes : (notes : Notes) (faults more : List ℕ) (said : List LineSaid) → Goes notes faults said
     → Goes (blamed_too notes more) (faults ++ more) said
 too-goes notes faults more said goes =
@@ -319,7 +340,7 @@ too-goes notes faults more said goes =
 abbrev return_cause : List Presence → ℕ → Option LineFault
 return_cause presence session = cause_of (slice_get presence session) (Returns session (ShowsRows []))
 
--- all rows have come
+-- the last row of a return has come: its fault and then those of its rows are written
 returned-goes : (list : List NumberedEvent) (faults : List ℕ) (presence : List Presence) (a : Awaited)
     (said : List LineSaid) (count : ℕ) → a.session < 17 → Known presence said
     → Goes (returned (made list faults presence) a)
@@ -353,7 +374,7 @@ OnNone strict lines =
     → ended (noted_lines strict (made list faults presence) (length before + 1) lines)
     ≡ faults ++ faulty_after strict before lines
 
--- and if some are
+-- what is written from these lines on, if rows of a return are still to come
 abbrev OnSome : Bool → List (List ℕ) → Type 0
 OnSome strict lines =
     (before : List (List ℕ)) (list : List NumberedEvent) (faults : List ℕ) (presence : List Presence) (a : Awaited)
@@ -363,10 +384,11 @@ OnSome strict lines =
     ≡ ((faults ++ text_of_fault a.number (return_fault presence a.session (suc due) lines)) ++ a.faults)
     ++ faulty_after strict before lines
 
+-- lines are numbered from 1: the number of the line after this one
 next-number : (before : List (List ℕ)) (line : List ℕ) → length before + 1 + 1 ≡ length (before ++ line ∷ []) + 1
 next-number before line = omega (arith, length-append before (line ∷ []))
 
--- after one line more no row is to come
+-- the step of a line after which no row is to come
 go-on : (strict : Bool) (line : List ℕ) (rest before : List (List ℕ)) (notes : Notes) (faults : List ℕ)
     → OnNone strict rest
     → Goes notes faults (said_by 0 (before ++ line ∷ [])) → rows_due 0 (before ++ line ∷ []) ≡ 0
@@ -377,7 +399,7 @@ go-on strict line rest before notes faults none goes due =
     ∙ ap (λ (n : Notes). ended (noted_lines strict n (length (before ++ line ∷ []) + 1) rest)) goes.is
     ∙ none (before ++ line ∷ []) goes.list faults goes.presence due goes.known
 
--- after one line more rows are to come
+-- the step of a line after which rows are to come
 go-wait : (strict : Bool) (line : List ℕ) (rest before : List (List ℕ)) (list : List NumberedEvent) (faults : List ℕ)
     (presence : List Presence) (a : Awaited) (said : List LineSaid) (count due : ℕ) → OnSome strict rest
     → a.missing ≡ suc due → rows_due 0 (before ++ line ∷ []) ≡ suc due
@@ -389,18 +411,20 @@ go-wait strict line rest before list faults presence a said count due some missi
     ap (λ (n : ℕ). ended (noted_lines strict (held list faults presence a) n rest)) (next-number before line)
     ∙ some (before ++ line ∷ []) list faults presence a said count due missing due_is said_is within known
 
--- a line that isn't in the place of a row
+-- after a line that is no row, as many rows are due as it announces
 alone-due : (before : List (List ℕ)) (line : List ℕ) (said : LineSaid) → rows_due 0 before ≡ 0
     → reading_of_line line ≡ said → rows_due 0 (before ++ line ∷ []) ≡ rows_announced said
 alone-due before line said due is =
     due-append 0 before line ∙ ap (λ (n : ℕ). due_after n line) due ∙ ap rows_announced is
 
+-- a line of its own adds what it says
 alone-said : (before : List (List ℕ)) (line : List ℕ) (said : LineSaid) → rows_due 0 before ≡ 0
     → reading_of_line line ≡ said → said_by 0 (before ++ line ∷ []) ≡ said_by 0 before ++ said ∷ []
 alone-said before line said due is =
     said-append 0 before line ∙ ap (λ (n : ℕ). said_by 0 before ++ said_alone n line) due
     ∙ ap (λ (s : LineSaid). said_by 0 before ++ s ∷ []) is
 
+-- a line that isn't in the place of a row has the fault of what it says
 alone-fault : (strict : Bool) (before : List (List ℕ)) (line : List ℕ) (after : List (List ℕ)) (said : LineSaid)
     → rows_due 0 before ≡ 0
     → reading_of_line line ≡ said → fault_between strict before line after
@@ -409,6 +433,7 @@ alone-fault strict before line after said due is =
     ap (λ (n : ℕ). fault_due strict n (said_by 0 before) line after) due
     ∙ ap (λ (s : LineSaid). fault_said strict (said_by 0 before) s after) is
 
+-- a line that isn't in the place of a row is noted by what it says
 alone-noted : (strict : Bool) (notes : Notes) (list : List NumberedEvent) (faults : List ℕ) (presence : List Presence)
     (number : ℕ)
     (line : List ℕ) (said : LineSaid) → reading_of_line line ≡ said
@@ -430,6 +455,7 @@ line-first strict before line rest faults o is =
     ∙ ap (λ (c : Option LineFault). faults ++ (text_of_fault (length before + 1) c
     ++ faulty_after strict (before ++ line ∷ []) rest)) (sym is)
 
+-- a line of its own writes its fault, and then the lines after it write theirs
 alone-step : (strict : Bool) (said : LineSaid) (line : List ℕ) (rest before : List (List ℕ)) (list : List NumberedEvent)
     (faults : List ℕ) (presence : List Presence) → OnNone strict rest → rows_due 0 before ≡ 0
     → reading_of_line line ≡ said → rows_announced said ≡ 0
@@ -458,13 +484,14 @@ awaiting-none list faults presence a none =
     ap (λ (b : Bool). if b then returned (made list faults presence) a else held list faults presence a)
     (zero-missing a.missing none)
 
+-- a return of which rows are still to come is held back
 awaiting-some : (list : List NumberedEvent) (faults : List ℕ) (presence : List Presence) (a : Awaited) (due : ℕ)
     → a.missing ≡ suc due → awaiting (made list faults presence) a ≡ held list faults presence a
 awaiting-some list faults presence a due some =
     ap (λ (b : Bool). if b then returned (made list faults presence) a else held list faults presence a)
     (some-missing a.missing (omega (arith, some)))
 
--- rows follow: none, or some
+-- after a line that announces rows, of which there may be none, the faults written are those of each line
 awaits-step : (strict : Bool) (count : ℕ) (session : ℕ) (line : List ℕ) (rest before : List (List ℕ))
     (list : List NumberedEvent)
     (faults : List ℕ) (presence : List Presence) → OnNone strict rest → OnSome strict rest → rows_due 0 before ≡ 0
@@ -501,6 +528,7 @@ awaits-step strict (suc more) session line rest before list faults presence none
     (alone-fault strict before line rest (Awaits session (suc more)) due is
     ∙ ap (λ (c : Option LineFault). if nat_lt (filled rest) (suc more) then Some RowsMissing else c) (sym cause))
 
+-- the induction's step with no row to come: from the lines after one to the lines from it on
 none-step : (strict : Bool) (line : List ℕ) (rest : List (List ℕ)) → OnNone strict rest → OnSome strict rest
     → OnNone strict (line ∷ rest)
 unfolding noted_said blamed
@@ -544,18 +572,20 @@ none-step strict line rest none some before list faults presence due known = by 
         awaits-step strict count session line rest before list faults presence none some due is
         (subst Within is (line_within line)) known
 
--- a line in the place of a row
+-- the fault of a line in the place of a row is the one of what should be a row
 row-fault : (strict : Bool) (before : List (List ℕ)) (line : List ℕ) (after : List (List ℕ)) (due : ℕ)
     → rows_due 0 before ≡ suc due
     → fault_between strict before line after ≡ fault_in_row line
 row-fault strict before line after due is = ap (λ (n : ℕ). fault_due strict n (said_by 0 before) line after) is
 
+-- a line in the place of a row says nothing
 row-said : (before : List (List ℕ)) (line : List ℕ) (due : ℕ) (said : List LineSaid) → rows_due 0 before ≡ suc due
     → said_by 0 before ≡ said → said_by 0 (before ++ line ∷ []) ≡ said
 row-said before line due said is same =
     said-append 0 before line ∙ ap (λ (n : ℕ). said_by 0 before ++ said_alone n line) is ∙ append-nil (said_by 0 before)
     ∙ same
 
+-- after a line in the place of a row one row less is to come, unless the line is silent
 row-due : (before : List (List ℕ)) (line : List ℕ) (due : ℕ) (silent : Bool) → rows_due 0 before ≡ suc due
     → is_silent line ≡ silent → rows_due 0 (before ++ line ∷ []) ≡ (if silent then suc due else due)
 row-due before line due silent is same =
@@ -567,6 +597,7 @@ abbrev counted_line : Awaited → ℕ → Option Xid → Awaited
 counted_line a number None = record a { missing = a.missing - 1; faults = a.faults ++ fault_text number NotARow }
 counted_line a number (Some xid) = record a { missing = a.missing - 1; rows = a.rows ++ xid ∷ [] }
 
+-- a line in the place of a row leaves what `counted_line` says is still awaited
 counted-row : (list : List NumberedEvent) (faults : List ℕ) (presence : List Presence) (a : Awaited) (number : ℕ)
     (row : Option Xid)
     → with_row (made list faults presence) a number row
@@ -575,18 +606,22 @@ unfolding with_row
 counted-row list faults presence a number None = refl
 counted-row list faults presence a number (Some xid) = refl
 
+-- counting a line as a row makes one less of the rows that are missing
 counted-missing : (a : Awaited) (number : ℕ) (row : Option Xid) → (counted_line a number row).missing ≡ a.missing - 1
 counted-missing a number None = refl
 counted-missing a number (Some xid) = refl
 
+-- counting a line as a row keeps the number of the line of its return
 counted-number : (a : Awaited) (number : ℕ) (row : Option Xid) → (counted_line a number row).number ≡ a.number
 counted-number a number None = refl
 counted-number a number (Some xid) = refl
 
+-- counting a line as a row leaves the session of the return
 counted-session : (a : Awaited) (number : ℕ) (row : Option Xid) → (counted_line a number row).session ≡ a.session
 counted-session a number None = refl
 counted-session a number (Some xid) = refl
 
+-- a line that isn't a row adds its fault to what is held back
 counted-faults : (a : Awaited) (number : ℕ) (row : Option Xid)
     → (counted_line a number row).faults ≡ a.faults ++ text_of_fault number (fault_of_row row)
 counted-faults a number None = refl
@@ -596,7 +631,7 @@ counted-faults a number (Some xid) = sym (append-nil a.faults)
 abbrev written : List ℕ → ℕ → Option LineFault → List ℕ → List ℕ
 written faults number o more = (faults ++ text_of_fault number o) ++ more
 
--- one row more: what is written for it comes behind
+-- one row more of a return: what is written for it comes behind what is written for those before
 written-more : (faults : List ℕ) (a : Awaited) (number : ℕ) (row : Option Xid) (cause : ℕ → Option LineFault)
     → written faults (counted_line a number row).number (cause (counted_line a number row).session)
     (counted_line a number row).faults
@@ -609,6 +644,7 @@ written-more faults a number row cause =
     ∙ sym (append_assoc (faults ++ text_of_fault a.number (cause a.session)) a.faults
     (text_of_fault number (fault_of_row row)))
 
+-- a silent line among rows changes nothing
 held-silent : (strict : Bool) (list : List NumberedEvent) (faults : List ℕ) (presence : List Presence) (a : Awaited)
     (number : ℕ)
     (line : List ℕ) → is_silent line ≡ true
@@ -618,6 +654,7 @@ held-silent strict list faults presence a number line silent =
     ap (λ (b : Bool). if b then held list faults presence a else with_row (made list faults presence) a number
     (row_said (unblank line))) silent
 
+-- a line among rows that isn't silent counts as a row
 held-full : (strict : Bool) (list : List NumberedEvent) (faults : List ℕ) (presence : List Presence) (a : Awaited)
     (number : ℕ)
     (line : List ℕ) → is_silent line ≡ false
@@ -629,10 +666,11 @@ held-full strict list faults presence a number line full =
     (row_said (unblank line))) full
     ∙ counted-row list faults presence a number (row_said (unblank line))
 
+-- where `due` rows come after the next one, `due` are missing once that has come
 one-less : (missing due : ℕ) → missing ≡ suc due → missing - 1 ≡ due
 one-less missing due is = omega (arith, is)
 
--- a silent line among rows
+-- the step of a silent line among rows: nothing is written, and as many rows are to come
 silent-step : (strict : Bool) (line : List ℕ) (rest : List (List ℕ)) → OnSome strict rest → is_silent line ≡ true
     → OnSome strict (line ∷ rest)
 unfolding noted_lines
@@ -654,6 +692,7 @@ silent-step strict line rest some silent before list faults presence a said coun
     (row-fault strict before line rest due due_is
     ∙ ap (λ (b : Bool). if b then None else fault_of_row (row_said (unblank line))) silent)
 
+-- the fault of a line in the place of a row that isn't silent: it is no row, or there is none
 full-fault : (strict : Bool) (before : List (List ℕ)) (line : List ℕ) (after : List (List ℕ)) (due : ℕ)
     → rows_due 0 before ≡ suc due
     → is_silent line ≡ false → fault_between strict before line after ≡ fault_of_row (row_said (unblank line))
@@ -661,7 +700,7 @@ full-fault strict before line after due is full =
     row-fault strict before line after due is
     ∙ ap (λ (b : Bool). if b then None else fault_of_row (row_said (unblank line))) full
 
--- the last row of a return
+-- after the line that is the last row of a return, the faults written are those of each line
 last-step : (strict : Bool) (line : List ℕ) (rest : List (List ℕ)) → OnNone strict rest → is_silent line ≡ false
     → (before : List (List ℕ)) (list : List NumberedEvent) (faults : List ℕ) (presence : List Presence) (a : Awaited)
     (said : List LineSaid) (count : ℕ) → a.missing ≡ 1 → rows_due 0 before ≡ 1
@@ -701,7 +740,7 @@ last-step strict line rest none full before list faults presence a said count mi
     none now (row-due before line 0 false due_is full)
     ∙ line-first strict before line rest all (fault_of_row row) (full-fault strict before line rest 0 due_is full)
 
--- a row behind which more are to come
+-- after a line that is a row, but not the last one, the faults written are those of each line
 more-step : (strict : Bool) (line : List ℕ) (rest : List (List ℕ)) → OnSome strict rest → is_silent line ≡ false
     → (before : List (List ℕ)) (list : List NumberedEvent) (faults : List ℕ) (presence : List Presence) (a : Awaited)
     (said : List LineSaid) (count due : ℕ) → a.missing ≡ suc (suc due) → rows_due 0 before ≡ suc (suc due)
@@ -739,6 +778,7 @@ more-step strict line rest some full before list faults presence a said count du
     ∙ line-first strict before line rest all (fault_of_row row)
     (full-fault strict before line rest (suc due) due_is full)
 
+-- the induction's step with rows to come: from the lines after one to the lines from it on
 some-step : (strict : Bool) (line : List ℕ) (rest : List (List ℕ)) → OnNone strict rest → OnSome strict rest
     → OnSome strict (line ∷ rest)
 some-step strict line rest none some before list faults presence a said count due missing due_is said_is within known =
@@ -760,11 +800,12 @@ some-step strict line rest none some before list faults presence a said count du
         more-step strict line rest some full before list faults presence a said count more missing_left due_left said_is
         within known
 
--- no line is left
+-- the record ends with no row to come: nothing more is written
 none-end : (strict : Bool) → OnNone strict []
 unfolding noted_lines faulty_after
 none-end strict before list faults presence due known = sym (append-nil faults)
 
+-- the record may end while rows are to come
 some-end : (strict : Bool) → OnSome strict []
 unfolding noted_lines faulty_after filled blamed
 some-end strict before list faults presence a said count due missing due_is said_is within known =
@@ -773,7 +814,7 @@ some-end strict before list faults presence a said count due missing due_is said
     (if b then Some RowsMissing else return_cause presence a.session) a.faults ++ [])
     (sym (zero-less due))
 
--- whatever lines are left
+-- by induction over the lines: what is written from them on, with no row to come and with some
 both : (strict : Bool) (lines : List (List ℕ)) → OnNone strict lines × OnSome strict lines
 both strict [] = (none-end strict, some-end strict)
 both strict (line ∷ rest) =

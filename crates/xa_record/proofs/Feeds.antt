@@ -18,7 +18,7 @@ use Rattle.xa_statement.specs.Canonical.{statement_text}
 use Rattle.xa_lines.specs.Script.{lines_of, with_first}
 use Rattle.xa_record.specs.Replaying.{HasNoFeed, joined, IsFit}
 
--- both of two tests
+-- two tests that hold, hold together
 pub both : (one two : Bool) → one ≡ true → two ≡ true → (one && two) ≡ true
 both one two first second = ap (λ b. b && two) first ∙ second
 
@@ -34,7 +34,7 @@ not_so : (test : Bool) → not test ≡ true → test ≡ false
 not_so true is = sym is
 not_so false is = refl
 
--- one text behind another
+-- two texts without a line feed have none together
 pub feed-append : (one two : List ℕ) → HasNoFeed one → HasNoFeed two → HasNoFeed (one ++ two)
 feed-append one two first second =
     let p : ℕ → Bool = λ byte. not (byte == 10) in
@@ -49,19 +49,21 @@ cut (byte ∷ line) rest free =
     rw (not_so (byte == 10) (both_first (p byte) (list_all p line) free))
     (ap (with_first byte) (cut line rest (both_second (p byte) (list_all p line) free)))
 
+-- lines that are joined, each with a line feed behind it, are cut again into the same lines
 pub cut_where_joined : (lines : List (List ℕ)) → All HasNoFeed lines → lines_of (joined lines) ≡ lines
 unfolding lines_of joined
 cut_where_joined [] free = refl
 cut_where_joined (line ∷ lines) free =
     cut line (joined lines) free.0 ∙ ap (λ (l : List (List ℕ)). line ∷ l) (cut_where_joined lines free.1)
 
--- digits are no line feeds
+-- a digit of a table without a line feed is none
 digit_feed : (table : List ℕ) → HasNoFeed table → (place : ℕ) → not (slice_index table place == 10) ≡ true
 digit_feed [] free place = refl
 digit_feed (byte ∷ table) free zero = both_first (not (byte == 10)) (list_all (λ b. not (b == 10)) table) free
 digit_feed (byte ∷ table) free (suc place) =
     digit_feed table (both_second (not (byte == 10)) (list_all (λ b. not (b == 10)) table) free) place
 
+-- bytes encoded by digits of a table without a line feed have none
 encoded_feed : (table : List ℕ) → HasNoFeed table → (bytes : List ℕ) → HasNoFeed (encode_with table bytes)
 unfolding encode_with
 encoded_feed table free [] = refl
@@ -69,23 +71,28 @@ encoded_feed table free (byte ∷ bytes) =
     both _ _ (digit_feed table free (byte / 16)) (both _ _ (digit_feed table free (byte % 16))
     (encoded_feed table free bytes))
 
+-- the text of a gtrid, bqual, key or value has no line feed
 part_feed : (bytes : List ℕ) → HasNoFeed (part_text bytes)
 part_feed [] = refl
 part_feed (byte ∷ bytes) =
     feed-append (codes "0x") (encode_lower (byte ∷ bytes)) refl (encoded_feed lower_digits refl (byte ∷ bytes))
 
+-- a decimal digit, made of the byte 48 (`0`) and a number, is no line feed
 shifted : (digit : ℕ) → not (48 + digit == 10) ≡ true
 shifted digit = let apart : (48 + digit == 10) ≡ false = grind (arith, nat_tests) in ap not apart
 
+-- decimal digits have no line feed
 shifted_feed : (digits : List ℕ) → HasNoFeed (map (λ d. 48 + d) digits)
 shifted_feed [] = refl
 shifted_feed (digit ∷ digits) = both _ _ (shifted digit) (shifted_feed digits)
 
+-- a number below 2^64 is written without a line feed
 pub decimal_feed : (number : ℕ) → number < 2 ^ 64 → HasNoFeed (decimal number)
 decimal_feed zero fits = subst HasNoFeed (sym (decimal_digit 0 (lit< tt))) refl
 decimal_feed (suc number) fits =
     subst HasNoFeed (sym (decimal-digits_of (suc number) (omega arith) fits)) (shifted_feed (digits_of 10 (suc number)))
 
+-- an identifier is written without a line feed
 xid_feed : (xid : Xid) → xid.format_id < 2 ^ 64 → HasNoFeed (xid_text xid)
 xid_feed xid fits =
     feed-append (part_text xid.gtrid.items) (44 ∷ (part_text xid.bqual.items ++ (44 ∷ decimal xid.format_id)))

@@ -23,26 +23,31 @@ use Rattle.xa_record.proofs.RecordReads.{all-came, come-silent, come-row, with-r
 use Rattle.xa_record.proofs.RecordReads.{first-awaited, awaits-said, lines-read}
 use Rattle.xa_record.proofs.SessionsWithin.{Within, line_within}
 
+-- beginning with a text is transitive: the whole begins with `text`, and `longer` with the whole
 begins-more : (whole longer text : List ℕ) → Begins whole text → Begins longer whole → Begins longer text
 begins-more whole longer text (rest, is) (more, goes_on) =
     (rest ++ more, goes_on ∙ ap (λ (l : List ℕ). l ++ more) is ∙ append_assoc text rest more)
 
+-- a text begins with itself
 begins-same : (text : List ℕ) → Begins text text
 begins-same text = ([], sym (append-nil text))
 
--- what was written stays, and more comes behind it
+-- what was written for faults before stays at the front, whatever is noted: here after an event, with `o` as its
+-- fault
 noted-begins : (o : Option LineFault) (notes : Notes) (number : ℕ) (told : Told)
     → Begins (noted_if o notes number told).faults notes.faults
 unfolding noted_if blamed
 noted-begins None notes number told = begins-same notes.faults
 noted-begins (Some fault) notes number told = (fault_text number fault, refl)
 
+-- what was written for faults before stays at the front after a connection was found closed; `o` is that line's fault
 closed-begins : (o : Option LineFault) (notes : Notes) (number session : ℕ)
     → Begins (closed_if o notes number session).faults notes.faults
 unfolding closed_if blamed
 closed-begins None notes number session = begins-same notes.faults
 closed-begins (Some fault) notes number session = (fault_text number fault, refl)
 
+-- what was written for faults before stays at the front after a row of a return; `b` says that it was the last one
 awaiting-begins : (b : Bool) (notes : Notes) (a : Awaited)
     → Begins (if b then returned notes a else record notes { awaited = Some a }).faults notes.faults
 awaiting-begins true notes a =
@@ -52,6 +57,7 @@ awaiting-begins true notes a =
     (a.faults, refl)
 awaiting-begins false notes a = begins-same notes.faults
 
+-- what was written for faults before stays at the front after a line that isn't in the place of a row
 said-begins : (said : LineSaid) (notes : Notes) (number : ℕ) → Begins
     (noted_said false notes number said).faults notes.faults
 unfolding noted_said blamed
@@ -62,6 +68,7 @@ said-begins (Closed session) notes number = closed-begins _ notes number session
 said-begins (Awaits session count) notes number =
     awaiting-begins (count == 0) notes (first-awaited session number count)
 
+-- what was written for faults before stays at the front after a line in the place of a row (`None`: it isn't one)
 row-begins : (row : Option Xid) (notes : Notes) (a : Awaited) (number : ℕ)
     → Begins (with_row notes a number row).faults notes.faults
 unfolding with_row
@@ -71,11 +78,13 @@ row-begins None notes a number =
 row-begins (Some xid) notes a number =
     awaiting-begins (a.missing - 1 == 0) notes (record a { missing = a.missing - 1; rows = a.rows ++ xid ∷ [] })
 
+-- what was written for faults before stays at the front after a line in the place of a row, or a silent one
 quiet-begins : (silent : Bool) (notes : Notes) (a : Awaited) (number : ℕ) (row : Option Xid)
     → Begins (if silent then notes else with_row (record notes { awaited = None }) a number row).faults notes.faults
 quiet-begins true notes a number row = begins-same notes.faults
 quiet-begins false notes a number row = row-begins row (record notes { awaited = None }) a number
 
+-- what was written for faults before stays at the front after any line; the notes are given by their four parts
 line-begins : (list : List NumberedEvent) (faults : List ℕ) (presence : List Presence) (awaited : Option Awaited)
     (number : ℕ) (line : List ℕ)
     → Begins (noted_line false (record { told = list; faults = faults; presence = presence; awaited = awaited }) number
@@ -88,6 +97,7 @@ line-begins list faults presence (Some a) number line =
     quiet-begins (is_silent line) (record { told = list; faults = faults; presence = presence; awaited = Some a }) a
     number (row_said (unblank line))
 
+-- what was written for faults before stays at the front after any lines
 lines-begin : (lines : List (List ℕ)) (notes : Notes) (number : ℕ)
     → Begins (noted_lines false notes number lines).faults notes.faults
 unfolding noted_lines
@@ -97,25 +107,27 @@ lines-begin (line ∷ lines) notes number =
     begins-more new.faults _ notes.faults (line-begins notes.told notes.faults notes.presence notes.awaited number line)
     (lines-begin lines new (number + 1))
 
+-- what was written for faults before stays at the front at the record's end, where rows may be missing
 ended-begins : (awaited : Option Awaited) (notes : Notes) → Begins (ended_by awaited notes).faults notes.faults
 unfolding blamed
 ended-begins None notes = begins-same notes.faults
 ended-begins (Some a) notes =
     (fault_text a.number RowsMissing ++ a.faults, append_assoc notes.faults (fault_text a.number RowsMissing) a.faults)
 
--- what is written for all lines begins so
+-- what is written for all lines of the record begins with this fault of this line
 abbrev pub WritesFirst : List (List ℕ) → ℕ → LineFault → Type 0
 WritesFirst lines number fault =
     Begins (ended_by (noted_lines false no_notes 1 lines).awaited (noted_lines false no_notes 1 lines)).faults
     (fault_text number fault)
 
+-- a text that stands first after the last line stands first in the end: the record's end only adds to it
 writes-by : (lines : List (List ℕ)) (number : ℕ) (fault : LineFault)
     → Begins (noted_lines false no_notes 1 lines).faults (fault_text number fault) → WritesFirst lines number fault
 writes-by lines number fault begins =
     begins-more (noted_lines false no_notes 1 lines).faults _ (fault_text number fault) begins
     (ended-begins (noted_lines false no_notes 1 lines).awaited (noted_lines false no_notes 1 lines))
 
--- a line of its own is faulty
+-- if a line that is no row is the first faulty one, its fault is written first
 one-first : (lines : List (List ℕ)) (line : List ℕ) (more : List (List ℕ)) (list : List NumberedEvent)
     (read : IsRead lines list) (said : LineSaid) (fault : LineFault)
     → reading_of_line line ≡ said → (noted_said false (noted list read.presence) (length lines + 1) said).faults
@@ -132,6 +144,7 @@ one-first lines line more list read said fault is blames =
     (subst (λ (t : List ℕ). Begins (noted_lines false new (number + 1) more).faults t) here
     (lines-begin more new (number + 1))))
 
+-- after a clean list of events, a faulty event writes its fault's text and nothing else
 noted-blames : (o : Option LineFault) (list : List NumberedEvent) (presence : List Presence) (number : ℕ) (told : Told)
     (fault : LineFault) → o ≡ Some fault
     → (noted_if o (noted list presence) number told).faults ≡ fault_text number fault
@@ -139,12 +152,14 @@ unfolding noted_if blamed
 noted-blames o list presence number told fault some =
     ap (λ (c : Option LineFault). (noted_if c (noted list presence) number told).faults) some
 
+-- if the event has no fault (`None`), nothing is written for it: what comes next are the faults held for its rows
 noted-none : (list : List NumberedEvent) (presence : List Presence) (number : ℕ) (told : Told) (faults text : List ℕ)
     → Begins faults text
     → Begins (blamed_too (noted_if None (noted list presence) number told) faults).faults text
 unfolding noted_if
 noted-none list presence number told faults text begins = begins
 
+-- after a clean list of events, a line of a closed connection that doesn't fit writes its fault's text alone
 closed-blames : (o : Option LineFault) (list : List NumberedEvent) (presence : List Presence) (number session : ℕ)
     (fault : LineFault) → o ≡ Some fault
     → (closed_if o (noted list presence) number session).faults ≡ fault_text number fault
@@ -152,12 +167,14 @@ unfolding closed_if blamed
 closed-blames o list presence number session fault some =
     ap (λ (c : Option LineFault). (closed_if c (noted list presence) number session).faults) some
 
+-- each kind of first fault in turn: a line that can't be read
 bad-first : (lines : List (List ℕ)) (line : List ℕ) (more : List (List ℕ)) (list : List NumberedEvent)
     → IsRead lines list → reading_of_line line ≡ Bad
     → WritesFirst (lines ++ line ∷ more) (length lines + 1) NotALine
 unfolding noted_said blamed
 bad-first lines line more list read is = one-first lines line more list read Bad NotALine is refl
 
+-- if a line tells of an event that can't happen to its session there, that fault is written first
 unfit-first : (lines : List (List ℕ)) (line : List ℕ) (more : List (List ℕ)) (list : List NumberedEvent) (told : Told)
     (fault : LineFault) → IsRead lines list
     → reading_of_line line ≡ Says told → cause_next list told ≡ Some fault
@@ -169,6 +186,7 @@ unfit-first lines line more list told fault read is some =
     (noted-blames _ list read.presence (length lines + 1) told fault
     (fits-here read.presence list told within read.placed ∙ some))
 
+-- a connection found closed whose client is already gone
 gone-first : (lines : List (List ℕ)) (line : List ℕ) (more : List (List ℕ)) (list : List NumberedEvent) (session : ℕ)
     (fault : LineFault) → IsRead lines list
     → reading_of_line line ≡ Closed session → cause_next list (Leaves session) ≡ Some fault
@@ -180,34 +198,39 @@ gone-first lines line more list session fault read is some =
     (closed-blames _ list read.presence (length lines + 1) session fault
     (fits-here read.presence list (Leaves session) within read.placed ∙ some))
 
--- a line that isn't silent is counted, whatever it says
+-- what is awaited after a line that isn't silent: one row less, whether the line was a row or not
 abbrev with-line : Awaited → ℕ → Option Xid → Awaited
 with-line a number None = record a { missing = a.missing - 1; faults = a.faults ++ fault_text number NotARow }
 with-line a number (Some xid) = record a { missing = a.missing - 1; rows = a.rows ++ xid ∷ [] }
 
+-- a line in the place of a row leaves what `with-line` says
 with-row-any : (list : List NumberedEvent) (presence : List Presence) (a : Awaited) (number : ℕ) (row : Option Xid)
     → with_row (noted list presence) a number row ≡ awaiting (noted list presence) (with-line a number row)
 unfolding with_row
 with-row-any list presence a number None = refl
 with-row-any list presence a number (Some xid) = refl
 
+-- a line counts as one row, read or not
 line-missing : (a : Awaited) (number : ℕ) (row : Option Xid) → (with-line a number row).missing ≡ a.missing - 1
 line-missing a number None = refl
 line-missing a number (Some xid) = refl
 
+-- the return that is awaited stands on the same line
 line-number : (a : Awaited) (number : ℕ) (row : Option Xid) → (with-line a number row).number ≡ a.number
 line-number a number None = refl
 line-number a number (Some xid) = refl
 
+-- counting a line as a row leaves the session of the return
 line-session : (a : Awaited) (number : ℕ) (row : Option Xid) → (with-line a number row).session ≡ a.session
 line-session a number None = refl
 line-session a number (Some xid) = refl
 
+-- what was held for faulty rows stays at the front
 line-faults : (a : Awaited) (number : ℕ) (row : Option Xid) → Begins (with-line a number row).faults a.faults
 line-faults a number None = (fault_text number NotARow, refl)
 line-faults a number (Some xid) = begins-same a.faults
 
--- a line where rows are awaited
+-- a line that isn't silent, read while rows are awaited, is taken as a row
 come-line : (list : List NumberedEvent) (presence : List Presence) (a : Awaited) (number : ℕ) (line : List ℕ)
     → is_silent line ≡ false
     → noted_line false (waiting list presence a) number line ≡ awaiting (noted list presence)
@@ -216,12 +239,13 @@ come-line list presence a number line full =
     come-row list presence a number line (row_said (unblank line)) full refl
     ∙ with-row-any list presence a number (row_said (unblank line))
 
--- too few lines come
+-- after lines of too few rows, the return of the same line is still awaited (`left`)
 record StillWaits (list : List NumberedEvent) (presence : List Presence) (a : Awaited) (new : Notes) : Type 0 where
   left : Awaited
   is : new ≡ waiting list presence left
   number : left.number ≡ a.number
 
+-- if fewer lines come than rows are missing, the return of the same line is still awaited
 rows-short : (lines : List (List ℕ)) (list : List NumberedEvent) (presence : List Presence) (a : Awaited) (number : ℕ)
     → filled lines < a.missing
     → StillWaits list presence a (noted_lines false (waiting list presence a) number lines)
@@ -249,6 +273,7 @@ rows-short (line ∷ lines) list presence a number short =
         (sym (come-line list presence a number line full ∙ waits list presence b (omega (arith, fewer))))
         (record { left = later.left; is = later.is; number = later.number ∙ line-number a number row })
 
+-- the record ends before all rows of a return have come
 missing-first : (lines : List (List ℕ)) (line : List ℕ) (more : List (List ℕ)) (list : List NumberedEvent)
     (session count : ℕ) → IsRead lines list
     → reading_of_line line ≡ Awaits session count → filled more < count
@@ -283,6 +308,7 @@ unfit-now lines list presence a number fault none some =
     (begins-more (returned (noted list presence) a).faults _ (fault_text a.number fault) here
     (lines-begin lines (returned (noted list presence) a) number))
 
+-- either no row is missing, or some are
 by-missing : (missing : ℕ) (P : Type 0) → (missing ≡ 0 → P) → (0 < missing → P) → P
 by-missing zero P none some = none refl
 by-missing (suc missing) P none some = some (omega arith)
@@ -326,6 +352,7 @@ unfit-later (line ∷ lines) list presence a number fault enough missing some =
         (subst (λ (n : ℕ). Begins (noted_lines false (awaiting (noted list presence) b) (number + 1) lines).faults
         (fault_text n fault)) (line-number a number row) rest)
 
+-- if a return with rows can't happen, what is written from its rows on begins with the fault of its line
 rows-unfit : (lines : List (List ℕ)) (list : List NumberedEvent) (presence : List Presence) (a : Awaited) (number : ℕ)
     (fault : LineFault) → a.missing ≤ filled lines
     → cause_of (slice_get presence a.session) (Returns a.session (ShowsRows [])) ≡ Some fault
@@ -337,6 +364,7 @@ rows-unfit lines list presence a number fault enough some =
     (sym (waits list presence a more))
     (unfit-later lines list presence a number fault enough more some))
 
+-- a return with rows that can't happen to its session: known only when all rows have come, written by its own line
 unfit-rows-first : (lines : List (List ℕ)) (line : List ℕ) (more : List (List ℕ)) (list : List NumberedEvent)
     (session count : ℕ) (fault : LineFault) → IsRead lines list
     → reading_of_line line ≡ Awaits session count → count ≤ filled more
@@ -351,7 +379,7 @@ unfit-rows-first lines line more list session count fault read is enough some =
     (rows-unfit more list read.presence a (length lines + 1 + 1) fault enough
     (fits-here read.presence list (Returns session (ShowsRows [])) within read.placed ∙ some)))
 
--- rows come, and more are to come
+-- rows have come, more are to come, and no faulty one was among them; `counted`: none came uncounted
 record CameClean (rows : List (List ℕ)) (list : List NumberedEvent) (presence : List Presence) (a : Awaited)
     (new : Notes) : Type 0 where
   left : Awaited
@@ -360,12 +388,14 @@ record CameClean (rows : List (List ℕ)) (list : List NumberedEvent) (presence 
   faults : left.faults ≡ a.faults
   counted : left.missing + filled rows ≡ a.missing
 
+-- a line that isn't silent is a row, if each line is silent or a row
 row-there : (line : List ℕ) → is_silent line ≡ false → (is_silent line ≡ true)
     ⊎ ((xid : Xid) × (row_said (unblank line) ≡ Some xid))
     → (xid : Xid) × (row_said (unblank line) ≡ Some xid)
 row-there line full (inl silent) = absurd (cc)
 row-there line full (inr said) = said
 
+-- lines that are all rows, fewer than are missing, leave the return awaited, without a fault among them
 rows-clean : (rows : List (List ℕ)) (list : List NumberedEvent) (presence : List Presence) (a : Awaited) (number : ℕ)
     → AreRows rows → filled rows < a.missing
     → CameClean rows list presence a (noted_lines false (waiting list presence a) number rows)
@@ -413,7 +443,7 @@ rows-clean (line ∷ rows) list presence a number are fewer =
           counted = omega (arith, later.counted, one, fewer);
         })
 
--- enough lines come, and the return can happen there: what is written for those that aren't rows comes then
+-- the return happens where its last row came; then what was held for lines that aren't rows is written
 fit-now : (lines : List (List ℕ)) (list : List NumberedEvent) (presence : List Presence) (a : Awaited) (number : ℕ)
     (text : List ℕ) → a.missing ≡ 0
     → cause_of (slice_get presence a.session) (Returns a.session (ShowsRows [])) ≡ None → Begins a.faults text
@@ -431,6 +461,7 @@ fit-now lines list presence a number text none fits begins =
     (begins-more (returned (noted list presence) a).faults _ text here
     (lines-begin lines (returned (noted list presence) a) number))
 
+-- with rows missing and enough lines for them, the return happens, and then what was held for its rows is written
 fit-later : (lines : List (List ℕ)) (list : List NumberedEvent) (presence : List Presence) (a : Awaited) (number : ℕ)
     (text : List ℕ) → a.missing ≤ filled lines
     → 0 < a.missing → cause_of (slice_get presence a.session) (Returns a.session (ShowsRows [])) ≡ None
@@ -469,6 +500,7 @@ fit-later (line ∷ lines) list presence a number text enough missing fits begin
         subst (λ (n : Notes). Begins (noted_lines false n (number + 1) lines).faults text)
         (sym (come-line list presence a number line full)) rest
 
+-- whether rows are missing or not, the return happens, and then what was held for its rows is written
 rows-fit : (lines : List (List ℕ)) (list : List NumberedEvent) (presence : List Presence) (a : Awaited) (number : ℕ)
     (text : List ℕ) → a.missing ≤ filled lines
     → cause_of (slice_get presence a.session) (Returns a.session (ShowsRows [])) ≡ None → Begins a.faults text
@@ -479,6 +511,7 @@ rows-fit lines list presence a number text enough fits begins =
     subst (λ (n : Notes). Begins (noted_lines false n number lines).faults text) (sym (waits list presence a more))
     (fit-later lines list presence a number text enough more fits begins))
 
+-- a line in the place of a row that isn't one, while the return itself fits
 bad-row-first : (lines : List (List ℕ)) (line : List ℕ) (rows : List (List ℕ)) (row : List ℕ) (more : List (List ℕ))
     (list : List NumberedEvent) (session count : ℕ)
     → IsRead lines list → reading_of_line line ≡ Awaits session count → Fits list (Returns session (ShowsRows []))
@@ -516,7 +549,7 @@ bad-row-first lines line rows row more list session count read is fits are fewer
     (subst (λ (n : Notes). Begins n.faults text) (sym there)
     (rows-fit more list presence b (number + 1) text more_come can written)))
 
--- the first fault is what is written first
+-- what is written for a record begins with its first fault, whatever comes behind it
 pub first-fault : (lines : List (List ℕ)) (number : ℕ) (fault : LineFault) → HasFault lines number fault
     → WritesFirst lines number fault
 first-fault lines number fault (bad_line before line more list tells is) =

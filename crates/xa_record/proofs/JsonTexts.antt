@@ -12,7 +12,7 @@ use Rattle.json.specs.Tree.{json_tokens, items_tokens, members_tokens}
 use Rattle.xa_lines.specs.Script.{lines_of}
 use Rattle.xa_record.specs.Forms.{text_value, texts_value, values_of, with_verdict, with_line}
 
--- one character more
+-- the loop over characters: one more is encoded
 pub characters_more : (text old new : List ℕ) (index : ℕ) → index < length text
     → old ≡ encode_utf8_all (take index text)
     → new ≡ old ++ encode_utf8 (get_or text index 0)
@@ -23,14 +23,14 @@ characters_more text old new index within before put =
     (sym (append-nil (encode_utf8 byte)))
     ∙ sym (encodes-append (take index text) (byte ∷ [])) ∙ sym (ap encode_utf8_all (take_more text index 0 within))
 
--- the array was begun
+-- the beginning of an array was written: its items are left
 pub array-begun : (old new : List Token) (texts : List (List ℕ)) → new ≡ old ++ begin_array ∷ []
     → old ++ json_tokens (texts_value texts) ≡ new ++ items_tokens (values_of texts)
 array-begun old new texts begun =
     sym (append_assoc old (begin_array ∷ []) (items_tokens (values_of texts)))
     ∙ ap (λ l. l ++ items_tokens (values_of texts)) (sym begun)
 
--- one text more was written
+-- the loop over an array's texts: one more was written
 pub array-more : (whole old new : List Token) (text : List ℕ) (texts : List (List ℕ))
     → whole ≡ old ++ items_tokens (values_of (text ∷ texts))
     → new ≡ old ++ json_tokens (text_value text)
@@ -39,7 +39,7 @@ array-more whole old new text texts is written =
     is ∙ sym (append_assoc old (json_tokens (text_value text)) (items_tokens (values_of texts)))
     ∙ ap (λ l. l ++ items_tokens (values_of texts)) (sym written)
 
--- no text is left, and the array was ended
+-- the loop over an array's texts ends: no text is left, and the end of the array was written
 pub array-ended : (whole old new : List Token) (texts : List (List ℕ)) → whole ≡ old ++ items_tokens (values_of texts)
     → texts ≡ []
     → new ≡ old ++ end_array ∷ [] → new ≡ whole
@@ -52,7 +52,7 @@ lines-none [] empty = refl
 lines-none (byte ∷ text) empty =
     absurd (let none : length (byte ∷ text) ≡ 0 = grind (arith, common_steps) in omega arith)
 
--- the same, where the end may have failed
+-- the end of an array was written, or writing failed: after Ok all of the array is there
 pub array-ended-ok : {X E : Type 0} (result : Result X E) (whole old new : List Token) (texts : List (List ℕ))
     → whole ≡ old ++ items_tokens (values_of texts) → texts ≡ [] → OnOk result (new ≡ old ++ end_array ∷ [])
     → OnOk result (new ≡ whole)

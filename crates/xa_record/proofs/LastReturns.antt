@@ -9,21 +9,24 @@ use Rattle.xa_record.specs.Reading.{NumberedEvent}
 use Rattle.xa_record.specs.Reading.{is_return_of, one_more, up_to_return}
 use Rattle.xa_record.specs.Records.{EndsInReturn, HasNoReturn}
 
--- where a session's last return stands
+-- a front of no elements is empty
 pub take-none : (list : List NumberedEvent) → take 0 list ≡ []
 take-none [] = refl
 take-none (one ∷ more) = refl
 
+-- from place 0 on a list is the whole list
 pub drop-none : (list : List NumberedEvent) → drop 0 list ≡ list
 drop-none [] = refl
 drop-none (one ∷ more) = refl
 
+-- the session's last return is the event before this place, and none comes after it; at place 0 it has none
 abbrev pub Ends : ℕ → ℕ → List NumberedEvent → Type 0
 Ends session place list =
     ((place ≡ 0) ⊎ ((front : List NumberedEvent) × (one : NumberedEvent) × (take place list ≡ front ++ one ∷ [])
     × (is_return_of session one.told ≡ true)))
     × HasNoReturn session (drop place list)
 
+-- the place of a session's last return, with one event more in front: it moves by one, or is found in that event
 pub ends-cons : (session : ℕ) (one : NumberedEvent) (more : List NumberedEvent) (place : ℕ) (returns : Bool)
     → is_return_of session one.told ≡ returns
     → Ends session place more → Ends session (one_more place returns) (one ∷ more)
@@ -34,18 +37,20 @@ ends-cons session one more (suc place) returns is (inl none, after) = absurd (om
 ends-cons session one more (suc place) returns is (inr (front, last, parts, found), after) =
     (inr (one ∷ front, last, ap (λ (l : List NumberedEvent). one ∷ l) parts, found), after)
 
+-- the place that `up_to_return` counts is that of the last return
 pub ends : (session : ℕ) (list : List NumberedEvent) → Ends session (up_to_return session list) list
 unfolding up_to_return
 ends session [] = (inl refl, tt)
 ends session (one ∷ more) =
     ends-cons session one more (up_to_return session more) (is_return_of session one.told) refl (ends session more)
 
+-- the events before the place of the last return end in a return of the session, or there are none
 pub ends-in : (session place : ℕ) (list : List NumberedEvent) → Ends session place list
     → EndsInReturn session (take place list)
 ends-in session place list (inl none, after) = inl (ap (λ (n : ℕ). take n list) none ∙ take-none list)
 ends-in session place list (inr found, after) = inr found
 
--- the same the other way round
+-- a session without a return among the events has its place at 0
 pub no-return-none : (session : ℕ) (list : List NumberedEvent) → HasNoReturn session list
     → up_to_return session list ≡ 0
 unfolding up_to_return
@@ -53,9 +58,11 @@ no-return-none session [] none = refl
 no-return-none session (one ∷ more) none = ap (one_more (up_to_return session more)) none.0
     ∙ ap (λ (n : ℕ). one_more n false) (no-return-none session more none.1)
 
+-- behind a return that was found, an event in front only moves its place
 pub one_more-some : (count : ℕ) (returns : Bool) → one_more (count + 1) returns ≡ count + 1 + 1
 one_more-some count returns = rw (add-one count, add-one (suc count)) refl
 
+-- a return with none of the session behind it is the last
 pub last-found : (session : ℕ) (front after : List NumberedEvent) (one : NumberedEvent)
     → is_return_of session one.told ≡ true → HasNoReturn session after
     → up_to_return session ((front ++ one ∷ []) ++ after) ≡ length front + 1
@@ -66,9 +73,11 @@ last-found session (first ∷ front) after one is none =
     ap (λ (n : ℕ). one_more n (is_return_of session first.told)) (last-found session front after one is none)
     ∙ one_more-some (length front) (is_return_of session first.told) ∙ omega arith
 
+-- the length of a list with one event behind it
 pub length-last : (front : List NumberedEvent) (one : NumberedEvent) → length (front ++ one ∷ []) ≡ length front + 1
 length-last front one = grind (arith, common_steps)
 
+-- if events end in a return of the session and none comes behind them, the place is their number
 pub up_to-before : (session : ℕ) (before after : List NumberedEvent) → EndsInReturn session before
     → HasNoReturn session after
     → up_to_return session (before ++ after) ≡ length before
@@ -80,6 +89,7 @@ up_to-before session before after (inr (front, one, parts, is)) last =
     ∙ last-found session front after one is last
     ∙ sym (ap length parts ∙ length-last front one)
 
+-- a loss put in at the place of the last return stands between the events up to it and those behind it
 pub inserted : (session : ℕ) (before after : List NumberedEvent) (one : NumberedEvent) → EndsInReturn session before
     → HasNoReturn session after
     → insert (before ++ after) (up_to_return session (before ++ after)) one ≡ before ++ one ∷ after

@@ -3,6 +3,7 @@ pub mod NotedLines
 pub mod Places
 pub mod CallTexts
 pub mod Effects
+pub mod Exchanged
 pub mod Texts
 pub mod JsonTexts
 pub mod NamedRows

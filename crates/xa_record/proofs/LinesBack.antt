@@ -100,18 +100,22 @@ canonical_bare (Put key value) text bare = refl
 canonical_bare (Del key) text bare = refl
 canonical_bare Disconnect text bare = refl
 
+-- what is written for a call, a statement's canonical form or its own text, begins with no blank
 text_bare : (read : Result Statement ℕ) (text : List ℕ) → unblank text ≡ text
     → unblank (text_read read text) ≡ text_read read text
 text_bare (Ok statement) text bare = canonical_bare statement text bare
 text_bare (Err place) text bare = bare
 
+-- what is written for a call's text, read as a statement or not, begins with no blank
 pub call_bare : (text : List ℕ) → unblank text ≡ text → unblank (call_text text) ≡ call_text text
 call_bare text bare = text_bare (read_of text) text bare
 
+-- a statement's canonical form is read as that statement
 spelled_back : (statement : Statement) → Spells (statement_text statement) statement
     → read_of (statement_text statement) ≡ Ok statement
 spelled_back statement spells = (reads_spelled (statement_text statement) statement).1 spells
 
+-- what is written for a statement that was read is read as the same; an unsupported one keeps its text
 canonical_back : (statement : Statement) (text : List ℕ) → read_of text ≡ Ok statement
     → (statement ≢ Unsupported → IsWrittenBack statement)
     → read_of (canonical_text statement text) ≡ Ok statement
@@ -127,6 +131,7 @@ canonical_back (Put key value) text is spells = spelled_back (Put key value) (sp
 canonical_back (Del key) text is spells = spelled_back (Del key) (spells (λ e. cc)).spelled
 canonical_back Disconnect text is spells = spelled_back Disconnect (spells (λ e. cc)).spelled
 
+-- a script's line gives the same request as the call it was written for
 read_back : (read : Result Statement ℕ) (text : List ℕ) → read_of text ≡ read → IsWellCalled text
     → request_read read ≡ request_read (read_of (text_read read text))
 read_back (Ok statement) text is well =
@@ -153,18 +158,21 @@ canonical_feed (Put key value) text free written = (written (λ e. cc)).whole
 canonical_feed (Del key) text free written = (written (λ e. cc)).whole
 canonical_feed Disconnect text free written = (written (λ e. cc)).whole
 
+-- what is written for a call's text, read as a statement or not, has no line feed
 read_feed : (read : Result Statement ℕ) (text : List ℕ) → read_of text ≡ read → IsWellCalled text
     → HasNoFeed (text_read read text)
 read_feed (Ok statement) text is well = canonical_feed statement text well.whole (well.canonical statement is)
 read_feed (Err place) text is well = well.whole
 
+-- what is written for a call of a record has no line feed
 pub call_feed : (text : List ℕ) → IsWellCalled text → HasNoFeed (call_text text)
 call_feed text well = read_feed (read_of text) text refl well
 
+-- a session's number fits into 64 bits, in which numbers are printed
 below_bound : (session : ℕ) → session ≤ 16 → session < 2 ^ 64
 below_bound session is = omega (arith, is)
 
--- a session's number, a blank and such a text are no more than a line
+-- a session's number, a blank and a text without a line feed are no more than a line
 pub line_feed : (session : ℕ) → IsSession session → (text : List ℕ) → HasNoFeed text
     → HasNoFeed (decimal session ++ codes " " ++ text)
 line_feed session is text free =

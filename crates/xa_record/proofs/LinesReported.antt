@@ -13,6 +13,7 @@ use Rattle.xa_record.proofs.FaultyTexts.{text-faulty}
 use Rattle.xa_record.proofs.StrictNotes.{told-same, clean-too}
 use Rattle.xa_record.proofs.TextsTold.{text-tells}
 
+-- a report on the notes that a record leaves is a report on what its lines say
 lines-reported : (base : State) (allowances : List Allowance) (text : List ℕ) (asked : Asked) (report : Report)
     → IsReportedOfNotes base allowances (notes_by asked.strict_calls text) asked report
     → IsReported base allowances (lines_of text) asked report
@@ -32,7 +33,7 @@ lines-reported base allowances text asked report is =
     )
     by (byte ∷ more) faulty written = written
 
--- the same of what was returned
+-- a report of what was read, as it is returned, is a report of the record's lines
 pub reported-lines : {E : Type 0} (result : Result ReportMade E) (base : State) (allowances : List Allowance)
     (text : List ℕ) (asked : Asked)
     → IfOk result (λ report. IsReportedOfNotes base allowances (notes_by asked.strict_calls text) asked

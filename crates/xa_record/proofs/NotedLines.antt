@@ -14,7 +14,7 @@ use Rattle.xa_record.specs.Lines.{Told, Leaves}
 use Rattle.xa_record.specs.Reading.{NumberedEvent, Notes, session_of, presence_after, cause_of, note_of, noted_if}
 use Rattle.xa_record.specs.Reading.{up_to_return, closed_if, note_closed, noted_line, noted_lines}
 
--- one line was cut off
+-- the loop over lines: one was cut off and noted
 pub noted_lines-line : (strict : Bool) (notes : Notes) (number : ℕ) (text line rest : List ℕ) → lines_of text
     ≡ line ∷ lines_of rest
     → noted_lines strict notes number (lines_of text)
@@ -22,7 +22,7 @@ pub noted_lines-line : (strict : Bool) (notes : Notes) (number : ℕ) (text line
 unfolding noted_lines
 noted_lines-line strict notes number text line rest cut = rw cut refl
 
--- no line is left
+-- the loop over lines ends: no line is left, and the notes stay
 pub noted_lines-end : (strict : Bool) (notes : Notes) (number : ℕ) (text : List ℕ) → (length text == 0) ≡ true
     → noted_lines strict notes number (lines_of text) ≡ notes
 unfolding noted_lines lines_of
@@ -59,7 +59,7 @@ closed-so notes number session list presence no_fault one two =
     (record { number = number; told = Leaves session }))) two
     ∙ sym (ap (λ (c : Option LineFault). closed_if c notes number session) no_fault)
 
--- one thing more, at its place
+-- one thing put in at its place, as definitions see it
 pub map-insert : (list : List NumberedRead) (place : ℕ) (one : NumberedRead)
     → map numbered_kept (insert list place one) ≡ insert (map numbered_kept list) place (numbered_kept one)
 map-insert list place one =

@@ -10,7 +10,7 @@ use Rattle.xa_record.specs.Events.{IsCallOf, AreCalls}
 use Rattle.xa_record.specs.Kept.{told_kept, numbered_kept}
 use Rattle.xa_record.proofs.Places.{slice_get-kept}
 
--- one event more
+-- one thing more that the lines say, and its event: calls stay calls
 pub AreCalls-more : (numbered : List NumberedEvent) (events : List Event) (one : NumberedEvent) (event : Event)
     → AreCalls numbered events → IsCallOf one.told event
     → AreCalls (numbered ++ one ∷ []) (events ++ event ∷ [])
@@ -20,6 +20,7 @@ AreCalls-more (first ∷ numbered) [] one event are is = absurd are
 AreCalls-more (first ∷ numbered) (next ∷ events) one event are is =
     (are.0, AreCalls-more numbered events one event are.1 is)
 
+-- there are as many events as things that the lines say
 AreCalls-length : (numbered : List NumberedEvent) (events : List Event) → AreCalls numbered events
     → length numbered ≡ length events
 AreCalls-length [] [] are = refl
@@ -27,6 +28,7 @@ AreCalls-length [] (event ∷ events) are = absurd are
 AreCalls-length (one ∷ numbered) [] are = absurd are
 AreCalls-length (one ∷ numbered) (event ∷ events) are = ap suc (AreCalls-length numbered events are.1)
 
+-- at each place the event is the call that the line there says, if it says a call
 AreCalls-at : (numbered : List NumberedEvent) (events : List Event) (place : ℕ) (one : NumberedEvent) (event : Event)
     → AreCalls numbered events
     → slice_get numbered place ≡ Some one → slice_get events place ≡ Some event → IsCallOf one.told event

@@ -10,12 +10,14 @@ use Rattle.xa_record.specs.Lines.{Told, Calls, Returns, ReturnsUnknown, Leaves}
 use Rattle.xa_record.specs.Reading.{NumberedEvent, session_of, presence_after, cause_of}
 use Rattle.xa_record.specs.Records.{presence_then, presence_from, presence_in, cause_next, Fits}
 
+-- after an element was set, it is what was set
 pub set_same : {A : Type 0} (xs : List A) (place : ℕ) (x : A) → place < length xs
     → slice_get (slice_set xs place x) place ≡ Some x
 set_same [] place x below = absurd (omega arith)
 set_same (y ∷ ys) zero x below = refl
 set_same (y ∷ ys) (suc place) x below = set_same ys place x (omega arith)
 
+-- setting one element of a list leaves the others
 pub set_other : {A : Type 0} (xs : List A) (place other : ℕ) (x : A) → other ≢ place
     → slice_get (slice_set xs place x) other ≡ slice_get xs other
 set_other [] place other x apart = refl
@@ -24,18 +26,21 @@ set_other (y ∷ ys) zero (suc other) x apart = refl
 set_other (y ∷ ys) (suc place) zero x apart = refl
 set_other (y ∷ ys) (suc place) (suc other) x apart = set_other ys place other x (λ same. apart (ap suc same))
 
+-- each element of a repeated one is that one
 pub replicated : {A : Type 0} (count place : ℕ) (x : A) → place < count → slice_get (replicate count x) place ≡ Some x
 replicated zero place x within = absurd (omega arith)
 replicated (suc count) zero x within = refl
 replicated (suc count) (suc place) x within = replicated count place x (omega arith)
 
+-- equal by the test is equal
 pub tested : (m n : ℕ) → (m == n) ≡ true → m ≡ n
 tested m n is = grind (arith, nat_tests)
 
+-- numbers that test as unequal are different
 pub apart_test : (m n : ℕ) → (m == n) ≡ false → m ≢ n
 apart_test m n is = grind (arith, nat_tests)
 
--- who is gone stays so
+-- a session whose client has gone stays lost, whatever else is said
 lost-stays : (session : ℕ) (list : List NumberedEvent) → presence_from session Lost list ≡ Lost
 unfolding presence_from
 lost-stays session [] = refl
@@ -46,6 +51,7 @@ lost-stays session (one ∷ more) = by (session_of one.told == session) (lost-st
     by true later = later
     by false later = later
 
+-- a session's presence after two lists of events: begin the second with what the first leaves
 pub from-append : (session : ℕ) (presence : Presence) (xs ys : List NumberedEvent)
     → presence_from session presence (xs ++ ys) ≡ presence_from session (presence_from session presence xs) ys
 unfolding presence_from
@@ -53,7 +59,7 @@ from-append session presence [] ys = refl
 from-append session presence (one ∷ xs) ys =
     from-append session (if session_of one.told == session then presence_then presence one.told else presence) xs ys
 
--- one thing more of the session, or of another one
+-- one event more in front of others: it counts if it is of the session
 own : (session : ℕ) (presence : Presence) (one : NumberedEvent) (more : List NumberedEvent)
     → (session_of one.told == session) ≡ true
     → presence_from session presence (one ∷ more) ≡ presence_from session (presence_then presence one.told) more
@@ -61,6 +67,7 @@ unfolding presence_from
 own session presence one more is =
     ap (λ (b : Bool). presence_from session (if b then presence_then presence one.told else presence) more) is
 
+-- an event of another session doesn't change a session's presence
 other : (session : ℕ) (presence : Presence) (one : NumberedEvent) (more : List NumberedEvent)
     → (session_of one.told == session) ≡ false
     → presence_from session presence (one ∷ more) ≡ presence_from session presence more
@@ -68,6 +75,7 @@ unfolding presence_from
 other session presence one more is =
     ap (λ (b : Bool). presence_from session (if b then presence_then presence one.told else presence) more) is
 
+-- without an event the presence stays
 none-from : (session : ℕ) (presence : Presence) → presence_from session presence [] ≡ presence
 unfolding presence_from
 none-from session presence = refl
@@ -82,25 +90,29 @@ then-after Lost (Returns session shown) fits = absurd (none-some _ (sym fits))
 then-after Lost (ReturnsUnknown session) fits = absurd (none-some _ (sym fits))
 then-after Lost (Leaves session) fits = absurd (none-some _ (sym fits))
 
+-- after its client has gone a session is lost, whatever it was
 then-leaves : (presence : Presence) (session : ℕ) → presence_then presence (Leaves session) ≡ Lost
 then-leaves Idle session = refl
 then-leaves Open session = refl
 then-leaves Lost session = refl
 
--- the list says the same of each session
+-- the list has, at each session's number, the presence that the events say
 abbrev pub Placed : List Presence → List NumberedEvent → Type 0
 Placed presence list = (session : ℕ) → session < 17 → slice_get presence session ≡ Some (presence_in session list)
 
+-- before the first event every session is idle, and so says the list of 17 (place 0 is no session's)
 pub placed-none : Placed (replicate 17 Idle) []
 unfolding presence_from
 placed-none session within = replicated 17 session Idle within
 
+-- whether an event can happen is the same by the list kept as by the events so far
 pub fits-here : (presence : List Presence) (list : List NumberedEvent) (told : Told) → session_of told < 17
     → Placed presence list
     → cause_of (slice_get presence (session_of told)) told ≡ cause_next list told
 fits-here presence list told within placed =
     ap (λ (o : Option Presence). cause_of o told) (placed (session_of told) within)
 
+-- after an event that can happen, the list says the same as the events again
 pub placed-next : (presence : List Presence) (list : List NumberedEvent) (number : ℕ) (told : Told)
     → session_of told < 17 → Placed presence list → Fits list told
     → Placed (slice_set presence (session_of told) (presence_after told))
@@ -134,6 +146,7 @@ placed-next presence list number told within placed fits session below = by (ses
         (λ same. apart_test (session_of told) session is (sym same))
         ∙ placed session below ∙ ap Some (sym said)
 
+-- the list of presences says what the events say after a loss is put in behind the session's last return
 pub placed-closed : (presence : List Presence) (before after : List NumberedEvent) (number session : ℕ) → session < 17
     → Placed presence (before ++ after)
     → Placed (slice_set presence session Lost) (before ++ record { number = number; told = Leaves session } ∷ after)

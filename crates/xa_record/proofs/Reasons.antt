@@ -24,7 +24,7 @@ use Rattle.xa_record.proofs.Pairs.{calls-length}
 abbrev pub Lead : State → List Event → List Move → Type 0
 Lead base events moves = (config : Config) × LeadsThrough (opening_config base) events moves config
 
--- the store was listed
+-- the rows and branches of the store that moves lead to were listed
 pub listed : {E : Type 0} (result : Result (Vec ℕ Global) E) (base : State) (events : List Event) (moves : List Move)
     (store : State) (keys : List (List ℕ)) (front : List ℕ)
     → front ≡ [] → (config : Config) × LeadsThrough (opening_config base) events moves config × (config.state ≡ store)
@@ -52,6 +52,7 @@ pub illegal_not : (base : State) (events : List Event) (limit : ℕ) (verdict : 
 illegal_not base events limit verdict place answers right is explained =
     (subst (IsVerdict base events limit) is right).0.whole explained
 
+-- what holds place by place of two lists holds of the first `count` of each
 AllZip-take : {A B : Type 0} (R : A → B → Type 0) (count : ℕ) (xs : List A) (ys : List B) → AllZip R xs ys
     → AllZip R (take count xs) (take count ys)
 AllZip-take R zero xs ys all = tt
@@ -60,7 +61,7 @@ AllZip-take R (suc count) [] (y ∷ ys) all = absurd all
 AllZip-take R (suc count) (x ∷ xs) [] all = absurd all
 AllZip-take R (suc count) (x ∷ xs) (y ∷ ys) all = (all.0, AllZip-take R count xs ys all.1)
 
--- there is a place in the list as the program keeps it
+-- a place among the events is a place in the program's list of them
 pub place_within : (numbered : List NumberedRead) (events : List Event) (place : ℕ)
     → AreCalls (map numbered_kept numbered) events → place ≤ length events
     → place ≡ length (take place numbered)
@@ -68,7 +69,7 @@ place_within numbered events place are within =
     let long : length numbered ≡ length events = calls-length numbered events are in
     sym (length-take-le place numbered (omega (arith, long, within)))
 
--- what happens up to a place
+-- events that are right for what a record tells are right for it up to each place
 pub events_before : (numbered : List NumberedRead) (events : List Event) (place : ℕ)
     → AreCalls (map numbered_kept numbered) events
     → AreCalls (map numbered_kept (take place numbered)) (take place events)

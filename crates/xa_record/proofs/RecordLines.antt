@@ -28,11 +28,12 @@ use Rattle.xa_record.proofs.LastReturns.{ends, ends-in}
 use Rattle.xa_record.proofs.Presences.{Placed, placed-none, fits-here, placed-next, placed-closed}
 use Rattle.xa_record.proofs.SessionsWithin.{Within, line_within}
 
+-- among no lines none is other than silent
 filled-none : filled [] ≡ 0
 unfolding filled
 filled-none = refl
 
--- how many lines aren't silent
+-- the lines that aren't silent, of two lists, are counted list by list
 pub filled-append : (xs ys : List (List ℕ)) → filled (xs ++ ys) ≡ filled xs + filled ys
 unfolding filled
 filled-append [] ys = omega (arith, filled-none)
@@ -44,15 +45,18 @@ filled-append (line ∷ xs) ys = by (is_silent line) (filled-append xs ys)
     by true same = same
     by false same = omega (arith, same)
 
+-- a silent line doesn't count
 pub filled-silent : (line : List ℕ) (more : List (List ℕ)) → is_silent line ≡ true → filled (line ∷ more) ≡ filled more
 unfolding filled
 filled-silent line more is = ap (λ (b : Bool). if b then filled more else suc (filled more)) is
 
+-- a line that isn't silent counts as one
 pub filled-one : (line : List ℕ) (more : List (List ℕ)) → is_silent line ≡ false
     → filled (line ∷ more) ≡ suc (filled more)
 unfolding filled
 filled-one line more is = ap (λ (b : Bool). if b then filled more else suc (filled more)) is
 
+-- what holds of each element of two lists holds of each of both together
 All-append : {A : Type 0} (P : A → Type 0) (xs ys : List A) → All P xs → All P ys → All P (xs ++ ys)
 All-append P [] ys first second = second
 All-append P (x ∷ xs) ys first second = (first.0, All-append P xs ys first.1 second)
@@ -73,24 +77,27 @@ record Part (done : List (List ℕ)) (a : Awaited) (list : List NumberedEvent) :
   rows : AreRows came
   counted : filled came + a.missing ≡ count
 
--- so it stands once these lines were read
+-- what was read of these lines: with no row to come they tell the events, else they tell those before the return's
+-- line
 abbrev Stands : List (List ℕ) → Option Awaited → List NumberedEvent → Type 0
 Stands done None list = Tells done list
 Stands done (Some a) list = Part done a list × ((a.missing == 0) ≡ false)
 
--- no line was faulty
+-- notes of lines none of which is faulty
 record Right (done : List (List ℕ)) (notes : Notes) : Type 0 where
   clean : notes.faults ≡ []
   placed : Placed notes.presence notes.told
   stands : Stands done notes.awaited notes.told
 
--- or one was
+-- one of the lines is the first faulty one
 abbrev pub Found : List (List ℕ) → Type 0
 Found lines = (number : ℕ) × (fault : LineFault) × HasFault lines number fault
 
+-- equal lists of lines have the same first fault
 found-as : (one two : List (List ℕ)) → one ≡ two → Found one → Found two
 found-as one two same found = subst Found same found
 
+-- what is to be shown for one line more: the notes are right, or the first faulty line was found
 abbrev Next : List (List ℕ) → List ℕ → List (List ℕ) → Notes → Type 0
 Next done line todo new = Right (done ++ line ∷ []) new ⊎ Found (done ++ line ∷ todo)
 
@@ -98,9 +105,11 @@ Next done line todo new = Right (done ++ line ∷ []) new ⊎ Found (done ++ lin
 abbrev noted : List NumberedEvent → List Presence → Notes
 noted list presence = record { told = list; faults = []; presence = presence; awaited = None }
 
+-- a number that tests as 0 is 0
 pub is-zero : (n : ℕ) → (n == 0) ≡ true → n ≡ 0
 is-zero n is = grind (arith, nat_tests)
 
+-- an event's number is that of its line, the next after those read
 told-at : (lines : List (List ℕ)) (list : List NumberedEvent) (done : List (List ℕ)) (number : ℕ) (told : Told)
     → number ≡ length lines + 1
     → Tells done (list ++ on_next_line lines told ∷ []) → Tells done
@@ -108,7 +117,7 @@ told-at : (lines : List (List ℕ)) (list : List NumberedEvent) (done : List (Li
 told-at lines list done number told is tells =
     subst (λ (n : ℕ). Tells done (list ++ record { number = n; told = told } ∷ [])) (sym is) tells
 
--- of a return what it shows doesn't count
+-- whether a return can happen doesn't depend on what it shows
 pub cause-shown : (o : Option Presence) (session : ℕ) (one two : Shown)
     → cause_of o (Returns session one) ≡ cause_of o (Returns session two)
 cause-shown None session one two = refl
@@ -116,9 +125,11 @@ cause-shown (Some Idle) session one two = refl
 cause-shown (Some Open) session one two = refl
 cause-shown (Some Lost) session one two = refl
 
+-- a return whose rows are to come is of a session from 1 to 16
 part-within : (done : List (List ℕ)) (a : Awaited) (list : List NumberedEvent) → Part done a list → a.session < 17
 part-within done a list part = subst Within part.says (line_within part.line)
 
+-- if none is missing and the return can happen, the lines tell it
 part-whole : (done : List (List ℕ)) (a : Awaited) (list : List NumberedEvent) → a.missing ≡ 0 → Part done a list
     → Fits list (Returns a.session (ShowsRows a.rows))
     → Tells done (list ++ record { number = a.number; told = Returns a.session (ShowsRows a.rows) } ∷ [])
@@ -134,13 +145,13 @@ part-whole done a list none part fits =
     (Returns a.session (ShowsRows a.rows)) part.number
     (rows_lines part.before part.line part.came list a.session part.count a.rows part.tells part.says all fits))
 
--- what stands behind the return's line
+-- cut at the line of a return: the lines before it, that line, and those after it are all lines
 behind : (done more : List (List ℕ)) (a : Awaited) (list : List NumberedEvent) (part : Part done a list)
     → part.before ++ part.line ∷ (part.came ++ more) ≡ done ++ more
 behind done more a list part =
     sym (append_assoc part.before (part.line ∷ part.came) more) ∙ ap (λ (l : List (List ℕ)). l ++ more) (sym part.parts)
 
--- all rows have come
+-- the last row of a return has come: the notes are right with the return, or it is the first fault
 all-next : (list : List NumberedEvent) (presence : List Presence) (done more : List (List ℕ)) (a : Awaited)
     → a.missing ≡ 0 → Part done a list
     → Placed presence list → Right done (returned (noted list presence) a) ⊎ Found (done ++ more)
@@ -176,7 +187,7 @@ all-next list presence done more a none part placed = by (cause_of (slice_get pr
               (part.came ++ more) list a.session part.count fault part.tells part.says enough cause,
         ))
 
--- they have, or some are still to come
+-- a return of which rows are awaited: all have come and it happens, or it is held back
 awaiting-next : (list : List NumberedEvent) (presence : List Presence) (done more : List (List ℕ)) (a : Awaited)
     → Part done a list → Placed presence list
     → Right done (awaiting (noted list presence) a) ⊎ Found (done ++ more)
@@ -188,6 +199,7 @@ awaiting-next list presence done more a part placed = by (a.missing == 0) refl
     by true is = all-next list presence done more a (is-zero a.missing is) part placed
     by false is = inl (record { clean = refl; placed = placed; stands = (part, is) })
 
+-- a line that says an event which can happen tells that event
 happens-tells : (told : Told) (done : List (List ℕ)) (list : List NumberedEvent) (line : List ℕ)
     → reading_of_line line ≡ Says told → Fits list told → Tells done list
     → Tells (done ++ line ∷ []) (list ++ on_next_line done told ∷ [])
@@ -197,7 +209,7 @@ happens-tells (Returns session shown) done list line is fits tells =
 happens-tells (ReturnsUnknown session) done list line is fits tells = unknown_line done line list session tells is fits
 happens-tells (Leaves session) done list line is fits tells = lost_line done line list session tells is fits
 
--- a line at which something happens
+-- a line that tells of an event makes the notes of what the lines done tell, or is faulty
 happens-next : (told : Told) (list : List NumberedEvent) (presence : List Presence) (done : List (List ℕ)) (number : ℕ)
     (line : List ℕ) (todo : List (List ℕ))
     → reading_of_line line ≡ Says told → number ≡ length done + 1 → session_of told < 17 → Placed presence list
@@ -226,7 +238,7 @@ happens-next told list presence done number line todo is at within placed tells 
               (sym (fits-here presence list told within placed) ∙ some),
         )
 
--- a line at which a connection was found closed
+-- a line at which a connection was found closed makes the notes of what the lines done tell, or is faulty
 closed-next : (session : ℕ) (list : List NumberedEvent) (presence : List Presence) (done : List (List ℕ)) (number : ℕ)
     (line : List ℕ) (todo : List (List ℕ))
     → reading_of_line line ≡ Closed session → number ≡ length done + 1 → session < 17 → Placed presence list
@@ -270,10 +282,12 @@ closed-next session list presence done number line todo is at within placed tell
               (sym (fits-here presence list (Leaves session) within placed) ∙ some),
         )
 
+-- the line that is read next, at the end of those done or at the front of those to do
 line-end : (done : List (List ℕ)) (line : List ℕ) (todo : List (List ℕ))
     → (done ++ line ∷ []) ++ todo ≡ done ++ line ∷ todo
 line-end done line todo = append_assoc done (line ∷ []) todo
 
+-- what holds of the lines done with this one, and the rest, is what one step of reading needs
 next-as : (done : List (List ℕ)) (line : List ℕ) (todo : List (List ℕ)) (new : Notes)
     → Right (done ++ line ∷ []) new ⊎ Found ((done ++ line ∷ []) ++ todo)
     → Next done line todo new
@@ -313,13 +327,14 @@ said-next (Awaits session count) list presence done number line todo is at withi
     } in
     next-as done line todo _ (awaiting-next list presence (done ++ line ∷ []) todo a part placed)
 
--- a line where a row is to stand
+-- a silent line where a row is awaited is skipped
 silent-more : (line : List ℕ) (missing : ℕ) (lines : List (List ℕ)) (more : List Xid) → (missing == 0) ≡ false
     → is_silent line ≡ true → RowsOf missing lines more
     → RowsOf missing (line ∷ lines) more
 silent-more line zero lines more is silent came = absurd (cc)
 silent-more line (suc missing) lines more is silent came = silent_row silent came
 
+-- a row's line in front of the lines of the other rows
 one-more : (line : List ℕ) (missing : ℕ) (xid : Xid) (lines : List (List ℕ)) (more : List Xid) → (missing == 0) ≡ false
     → is_silent line ≡ false
     → row_said (unblank line) ≡ Some xid → RowsOf (missing - 1) lines more → RowsOf missing (line ∷ lines) (xid ∷ more)
@@ -327,14 +342,17 @@ one-more line zero xid lines more is full said came = absurd (cc)
 one-more line (suc missing) xid lines more is full said came =
     one_row full said (subst (λ (n : ℕ). RowsOf n lines more) (omega arith) came)
 
+-- the lines read so far, with one more among the rows that came
 longer : (done : List (List ℕ)) (line : List ℕ) (a : Awaited) (list : List NumberedEvent) (part : Part done a list)
     → done ++ line ∷ [] ≡ part.before ++ part.line ∷ (part.came ++ line ∷ [])
 longer done line a list part = ap (λ (l : List (List ℕ)). l ++ line ∷ []) part.parts
     ∙ append_assoc part.before (part.line ∷ part.came) (line ∷ [])
 
+-- a number that doesn't test as 0 is above 0
 some-missing : (missing : ℕ) → (missing == 0) ≡ false → 0 < missing
 some-missing missing is = grind (arith, nat_tests)
 
+-- after a silent line the same rows are to come
 part-silent : (done : List (List ℕ)) (line : List ℕ) (a : Awaited) (list : List NumberedEvent)
     → (a.missing == 0) ≡ false → is_silent line ≡ true → Part done a list
     → Part (done ++ line ∷ []) a list
@@ -356,6 +374,7 @@ part-silent done line a list is silent part = record {
   counted = omega (arith, filled-append part.came (line ∷ []), filled-silent line [] silent, filled-none, part.counted);
 }
 
+-- after a row's line one row less is to come
 part-row : (done : List (List ℕ)) (line : List ℕ) (a : Awaited) (list : List NumberedEvent) (xid : Xid)
     → (a.missing == 0) ≡ false → is_silent line ≡ false
     → row_said (unblank line) ≡ Some xid → Part done a list
@@ -388,7 +407,7 @@ part-row done line a list xid is full said part = record {
   );
 }
 
--- a line in the place of a row that isn't one
+-- a line in the place of a row, which is no row, is the first faulty line
 bad-found : (list : List NumberedEvent) (done : List (List ℕ)) (line : List ℕ) (todo : List (List ℕ)) (a : Awaited)
     → (a.missing == 0) ≡ false
     → is_silent line ≡ false → row_said (unblank line) ≡ None → Part done a list → Found (done ++ line ∷ todo)
@@ -425,6 +444,7 @@ bad-found list done line todo a is full said part = found-as _ _ (behind done (l
           (grind (arith, nat_tests)),
     )
 
+-- what is to be shown for a line in the place of a row, by what the line is read as
 row-next : (row : Option Xid) (list : List NumberedEvent) (presence : List Presence) (done : List (List ℕ))
     (a : Awaited) (number : ℕ) (line : List ℕ) (todo : List (List ℕ))
     → row_said (unblank line) ≡ row → (a.missing == 0) ≡ false → is_silent line ≡ false → Part done a list
@@ -438,6 +458,7 @@ row-next (Some xid) list presence done a number line todo said is full part plac
     next-as done line todo _ (awaiting-next list presence (done ++ line ∷ []) todo b
     (part-row done line a list xid is full said part) placed)
 
+-- what is to be shown for a line in the place of a row, also if it is silent
 quiet-next : (silent : Bool) (list : List NumberedEvent) (presence : List Presence) (done : List (List ℕ)) (a : Awaited)
     (number : ℕ) (line : List ℕ) (todo : List (List ℕ))
     → is_silent line ≡ silent → (a.missing == 0) ≡ false → Part done a list → Placed presence list
@@ -449,6 +470,7 @@ quiet-next true list presence done a number line todo silent is part placed =
 quiet-next false list presence done a number line todo full is part placed =
     row-next (row_said (unblank line)) list presence done a number line todo refl is full part placed
 
+-- what is to be shown for any line, whether rows are awaited or not
 line-next : (list : List NumberedEvent) (faults : List ℕ) (presence : List Presence) (awaited : Option Awaited)
     (done : List (List ℕ)) (number : ℕ) (line : List ℕ)
     (todo : List (List ℕ)) → number ≡ length done + 1 → faults ≡ [] → Placed presence list → Stands done awaited list
@@ -465,9 +487,11 @@ line-next list faults presence (Some a) done number line todo at clean placed st
     (record { told = list; faults = f; presence = presence; awaited = Some a }) a number line)) (sym clean)
     (quiet-next (is_silent line) list presence done a number line todo refl stands.1 stands.0 placed)
 
+-- with one line more, the number of lines done is one more
 length-line : (done : List (List ℕ)) (line : List ℕ) → length (done ++ line ∷ []) ≡ length done + 1
 length-line done line = grind (arith, common_steps)
 
+-- by induction over the lines to do: the notes are right after all, or the first faulty line was found
 lines-next : (todo done : List (List ℕ)) (notes : Notes) (number : ℕ) → number ≡ length done + 1 → Right done notes
     → Right (done ++ todo) (noted_lines false notes number todo) ⊎ Found (done ++ todo)
 unfolding noted_lines
@@ -498,6 +522,7 @@ pub record AllTold (lines : List (List ℕ)) (notes : Notes) : Type 0 where
   pub none : notes.awaited ≡ None
   pub tells : Tells lines notes.told
 
+-- after the end of the record: what was read is what the lines tell, or rows are missing, which is the first fault
 ended-told : (lines : List (List ℕ)) (list : List NumberedEvent) (faults : List ℕ) (presence : List Presence)
     (awaited : Option Awaited) → faults ≡ []
     → Stands lines awaited list
@@ -513,6 +538,7 @@ ended-told lines list faults presence (Some a) clean (part, is) =
           (part.came ++ []) list a.session part.count part.tells part.says short,
     ))
 
+-- of a whole record: what is read is what its lines tell, or its first faulty line was found
 pub lines-told : (lines : List (List ℕ)) → AllTold lines (noted_lines false no_notes 1 lines) ⊎ Found lines
 lines-told lines =
     by (lines-next lines [] no_notes 1 refl (record { clean = refl; placed = placed-none; stands = no_line }))

@@ -24,6 +24,7 @@ use Rattle.xa_record.proofs.Presences.{Placed, placed-none, fits-here, placed-ne
 use Rattle.xa_record.proofs.RecordLines.{cause-shown}
 use Rattle.xa_record.proofs.SessionsWithin.{Within, line_within}
 
+-- reading two lists of lines is reading the second from where the first ends
 pub noted_lines-append : (notes : Notes) (number : ℕ) (lines more : List (List ℕ))
     → noted_lines false notes number (lines ++ more) ≡ noted_lines false (noted_lines false notes number lines)
     (number + length lines) more
@@ -38,22 +39,24 @@ noted_lines-append notes number (line ∷ lines) more =
 abbrev pub noted : List NumberedEvent → List Presence → Notes
 noted list presence = record { told = list; faults = []; presence = presence; awaited = None }
 
+-- notes with these events and presences, while the rows of a return are still to come
 abbrev pub waiting : List NumberedEvent → List Presence → Awaited → Notes
 waiting list presence a = record { told = list; faults = []; presence = presence; awaited = Some a }
 
--- so the lines were read
+-- the lines were read without a fault as these events, and no row is to come
 pub record IsRead (lines : List (List ℕ)) (list : List NumberedEvent) : Type 0 where
   pub presence : List Presence
   pub placed : Placed presence list
   pub is : noted_lines false no_notes 1 lines ≡ noted list presence
 
+-- a line outside of a return's rows is noted by what it says
 pub said-of : (said : LineSaid) (list : List NumberedEvent) (presence : List Presence) (line : List ℕ) (number : ℕ)
     → reading_of_line line ≡ said
     → noted_line false (noted list presence) number line ≡ noted_said false (noted list presence) number said
 unfolding noted_line
 said-of said list presence line number is = ap (noted_said false (noted list presence) number) is
 
--- one line more
+-- reading lines and one more is reading that one with the notes that the others leave
 pub lines-more : (lines : List (List ℕ)) (line : List ℕ) (more : List (List ℕ)) (list : List NumberedEvent)
     (read : IsRead lines list)
     → noted_lines false no_notes 1 (lines ++ line ∷ more) ≡ noted_lines false
@@ -66,10 +69,12 @@ lines-more lines line more list read =
     ∙ ap (λ (n : Notes). noted_lines false (noted_line false n (length lines + 1) line)
     (length lines + 1 + 1) more) read.is
 
+-- without a line the notes stay
 no-more : (notes : Notes) (number : ℕ) → noted_lines false notes number [] ≡ notes
 unfolding noted_lines
 no-more notes number = refl
 
+-- the notes after one line more, by what it says
 line-more : (lines : List (List ℕ)) (line : List ℕ) (list : List NumberedEvent) (read : IsRead lines list)
     (said : LineSaid) → reading_of_line line ≡ said
     → noted_lines false no_notes 1 (lines ++ line ∷ []) ≡ noted_said false (noted list read.presence)
@@ -77,16 +82,19 @@ line-more : (lines : List (List ℕ)) (line : List ℕ) (list : List NumberedEve
 line-more lines line list read said is =
     lines-more lines line [] list read ∙ no-more _ _ ∙ said-of said list read.presence line (length lines + 1) is
 
+-- before the first line nothing was read
 no-line-read : IsRead [] []
 unfolding noted_lines
 no-line-read = record { presence = no_notes.presence; placed = placed-none; is = refl }
 
+-- a line that says nothing adds no event
 silent-read : (lines : List (List ℕ)) (line : List ℕ) (list : List NumberedEvent) → reading_of_line line ≡ Nothing
     → IsRead lines list → IsRead (lines ++ line ∷ []) list
 unfolding noted_said
 silent-read lines line list is read =
     record { presence = read.presence; placed = read.placed; is = line-more lines line list read Nothing is }
 
+-- an event without a fault is noted behind the others
 noted-so : (o : Option LineFault) (list : List NumberedEvent) (presence : List Presence) (number : ℕ) (told : Told)
     → o ≡ None
     → noted_if o (noted list presence) number told
@@ -96,6 +104,7 @@ unfolding noted_if
 noted-so None list presence number told none = refl
 noted-so (Some fault) list presence number told some = absurd (cc)
 
+-- a loss without a fault is noted behind the session's last return
 closed-so : (o : Option LineFault) (list : List NumberedEvent) (presence : List Presence) (number session : ℕ)
     → o ≡ None
     → closed_if o (noted list presence) number session
@@ -105,6 +114,7 @@ unfolding closed_if
 closed-so None list presence number session none = refl
 closed-so (Some fault) list presence number session some = absurd (cc)
 
+-- a line that says an event which can happen is read as that event
 happens-read : (told : Told) (lines : List (List ℕ)) (line : List ℕ) (list : List NumberedEvent)
     → reading_of_line line ≡ Says told → Fits list told → IsRead lines list
     → IsRead (lines ++ line ∷ []) (list ++ record { number = length lines + 1; told = told } ∷ [])
@@ -120,6 +130,7 @@ happens-read told lines line list is fits read =
           (fits-here read.presence list told within read.placed ∙ fits);
     }
 
+-- a line of a closed connection is read as a loss behind the session's last return
 closed-read : (session : ℕ) (lines : List (List ℕ)) (line : List ℕ) (before after : List NumberedEvent)
     → reading_of_line line ≡ Closed session
     → EndsInReturn session before → HasNoReturn session after → Fits (before ++ after) (Leaves session)
@@ -140,25 +151,29 @@ closed-read session lines line before after is ends_so last fits read =
           (inserted session before after one ends_so last);
     }
 
--- rows are awaited, and come
+-- a number of missing rows that is 0 tests as 0
 pub zero-missing : (missing : ℕ) → missing ≡ 0 → (missing == 0) ≡ true
 zero-missing missing is = grind (arith, nat_tests)
 
+-- a number above 0 doesn't test as 0
 pub some-missing : (missing : ℕ) → 0 < missing → (missing == 0) ≡ false
 some-missing missing some = grind (arith, nat_tests)
 
+-- while rows are missing the return is held back
 pub waits : (list : List NumberedEvent) (presence : List Presence) (a : Awaited) → 0 < a.missing
     → awaiting (noted list presence) a ≡ waiting list presence a
 waits list presence a some =
     ap (λ (b : Bool). if b then returned (noted list presence) a else waiting list presence a)
     (some-missing a.missing some)
 
+-- a return happens once none of its rows is missing
 pub all-came : (list : List NumberedEvent) (presence : List Presence) (a : Awaited) → a.missing ≡ 0
     → awaiting (noted list presence) a ≡ returned (noted list presence) a
 all-came list presence a none =
     ap (λ (b : Bool). if b then returned (noted list presence) a else waiting list presence a)
     (zero-missing a.missing none)
 
+-- a silent line among rows changes nothing
 pub come-silent : (list : List NumberedEvent) (presence : List Presence) (a : Awaited) (number : ℕ) (line : List ℕ)
     → is_silent line ≡ true
     → noted_line false (waiting list presence a) number line ≡ waiting list presence a
@@ -167,6 +182,7 @@ come-silent list presence a number line silent =
     ap (λ (b : Bool). if b then waiting list presence a else with_row (noted list presence) a number
     (row_said (unblank line))) silent
 
+-- a line among rows that isn't silent is read as a row
 pub come-row : (list : List NumberedEvent) (presence : List Presence) (a : Awaited) (number : ℕ) (line : List ℕ)
     (row : Option Xid) → is_silent line ≡ false
     → row_said (unblank line) ≡ row → noted_line false (waiting list presence a) number line
@@ -177,12 +193,14 @@ come-row list presence a number line row full said =
     (row_said (unblank line))) full
     ∙ ap (with_row (noted list presence) a number) said
 
+-- a row that can be read is added to those that came
 pub with-row-some : (list : List NumberedEvent) (presence : List Presence) (a : Awaited) (number : ℕ) (xid : Xid)
     → with_row (noted list presence) a number (Some xid)
     ≡ awaiting (noted list presence) (record a { missing = a.missing - 1; rows = a.rows ++ xid ∷ [] })
 unfolding with_row
 with-row-some list presence a number xid = refl
 
+-- if no line among them was faulty and the return fits, it is noted with its rows
 returned-so : (list : List NumberedEvent) (presence : List Presence) (a : Awaited) → a.faults ≡ []
     → cause_of (slice_get presence a.session) (Returns a.session (ShowsRows [])) ≡ None
     → returned (noted list presence) a
@@ -196,6 +214,7 @@ returned-so list presence a clean fits =
     { number = a.number; told = Returns a.session (ShowsRows a.rows) } ∷ [])
     (slice_set presence a.session Idle)) f) clean
 
+-- the lines of a return's rows are read as exactly these rows
 rows-read : (count : ℕ) (lines : List (List ℕ)) (more : List Xid) → RowsOf count lines more
     → (list : List NumberedEvent) (presence : List Presence) (a : Awaited) (number : ℕ)
     → a.missing ≡ count → a.faults ≡ [] → cause_of (slice_get presence a.session) (Returns a.session (ShowsRows []))
@@ -227,11 +246,12 @@ rows-read count lines more (one_row {count = c} {line = line} {lines = rest} {xi
     (slice_set presence a.session Idle))
     (append_assoc a.rows (xid ∷ []) fewer)
 
--- the rows that are awaited behind a line
+-- a return of this many rows, before the first of them was read
 abbrev pub first-awaited : ℕ → ℕ → ℕ → Awaited
 first-awaited session number count =
     record { session = session; number = number; missing = count; rows = []; faults = [] }
 
+-- after a line that announces rows, the lines behind it are read with that return held back
 pub awaits-said : (lines : List (List ℕ)) (line : List ℕ) (more : List (List ℕ)) (list : List NumberedEvent)
     (read : IsRead lines list) (session count : ℕ)
     → reading_of_line line ≡ Awaits session count
@@ -244,6 +264,7 @@ awaits-said lines line more list read session count is =
     ∙ ap (λ (n : Notes). noted_lines false n (length lines + 1 + 1) more)
     (said-of (Awaits session count) list read.presence line (length lines + 1) is)
 
+-- a line that announces rows, with the lines of its rows behind it, is read as the return that shows them
 rows-lines-read : (lines : List (List ℕ)) (line : List ℕ) (more : List (List ℕ)) (list : List NumberedEvent)
     (session count : ℕ) (rows : List Xid)
     → reading_of_line line ≡ Awaits session count → RowsOf count more rows

@@ -45,17 +45,19 @@ pub record KeepsText (calls : List (List ℕ)) (session : ℕ) (request : Reques
   pub well : IsWellCalled text
   pub is : request ≡ request_called text
 
+-- the text that a session called for last is kept, for each client whose request hasn't taken effect
 pub record Kept (calls : List (List ℕ)) (clients : List ClientState) : Type 0 where
   pub long : length calls ≡ length clients
   pub each : (session : ℕ) (request : Request) → open_request (slice_get clients session) ≡ Some request
       → KeepsText calls session request
 
+-- replacing an element leaves the length
 length-kept : {A : Type 0} (list : List A) (place : ℕ) (x : A) → length (set list place x) ≡ length list
 length-kept [] place x = refl
 length-kept (y ∷ list) zero x = refl
 length-kept (y ∷ list) (suc place) x = ap suc (length-kept list place x)
 
--- a client without an open request was written
+-- a client that has no open request may be written without a change of the requests' texts
 kept_without : (calls : List (List ℕ)) (clients : List ClientState) (session : ℕ) (before next : ClientState)
     → slice_get clients session ≡ Some before
     → open_request (Some next) ≡ None → Kept calls clients → Kept calls (set clients session next)
@@ -122,7 +124,7 @@ kept_call calls clients session text before next found opens well kept = record 
     first : (x : List ℕ) × (slice_get calls session ≡ Some x)
     first = get_within calls session within
 
--- a session called for a text that it never asks for
+-- a text put in for a session without an open request leaves the texts that are needed
 kept_unasked : (calls : List (List ℕ)) (clients : List ClientState) (session : ℕ) (text : List ℕ)
     (before next : ClientState)
     → slice_get clients session ≡ Some before → open_request (Some next) ≡ None → Kept calls clients
@@ -146,7 +148,7 @@ kept_unasked calls clients session text before next found none kept = record {
   ];
 }
 
--- the line of a statement that takes effect
+-- the line that is written for a session's statement is the line of its effect
 statement_line : (calls : List (List ℕ)) (config : Config) (session : ℕ) (request : Request) → IsSession session
     → Kept calls config.clients
     → open_request (slice_get config.clients session) ≡ Some request
@@ -167,6 +169,7 @@ statement_line calls config session request is kept opened =
           (call_feed keeps.text keeps.well));
     }
 
+-- the line that is written for an effect of a lost client gives its session's `DISCONNECT`
 disconnect_line : (calls : List (List ℕ)) (config : Config) (session : ℕ) → IsSession session
     → IsEffectLine config session ItsDisconnect (effect_line calls session ItsDisconnect)
 unfolding statement_text behind belongs
@@ -186,9 +189,11 @@ pub record HasLine (calls : List (List ℕ)) (config : Config) (session : ℕ) (
   pub line : IsEffectLine config session act (effect_line calls session act)
   pub kept : Kept calls mid.clients
 
+-- equal configurations have equal clients
 standings_of : (first second : Config) → Some first ≡ Some second → first.clients ≡ second.clients
 standings_of first second same = ap (λ (c : Config). c.clients) (same_Some first second same)
 
+-- the line of a statement's effect gives the request that took effect; `o` is where its client stood
 statement_by : (o : Option ClientState) (calls : List (List ℕ)) (config : Config) (session : ℕ) (mid : Config)
     → slice_get config.clients session ≡ o
     → IsSession session → Kept calls config.clients → carried_out o config session ≡ Some mid
@@ -210,6 +215,7 @@ statement_by (Some (Gone (Some request))) calls config session mid found is kept
 }
 statement_by (Some Left) calls config session mid found is kept at = absurd (none-some mid at)
 
+-- the line of the effect of a lost client's `DISCONNECT` gives that request; `o` is where its client stood
 disconnect_by : (o : Option ClientState) (calls : List (List ℕ)) (config : Config) (session : ℕ) (mid : Config)
     → slice_get config.clients session ≡ o
     → IsSession session → Kept calls config.clients → disconnected o config session ≡ Some mid
@@ -226,6 +232,7 @@ disconnect_by (Some (Gone request)) calls config session mid found is kept at = 
 }
 disconnect_by (Some Left) calls config session mid found is kept at = absurd (none-some mid at)
 
+-- each effect has a line that gives the request which takes effect
 has_line : (calls : List (List ℕ)) (config : Config) (session : ℕ) (act : Act) (mid : Config) → IsSession session
     → Kept calls config.clients
     → effect_of config session act ≡ Some mid → HasLine calls config session act mid
@@ -235,7 +242,7 @@ has_line calls config session ItsStatement mid is kept at =
 has_line calls config session ItsDisconnect mid is kept at =
     disconnect_by (slice_get config.clients session) calls config session mid refl is kept at
 
--- an event was seen
+-- a call puts its text in its session's place, and leaves the texts of other open requests
 call_by : (o : Option ClientState) (calls : List (List ℕ)) (config : Config) (session : ℕ) (text : List ℕ)
     (mid : Config) → slice_get config.clients session ≡ o
     → IsWellCalled text → Kept calls config.clients
@@ -255,6 +262,7 @@ call_by (Some Left) calls config session text mid found well kept at =
     subst (Kept (set calls session text)) (standings_of _ mid at)
     (kept_unasked calls config.clients session text Left Left found refl kept)
 
+-- a return leaves the texts of the other open requests as they are
 return_by : (o : Option ClientState) (calls : List (List ℕ)) (config : Config) (session : ℕ) (seen : Seen)
     (mid : Config) → slice_get config.clients session ≡ o
     → Kept calls config.clients → returned o config session seen ≡ Some mid → Kept calls mid.clients
@@ -269,6 +277,7 @@ return_by (Some (Answered answer)) calls config session seen mid found kept at =
 return_by (Some (Gone request)) calls config session seen mid found kept at = absurd (none-some mid at)
 return_by (Some Left) calls config session seen mid found kept at = absurd (none-some mid at)
 
+-- a loss leaves all texts: the lost client's request may still take effect
 lost_by : (o : Option ClientState) (calls : List (List ℕ)) (config : Config) (session : ℕ) (mid : Config)
     → slice_get config.clients session ≡ o
     → Kept calls config.clients → lost o config session ≡ Some mid → Kept calls mid.clients
@@ -285,6 +294,7 @@ lost_by (Some (Answered answer)) calls config session mid found kept at =
 lost_by (Some (Gone request)) calls config session mid found kept at = absurd (none-some mid at)
 lost_by (Some Left) calls config session mid found kept at = absurd (none-some mid at)
 
+-- a return of which only the fact is known leaves the texts of the other open requests
 unknown_by : (o : Option ClientState) (calls : List (List ℕ)) (config : Config) (session : ℕ) (mid : Config)
     → slice_get config.clients session ≡ o
     → Kept calls config.clients → answered_unknown o config session ≡ Some mid → Kept calls mid.clients
@@ -300,6 +310,7 @@ unknown_by (Some (Answered answer)) calls config session mid found kept at =
 unknown_by (Some (Gone request)) calls config session mid found kept at = absurd (none-some mid at)
 unknown_by (Some Left) calls config session mid found kept at = absurd (none-some mid at)
 
+-- any event of the record keeps the texts; a call puts its own in its session's place
 seen_kept : (allowances : List Allowance) (kinds : List (Option StatementKind)) (calls : List (List ℕ))
     (config : Config) (told : Told) (event : Event)
     (mid : Config) → IsWellTold told → IsEvent allowances kinds told event
@@ -319,6 +330,7 @@ seen_kept allowances kinds calls config (ReturnsUnknown session) event mid well 
 seen_kept allowances kinds calls config (Leaves session) event mid well is kept at =
     lost_by (slice_get config.clients session) calls config session mid refl kept (sym (ap (observed config) is) ∙ at)
 
+-- along all moves: each line of the order gives the request that takes effect there
 pub are_effects : (allowances : List Allowance) (kinds : List (Option StatementKind)) (calls : List (List ℕ))
     (numbered : List NumberedEvent)
     (events : List Event) (moves : List Move) (old new : Config) → AreWellCalled numbered
@@ -345,17 +357,19 @@ are_effects allowances kinds calls (one ∷ numbered) (event ∷ events) (Seeing
 are_effects allowances kinds calls numbered [] [] old new well are kept runs = tt
 are_effects allowances kinds calls numbered (event ∷ events) [] old new well are kept runs = absurd runs
 
--- before all calls nothing is open
+-- before the first call no client has an open request
 idle_open : (count place : ℕ) (request : Request) → open_request (slice_get (replicate count Idle) place) ≡ Some request
     → ⊥
 idle_open zero place request opened = absurd (none-some request opened)
 idle_open (suc count) zero request opened = absurd (none-some request opened)
 idle_open (suc count) (suc place) request opened = idle_open count place request opened
 
+-- at the beginning no client has a request, so no text is needed
 none_kept : (base : State) → Kept no_calls (opening_config base).clients
 unfolding opening_config
 none_kept base = record { long = refl; each = λ session request opened. absurd (idle_open 17 session request opened) }
 
+-- the lines of an order that explains the events, run from the same state, give its effects one by one
 pub order_replayed : (base : State) (allowances : List Allowance) (numbered : List NumberedEvent) (events : List Event)
     (moves : List Move) (new : Config)
     → AreWellCalled numbered → AreEvents allowances numbered events

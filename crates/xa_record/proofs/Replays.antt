@@ -36,10 +36,11 @@ use Rattle.xa_record.proofs.Feeds.{cut_where_joined}
 use Rattle.xa_record.proofs.ReplayedEffects.{order_replayed}
 use Rattle.xa_record.proofs.RunAnswers.{line_answered, line_followed, order_joined}
 
+-- equal configurations have equal states of the store
 state_of : (first second : Config) → Some first ≡ Some second → first.state ≡ second.state
 state_of first second same = ap (λ (c : Config). c.state) (same_Some first second same)
 
--- the state once a statement has taken effect
+-- a statement that takes effect leaves the state that its request leads to
 statement_state : (o : Option ClientState) (config : Config) (session : ℕ) (mid : Config) (request : Request)
     → carried_out o config session ≡ Some mid
     → open_request o ≡ Some request → mid.state ≡ next_state config.state session request
@@ -54,7 +55,7 @@ statement_state (Some (Gone (Some asked))) config session mid request at is =
     sym (state_of _ mid at) ∙ ap (next_state config.state session) (same_Some asked request is)
 statement_state (Some Left) config session mid request at is = absurd (none-some mid at)
 
--- the state once a DISCONNECT has
+-- a DISCONNECT that takes effect leaves the state that its request leads to
 disconnect_state : (o : Option ClientState) (config : Config) (session : ℕ) (mid : Config) (request : Request)
     → disconnected o config session ≡ Some mid
     → requested config session ItsDisconnect ≡ Some request → mid.state ≡ next_state config.state session request
@@ -67,6 +68,7 @@ disconnect_state (Some (Gone asked)) config session mid request at is =
     sym (state_of _ mid at) ∙ ap (next_state config.state session) (same_Some _ request is)
 disconnect_state (Some Left) config session mid request at is = absurd (none-some mid at)
 
+-- an effect changes the store as its request does
 effect_state : (config : Config) (session : ℕ) (act : Act) (mid : Config) (request : Request)
     → effect_of config session act ≡ Some mid
     → requested config session act ≡ Some request → mid.state ≡ next_state config.state session request
@@ -76,7 +78,7 @@ effect_state config session ItsStatement mid request at is =
 effect_state config session ItsDisconnect mid request at is =
     disconnect_state (slice_get config.clients session) config session mid request at is
 
--- what is seen changes no state
+-- a call changes nothing in the store
 call_state : (o : Option ClientState) (config : Config) (session : ℕ) (request : Request) (mid : Config)
     → called o config session request ≡ Some mid
     → config.state ≡ mid.state
@@ -89,6 +91,7 @@ call_state (Some (Gone None)) config session request mid at = state_of _ mid at
 call_state (Some (Gone (Some asked))) config session request mid at = absurd (none-some mid at)
 call_state (Some Left) config session request mid at = state_of _ mid at
 
+-- a return changes nothing in the store
 return_state : (o : Option ClientState) (config : Config) (session : ℕ) (seen : Seen) (mid : Config)
     → returned o config session seen ≡ Some mid
     → config.state ≡ mid.state
@@ -101,6 +104,7 @@ return_state (Some (Answered answer)) config session seen mid at =
 return_state (Some (Gone asked)) config session seen mid at = absurd (none-some mid at)
 return_state (Some Left) config session seen mid at = absurd (none-some mid at)
 
+-- the loss of a client changes nothing in the store
 lost_state : (o : Option ClientState) (config : Config) (session : ℕ) (mid : Config) → lost o config session ≡ Some mid
     → config.state ≡ mid.state
 unfolding lost
@@ -111,6 +115,7 @@ lost_state (Some (Answered answer)) config session mid at = state_of _ mid at
 lost_state (Some (Gone asked)) config session mid at = absurd (none-some mid at)
 lost_state (Some Left) config session mid at = absurd (none-some mid at)
 
+-- a return of which only the fact is known changes nothing in the store
 unknown_state : (o : Option ClientState) (config : Config) (session : ℕ) (mid : Config)
     → answered_unknown o config session ≡ Some mid
     → config.state ≡ mid.state
@@ -122,6 +127,7 @@ unknown_state (Some (Answered answer)) config session mid at = state_of _ mid at
 unknown_state (Some (Gone asked)) config session mid at = absurd (none-some mid at)
 unknown_state (Some Left) config session mid at = absurd (none-some mid at)
 
+-- no event of the record changes the store: only effects do
 observed_state : (config : Config) (event : Event) (mid : Config) → observed config event ≡ Some mid
     → config.state ≡ mid.state
 unfolding observed
@@ -132,7 +138,7 @@ observed_state config (Return session seen) mid at =
 observed_state config (Lost session) mid at = lost_state (slice_get config.clients session) config session mid at
 observed_state config (Unknown session) mid at = unknown_state (slice_get config.clients session) config session mid at
 
--- the lines of an order are lines
+-- no line that is written for an order has a line feed in it
 lines_whole : (old : Config) (events : List Event) (moves : List Move) (lines : List (List ℕ))
     → AreEffects old events moves lines → All HasNoFeed lines
 lines_whole old events (Effect session act ∷ moves) [] are = absurd are
@@ -189,6 +195,7 @@ well_called session text event bare is written = record {
       subst IsWrittenCall (is ∙ ap (λ r. Call session (request_read r)) read) written other;
 }
 
+-- the calls of a record are well told if their texts are bare and statements among them are written back
 pub well_told : (allowances : List Allowance) (kinds : List (Option StatementKind)) (numbered : List NumberedEvent)
     (events : List Event) → AreBare numbered
     → AreEventsAfter allowances kinds numbered events → All IsWrittenCall events → AreWellCalled numbered
@@ -204,6 +211,7 @@ well_told allowances kinds (one ∷ numbered) (event ∷ events) bare are writte
     by (ReturnsUnknown session) is same = tt
     by (Leaves session) is same = tt
 
+-- the first configuration has the store's base as its state
 opened : (base : State) → (opening_config base).state ≡ base
 unfolding opening_config
 opened base = refl
@@ -225,7 +233,7 @@ order_answered base allowances numbered events moves new well are runs =
     (subst (λ (s : State). AnswersAlong (opening_config base) events moves (run_text s lines)) (opened base)
     (answers_along (opening_config base) events moves lines effects))
 
--- so it is with a right verdict
+-- the order of a right verdict, run as a script, gives the answers of its moves
 pub verdict_replayed : (base : State) (allowances : List Allowance) (numbered : List NumberedEvent)
     (events : List Event) (limit : ℕ) (verdict : Verdict)
     → AreWellCalled numbered → AreEvents allowances numbered events → IsVerdict base events limit verdict
@@ -235,7 +243,7 @@ verdict_replayed base allowances numbered events limit (LegalBy moves) well are 
 verdict_replayed base allowances numbered events limit (IllegalAt place answers) well are right = tt
 verdict_replayed base allowances numbered events limit (UndecidedAt place) well are right = tt
 
--- so it is where what sessions call for is bare, and is written back
+-- the order of a right verdict, run as a script, gives the answers of its moves, if calls are bare and written back
 pub bare_replayed : (base : State) (allowances : List Allowance) (numbered : List NumberedEvent) (events : List Event)
     (limit : ℕ) (verdict : Verdict)
     → AreBare numbered → AreEvents allowances numbered events → All IsWrittenCall events

@@ -20,6 +20,7 @@ use Rattle.xa_record.specs.Replaying.{AreBare, IsWrittenCall}
 use Rattle.xa_record.specs.Reports.{Report, IsReportOf}
 use Rattle.xa_record.proofs.Replays.{bare_replayed}
 
+-- with at least one event the report is the judgement on the events
 reported_of : (base : State) (allowances : List Allowance) (numbered : List NumberedRead) (asked : Asked)
     (report : Report) → (length numbered == 0) ≡ false
     → IsJudgement base allowances (map numbered_kept numbered) asked report
@@ -27,7 +28,7 @@ reported_of : (base : State) (allowances : List Allowance) (numbered : List Numb
 reported_of base allowances [] asked report some is = absurd (cc)
 reported_of base allowances (one ∷ numbered) asked report some is = is
 
--- what happens was judged
+-- a report on events that were judged is one on the lines that say them
 pub judged_so : {E : Type 0} (result : Result ReportMade E) (base : State) (allowances : List Allowance)
     (numbered : List NumberedEvent) (asked : Asked)
     (events : List Event) (verdict : Verdict) → AreBare numbered → AreEvents allowances numbered events
@@ -47,7 +48,7 @@ judged_so (Ok report) base allowances numbered asked events verdict bare are wri
     }
 judged_so (Err fault) base allowances numbered asked events verdict bare are written right told = tt
 
--- where it was judged so whatever the allowances are
+-- if what is returned is right for each list of allowances that gives these events, its report is
 pub judged_always : {E : Type 0} (result : Result ReportMade E) (base : State) (told : List NumberedEvent)
     (asked : Asked) (events : List Event)
     → ((allowances : List Allowance) → AreEvents allowances told events
@@ -57,7 +58,7 @@ pub judged_always : {E : Type 0} (result : Result ReportMade E) (base : State) (
 judged_always (Ok report) base told asked events judged = judged
 judged_always (Err fault) base told asked events judged = tt
 
--- and with these
+-- a report that is right for each list of allowances that gives these events is right for this one
 pub judged_with : {E : Type 0} (result : Result ReportMade E) (base : State) (allowances : List Allowance)
     (told : List NumberedEvent) (asked : Asked) (events : List Event)
     → IfOk result (λ report. (allowances : List Allowance) → AreEvents allowances told events
@@ -80,6 +81,7 @@ reported (Ok report) base allowances faults numbered asked none some is =
     (reported_of base allowances numbered asked (report_kept report) some is)
 reported (Err fault) base allowances faults numbered asked none some is = tt
 
+-- a text whose length tests as 0 is empty: no line was faulty
 pub no_fault : (faults : List ℕ) → (length faults == 0) ≡ true → faults ≡ []
 no_fault [] empty = refl
 no_fault (byte ∷ faults) empty =

@@ -7,10 +7,11 @@ use Rattle.xa_record.specs.Reading.{NumberedEvent, is_return_of, one_more, up_to
 use Rattle.xa_record.specs.Kept.{told_kept, numbered_kept}
 use Rattle.xa_record.proofs.EventLists.{map-push}
 
+-- once a session's last return is found (count + 1 isn't 0), one more event in front moves its place by one
 more-two : (count : ℕ) (returns : Bool) → one_more (count + 1) returns ≡ count + 1 + 1
 more-two count returns = rw (add-one count, add-one (suc count)) refl
 
--- the last thing is a return
+-- if the last event is a return of the session, its place is the number of events
 up_to_return-last : (session : ℕ) (list : List NumberedEvent) (one : NumberedEvent)
     → is_return_of session one.told ≡ true
     → up_to_return session (list ++ one ∷ []) ≡ length list + 1
@@ -21,7 +22,7 @@ up_to_return-last session (first ∷ more) one is =
     ∙ more-two (length more) (is_return_of session first.told)
     ∙ omega arith
 
--- the last thing is none
+-- a last event that is no return of the session doesn't change where its last return stands
 up_to_return-other : (session : ℕ) (list : List NumberedEvent) (one : NumberedEvent)
     → is_return_of session one.told ≡ false
     → up_to_return session (list ++ one ∷ []) ≡ up_to_return session list
@@ -30,6 +31,7 @@ up_to_return-other session [] one is = rw is refl
 up_to_return-other session (first ∷ more) one is =
     ap (λ (n : ℕ). one_more n (is_return_of session first.told)) (up_to_return-other session more one is)
 
+-- the first `place` events are those before the last of them, and that one
 upto : (numbered : List NumberedRead) (last place : ℕ) (one : NumberedRead) → last + 1 ≡ place → last < length numbered
     → one ≡ get_or numbered last one
     → map numbered_kept (take place numbered) ≡ map numbered_kept (take last numbered) ++ numbered_kept one ∷ []
@@ -39,12 +41,13 @@ upto numbered last place one next within at =
     ∙ ap (λ (x : NumberedRead). take last numbered ++ x ∷ []) (sym at))
     ∙ map-push (take last numbered) one
 
+-- whether the event at a place is a return of the session, by the program's form of the list
 there-is : (session : ℕ) (numbered : List NumberedRead) (last : ℕ) (one : NumberedRead) → one ≡ get_or numbered last one
     → is_return_of session (told_kept one.line_event) ≡ is_return_of session
     (told_kept (get_or numbered last one).line_event)
 there-is session numbered last one at = ap (λ (n : NumberedRead). is_return_of session (told_kept n.line_event)) at
 
--- the last of so many is a return
+-- the place found from the end is that of the session's last return
 pub up_to_return-found : (whole session : ℕ) (numbered : List NumberedRead) (last place : ℕ) (one : NumberedRead)
     → last + 1 ≡ place → place ≤ length numbered
     → one ≡ get_or numbered last one → is_return_of session (told_kept (get_or numbered last one).line_event) ≡ true
@@ -59,7 +62,7 @@ up_to_return-found whole session numbered last place one next within at is found
     let same = found ∙ ap (up_to_return session) (upto numbered last place one next (omega arith) at) ∙ there in
     omega (arith, same, long, next)
 
--- it is none
+-- the loop from the last event down: this one is no return of the session, so the earlier ones decide
 pub up_to_return-left : (whole session : ℕ) (numbered : List NumberedRead) (last place : ℕ) (one : NumberedRead)
     → last + 1 ≡ place → place ≤ length numbered
     → one ≡ get_or numbered last one → is_return_of session (told_kept (get_or numbered last one).line_event) ≡ false
@@ -70,13 +73,14 @@ up_to_return-left whole session numbered last place one next within at is found 
     ∙ up_to_return-other session (map numbered_kept (take last numbered)) (numbered_kept one)
     (there-is session numbered last one at ∙ is)
 
+-- among no events there is no return
 first_none : (session : ℕ) (numbered : List NumberedRead)
     → up_to_return session (map numbered_kept (take 0 numbered)) ≡ 0
 unfolding up_to_return
 first_none session [] = refl
 first_none session (one ∷ numbered) = refl
 
--- nothing is left
+-- the loop from the last event down ends: no event is left, so the session has no return
 pub up_to_return-none : (whole session : ℕ) (numbered : List NumberedRead) (place : ℕ) → place ≡ 0
     → whole ≡ up_to_return session (map numbered_kept (take place numbered)) → 0 ≡ whole
 unfolding up_to_return

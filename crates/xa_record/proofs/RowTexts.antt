@@ -6,12 +6,13 @@ use Rattle.xa_xid.specs.declared.xid.Xid.{Xid}
 use Rattle.xa_record.specs.Rows.{row_said}
 use Rattle.xa_record.specs.Kept.{row_before, rows_kept}
 
+-- putting a row before two lists is putting it before the first of them
 row_before-append : (row : Option Xid) (rows more : List Xid)
     → row_before row (rows ++ more) ≡ row_before row rows ++ more
 row_before-append None rows more = refl
 row_before-append (Some row) rows more = refl
 
--- one text more stands behind
+-- one text more adds its identifier, if it has one, behind those of the other texts
 pub rows_behind : (texts : List (Bor (List ℕ))) (text : Bor (List ℕ))
     → rows_kept (texts ++ text ∷ []) ≡ rows_kept texts ++ row_before (row_said text.now) []
 rows_behind [] text = refl
@@ -19,7 +20,7 @@ rows_behind (first ∷ texts) text =
     ap (row_before (row_said first.now)) (rows_behind texts text)
     ∙ row_before-append (row_said first.now) (rows_kept texts) (row_before (row_said text.now) [])
 
--- one text more was read
+-- the loop over texts: the identifier of one more was read
 pub rows_kept-more : (texts : List (Bor (List ℕ))) (old new : List Xid) (index : ℕ) (none : Bor (List ℕ))
     → index < length texts
     → old ≡ rows_kept (take index texts) → new ≡ old ++ row_before (row_said (get_or texts index none).now) []

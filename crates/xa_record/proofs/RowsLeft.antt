@@ -33,7 +33,7 @@ use Rattle.xa_server.proofs.Maps.{same_or_apart, get_inserted_apart}
 use Rattle.xa_lines.specs.Listing.{listing}
 use Rattle.xa_record.specs.States.{NamesAllRows, IsStateOf, leaves_rows}
 
--- a branch is changed
+-- changing a branch changes no committed value
 changed_rows : (state : State) (xid : Xid) (change : Branch → Branch)
     → (with_changed state xid change).rows ≡ state.rows
 changed_rows state xid change = by (map.get state.branches xid)
@@ -43,6 +43,7 @@ changed_rows state xid change = by (map.get state.branches xid)
     by None = refl
     by (Some branch) = refl
 
+-- a statement that leaves rows (`leaves_rows`) has no effect on committed values
 effect_rows : (state : State) (session : ℕ) (association : Association) (statement : Statement)
     → leaves_rows association statement ≡ true
     → (effect state session association statement).rows ≡ state.rows
@@ -67,6 +68,7 @@ effect_rows state session Free Disconnect is = refl
 effect_rows state session (Active own) Disconnect is = refl
 effect_rows state session (Idle own) Disconnect is = refl
 
+-- a statement that leaves committed values leaves them if it is refused, too
 unless_rows : (reply : Reply) (state new : State) → new.rows ≡ state.rows
     → (unless_refused reply state new).rows ≡ state.rows
 unless_rows Accepted state new same = same
@@ -87,18 +89,21 @@ rows_left state session statement is =
 at_end : (keys : List (List ℕ)) (key other : List ℕ) → other ≡ key → Contains (keys ++ key ∷ []) other
 at_end keys key other is = Contains-append_right keys (key ∷ []) other (0, omega (arith), sym is)
 
+-- keys that name all rows still do with one key more
 named_still : (state : State) (keys : List (List ℕ)) (key : List ℕ) → NamesAllRows keys state
     → NamesAllRows (keys ++ key ∷ []) state
 named_still state keys key all = record {
   names = λ other has. Contains-append_left keys (key ∷ []) other (all.names other has);
 }
 
+-- whether keys name all rows depends on the rows alone
 pub named_by_rows : (state new : State) (keys : List (List ℕ)) → new.rows ≡ state.rows → NamesAllRows keys state
     → NamesAllRows keys new
 named_by_rows state new keys same all = record {
   names = λ other has. all.names other (λ none. has (ap (λ rows. map.get rows other) same ∙ none));
 }
 
+-- after a row was put in, the keys with its own name all rows
 named_put : (state : State) (keys : List (List ℕ)) (key : List ℕ) (value : Text) (other : List ℕ)
     → NamesAllRows keys state → map.get (map.insert state.rows key value) other ≢ None
     → (other ≡ key) ⊎ (eq_by_cmp bytes_cmp other key ≡ false) → Contains (keys ++ key ∷ []) other
@@ -123,6 +128,7 @@ named_by_effect state session (Active own) keys key value all =
     (named_still state keys key all)
 named_by_effect state session (Idle own) keys key value all = named_still state keys key all
 
+-- a refused statement changes no rows, so the keys that named them all still do
 unless_named : (reply : Reply) (state new : State) (keys : List (List ℕ)) → NamesAllRows keys state
     → NamesAllRows keys new
     → NamesAllRows keys (unless_refused reply state new)
@@ -141,7 +147,7 @@ row_named state session keys key value all =
     (effect state session (association_of state session) (Put key value)) (keys ++ key ∷ [])
     (named_still state keys key all) (named_by_effect state session (association_of state session) keys key value all)
 
--- a server that holds nothing
+-- any keys name all rows of a server that holds nothing
 pub none_named : (state : State) (keys : List (List ℕ)) → state ≡ no_state → NamesAllRows keys state
 unfolding no_state
 none_named state keys is = record {
@@ -164,7 +170,7 @@ pub named_made : (empty rows prepared made : State) (none keys : List (List ℕ)
 named_made empty rows prepared made none keys is taken one two =
     named_by_rows prepared made keys two (named_by_rows rows prepared keys one (taken (none_named empty none is)))
 
--- a text that is a server's listing
+-- a text that is a server's listing, of all keys that have a value, is a text of its state
 pub is_listed : (text : List ℕ) (state : State) (keys : List (List ℕ)) → text ≡ listing state keys
     → NamesAllRows keys state → IsStateOf text state
 is_listed text state keys lists all = record { keys = keys; lists = lists; all = all }

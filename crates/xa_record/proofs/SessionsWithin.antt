@@ -16,6 +16,7 @@ use Rattle.xa_record.specs.Lines.{reading_of_line}
 use Rattle.xa_record.specs.Rows.{leading_number}
 use Rattle.xa_record.specs.Reading.{session_of}
 
+-- the session that a line names, if it names one, is below 17
 abbrev pub Within : LineSaid → Type 0
 Within Nothing = Unit {0}
 Within Bad = Unit {0}
@@ -23,27 +24,33 @@ Within (Says told) = session_of told < 17
 Within (Awaits session count) = session < 17
 Within (Closed session) = session < 17
 
+-- of two readings of a line, of which a test takes one, both name a session below 17 or none
 either : (b : Bool) (one two : LineSaid) → Within one → Within two → Within (if b then one else two)
 either true one two first second = first
 either false one two first second = second
 
+-- a word that has to stand alone on its line names a session below 17 or none
 alone_within : (said : LineSaid) (text : List ℕ) → Within said → Within (alone said text)
 alone_within said [] is = is
 alone_within said (byte ∷ text) is = tt
 
+-- a line with a returned value names a session below 17
 value_within : (session : ℕ) (reading : Reading Text) → session < 17 → Within (value_said session reading)
 value_within session (Ok (value, rest)) is =
     alone_within (Says (Returns session (ShowsValue (Some value)))) (unblank rest) is
 value_within session (Err fault) is = tt
 
+-- a line with the number of returned rows names a session below 17
 rows_within : (session : ℕ) (count : Option ℕ) (rest : List ℕ) → session < 17 → Within (rows_said session count rest)
 rows_within session None rest is = tt
 rows_within session (Some count) rest is = alone_within (Awaits session count) rest is
 
+-- a line with a returned refusal names a session below 17
 error_within : (session : ℕ) (number : Option ℕ) → session < 17 → Within (error_said session number)
 error_within session None is = tt
 error_within session (Some number) is = either (nat_lt number 65536) _ Bad is tt
 
+-- a line of any return names a session below 17
 return_within : (session : ℕ) (word text : List ℕ) → session < 17 → Within (return_said session word text)
 unfolding return_said
 return_within session word text is =
@@ -54,12 +61,14 @@ return_within session word text is =
     (behind_word text) is)
     (either (bytes_eq word (codes "ERROR")) _ Bad (error_within session (leading_number text) is) tt))))
 
+-- a line of a lost client names a session below 17
 loss_within : (session : ℕ) (word text : List ℕ) → session < 17 → Within (loss_said session word text)
 unfolding loss_said
 loss_within session word text is =
     either (bytes_eq word (codes "LOST")) _ _ (alone_within (Says (Leaves session)) text is)
     (either (bytes_eq word (codes "GONE")) _ Bad (alone_within (Closed session) text is) tt)
 
+-- a line with a session's number below 17 names that session
 given_within : (session : ℕ) (text : List ℕ) → session < 17
     → Within (session_said session (first_word text) (behind_word text))
 unfolding session_said
@@ -72,21 +81,25 @@ given_within session text is =
     (Says (ReturnsUnknown session)) Bad is tt)
     (either (bytes_eq sign (codes "!")) _ Bad (loss_within session (first_word rest) (behind_word rest) is) tt)))
 
--- what a word names
+-- a word that names a session names one below 17
 abbrev NamesWithin : Option ℕ → Type 0
 NamesWithin None = Unit {0}
 NamesWithin (Some session) = session < 17
 
+-- a session's number that counts only if a test holds is below 17 if it counts
 chosen : (b : Bool) (session : ℕ) → (b ≡ true → session < 17) → NamesWithin (cond b (Some session) None)
 chosen true session within = within refl
 chosen false session within = tt
 
+-- one digit from 1 to 9 (the bytes 49 to 57) names a session below 17
 one_digit : (one : ℕ) → (nat_le 49 one && nat_le one 57) ≡ true → one - 48 < 17
 one_digit one is = grind (arith, nat_tests, common_steps)
 
+-- two digits, a 1 and one from 0 to 6 (the bytes 48 to 54), name a session below 17
 two_digits : (ten one : ℕ) → ((ten == 49) && (nat_le 48 one && nat_le one 54)) ≡ true → 10 + (one - 48) < 17
 two_digits ten one is = grind (arith, nat_tests, common_steps)
 
+-- each word that names a session names one below 17
 named_within : (word : List ℕ) → NamesWithin (session_named word)
 named_within [] = tt
 named_within (one ∷ []) = chosen (nat_le 49 one && nat_le one 57) (one - 48) (one_digit one)
@@ -94,16 +107,19 @@ named_within (ten ∷ one ∷ []) =
     chosen ((ten == 49) && (nat_le 48 one && nat_le one 54)) (10 + (one - 48)) (two_digits ten one)
 named_within (ten ∷ one ∷ more ∷ rest) = tt
 
+-- a line whose session was read as one below 17 names that session
 line_within_by : (session : Option ℕ) (text : List ℕ) → NamesWithin session
     → Within (filled_said (line_given session text))
 line_within_by None text is = tt
 line_within_by (Some session) text is = given_within session text is
 
+-- of two readings of a line, of which a test takes one, both name a session below 17 or none
 said_within : (b : Bool) (one two : Line) → Within (filled_said one) → Within (filled_said two)
     → Within (filled_said (cond b one two))
 said_within true one two first second = first
 said_within false one two first second = second
 
+-- any line of a record that names a session names one below 17
 pub line_within : (line : List ℕ) → Within (reading_of_line line)
 unfolding reading_of_line line_of
 line_within line =

@@ -14,7 +14,7 @@ use Rattle.xa_record.specs.VerdictText.{answer_text, with_answers, texts_of, ans
 use Rattle.xa_record.specs.VerdictText.{line_number_at}
 use Rattle.xa_record.proofs.Places.{slice_get-kept, slice_get-kept_past}
 
--- answers one after another
+-- putting two lists of answers in is putting the second in behind the first
 with_answers-append : (texts : List (List ℕ)) (answers more : List Answer)
     → with_answers texts (answers ++ more) ≡ with_answers (with_answers texts answers) more
 unfolding with_answers
@@ -22,7 +22,7 @@ with_answers-append texts [] more = refl
 with_answers-append texts (answer ∷ answers) more =
     with_answers-append (insert_key bytes_cmp texts (answer_text answer)) answers more
 
--- one answer more
+-- the loop over answers: the text of one more is put in
 with_answers-more : (answers : List Answer) (index : ℕ) (answer : Answer) → index < length answers
     → answer ≡ get_or answers index answer
     → texts_of (take (index + 1) answers) ≡ insert_key bytes_cmp (texts_of (take index answers)) (answer_text answer)
@@ -60,12 +60,13 @@ texts-more bytes old new key answers index answer within at before is put =
     ∙ ap (insert_key bytes_cmp (texts_of (take index answers))) is
     ∙ sym (with_answers-more answers index answer within at)
 
+-- before the first key no text was put in
 pub texts-none : {A : Type 0} (bytes : A → List ℕ) (keys : List A) (answers : List Answer) → keys ≡ []
     → map bytes keys ≡ texts_of (take 0 answers)
 unfolding with_answers
 texts-none bytes keys answers none = ap (map bytes) none
 
--- one text more was written
+-- the loop over texts: one more was written
 pub written-text : (whole out first second third text : List ℕ) (texts : List (List ℕ))
     → whole ≡ out ++ answers_text (text ∷ texts)
     → first ≡ out ++ codes "COULD BE " → second ≡ first ++ text → third ≡ second ++ codes "\n"
@@ -78,19 +79,19 @@ written-text whole out first second third text texts is one two three =
     three ∙ ap (λ l. l ++ codes "\n") (two ∙ ap (λ l. l ++ text) one) in
     is ∙ parts ∙ ap (λ l. l ++ answers_text texts) (sym made)
 
--- no text is left
+-- the loop over texts ends: no text is left, and all are written
 pub written-whole : (whole out : List ℕ) (texts : List (List ℕ)) → whole ≡ out ++ answers_text texts → texts ≡ []
     → out ≡ whole
 unfolding answers_text
 written-whole whole out texts is none = sym (is ∙ ap (λ t. out ++ answers_text t) none ∙ append-nil out)
 
--- the number of the line, in the list as the program keeps it
+-- the number of the line of an event, by what the program's list has there
 pub number_at-within : (numbered : List NumberedRead) (place : ℕ) (one : NumberedRead) → place < length numbered
     → one ≡ get_or numbered place one
     → one.number ≡ line_number_at (map numbered_kept numbered) place
 number_at-within numbered place one within at = sym (ap number_of_line (slice_get-kept numbered place one within at))
 
--- there is no such line
+-- past the last event there is no line, so its number is 0
 pub number_at-past : (numbered : List NumberedRead) (place : ℕ) → length numbered ≤ place
     → 0 ≡ line_number_at (map numbered_kept numbered) place
 number_at-past numbered place past = sym (ap number_of_line (slice_get-kept_past numbered place past))

@@ -16,14 +16,17 @@ pub nothing-before : (xs ys : List ℕ) → xs ++ ys ≡ [] → xs ≡ []
 nothing-before [] ys none = refl
 nothing-before (x ∷ xs) ys none = absurd (cc)
 
+-- what is written for a fault is never empty
 pub fault-something : (number : ℕ) (fault : LineFault) → fault_text number fault ≡ [] → ⊥
 fault-something number fault none = cc
 
+-- the notes of a text, spelled out: those of its lines, and its end
 notes-so : (text : List ℕ) → notes_of text ≡ ended_by (noted_lines false no_notes 1 (lines_of text)).awaited
     (noted_lines false no_notes 1 (lines_of text))
 unfolding notes_by
 notes-so text = refl
 
+-- if no row is awaited at the end, the end changes nothing
 ended-none : (awaited : Option Awaited) (notes : Notes) → awaited ≡ None → ended_by awaited notes ≡ notes
 ended-none awaited notes none = ap (λ (o : Option Awaited). ended_by o notes) none
 
@@ -34,11 +37,13 @@ text-begins text number fault has =
     subst (λ (n : Notes). Begins n.faults (fault_text number fault)) (sym (notes-so text))
     (first-fault (lines_of text) number fault has)
 
+-- if nothing was written for faults, no line can be the first faulty one
 something : (faults text : List ℕ) (number : ℕ) (fault : LineFault) → faults ≡ []
     → Begins faults (fault_text number fault) → ⊥
 something faults text number fault none begins =
     fault-something number fault (nothing-before (fault_text number fault) begins.0 (sym begins.1 ∙ none))
 
+-- if what is read is what the lines tell, nothing was written for faults
 told-by : (text : List ℕ) → AllTold (lines_of text) (noted_lines false no_notes 1 (lines_of text))
     → ((notes_of text).faults ≡ []) × Tells (lines_of text) (notes_of text).told
 told-by text all =
@@ -49,7 +54,7 @@ told-by text all =
           (sym same) all.tells,
     )
 
--- where nothing is faulty the lines tell what is read
+-- if nothing was written for faults, the lines tell what is read of them
 pub text-tells : (text : List ℕ) → (notes_of text).faults ≡ [] → Tells (lines_of text) (notes_of text).told
 text-tells text clean = by (lines-told (lines_of text))
   where
@@ -59,7 +64,7 @@ text-tells text clean = by (lines-told (lines_of text))
     by (inr (number, fault, has)) =
         absurd (something (notes_of text).faults text number fault clean (text-begins text number fault has))
 
--- and else one is the first faulty one
+-- if something was written, some line is the first faulty one
 pub text-found : (text : List ℕ) → (notes_of text).faults ≢ []
     → (number : ℕ) × (fault : LineFault) × HasFault (lines_of text) number fault
 text-found text some = by (lines-told (lines_of text))

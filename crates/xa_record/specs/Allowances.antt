@@ -44,6 +44,7 @@ words_of Put = codes "PUT"
 words_of Del = codes "DEL"
 words_of Disconnect = codes "DISCONNECT"
 
+-- the kind of an `XA COMMIT`, with ONE PHASE or without
 abbrev pub kind_of_commit : Bool → StatementKind
 kind_of_commit one_phase = if one_phase then CommitOnePhase else Commit
 
@@ -77,20 +78,21 @@ allowed_for [] kind number = []
 allowed_for (one ∷ more) kind number =
     if lets_stand one kind number then one.rules ∷ allowed_for more kind number else allowed_for more kind number
 
--- the same for a request that has such a kind, or none
+-- the numbers that may stand for a refusal of a request of this kind; a request without a kind has none
 abbrev pub others_for : List Allowance → Option StatementKind → ℕ → List ℕ
 others_for allowances None number = []
 others_for allowances (Some kind) number = allowed_for allowances kind number
 
--- at each session's number, the kind of the statement that it called for last
+-- before the first call: no session, by its number, has called for a statement of any kind
 abbrev pub no_kinds : List (Option StatementKind)
 no_kinds = replicate 17 None
 
--- after this event
+-- at each session's number the kind of statement that it called for last, after this event
 abbrev pub kinds_after : Event → List (Option StatementKind) → List (Option StatementKind)
 kinds_after (Call session request) kinds = slice_set kinds session (kind_of request)
 kinds_after event kinds = kinds
 
+-- the kind at a session's place in a list of last kinds; where there is no place, none was called for
 abbrev pub kind_at : Option (Option StatementKind) → Option StatementKind
 kind_at None = None
 kind_at (Some kind) = kind
@@ -99,28 +101,29 @@ kind_at (Some kind) = kind
 abbrev pub kind_asked : List (Option StatementKind) → ℕ → Option StatementKind
 kind_asked kinds session = kind_at (slice_get kinds session)
 
--- both numbers are those of refusals, 0 to 65,535
+-- an allowance, if both numbers are those of refusals: 0 to 65,535, as a MySQL error number has 16 bits
 abbrev pub allowance_within : ℕ → StatementKind → ℕ → Option Allowance
 allowance_within rules kind server =
     if nat_lt rules 65536 && nat_lt server 65536 then Some
     (record { rules = rules; kind = kind; server = server }) else None
 
+-- the rules' number, the kind, and the server's number if that could be read; no text may follow
 abbrev pub allowance_by : ℕ → StatementKind → Option ℕ → List ℕ → Option Allowance
 allowance_by rules kind None rest = None
 allowance_by rules kind (Some server) [] = allowance_within rules kind server
 allowance_by rules kind (Some server) (byte ∷ rest) = None
 
--- after the words of the kind comes the server's number, and nothing else
+-- an allowance whose kind was read: the server's number comes next, and nothing else
 abbrev pub allowance_with : ℕ → StatementKind → List ℕ → Option Allowance
 allowance_with rules kind text = allowance_by rules kind (number_of_word (first_word text)) (behind_word text)
 
--- after XA COMMIT comes ONE PHASE
+-- an allowance whose words XA COMMIT were read: ONE PHASE comes next
 unfoldable pub one_phase_allowed : ℕ → List ℕ → List ℕ → Option Allowance
 one_phase_allowed rules word text =
     if bytes_eq word (codes "ONE") && bytes_eq (first_word text)
     (codes "PHASE:") then allowance_with rules CommitOnePhase (behind_word text) else None
 
--- after XA come a word and a text
+-- an allowance whose word XA was read: the next word and the text behind it say the kind
 unfoldable pub xa_allowed : ℕ → List ℕ → List ℕ → Option Allowance
 xa_allowed rules word text =
     if bytes_eq word (codes "START:") then allowance_with rules Start text else
@@ -131,7 +134,7 @@ xa_allowed rules word text =
     if bytes_eq word (codes "ROLLBACK:") then allowance_with rules Rollback text else
     if bytes_eq word (codes "RECOVER:") then allowance_with rules Recover text else None
 
--- after the rules' number come a word and a text
+-- an allowance whose rules' number was read: the next word and the text behind it say the rest
 unfoldable pub allowed : ℕ → List ℕ → List ℕ → Option Allowance
 allowed rules word text =
     if bytes_eq word (codes "XA") then xa_allowed rules (first_word text) (behind_word text) else
@@ -140,6 +143,7 @@ allowed rules word text =
     if bytes_eq word (codes "DEL:") then allowance_with rules Del text else
     if bytes_eq word (codes "DISCONNECT:") then allowance_with rules Disconnect text else None
 
+-- an allowance from the rules' number, if that could be read, and the text behind it
 abbrev pub allowance_from : Option ℕ → List ℕ → Option Allowance
 allowance_from None text = None
 allowance_from (Some rules) text = allowed rules (first_word text) (behind_word text)
@@ -149,6 +153,7 @@ allowance_from (Some rules) text = allowed rules (first_word text) (behind_word 
 unfoldable pub allowance_of : List ℕ → Option Allowance
 allowance_of text = allowance_from (number_of_word (first_word text)) (behind_word text)
 
+-- what one line allows, before what the others allow if none of them is faulty
 abbrev pub and_more : Allowance → Result (List Allowance) ℕ → Result (List Allowance) ℕ
 and_more one (Ok more) = Ok (one ∷ more)
 and_more one (Err number) = Err number
@@ -159,6 +164,7 @@ first_allows (Err number) rest = Err number
 first_allows (Ok None) rest = rest
 first_allows (Ok (Some one)) rest = and_more one rest
 
+-- a line without an allowance is faulty: its number is what is reported
 abbrev pub or_faulty : ℕ → Option Allowance → Result (Option Allowance) ℕ
 or_faulty number None = Err number
 or_faulty number (Some one) = Ok (Some one)

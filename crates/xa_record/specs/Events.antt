@@ -24,6 +24,7 @@ use Rattle.xa_record.specs.Lines.{ReturnsUnknown, Leaves}
 use Rattle.xa_record.specs.Reading.{NumberedEvent}
 use Rattle.xa_record.specs.Allowances.{others_for, no_kinds, kinds_after, kind_asked}
 
+-- a request is a statement, or a text that couldn't be read as one
 abbrev pub request_read : Result Statement ℕ → Request
 request_read (Ok statement) = Given statement
 request_read (Err place) = Unread
@@ -65,7 +66,7 @@ AreEventsAfter allowances kinds (one ∷ numbered) (event ∷ events) =
     IsEvent allowances kinds one.told event × AreEventsAfter allowances (kinds_after event kinds) numbered events
 AreEventsAfter allowances kinds numbered events = ⊥
 
--- the same, if no session called before
+-- the events that the lines of a record say, with these allowances, if no session had called before
 abbrev pub AreEvents : List Allowance → List NumberedEvent → List Event → Type 0
 AreEvents allowances numbered events = AreEventsAfter allowances no_kinds numbered events
 

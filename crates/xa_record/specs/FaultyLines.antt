@@ -61,6 +61,7 @@ presence_by session presence None = presence
 presence_by session presence (Some told) =
     if session_of told == session then presence_then presence told else presence
 
+-- whether a session has an open call or is lost after these lines, if it began with this presence
 unfoldable pub presence_said_from : ℕ → Presence → List LineSaid → Presence
 presence_said_from session presence [] = presence
 presence_said_from session presence (said ∷ more) =
@@ -94,6 +95,7 @@ fault_said strict before (Closed session) after = cause_said before (Leaves sess
 fault_said strict before (Awaits session count) after =
     if nat_lt (filled after) count then Some RowsMissing else cause_said before (Returns session (ShowsRows []))
 
+-- the fault of a line in the place of a row, by the identifier that was read from it
 abbrev pub fault_of_row : Option Xid → Option LineFault
 fault_of_row None = Some NotARow
 fault_of_row (Some xid) = None
@@ -102,6 +104,7 @@ fault_of_row (Some xid) = None
 abbrev pub fault_in_row : List ℕ → Option LineFault
 fault_in_row line = if is_silent line then None else fault_of_row (row_said (unblank line))
 
+-- why a line is faulty: as one of the `due` rows that are to come, or else by what it says
 abbrev pub fault_due : Bool → ℕ → List LineSaid → List ℕ → List (List ℕ) → Option LineFault
 fault_due strict zero before line after = fault_said strict before (reading_of_line line) after
 fault_due strict (suc due) before line after = fault_in_row line

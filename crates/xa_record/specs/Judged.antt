@@ -31,10 +31,11 @@ use Rattle.xa_record.specs.Replaying.{IsReplayed}
 use Rattle.xa_record.specs.Reports.{Report, Faulty, Empty, outcome_of, IsReportOf}
 use Rattle.xa_record.specs.Forms.{text_in}
 
--- 16 MiB
+-- 16 MiB: one byte more can't be read
 abbrev pub record_bytes : ℕ
 record_bytes = 16777216
 
+-- two for each byte, so that a reader that gives little at a time still comes to an end
 abbrev pub record_reads : ℕ
 record_reads = 33554432
 
@@ -65,11 +66,12 @@ abbrev pub IsReported : State → List Allowance → List (List ℕ) → Asked �
 IsReported base allowances lines asked report = IsReportedWith base
     allowances (faulty_text asked.strict_calls lines) lines asked report
 
--- the same by what was read
+-- what is reported: the text of the faulty lines if there is one, else a report on the events
 abbrev pub IsReportedByNotes : State → List Allowance → List ℕ → List NumberedEvent → Asked → Report → Type 0
 IsReportedByNotes base allowances [] numbered asked report = IsReportedOf base allowances numbered asked report
 IsReportedByNotes base allowances (byte ∷ faults) numbered asked report = report ≡ Faulty (byte ∷ faults)
 
+-- the report of what was read: of the faulty lines if there are any, else of the events
 abbrev pub IsReportedOfNotes : State → List Allowance → Notes → Asked → Report → Type 0
 IsReportedOfNotes base allowances notes asked report =
     IsReportedByNotes base allowances notes.faults notes.told asked report
@@ -82,7 +84,7 @@ pub record IsJudgedFrom (base : State) (written : List ℕ) (allowances : List A
   pub outcome_is : outcome ≡ outcome_of report
   pub text_is : text ≡ text_in asked.form report
 
--- the same of a record that begins with a server that holds nothing
+-- how judging a record that begins with an empty store ends, and what is written
 abbrev pub IsJudged : List ℕ → List Allowance → Asked → Outcome → List ℕ → Type 0
 IsJudged written allowances asked outcome text = IsJudgedFrom no_state written allowances asked outcome text
 
@@ -92,11 +94,12 @@ abbrev pub AppendsJudgedFrom : State → List Allowance → Asked → Outcome �
 AppendsJudgedFrom base allowances asked outcome written old new =
     (text : List ℕ) × IsJudgedFrom base written allowances asked outcome text × Appends old new text
 
+-- the writer got the whole text for a record that begins with an empty store
 abbrev pub AppendsJudged : List Allowance → Asked → Outcome → List ℕ → Option (List ℕ) → Option (List ℕ) → Type 0
 AppendsJudged allowances asked outcome written old new = AppendsJudgedFrom no_state allowances asked outcome written
     old new
 
--- the writer got a prefix of that text
+-- the writer got a prefix of what may be written for the record, judged from the base state
 abbrev pub AppendsJudgedPrefix : State → List Allowance → Asked → List ℕ → Option (List ℕ) → Option (List ℕ) → Type 0
 AppendsJudgedPrefix base allowances asked written old new =
     (outcome : Outcome) × (text : List ℕ) × IsJudgedFrom base written allowances asked outcome text
@@ -107,6 +110,7 @@ abbrev pub IsJudgedTextFrom : State → List Allowance → Asked → List ℕ �
 IsJudgedTextFrom base allowances asked written text = (outcome : Outcome)
     × IsJudgedFrom base written allowances asked outcome text
 
+-- the text is one that may be written for a record that begins with an empty store
 abbrev pub IsJudgedText : List Allowance → Asked → List ℕ → List ℕ → Type 0
 IsJudgedText allowances asked written text = IsJudgedTextFrom no_state allowances asked written text
 
@@ -125,6 +129,7 @@ AfterJudgeFaultFrom base allowances asked GateShut input old new = ⊥
 AfterJudgeFaultFrom base allowances asked ThreadRefused input old new = ⊥
 AfterJudgeFaultFrom base allowances asked fault input old new = Keeps old new
 
+-- what a fault leaves in the writer, for a record that begins with an empty store
 abbrev pub AfterJudgeFault : List Allowance → Asked → ScriptFault → Option (List ℕ) → Option (List ℕ) → Option (List ℕ)
     → Type 0
 AfterJudgeFault allowances asked fault input old new = AfterJudgeFaultFrom no_state allowances asked fault input old new

@@ -7,6 +7,7 @@ pub mod FaultyLines
 pub mod Events
 pub mod VerdictText
 pub mod Replaying
+pub mod Exchanges
 pub mod Reports
 pub mod Forms
 pub mod Kept

@@ -6,7 +6,8 @@
 --     is_silent        a line is blank, or a comment
 --     trimmed          a text without the blanks at its end
 --     reading_of_line  what a line says
-use Rattle.std.specs.Prelude.{ℕ, nat_lt, Bool, ◌||◌, bytes_eq, if◌then◌else◌, Option, Some, None, Ok, Err, List, []}
+--     is_bad           it isn't written as a line of a record is
+use Rattle.std.specs.Prelude.{ℕ, nat_lt, Bool, true, false, ◌||◌, bytes_eq, if◌then◌else◌, Option, Some, None, Ok, Err, List, []}
 use Rattle.std.specs.Prelude.{◌∷◌, codes, reverse}
 use Rattle.xa_xid.specs.Bytes.{unblank}
 use Rattle.xa_xid.specs.Literal.{Reading, literal_ahead}
@@ -16,7 +17,7 @@ use Rattle.xa_lines.specs.Script.{Line, Blank, Bad as BadLine, Given, line_of, f
 use Rattle.xa_lines.specs.Script.{is_comment_line, number_of_word}
 use Rattle.xa_record.specs.Rows.{leading_number}
 
--- what a return shows
+-- what the line of a return shows
 pub data Shown : Type 0 where
   -- the statement was carried out
   ShowsOk : Shown
@@ -38,7 +39,7 @@ pub data Told : Type 0 where
   -- its client is gone
   Leaves : ℕ → Told
 
--- what a line says
+-- what a line of a record says
 pub data LineSaid : Type 0 where
   -- nothing
   Nothing : LineSaid
@@ -59,12 +60,12 @@ is_silent line = is_empty_line (unblank line) || is_comment_line line
 unfoldable pub trimmed : List ℕ → List ℕ
 trimmed text = reverse (unblank (reverse text))
 
--- no text follows what is said
+-- what is said, if no text follows; else the line is bad
 abbrev pub alone : LineSaid → List ℕ → LineSaid
 alone said [] = said
 alone said (byte ∷ rest) = Bad
 
--- the value after VALUE
+-- what a line says whose return shows the value after the word VALUE
 abbrev pub value_said : ℕ → Reading Text → LineSaid
 value_said session (Ok (value, rest)) = alone (Says (Returns session (ShowsValue (Some value)))) (unblank rest)
 value_said session (Err fault) = Bad
@@ -112,6 +113,11 @@ filled_said Blank = Nothing
 filled_said BadLine = Bad
 filled_said (Given session text) = session_said session (first_word text) (behind_word text)
 
--- what a line says
+-- what a line of a record says
 unfoldable pub reading_of_line : List ℕ → LineSaid
 reading_of_line line = if is_silent line then Nothing else filled_said (line_of line)
+
+-- a line isn't written as a line of a record is
+abbrev pub is_bad : LineSaid → Bool
+is_bad Bad = true
+is_bad said = false

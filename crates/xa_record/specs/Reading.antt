@@ -37,7 +37,7 @@ session_of (Returns session shown) = session
 session_of (ReturnsUnknown session) = session
 session_of (Leaves session) = session
 
--- what the lines say of the session after this
+-- whether a session is idle, has an open call or is lost, after this is told of it
 abbrev pub presence_after : Told → Presence
 presence_after (Calls session text) = Open
 presence_after (Returns session shown) = Idle
@@ -53,6 +53,7 @@ cause_of (Some Idle) (ReturnsUnknown session) = Some (NoOpenCall session)
 cause_of (Some Lost) told = Some (WasLost (session_of told))
 cause_of presence told = None
 
+-- the fault of a call's text, if it isn't a statement
 abbrev pub fault_read : Result Statement ℕ → Option LineFault
 fault_read (Ok statement) = None
 fault_read (Err place) = Some NotAStatement
@@ -62,6 +63,7 @@ abbrev pub fault_called : Told → Option LineFault
 fault_called (Calls session text) = fault_read (read_of text)
 fault_called told = None
 
+-- the words for why a line is faulty
 abbrev pub cause_text : LineFault → List ℕ
 cause_text NotALine = codes "not a line of a record"
 cause_text NotARow = codes "not a row"
@@ -96,18 +98,19 @@ pub record Notes : Type 0 where
   pub presence : List Presence
   pub awaited : Option Awaited
 
--- before the first line; place 0 belongs to no session
+-- the notes before the first line; place 0 of presence belongs to no session
 abbrev pub no_notes : Notes
 no_notes = record { told = []; faults = []; presence = replicate 17 Idle; awaited = None }
 
--- the line of this number is faulty
+-- the notes once the line of this number is told as faulty
 unfoldable pub blamed : Notes → ℕ → LineFault → Notes
 blamed notes number fault = record notes { faults = notes.faults ++ fault_text number fault }
 
--- these lines are faulty too, and come after all before
+-- the notes with these lines written as faulty, behind all before
 abbrev pub blamed_too : Notes → List ℕ → Notes
 blamed_too notes faults = record notes { faults = notes.faults ++ faults }
 
+-- the event is noted, with what it leaves of its session, unless this fault blames its line
 unfoldable pub noted_if : Option LineFault → Notes → ℕ → Told → Notes
 noted_if None notes number told =
     record notes {
@@ -116,7 +119,7 @@ noted_if None notes number told =
     }
 noted_if (Some fault) notes number told = blamed notes number fault
 
--- this happens on the line of this number, or the line is faulty
+-- the notes after this happens on the line of this number, or with that line as faulty if it can't
 abbrev pub note_of : Notes → ℕ → Told → Notes
 note_of notes number told = noted_if (cause_of (slice_get notes.presence (session_of told)) told) notes number told
 
@@ -125,6 +128,7 @@ abbrev pub beyond : Option LineFault → Option LineFault → Option LineFault
 beyond (Some fault) other = None
 beyond None other = other
 
+-- the line is faulty if there is a fault
 abbrev pub blamed_if : Option LineFault → Notes → ℕ → Notes
 blamed_if None notes number = notes
 blamed_if (Some fault) notes number = blamed notes number fault
@@ -143,7 +147,8 @@ is_return_of session (Returns other shown) = other == session
 is_return_of session (ReturnsUnknown other) = other == session
 is_return_of session told = false
 
--- one more than so many that end with a return, or 1 if this is a return
+-- the place of a session's last return, with an event in front: one more than before, or 1 if this is the first
+-- return
 abbrev pub one_more : ℕ → Bool → ℕ
 one_more zero true = 1
 one_more zero false = 0
@@ -154,6 +159,8 @@ unfoldable pub up_to_return : ℕ → List NumberedEvent → ℕ
 up_to_return session [] = 0
 up_to_return session (one ∷ more) = one_more (up_to_return session more) (is_return_of session one.told)
 
+-- the loss is put in behind the session's last return, since it may have happened at any time after it, unless this
+-- fault blames the line
 unfoldable pub closed_if : Option LineFault → Notes → ℕ → ℕ → Notes
 closed_if None notes number session =
     record notes {
@@ -178,14 +185,14 @@ abbrev pub awaiting : Notes → Awaited → Notes
 awaiting notes awaited =
     if awaited.missing == 0 then returned notes awaited else record notes { awaited = Some awaited }
 
--- one row has come, or a line that isn't one
+-- the notes after a line in the place of a row: the row has come, or the line isn't one
 unfoldable pub with_row : Notes → Awaited → ℕ → Option Xid → Notes
 with_row notes awaited number None = awaiting notes (record awaited
     { missing = awaited.missing - 1; faults = awaited.faults ++ fault_text number NotARow })
 with_row notes awaited number (Some xid) =
     awaiting notes (record awaited { missing = awaited.missing - 1; rows = awaited.rows ++ xid ∷ [] })
 
--- a line in the place of a row
+-- the notes after a line in the place of a row; a blank line or a comment changes nothing
 unfoldable pub noted_row : Notes → Awaited → ℕ → List ℕ → Notes
 noted_row notes awaited number line =
     if is_silent line then notes else with_row (record notes { awaited = None }) awaited number
@@ -200,6 +207,7 @@ noted_said strict notes number (Closed session) = note_closed notes number sessi
 noted_said strict notes number (Awaits session count) =
     awaiting notes (record { session = session; number = number; missing = count; rows = []; faults = [] })
 
+-- a line in the place of a row that is awaited, or else a line of its own
 abbrev pub noted_by : Bool → Option Awaited → Notes → ℕ → List ℕ → Notes
 noted_by strict None notes number line = noted_said strict notes number (reading_of_line line)
 noted_by strict (Some awaited) notes number line = noted_row notes awaited number line

@@ -33,7 +33,7 @@ pub data RowsOf : ℕ → List (List ℕ) → List Xid → Type 0 where
       → row_said (unblank line) ≡ Some xid
       → RowsOf count lines rows → RowsOf (suc count) (line ∷ lines) (xid ∷ rows)
 
--- this happens on the line after these
+-- the event that is told on the line behind these lines, with that line's number
 abbrev pub on_next_line : List (List ℕ) → Told → NumberedEvent
 on_next_line lines told = record { number = length lines + 1; told = told }
 
@@ -42,7 +42,7 @@ abbrev pub EndsInReturn : ℕ → List NumberedEvent → Type 0
 EndsInReturn session list = (list ≡ []) ⊎ ((front : List NumberedEvent) × (one : NumberedEvent)
     × (list ≡ front ++ one ∷ []) × (is_return_of session one.told ≡ true))
 
--- none of the events is a return to the session
+-- none of the events is a return to this session
 abbrev pub HasNoReturn : ℕ → List NumberedEvent → Type 0
 HasNoReturn session [] = Unit {0}
 HasNoReturn session (one ∷ more) = (is_return_of session one.told ≡ false) × HasNoReturn session more
@@ -53,6 +53,7 @@ presence_then Lost told = Lost
 presence_then Idle told = presence_after told
 presence_then Open told = presence_after told
 
+-- whether a session has an open call or is lost after these events, if it began with this presence
 unfoldable pub presence_from : ℕ → Presence → List NumberedEvent → Presence
 presence_from session presence [] = presence
 presence_from session presence (one ∷ more) =
@@ -66,7 +67,7 @@ presence_in session list = presence_from session Idle list
 abbrev pub cause_next : List NumberedEvent → Told → Option LineFault
 cause_next list told = cause_of (Some (presence_in (session_of told) list)) told
 
--- this can happen next
+-- the event can happen after these events, by whether its session has an open call or is lost
 abbrev pub Fits : List NumberedEvent → Told → Type 0
 Fits list told = cause_next list told ≡ None
 

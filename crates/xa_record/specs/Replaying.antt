@@ -51,7 +51,7 @@ use Rattle.xa_record.specs.VerdictText.{with_call, act_text, order_text, no_call
 abbrev pub effect_line : List (List ℕ) → ℕ → Act → List ℕ
 effect_line calls session act = decimal session ++ codes " " ++ act_text act (slice_get calls session)
 
--- the lines of an order
+-- the lines of the script that is written for an order
 unfoldable pub order_lines : List (List ℕ) → List NumberedEvent → List Move → List (List ℕ)
 order_lines calls numbered [] = []
 order_lines calls numbered (Effect session act ∷ moves) =
@@ -138,13 +138,14 @@ pub record IsBare (text : List ℕ) : Type 0 where
   pub bare : unblank text ≡ text
   pub whole : HasNoFeed text
 
--- if this is a call, its text is so
+-- if this is a call, its text begins with no blank and has no line feed
 abbrev pub IsBareTold : Told → Type 0
 IsBareTold (Calls session text) = IsBare text
 IsBareTold (Returns session shown) = Unit {0}
 IsBareTold (ReturnsUnknown session) = Unit {0}
 IsBareTold (Leaves session) = Unit {0}
 
+-- every text that a session calls for begins with no blank and has no line feed
 abbrev pub AreBare : List NumberedEvent → Type 0
 AreBare numbered = AllByRecursion (λ one. IsBareTold one.told) numbered
 
@@ -156,13 +157,14 @@ pub record IsWellCalled (text : List ℕ) : Type 0 where
   pub canonical : (statement : Statement) → read_of text ≡ Ok statement → statement ≢ Unsupported
       → IsWrittenBack statement
 
+-- if it is a call, its text can stand on a line of a script
 abbrev pub IsWellTold : Told → Type 0
 IsWellTold (Calls session text) = IsWellCalled text
 IsWellTold (Returns session shown) = Unit {0}
 IsWellTold (ReturnsUnknown session) = Unit {0}
 IsWellTold (Leaves session) = Unit {0}
 
--- that is so of each call
+-- the text of each call can stand on a line of a script
 abbrev pub AreWellCalled : List NumberedEvent → Type 0
 AreWellCalled [] = Unit {0}
 AreWellCalled (numbered ∷ more) = IsWellTold numbered.told × AreWellCalled more

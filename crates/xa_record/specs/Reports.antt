@@ -1,12 +1,14 @@
 -- What is reported of a record, in any form.
 -- Every rule here is the project's own: docs/HISTORIES.md#verdicts.
 --     Reason              an order that explains what is before a line, and the store after it
+--     Grounds             what is told beside the answers of an ILLEGAL verdict
 --     Report              what is reported
 --     outcome_of          which of the five ends it is
 --     keys_named          the rows that calls name, each once, ascending
 --     IsReason            the order explains what is before a place, and the store is the one after it
 --     IsReasonSought      if it is asked for, there is such a reason, unless too many configurations have to be
 --                         kept before a place
+--     AreGrounds          what is told beside the answers of an ILLEGAL verdict at a place
 --     IsReportOf          what is reported of a verdict
 use Rattle.std.specs.Prelude.{◌≡◌, ℕ, Bool, true, false, Option, Some, None, List, [], ◌∷◌, take}
 use Rattle.std.specs.BTreeSet.{insert_key}
@@ -30,12 +32,18 @@ use Rattle.xa_record.specs.declared.outcome.Outcome.TheVariants.{Legal as IsLega
 use Rattle.xa_record.specs.declared.outcome.Outcome.TheVariants.{Undecided as IsUndecided, Faulty as IsFaulty}
 use Rattle.xa_record.specs.declared.outcome.Outcome.TheVariants.{Empty as IsEmpty}
 use Rattle.xa_record.specs.Reading.{NumberedEvent}
+use Rattle.xa_record.specs.Exchanges.{Exchange, exchange_sought}
 use Rattle.xa_record.specs.VerdictText.{order_text, no_calls, texts_of, line_number_at}
 
 -- an order that explains what is before a line, and the store after it, each as its lines
 pub record Reason : Type 0 where
   pub order : List ℕ
   pub state : List ℕ
+
+-- what is told beside the answers of an ILLEGAL verdict: what was seen and its call, and why, if they are asked for
+pub record Grounds : Type 0 where
+  pub exchange : Option Exchange
+  pub reason : Option Reason
 
 -- what is reported of a record
 pub data Report : Type 0 where
@@ -45,17 +53,18 @@ pub data Report : Type 0 where
   Empty : Report
   -- the lines of an order that explains it
   Legal : List ℕ → Report
-  -- the number of the line that no order explains, the texts of what could have been answered there, and why
-  Illegal : ℕ → List (List ℕ) → Option Reason → Report
+  -- the number of the line that no order explains, the texts of what could have been answered there, and what else is
+  -- told
+  Illegal : ℕ → List (List ℕ) → Grounds → Report
   -- the number of the line before which too many configurations are
   Undecided : ℕ → Report
 
--- which of the five ends it is
+-- how judging ends, by which of the five reports it is
 abbrev pub outcome_of : Report → Outcome
 outcome_of (Faulty faults) = IsFaulty
 outcome_of Empty = IsEmpty
 outcome_of (Legal order) = IsLegal
-outcome_of (Illegal number texts reason) = IsIllegal
+outcome_of (Illegal number texts grounds) = IsIllegal
 outcome_of (Undecided number) = IsUndecided
 
 -- these rows and the one that a statement names; XA COMMIT, XA ROLLBACK and DISCONNECT name none
@@ -65,6 +74,7 @@ with_row_of (Put key value) keys = insert_key bytes_cmp keys key
 with_row_of (Del key) keys = insert_key bytes_cmp keys key
 with_row_of statement keys = keys
 
+-- these keys and the one that an event's call names
 abbrev pub with_row_called : Event → List (List ℕ) → List (List ℕ)
 with_row_called (Call session (Given statement)) keys = with_row_of statement keys
 with_row_called event keys = keys
@@ -99,11 +109,16 @@ abbrev pub IsReasonSought : Bool → State → List NumberedEvent → List Event
 IsReasonSought true base numbered events limit reason = IsReasonFound base numbered events limit reason
 IsReasonSought false base numbered events limit reason = reason ≡ None
 
+-- what is told beside the answers of an ILLEGAL verdict at this place
+pub record AreGrounds (base : State) (asked : Asked) (numbered : List NumberedEvent) (events : List Event) (place : ℕ)
+    (grounds : Grounds) : Type 0 where
+  pub exchange : grounds.exchange ≡ exchange_sought asked.explains numbered place
+  pub reason : IsReasonSought asked.explains base (take place numbered) (take place events) asked.limit grounds.reason
+
 -- what is reported of a verdict on these events, which begin in a state
 abbrev pub IsReportOf : State → Asked → List NumberedEvent → List Event → Verdict → Report → Type 0
 IsReportOf base asked numbered events (LegalBy moves) report = report ≡ Legal (order_text no_calls numbered moves.items)
 IsReportOf base asked numbered events (IllegalAt place answers) report =
-    (reason : Option Reason) × IsReasonSought asked.explains base (take place numbered)
-    (take place events) asked.limit reason
-    × (report ≡ Illegal (line_number_at numbered place) (texts_of answers.items) reason)
+    (grounds : Grounds) × AreGrounds base asked numbered events place grounds
+    × (report ≡ Illegal (line_number_at numbered place) (texts_of answers.items) grounds)
 IsReportOf base asked numbered events (UndecidedAt place) report = report ≡ Undecided (line_number_at numbered place)

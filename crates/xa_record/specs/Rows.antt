@@ -38,6 +38,7 @@ xid_written format_id gtrid bqual digits =
     if nat_le gtrid text_bytes && nat_le bqual text_bytes then xid_of format_id gtrid
     (decode_sized digits (gtrid + bqual)) else None
 
+-- the identifier of three numbers and digits, if each of the four words could be read
 abbrev pub xid_with : Option ℕ → Option ℕ → Option ℕ → Option (List ℕ) → Option Xid
 xid_with (Some format_id) (Some gtrid) (Some bqual) (Some digits) = xid_written format_id gtrid bqual digits
 xid_with format_id gtrid bqual digits = None

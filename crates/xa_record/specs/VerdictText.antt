@@ -27,6 +27,7 @@ abbrev pub canonical_text : Statement → List ℕ → List ℕ
 canonical_text Unsupported text = text
 canonical_text statement text = statement_text statement
 
+-- the canonical form of a text that is a statement, and any other text as it is
 abbrev pub text_read : Result Statement ℕ → List ℕ → List ℕ
 text_read (Ok statement) text = canonical_text statement text
 text_read (Err place) text = text
@@ -35,11 +36,12 @@ text_read (Err place) text = text
 abbrev pub call_text : List ℕ → List ℕ
 call_text text = text_read (read_of text) text
 
--- at each session's number, the text that it called for last
+-- at each session's number, the text that it called for last, after this event
 abbrev pub with_call : Told → List (List ℕ) → List (List ℕ)
 with_call (Calls session text) calls = slice_set calls session text
 with_call other calls = calls
 
+-- what is written for a session's last call; nothing if it has called for nothing
 abbrev pub text_of_call : Option (List ℕ) → List ℕ
 text_of_call None = []
 text_of_call (Some text) = call_text text
@@ -61,7 +63,7 @@ order_text calls numbered (Effect session act ∷ moves) =
 order_text calls [] (Seeing ∷ moves) = order_text calls [] moves
 order_text calls (numbered ∷ more) (Seeing ∷ moves) = order_text (with_call numbered.told calls) more moves
 
--- no session has called
+-- at the beginning no session has called for a text; place 0 belongs to no session
 abbrev pub no_calls : List (List ℕ)
 no_calls = replicate 17 []
 
@@ -84,6 +86,7 @@ unfoldable pub answers_text : List (List ℕ) → List ℕ
 answers_text [] = []
 answers_text (text ∷ texts) = codes "COULD BE " ++ text ++ codes "\n" ++ answers_text texts
 
+-- the number of an event's line; 0, which no line has, if there is no event
 abbrev pub number_of_line : Option NumberedEvent → ℕ
 number_of_line None = 0
 number_of_line (Some numbered) = numbered.number

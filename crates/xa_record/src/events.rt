@@ -17,8 +17,8 @@ use xa_judge::{ErrorNumbers, Event, Request, Seen, SharedRequest, SharedSeen};
 use xa_statement::read_statement;
 use xa_xid::{NoMemory, Xid, copy_of};
 
-/// The request of a session that calls for this text.
-fn request_of(text: &[u8]) -> Request
+/// Returns the request of a session that calls for this text.
+pub fn request_of(text: &[u8]) -> Request
     ensures { result ≡ request_called text.now }
 {
     match read_statement(text) {
@@ -40,8 +40,10 @@ fn push_row(rows: &mut Vec<Xid>, text: &[u8]) -> Result<(), NoMemory>
     }
 }
 
-/// The identifiers of these texts.
-fn rows_in(alloc: Global, texts: &[&[u8]]) -> Result<Vec<Xid>, NoMemory>
+/// Returns the identifiers of these texts.
+///
+/// May return `NoMemory`.
+pub fn rows_in(alloc: Global, texts: &[&[u8]]) -> Result<Vec<Xid>, NoMemory>
     ensures { IfOk result (λ rows. rows.items ≡ rows_kept texts.now) }
 {
     let mut rows = Vec::new(alloc);
@@ -85,7 +87,7 @@ fn seen_of(
     }
 }
 
-/// The same, shared by all returns that show `OK`, and by all that show `NONE`.
+/// What a return shows, as an event has it. All returns that show `OK` share one, and so do all that show `NONE`.
 fn shared_seen_of(
     alloc: Global,
     allowances: &[Allowance],

@@ -32,6 +32,7 @@ fn store_after(
 {
     match server_after(alloc, base, events, moves)? {
         Some(store) => Ok(store),
+        // The moves lead through the events, as the first clause requires.
         None => unreachable!(),
     }
 }
@@ -90,6 +91,7 @@ fn moves_through<P: Progress>(
 {
     match judge_telling(alloc, base, events, limit, progress)? {
         Verdict::Legal(moves) => Ok(Some(moves)),
+        // Some order explains these events, as the first clause requires.
         Verdict::Illegal(_, _) => unreachable!(),
         Verdict::Undecided(_) => Ok(None),
     }

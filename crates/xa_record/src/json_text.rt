@@ -5,10 +5,12 @@ ghost use Rattle.json.specs.Json.{no_members};
 ghost use Rattle.json.specs.Token.{key, string, number};
 ghost use Rattle.json.specs.Tree.{json_tokens, members_tokens};
 ghost use Rattle.xa_lines.specs.Script.{lines_of};
-ghost use Rattle.xa_record.specs.Forms.{text_value, texts_value, with_reason};
+ghost use Rattle.xa_record.specs.Forms.{text_value, texts_value, with_could_be, with_exchange, with_reason};
 ghost use Rattle.xa_record.specs.Forms.{report_members, json_text as text_of_report};
-ghost use Rattle.xa_record.specs.Kept.{reason_kept, report_kept};
+ghost use Rattle.xa_record.specs.Kept.{reason_kept, grounds_kept, report_kept};
 
+use crate::exchange::Exchange;
+use crate::grounds::Grounds;
 use crate::reason::Reason;
 use crate::report::Report;
 use json::Writer;
@@ -121,6 +123,21 @@ fn write_lines_of(
     write_lines(alloc, writer, lines)
 }
 
+/// Writes a key with a text as its value.
+fn write_text_of(
+    alloc: Global,
+    writer: &mut Writer,
+    name: &str,
+    text: &[u8],
+) -> Result<(), NoMemory>
+    ensures tokens { OnOk result (writer.new.tokens ≡ writer.old.tokens
+        ++ key name.now ∷ json_tokens (text_value text.now)) }
+    ensures before { writer.new.before ≡ writer.old.before }
+{
+    writer.key(name)?;
+    write_text(alloc, writer, text)
+}
+
 /// Writes the keys of the order before a line and of the store after it, if these are given, and the end of
 /// the object.
 fn end_with_reason(
@@ -138,6 +155,59 @@ fn end_with_reason(
             write_lines_of(alloc, writer, "order", reason.order.as_slice())?;
             write_lines_of(alloc, writer, "state", reason.state.as_slice())?;
             writer.end_object()
+        }
+    }
+}
+
+/// Writes the key of the possible answers, those of what explains a line, if these are given, and the end of
+/// the object.
+fn end_with_answers(
+    alloc: Global,
+    writer: &mut Writer,
+    texts: &BTreeSet<Vec<u8>>,
+    reason: &Option<Reason>,
+) -> Result<(), NoMemory>
+    ensures tokens { OnOk result (writer.new.tokens ≡ writer.old.tokens
+        ++ members_tokens (with_could_be (map (λ text. text.items) texts.now.keys)
+        (with_reason (option_map reason_kept reason.now) no_members))) }
+    ensures before { writer.new.before ≡ writer.old.before }
+{
+    write_could_be(alloc, writer, texts)?;
+    end_with_reason(alloc, writer, reason)
+}
+
+/// Writes the keys of what was seen, of its call, and of the number of the call's line.
+fn write_exchange(alloc: Global, writer: &mut Writer, exchange: &Exchange) -> Result<(), NoMemory>
+    ensures tokens { OnOk result (writer.new.tokens ≡ ((writer.old.tokens
+        ++ key (codes "seen") ∷ json_tokens (text_value exchange.now.seen.items))
+        ++ key (codes "call") ∷ json_tokens (text_value exchange.now.call.items))
+        ++ key (codes "call_line") ∷ number (decimal exchange.now.line) ∷ []) }
+    ensures before { writer.new.before ≡ writer.old.before }
+{
+    write_text_of(alloc, writer, "seen", exchange.seen.as_slice())?;
+    write_text_of(alloc, writer, "call", exchange.call.as_slice())?;
+    writer.key("call_line")?;
+    writer.u64(exchange.line)
+}
+
+/// Writes the keys of what is told of an ILLEGAL line, and the end of the object.
+fn end_with_grounds(
+    alloc: Global,
+    writer: &mut Writer,
+    texts: &BTreeSet<Vec<u8>>,
+    grounds: &Grounds,
+) -> Result<(), NoMemory>
+    ensures tokens { OnOk result (writer.new.tokens ≡ writer.old.tokens
+        ++ members_tokens (with_exchange (grounds_kept grounds.now).exchange
+        (with_could_be (map (λ text. text.items) texts.now.keys)
+        (with_reason (grounds_kept grounds.now).reason no_members)))) }
+    ensures before { writer.new.before ≡ writer.old.before }
+{
+    match &grounds.exchange {
+        None => end_with_answers(alloc, writer, texts, &grounds.reason),
+        Some(exchange) => {
+            write_exchange(alloc, writer, exchange)?;
+            end_with_answers(alloc, writer, texts, &grounds.reason)
         }
     }
 }
@@ -163,11 +233,10 @@ fn write_members(alloc: Global, writer: &mut Writer, report: &Report) -> Result<
             write_lines_of(alloc, writer, "order", order.as_slice())?;
             writer.end_object()
         }
-        Report::Illegal(line, texts, reason) => {
+        Report::Illegal(line, texts, grounds) => {
             write_verdict(writer, "ILLEGAL")?;
             write_line(writer, *line)?;
-            write_could_be(alloc, writer, texts)?;
-            end_with_reason(alloc, writer, reason)
+            end_with_grounds(alloc, writer, texts, grounds)
         }
         Report::Undecided(line) => {
             write_verdict(writer, "UNDECIDED")?;

@@ -25,7 +25,7 @@ pub enum LineFault {
 }
 
 impl LineFault {
-    /// Appends the cause.
+    /// Appends the words for why a line is faulty.
     fn push_cause(self, text: &mut Vec<u8>) -> Result<(), NoMemory>
         ensures { OnOk result (text.new.items ≡ text.old.items ++ cause_text self) }
     {
@@ -64,7 +64,7 @@ impl LineFault {
     }
 }
 
-/// Appends a session.
+/// Appends the word `session` and its number.
 fn push_session(text: &mut Vec<u8>, session: SessionNo) -> Result<(), NoMemory>
     ensures { OnOk result (text.new.items ≡ text.old.items ++ (codes "session " ++ decimal session)) }
 {

@@ -15,8 +15,10 @@ use std::alloc::Global;
 use xa_judge::{Event, Move};
 use xa_xid::NoMemory;
 
-/// What happens in the record of this text.
-fn numbered_in(alloc: Global, text: &[u8]) -> Result<Vec<NumberedEvent<'_>>, NoMemory>
+/// Returns what happens in the record of this text.
+///
+/// May return `NoMemory`.
+pub fn numbered_in(alloc: Global, text: &[u8]) -> Result<Vec<NumberedEvent<'_>>, NoMemory>
     ensures { IfOk result (λ numbered. map numbered_kept numbered.items ≡ (notes_of text.now).told) }
 {
     Ok(read_notes(alloc, false, text)?.numbered)

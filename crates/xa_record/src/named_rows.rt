@@ -7,7 +7,7 @@ use std::collections::BTreeSet;
 use xa_judge::{Event, Request};
 use xa_xid::{Key, NoMemory, Statement};
 
-/// Adds the row.
+/// Adds a row's key, unless it is there.
 fn put_in(keys: &mut BTreeSet<Key>, key: &Key) -> Result<(), NoMemory>
     ensures { OnOk result (keys.new.keys ≡ with_row_of (Statement.Get key.now) keys.old.keys) }
 {

@@ -41,7 +41,9 @@ fn push_canonical(
 }
 
 /// Appends what is written for a text that a session called for, and that was read as this request.
-fn push_call(
+///
+/// May return `NoMemory`.
+pub fn push_call(
     alloc: Global,
     out: &mut Vec<u8>,
     text: &[u8],
@@ -69,6 +71,7 @@ fn push_called(
     match line_event {
         LineEvent::Call(_, text) => match event {
             Event::Call(_, request) => push_call(alloc, out, text, request.request()),
+            // A line of a call gives a call and nothing else, as the first clause requires.
             Event::Return(_, _) => unreachable!(),
             Event::Lost(_) => unreachable!(),
             Event::Unknown(_) => unreachable!(),

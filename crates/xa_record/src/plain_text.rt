@@ -2,9 +2,10 @@
 ghost use Rattle.std.specs.Prelude.{◌≡◌, ◌++◌, OnOk, IfOk, map};
 ghost use Rattle.std.specs.Option.{option_map};
 ghost use Rattle.xa_record.specs.VerdictText.{answers_text, line_text};
-ghost use Rattle.xa_record.specs.Forms.{reason_text, plain_text as text_of_report};
-ghost use Rattle.xa_record.specs.Kept.{reason_kept, report_kept};
+ghost use Rattle.xa_record.specs.Forms.{reason_text, exchange_text, plain_text as text_of_report};
+ghost use Rattle.xa_record.specs.Kept.{reason_kept, exchange_kept, report_kept};
 
+use crate::exchange::Exchange;
 use crate::reason::Reason;
 use crate::report::Report;
 use std::alloc::Global;
@@ -49,6 +50,24 @@ fn push_reason(out: &mut Vec<u8>, reason: &Option<Reason>) -> Result<(), NoMemor
     }
 }
 
+/// Appends what was seen, and its call with the number of its line, if these are given.
+fn push_exchange(out: &mut Vec<u8>, exchange: &Option<Exchange>) -> Result<(), NoMemory>
+    ensures { OnOk result (out.new.items ≡ out.old.items ++ exchange_text (option_map exchange_kept exchange.now)) }
+{
+    match exchange {
+        None => Ok(()),
+        Some(exchange) => {
+            out.extend_from_slice(b"SEEN ")?;
+            out.extend_from_slice(exchange.seen.as_slice())?;
+            out.extend_from_slice(b"\nCALL line ")?;
+            push_number(out, exchange.line)?;
+            out.extend_from_slice(b" ")?;
+            out.extend_from_slice(exchange.call.as_slice())?;
+            out.extend_from_slice(b"\n")
+        }
+    }
+}
+
 /// Appends a report as lines.
 fn push_report(out: &mut Vec<u8>, report: &Report) -> Result<(), NoMemory>
     ensures { OnOk result (out.new.items ≡ out.old.items ++ text_of_report (report_kept report.now)) }
@@ -60,10 +79,11 @@ fn push_report(out: &mut Vec<u8>, report: &Report) -> Result<(), NoMemory>
             out.extend_from_slice(b"LEGAL\n")?;
             out.extend_from_slice(order.as_slice())
         }
-        Report::Illegal(number, texts, reason) => {
+        Report::Illegal(number, texts, grounds) => {
             push_line(out, b"ILLEGAL", *number)?;
+            push_exchange(out, &grounds.exchange)?;
             push_texts(out, texts)?;
-            push_reason(out, reason)
+            push_reason(out, &grounds.reason)
         }
         Report::Undecided(number) => push_line(out, b"UNDECIDED", *number),
     }

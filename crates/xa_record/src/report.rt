@@ -3,8 +3,8 @@ ghost use Rattle.std.specs.Prelude.{◌≡◌};
 ghost use Rattle.xa_record.specs.Reports.{outcome_of};
 ghost use Rattle.xa_record.specs.Kept.{report_kept};
 
+use crate::grounds::Grounds;
 use crate::outcome::Outcome;
-use crate::reason::Reason;
 use std::collections::BTreeSet;
 
 /// What is reported of a record, in any form.
@@ -17,8 +17,8 @@ pub enum Report {
     /// The lines of an order that explains it.
     Legal(Vec<u8>),
     /// The number of the first line that no order explains, the answers that its call could have had, and
-    /// what explains that, if it was asked for.
-    Illegal(u64, BTreeSet<Vec<u8>>, Option<Reason>),
+    /// what else is told.
+    Illegal(u64, BTreeSet<Vec<u8>>, Grounds),
     /// The number of the line that more different configurations than allowed can precede.
     Undecided(u64),
 }

@@ -1,14 +1,16 @@
 //! Makes reports of verdicts.
 ghost use Rattle.std.specs.Prelude.{◌≡◌, IfOk, map};
-ghost use Rattle.xa_judge.specs.Verdicts.{IsVerdict};
+ghost use Rattle.xa_judge.specs.Verdicts.{IsVerdict, IsRefuted};
 ghost use Rattle.xa_record.specs.Events.{AreCalls};
-ghost use Rattle.xa_record.specs.Kept.{report_kept};
+ghost use Rattle.xa_record.specs.Kept.{report_kept, grounds_kept};
 ghost use Rattle.xa_record.specs.Reading.{notes_of};
-ghost use Rattle.xa_record.specs.Reports.{IsReportOf};
+ghost use Rattle.xa_record.specs.Reports.{IsReportOf, AreGrounds};
 ghost use Rattle.xa_record.specs.VerdictText.{answer_text as text_of_answer, texts_of};
 
 use crate::asked::Asked;
+use crate::exchanging::exchange_for;
 use crate::explaining::reason_for;
+use crate::grounds::Grounds;
 use crate::lines_again::{number_in, order_in};
 use crate::report::Report;
 use std::alloc::Global;
@@ -51,6 +53,26 @@ fn answer_texts(alloc: Global, answers: &[SharedAnswer]) -> Result<BTreeSet<Vec<
     Ok(texts)
 }
 
+/// What is told beside the answers of an ILLEGAL verdict at this place.
+fn grounds_for<P: Progress>(
+    alloc: Global,
+    base: &Server,
+    asked: Asked,
+    text: &[u8],
+    events: &[Event],
+    place: usize,
+    progress: &mut P,
+) -> Result<Grounds, NoMemory>
+    requires are { AreCalls (notes_of text.now).told events.now }
+    requires refuted { IsRefuted base.now events.now place }
+    ensures { IfOk result
+        (λ grounds. AreGrounds base.now asked (notes_of text.now).told events.now place (grounds_kept grounds)) }
+{
+    let exchange = exchange_for(alloc, asked.explains, text, events, place)?;
+    let reason = reason_for(alloc, base, asked, text, events, place, progress)?;
+    Ok(Grounds { exchange, reason })
+}
+
 /// Returns what is reported of a verdict on the record of this text, whose events these are, and which begins
 /// with this server.
 ///
@@ -76,9 +98,9 @@ pub fn report_of<P: Progress>(
         }
         Verdict::Illegal(place, answers) => {
             let texts = answer_texts(alloc, answers.as_slice())?;
-            let reason = reason_for(alloc, base, asked, text, events, *place, progress)?;
+            let grounds = grounds_for(alloc, base, asked, text, events, *place, progress)?;
             let number = number_in(alloc, text, *place)?;
-            Ok(Report::Illegal(number, texts, reason))
+            Ok(Report::Illegal(number, texts, grounds))
         }
         Verdict::Undecided(place) => Ok(Report::Undecided(number_in(alloc, text, *place)?)),
     }

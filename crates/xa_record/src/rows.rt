@@ -41,6 +41,7 @@ fn text_of(bytes: &[u8]) -> Bytes
     ensures { result.items ≡ bytes.now }
 {
     let mut text = Bytes::new();
+    // They fit, as the first clause requires.
     let _ = text.try_extend_from_slice(bytes);
     text
 }

@@ -8,7 +8,7 @@ use xa_lines::split_line;
 use xa_server::{Phase, Server};
 use xa_xid::{NoMemory, Statement};
 
-/// Starts the branch.
+/// Starts the branch of a line, in its session.
 fn start(server: &mut Server, branch: &OpenBranch) -> Result<(), NoMemory>
     ensures { OnOk result (server.new.rows ≡ server.old.rows) }
 {
@@ -64,6 +64,7 @@ fn begin(
 ) -> Result<Option<OpenBranch>, NoMemory>
     ensures { OnOk result (server.new.rows ≡ server.old.rows) }
 {
+    // Prepared branches are made first, since they free their session; the others then stay open.
     if prepared != (branch.phase == Phase::Prepared) {
         return Ok(None);
     }

@@ -63,6 +63,7 @@ pub fn carry_out(
     if !leaves {
         return Ok(());
     }
+    // A refused statement changes nothing, so its reply doesn't matter here.
     let _reply = server.apply(session, statement)?;
     Ok(())
 }

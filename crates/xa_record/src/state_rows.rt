@@ -21,6 +21,7 @@ fn put_row(
 {
     keys.push(key.copy())?;
     let statement = Statement::Put(key, value);
+    // Rows are made before all branches, so none holds the row, and the reply is Ok.
     let _reply = server.apply(session, &statement)?;
     Ok(())
 }

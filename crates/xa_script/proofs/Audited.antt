@@ -25,7 +25,7 @@ last_known (first ∷ all) last (text ∷ texts) e =
     let more = last_known all last texts rest in
     (text ∷ more.0, more.1, ap (λ xs. text ∷ xs) more.2, rw (same, more.3) refl, more.4)
 
--- where there is no source there is no text
+-- if there is no source there is no text
 pub none_known : (P : List (List ℕ) → Type 0) (texts : List (List ℕ)) → P [] → [] ≡ map Some texts → P texts
 none_known P [] holds e = holds
 none_known P (text ∷ texts) holds e = cc
@@ -49,6 +49,7 @@ pub taken_all : {S : Type 0} (taken all : List S) (remaining : S → Option (Lis
     → (texts : List (List ℕ)) → map remaining all ≡ map Some texts → P texts
 taken_all taken all remaining P same holds texts e = holds texts (ap (map remaining) (sym (map-id taken) ∙ same) ∙ e)
 
+-- what isn't written to stays
 pub kept_all : (o : Option (List ℕ)) → Keeps o o
 kept_all None = tt
 kept_all (Some xs) = refl
@@ -73,7 +74,7 @@ after_reading histories form ThreadRefused contents (inl e) = cc
 after_reading histories form ThreadRefused contents (inr (inl e)) = cc
 after_reading histories form ThreadRefused contents (inr (inr e)) = cc
 
--- and so does want of memory; a fault of writing leaves a prefix
+-- a fault of writing leaves a prefix of the text, and a lack of memory leaves nothing
 pub after_writing : (histories : List (List ℕ)) (form : Form) (fault : ScriptFault) (old new : Option (List ℕ))
     → AfterAuditFault histories form fault old new → AfterAuditing histories form fault old new
 after_writing histories form Read old new left = absurd left

@@ -9,10 +9,12 @@ use Rattle.clap.specs.declared.parser.matches.ArgMatches.{ArgMatches}
 use Rattle.xa_script.specs.CommandLine.{script_app, IsJob, Names, ReadsCommand}
 use Rattle.xa_script.specs.declared.command.Job.{Job}
 
+-- the program's command line has only simple options, whose names are different: by computation
 simple_and_free : is_simple_and_free script_app ≡ true
 unfolding clap_on_literals
 simple_and_free = refl
 
+-- the program's command line has only simple options: by computation
 simple : is_simple script_app ≡ true
 unfolding clap_on_literals
 simple = refl
@@ -22,11 +24,13 @@ pub found_as_named : (app : App) (words : List Text) (m : ArgMatches) → app �
     → subcommand_rows_of m ≡ subcommand_of script_app words
 found_as_named app words m is has = (has (ap is_simple is ∙ simple)).1 ∙ ap (λ (a : App). subcommand_of a words) is
 
+-- matches that are a job's name that job by the words
 pub named : (words : List Text) (m : ArgMatches) (job : Job) → subcommand_rows_of m ≡ subcommand_of script_app words
     → IsSomeAnd (subcommand_rows_of m) (IsJob job) → Names words job
 named words m job is found = let P : Option (Text × List Row) → Type 0 = λ s. IsSomeAnd s (IsJob job) in
     subst P is found
 
+-- if the words of a command line name a job, its matches are that job's
 pub found : (words : List Text) (m : ArgMatches) (job : Job) → subcommand_rows_of m ≡ subcommand_of script_app words
     → Names words job
     → IsSomeAnd (subcommand_rows_of m) (IsJob job)
@@ -41,13 +45,14 @@ kind_of_script app words error is kinds =
     let P : App → Type 0 = λ a. HasKind (fault_of a words) error in
     subst P is (kinds (ap is_simple_and_free is ∙ simple_and_free))
 
+-- if a command line of this form has no fault in the words, the program's has none
 pub no_fault_of_script : (app : App) (words : List Text) → app ≡ script_app
     → (is_simple_and_free app ≡ true → fault_of app words ≡ [])
     → fault_of script_app words ≡ []
 no_fault_of_script app words is none = let P : App → Type 0 = λ a. fault_of a words ≡ [] in
     subst P is (none (ap is_simple_and_free is ∙ simple_and_free))
 
--- an error that is passed on
+-- if reading the command line ends with an error that is passed on, its kind is that of the words' fault
 pub refused_as : (words : List Text) (answer : Result Job Error) (passed error : Error) → answer ≡ Err passed
     → passed ≡ error
     → HasKind (fault_of script_app words) error → ReadsCommand words answer

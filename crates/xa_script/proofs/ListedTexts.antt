@@ -8,7 +8,7 @@ use Rattle.xa_script.specs.Listing.{first_of, first_line, notes_of}
 pub no_first : (text : List ℕ) → (length text == 0) ≡ true → [] ≡ first_line text
 no_first text empty = sym (ap first_of (lines-none text empty))
 
--- no line is left
+-- the loop over lines ends: no line is left, and no comment
 pub notes_end : (out whole text : List ℕ) → (length text == 0) ≡ true → out ++ notes_of (lines_of text) ≡ whole
     → out ≡ whole
 notes_end out whole text empty is =

@@ -38,6 +38,7 @@ coordinates m found name (Coordinate stores capacity fixed) is named of =
     let by_fixed = subst at_fixed (one_text-rows (found_of found) (codes "fixed")) by_capacity in
     subst P (sym is) (named, by_fixed)
 
+-- if the subcommand is `coordinate` and its three options are read as this job, the matches are that job's
 pub coordinates_if : (m found : ArgMatches) (name : Text) (r : Option Job)
     → subcommand_rows_of m ≡ Some (name, rows_of (found_of found)) → name ≡ codes "coordinate"
     → IfSome r (IsCoordinateOf (one_text (found_of found) (codes "stores"))
@@ -118,6 +119,7 @@ stops m found name (Stops stores capacity) is named of =
     let by_capacity = subst at_capacity (one_text-rows (found_of found) (codes "capacity")) by_stores in
     subst P (sym is) (named, by_capacity)
 
+-- if the subcommand is `stops` and its options are read as this job, the matches are that job's
 pub stops_if : (m found : ArgMatches) (name : Text) (r : Option Job)
     → subcommand_rows_of m ≡ Some (name, rows_of (found_of found)) → name ≡ codes "stops"
     → IfSome r (IsStopsOf (one_text (found_of found) (codes "stores")) (one_text (found_of found) (codes "capacity")))
@@ -125,7 +127,7 @@ pub stops_if : (m found : ArgMatches) (name : Text) (r : Option Job)
 stops_if m found name None is named of = tt
 stops_if m found name (Some job) is named of = stops m found name job is named of
 
--- stops over no number of stores, or with no room
+-- if the stores or the capacity of `stops` can't be read, the matches are no job's
 pub no_stops : (m found : ArgMatches) (name : Text) → subcommand_rows_of m ≡ Some (name, rows_of (found_of found))
     → name ≡ codes "stops"
     → ((job : Job) → IsStopsOf (one_text (found_of found) (codes "stores"))

@@ -8,11 +8,13 @@ use Rattle.std.specs.Box.{box_value}
 use Rattle.xa_script.specs.CommandLine.{IsJob}
 use Rattle.xa_script.specs.declared.command.Job.{Job}
 
+-- mapping by f is mapping to pairs, made by f and g, and taking the first part of each
 map_first : {S A B : Type 0} (f : S → A) (g : S → B) (s : Option S)
     → option_map f s ≡ option_map (λ p. p.0) (let pairs : Option (A × B) = option_map (λ b. (f b, g b)) s in pairs)
 map_first f g None = refl
 map_first f g (Some b) = refl
 
+-- a pair that was found, by its two parts
 both_parts : {A B : Type 0} (s : Option (A × B)) (n : A) (r : B) → Some n ≡ option_map (λ p. p.0) s
     → Some r ≡ option_map (λ p. p.1) s → s ≡ Some (n, r)
 both_parts None n r e f = cc
@@ -31,6 +33,7 @@ rows_are m name rows e f =
     (λ b. rows_of (found_of (out-SubCommand (box_value b)).matches))
     (out-ArgMatches m).subcommand) f
 
+-- the job that the matches name, by the subcommand's name and options
 pub at_found : (m : ArgMatches) (name : Text) (rows : List Row) (job : Job) → subcommand_rows_of m ≡ Some (name, rows)
     → IsSomeAnd (subcommand_rows_of m) (IsJob job) → IsJob job (name, rows)
 at_found m name rows job is h = let P : Option (Text × List Row) → Type 0 = λ s. IsSomeAnd s (IsJob job) in subst P is h

@@ -44,6 +44,7 @@ judges m found name (Judge limit explain json strict) is named of =
     let by_strict = subst at_strict (one_text-rows (found_of found) (codes "strict-calls")) by_json in
     subst P (sym is) (named, by_strict)
 
+-- if the subcommand is `judge` and its options are read as this job, the matches are that job's
 pub judges_if : (m found : ArgMatches) (name : Text) (r : Option Job)
     → subcommand_rows_of m ≡ Some (name, rows_of (found_of found)) → name ≡ codes "judge"
     → IfSome r (IsJudgeOf (one_text (found_of found) (codes "limit")) (one_text (found_of found) (codes "explain"))
@@ -52,7 +53,7 @@ pub judges_if : (m found : ArgMatches) (name : Text) (r : Option Job)
 judges_if m found name None is named of = tt
 judges_if m found name (Some job) is named of = judges m found name job is named of
 
--- judging with no limit
+-- if the limit of `judge` can't be read, the matches are no job's
 pub no_judge : (m found : ArgMatches) (name : Text) → subcommand_rows_of m ≡ Some (name, rows_of (found_of found))
     → name ≡ codes "judge"
     → ((limit : ℕ) → IsSomeAnd (one_text (found_of found) (codes "limit")) (IsLimitText limit) → ⊥) → (job : Job)
@@ -110,6 +111,7 @@ explores m found name (Explore limit) is named of =
     let by_limit = subst at_limit (one_text-rows (found_of found) (codes "limit")) of in
     subst P (sym is) (named, by_limit)
 
+-- if the subcommand is `explore` and its limit is read as this job's, the matches are that job's
 pub explores_if : (m found : ArgMatches) (name : Text) (r : Option Job)
     → subcommand_rows_of m ≡ Some (name, rows_of (found_of found)) → name ≡ codes "explore"
     → IfSome r (IsExploreOf (one_text (found_of found) (codes "limit")))
@@ -117,7 +119,7 @@ pub explores_if : (m found : ArgMatches) (name : Text) (r : Option Job)
 explores_if m found name None is named of = tt
 explores_if m found name (Some job) is named of = explores m found name job is named of
 
--- exploring with no limit
+-- if the limit of `explore` can't be read, the matches are no job's
 pub no_explore : (m found : ArgMatches) (name : Text) → subcommand_rows_of m ≡ Some (name, rows_of (found_of found))
     → name ≡ codes "explore"
     → ((job : Job) → IsExploreOf (one_text (found_of found) (codes "limit")) job → ⊥) → (job : Job)

@@ -49,6 +49,7 @@ races m found name (Race capacity schedule renews runs) is named of =
     let by_runs = subst at_runs (one_text-rows (found_of found) (codes "runs")) by_renew in
     subst P (sym is) (named, by_runs)
 
+-- if the subcommand is `race` and its options are read as this job, the matches are that job's
 pub races_if : (m found : ArgMatches) (name : Text) (r : Option Job)
     → subcommand_rows_of m ≡ Some (name, rows_of (found_of found)) → name ≡ codes "race"
     → IfSome r (IsRaceOf (one_text (found_of found) (codes "capacity")) (one_text (found_of found) (codes "together"))
@@ -57,7 +58,7 @@ pub races_if : (m found : ArgMatches) (name : Text) (r : Option Job)
 races_if m found name None is named of = tt
 races_if m found name (Some job) is named of = races m found name job is named of
 
--- a race of no capacity
+-- if the capacity of `race` can't be read, the matches are no job's
 pub no_race : (m found : ArgMatches) (name : Text) → subcommand_rows_of m ≡ Some (name, rows_of (found_of found))
     → name ≡ codes "race"
     → ((capacity : ℕ) → IsSomeAnd (one_text (found_of found) (codes "capacity")) (IsCapacityText capacity) → ⊥)

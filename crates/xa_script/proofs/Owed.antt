@@ -64,6 +64,7 @@ due_behind (Some old) new before text held given is none start empty =
     let front : old ++ before ≡ old = ap (λ (xs : List ℕ). old ++ xs) none ∙ append-nil old in
     subst P (sym is) (ap₂ (λ (xs ys : List ℕ). xs ++ ys) (sym front) more)
 
+-- at most one more than so many: at most so many, or just one more
 cases_le_at : (count taken : ℕ) → count ≤ taken + 1 → (count ≤ taken) ⊎ (count ≡ taken + 1)
 cases_le_at count taken within = elim (cases_lt taken count) [
   | inl more ↦ inr (omega arith)
@@ -80,11 +81,12 @@ begun_more rows held bytes taken before last count some within = elim (cases_le_
   | inr is ↦ subst (λ (n : ℕ). ends_line rows (held ++ take n bytes) ≡ false) (sym is) last
 ]
 
--- what holds is said of an Ok
+-- what holds anyway holds if the result is Ok
 pub on_ok : {V E P : Type 0} (answer : Result V E) → P → OnOk answer P
 on_ok (Ok _) holds = holds
 on_ok (Err _) holds = tt
 
+-- what two calls keep both together keep
 pub kept_on : (first second third : Option (List ℕ)) → Keeps first second → Keeps second third → Keeps first third
 kept_on None second third before after = tt
 kept_on (Some first) None third before after = absurd before

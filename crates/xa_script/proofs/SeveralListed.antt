@@ -10,13 +10,13 @@ use Rattle.xa_script.specs.Listing.{worse, worst_from, piece, pieces}
 use Rattle.xa_script.specs.Several.{IsVerdictOn, AreVerdicts, IsListing}
 use Rattle.xa_script.proofs.Audited.{taken_more}
 
--- one more status
+-- the worst of several statuses and one more is the worse of both
 worst_more : (first : ℕ) (statuses : List ℕ) (status : ℕ)
     → worst_from first (statuses ++ status ∷ []) ≡ worse (worst_from first statuses) status
 worst_more first [] status = refl
 worst_more first (one ∷ statuses) status = worst_more (worse first one) statuses status
 
--- one more piece
+-- what is written for several records and one more has that record's piece at the end
 pieces_more : (tap : Bool) (number last : ℕ) (names : List (List ℕ)) (name : List ℕ) (verdicts : List (ℕ × List ℕ))
     (verdict : ℕ × List ℕ) → length names ≡ length verdicts → last ≡ number + length names
     → pieces tap number (names ++ name ∷ []) (verdicts ++ verdict ∷ [])
@@ -33,7 +33,7 @@ pieces_more tap number last (first ∷ names) name (one ∷ verdicts) verdict sa
     ∙ sym (append_assoc (piece tap number first one) (pieces tap (number + 1) names verdicts)
     (piece tap last name verdict))
 
--- one more verdict
+-- verdicts on several records, and a verdict on one record more, are verdicts on them all
 are_more : (base : State) (allowances : List Allowance) (asked : Asked) (records : List (List ℕ)) (seen : List ℕ)
     (verdicts : List (ℕ × List ℕ)) (verdict : ℕ × List ℕ) → AreVerdicts base allowances asked records verdicts
     → IsVerdictOn base allowances asked seen verdict
@@ -44,7 +44,7 @@ are_more base allowances asked (first ∷ records) seen [] verdict are is = absu
 are_more base allowances asked (first ∷ records) seen (one ∷ verdicts) verdict are is =
     (are.0, are_more base allowances asked records seen verdicts verdict are.1 is)
 
--- each record has one
+-- there are as many verdicts as records
 as_many : (base : State) (allowances : List Allowance) (asked : Asked) (records : List (List ℕ))
     (verdicts : List (ℕ × List ℕ)) → AreVerdicts base allowances asked records verdicts
     → length records ≡ length verdicts
@@ -65,6 +65,7 @@ none_listed base allowances asked tap before text is = record {
   text_is = is ∙ sym (append-nil before);
 }
 
+-- one record more: its verdict is written behind the others, and the greatest status counts
 listing_more : (base : State) (allowances : List Allowance) (asked : Asked) (tap : Bool) (before : List ℕ)
     (names records : List (List ℕ)) (name seen : List ℕ) (count status next : ℕ) (text more : List ℕ)
     (verdict : ℕ × List ℕ) → count ≡ length names → IsListing base allowances asked tap before names records status text
@@ -108,11 +109,12 @@ next_listed base allowances asked tap own before names name count status next te
     taken.0 many so_far taken.1 taken.2
     (taken.3 ∙ ap (λ (form : Bool). text ++ piece form (count + 1) name taken.0) same)
 
+-- mapping leaves the length
 mapped_long : {A B : Type 0} (f : A → B) (all : List A) → length (map f all) ≡ length all
 mapped_long f [] = refl
 mapped_long f (one ∷ all) = let rest = mapped_long f all in omega (arith, rest)
 
--- the same of what readers hold
+-- what is written for the records of several readers, and for one more
 pub list_more : {S : Type 0} (sources : List S) (source : S) (remaining : S → Option (List ℕ)) (name : S → List ℕ)
     (base : State) (allowances : List Allowance) (asked : Asked) (tap own : Bool) (before : List ℕ)
     (count status next : ℕ) (text more : List ℕ) → own ≡ tap → count ≡ length sources

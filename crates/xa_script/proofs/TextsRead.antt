@@ -9,12 +9,12 @@ use Rattle.xa_xid.specs.Xid.{Text}
 use Rattle.xa_xid.proofs.Texts.{kept-fits}
 use Rattle.xa_script.specs.Texts.{between_quotes, quoted, are_printable, word_text, said_or}
 
--- a backslash, twice, stands for one
+-- in a text in quotes, a backslash (92) that is written twice stands for one
 two_backslashes : {written bytes : List ℕ} → Quoted 39 written bytes → Quoted 39 (92 ∷ 92 ∷ written) (92 ∷ bytes)
 unfolding escaped
 two_backslashes form = escape 92 form
 
--- one byte in front, by whether it is a quote or a backslash
+-- one byte in front of a text in quotes: doubled if it is a quote or a backslash, else as it is
 form_more : (byte : ℕ) (is_quote is_backslash : Bool) (front bytes : List ℕ) → (byte == 39) ≡ is_quote
     → (byte == 92) ≡ is_backslash
     → Quoted 39 (front ++ 39 ∷ []) bytes
@@ -38,7 +38,7 @@ pub quoted_at : (bytes rest : List ℕ) → StartsNo (λ byte. byte == 39) rest 
 quoted_at bytes rest last = text_literal 39 refl (record
     { written = between_quotes bytes ++ 39 ∷ []; form = form_of bytes; cut = refl; last = last })
 
--- it is read as its bytes
+-- a text of at most 64 bytes that is written in quotes is read as its bytes
 read_quoted : (text : Text) → length text.items ≤ 64
     → ((text bytes rest : List ℕ) → LiteralAt text bytes rest → literal_ahead text ≡ sized (kept bytes) rest)
     → literal_ahead (quoted text.items) ≡ Ok (text, [])
@@ -47,6 +47,7 @@ read_quoted text fits complete =
     ∙ complete (quoted text.items ++ []) text.items [] (quoted_at text.items [] tt)
     ∙ ap (λ found. sized found []) (kept-fits text.items fits)
 
+-- a literal in quotes or as it was, by a test: both are read as the same text
 chosen : (word : List ℕ) (text : Text) (is_plain : Bool) → literal_ahead word ≡ Ok (text, [])
     → literal_ahead (quoted text.items) ≡ Ok (text, [])
     → literal_ahead (if is_plain then quoted text.items else word) ≡ Ok (text, [])

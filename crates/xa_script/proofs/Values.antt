@@ -7,6 +7,7 @@ use Rattle.std.specs.Str.Parse.{ParsesUnsigned, ParsesBool, true_text, false_tex
 use Rattle.clap.specs.Words.{Text, ReadsOne}
 use Rattle.xa_script.specs.CommandLine.{IsSeedText, HasNoSeed, IsFlagOf, IsLimitText, IsRunsOf}
 
+-- equal texts that were found are equal
 some_is : {text other : Text} → Some text ≡ Some other → text ≡ other
 some_is e = cc
 
@@ -22,7 +23,7 @@ seed_read gives parses (Some text) (Some seed) none value =
     let p = parses text (Ok seed) (value text refl) in
     (p.0.0, p.1, subst (λ n. n < 2 ^ 64) (sym p.1) p.0.1)
 
--- no number is read only where none is given
+-- an option's number is read as none only if the option isn't given
 pub none_read : {E : Type 0} (gives : List ℕ → Result ℕ E → Type 0)
     → ((text : Text) (r : Result ℕ E) → gives text r → ParsesUnsigned 64 10 text r)
     → (given : Option Text) (read : Option ℕ) → (given ≡ None → read ≡ None)
@@ -44,7 +45,7 @@ flag_read gives parses None (Some flag) none value is = let e : Some flag ≡ No
 flag_read gives parses (Some text) (Some false) none value is = cc
 flag_read gives parses (Some text) (Some true) none value is = ap Some (parses text (Ok true) (value text refl))
 
--- and as not given only where it isn't
+-- an option without a value is read as not given only if it isn't there
 pub no_flag_read : {E : Type 0} (gives : List ℕ → Result Bool E → Type 0)
     → ((text : Text) (r : Result Bool E) → gives text r → ParsesBool text r)
     → (given : Option Text) (read : Option Bool) → (given ≡ None → read ≡ None)
@@ -59,14 +60,14 @@ no_flag_read gives parses (Some text) None none value is same =
     let failed = value text refl in
     absurd ((parses text (Err failed.0) failed.1).0 (some_is same))
 
--- the flag is as the option says
+-- a flag that is true exactly if the option's value is `true` is that option's flag
 pub flag_of : (given : Option Text) (flag : Bool) → (flag ≡ true → given ≡ Some (codes "true"))
     → (flag ≡ false → given ≢ Some (codes "true"))
     → IsFlagOf given flag
 flag_of given true is absent = is refl
 flag_of given false is absent = absent refl
 
--- as many runs as a number says, and none without it
+-- how many runs of a race the option `--runs` says, or none without it
 pub runs_of : (given : Option Text) (read : Option ℕ) → IfSome read (λ count. IsSomeAnd given (IsLimitText count))
     → (read ≡ None → (count : ℕ) → IsSomeAnd given (IsLimitText count) → ⊥) → IsRunsOf given read
 runs_of given None some none = none refl

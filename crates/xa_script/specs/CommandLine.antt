@@ -34,11 +34,11 @@ number_rule name reads default =
 abbrev pub flag_rule : Text → Rule
 flag_rule name = record (new_rule name) { long = Some name; action = Some SetTrue }
 
--- `--NAME FILE`, any text
+-- an option `--NAME FILE`, whose value may be any text
 abbrev pub named_file_rule : Text → Rule
 named_file_rule name = record (new_rule name) { long = Some name; value_names = 1 }
 
--- `--file FILE`
+-- the option `--file FILE`
 abbrev pub file_rule : Rule
 file_rule = named_file_rule (codes "file")
 
@@ -50,7 +50,7 @@ verbose_rule = flag_rule (codes "verbose")
 abbrev pub text_rule : Rule
 text_rule = flag_rule (codes "text")
 
--- `--json`, which has no value
+-- the option `--json`, which has no value
 abbrev pub json_rule : Rule
 json_rule = flag_rule (codes "json")
 
@@ -59,7 +59,7 @@ abbrev pub common_app : App → App
 common_app app =
     with_rule (with_rule (with_rule (with_rule app file_rule) verbose_rule) (flag_rule (codes "strict"))) text_rule
 
--- a subcommand that has these alone
+-- a subcommand that has only the options common to all that read a script
 abbrev pub plain_app : Text → App
 plain_app name = common_app (new_app name)
 
@@ -71,7 +71,7 @@ capacity_rule = number_rule (codes "capacity") (parser.Unsigned 1 1024) (codes "
 abbrev pub together_rule : Rule
 together_rule = flag_rule (codes "together")
 
--- `--shuffle SEED`, a number from 0 to 2^64 - 1
+-- the option `--shuffle SEED`; SEED is a number from 0 to 2^64 - 1
 abbrev pub shuffle_rule : Rule
 shuffle_rule =
     record (new_rule (codes "shuffle"))
@@ -81,12 +81,12 @@ shuffle_rule =
 abbrev pub renew_rule : Rule
 renew_rule = flag_rule (codes "renew")
 
--- `--runs N`, a number from 1 to 1,000,000
+-- the option `--runs N`; N is a number from 1 to 1,000,000
 abbrev pub runs_rule : Rule
 runs_rule = record (new_rule (codes "runs"))
     { long = Some (codes "runs"); value_names = 1; parser = Some (parser.Unsigned 1 1000000) }
 
--- `race [--capacity N] [--together] [--shuffle SEED] [--renew] [--runs N] [--json]`
+-- the subcommand `race [--capacity N] [--together] [--shuffle SEED] [--renew] [--runs N] [--json]`
 abbrev pub race_app : App
 race_app =
     with_rule (with_rule
@@ -102,11 +102,11 @@ stores_rule = number_rule (codes "stores") (parser.Unsigned 1 16) (codes "3")
 abbrev pub fixed_rule : Rule
 fixed_rule = flag_rule (codes "fixed")
 
--- `coordinate [--stores N] [--capacity C] [--fixed]`
+-- the subcommand `coordinate [--stores N] [--capacity C] [--fixed]`
 abbrev pub coordinate_app : App
 coordinate_app = with_rule (with_rule (with_rule (new_app (codes "coordinate")) stores_rule) capacity_rule) fixed_rule
 
--- `stops [--stores N] [--capacity C] [--json]`
+-- the subcommand `stops [--stores N] [--capacity C] [--json]`
 abbrev pub stops_app : App
 stops_app = with_rule (with_rule (with_rule (new_app (codes "stops")) stores_rule) capacity_rule) json_rule
 
@@ -131,17 +131,17 @@ judge_app =
     (flag_rule (codes "quiet"))) (named_file_rule (codes "allow"))) (named_file_rule (codes "from")))
     (flag_rule (codes "tap"))) (flag_rule (codes "strict-calls"))
 
--- `explore [--limit N] [--json]`
+-- the subcommand `explore [--limit N] [--json]`
 abbrev pub explore_app : App
 explore_app = with_rule (with_rule (new_app (codes "explore")) limit_rule) json_rule
 
--- `HISTORY..`, one text or more
+-- the argument `HISTORY..`, one text or more
 abbrev pub history_rule : Rule
 history_rule =
     record (new_rule (codes "history"))
     { value_names = 1; range = Some (record { start_inclusive = 1; end_inclusive = usize_max }); required = true }
 
--- `audit HISTORY.. [--json] [--quiet] [--verbose] [--text]`
+-- the subcommand `audit HISTORY.. [--json] [--quiet] [--verbose] [--text]`
 abbrev pub audit_app : App
 audit_app =
     with_rule (with_rule (with_rule (with_rule (with_rule (new_app (codes "audit")) history_rule)

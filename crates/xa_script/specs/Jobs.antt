@@ -73,7 +73,7 @@ abbrev pub HasRacedAll : (json renews : Bool) → (capacity : ℕ) → (runs : O
 HasRacedAll json renews capacity None input old new done = HasRaced json renews capacity input old new done
 HasRacedAll json renews capacity (Some runs) input old new done = HasCame json renews runs input old new done
 
--- the record was judged
+-- the job `judge` on one record: how it ended, and what it wrote
 abbrev pub HasJudged : State → List Allowance → Asked → (input old new : Option (List ℕ)) → End → Type 0
 HasJudged base allowances asked input old new done =
     MatchResult done (λ status. AppendsVerdict base allowances asked status input old new)
@@ -85,13 +85,13 @@ AfterExploring true limit fault input old new =
     AfterObjects (λ before after. (status : ℕ) × AppendsOutcomes limit status input before after) fault old new
 AfterExploring false limit fault input old new = AfterExploreFault limit fault input old new
 
--- the script was explored
+-- the job `explore`: how it ended, and what it wrote
 abbrev pub HasExplored : (json : Bool) → (limit : ℕ) → (input old new : Option (List ℕ)) → End → Type 0
 HasExplored json limit input old new done =
     MatchResult done (λ status. WritesAs json (AppendsOutcomes limit status input) old new)
     (λ fault. AfterExploring json limit fault input old new)
 
--- what a fault of stopping leaves
+-- what `stops` leaves in the writer after a fault, with `--json` and without
 abbrev pub AfterStopping : (json : Bool) → (stores : ℕ) → ScriptFault → (input old new : Option (List ℕ)) → Type 0
 AfterStopping true stores fault input old new =
     AfterObjects (λ before after. (status : ℕ) × AppendsStopped stores status input before after) fault old new
@@ -103,13 +103,13 @@ HasStopped json stores input old new done =
     MatchResult done (λ status. WritesAs json (AppendsStopped stores status input) old new)
     (λ fault. AfterStopping json stores fault input old new)
 
--- the histories were audited
+-- the job `audit`: how it ended, and what it wrote
 abbrev pub HasAudited : List (List ℕ) → AuditForm → (old new : Option (List ℕ)) → End → Type 0
 HasAudited histories form old new done =
     MatchResult done (λ status. AppendsAuditBy histories form status old new)
     (λ fault. AfterAuditing histories form fault old new)
 
--- several records were judged
+-- the job `judge` on several records: how it ended, and what it wrote
 abbrev pub HasListed : State → List Allowance → Asked → (strict tap : Bool) → (names records : List (List ℕ))
     → (old new : Option (List ℕ)) → End → Type 0
 HasListed base allowances asked strict tap names records old new done =

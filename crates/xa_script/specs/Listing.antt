@@ -4,7 +4,9 @@
 --     piece, pieces        what is written for one of several records;  for many
 --     heading              what is written before the first
 --     is_list              whether verdicts are listed so
+--     only_of              the name of a single record
 use Rattle.std.specs.Prelude.{◌==◌, ◌+◌, ◌++◌, ◌∷◌, [], ◌||◌, if◌then◌else◌, nat_lt, ℕ, Bool, true, false, List}
+use Rattle.std.specs.Prelude.{Option, Some, None}
 use Rattle.std.specs.Prelude.{codes, decimal}
 use Rattle.xa_lines.specs.Script.{lines_of}
 
@@ -18,6 +20,7 @@ abbrev pub worst_from : ℕ → List ℕ → ℕ
 worst_from first [] = first
 worst_from first (status ∷ statuses) = worst_from (worse first status) statuses
 
+-- the first line; the empty one if there is none
 abbrev pub first_of : List (List ℕ) → List ℕ
 first_of [] = []
 first_of (line ∷ lines) = line
@@ -34,7 +37,7 @@ listed_line name text = name ++ (codes ": " ++ (first_line text ++ 10 ∷ []))
 abbrev pub note : List ℕ → List ℕ
 note line = codes "# " ++ (line ++ 10 ∷ [])
 
--- lines as comments
+-- lines as comments of TAP
 abbrev pub notes_of : List (List ℕ) → List ℕ
 notes_of [] = []
 notes_of (line ∷ lines) = note line ++ notes_of lines
@@ -50,6 +53,7 @@ tap_name (byte ∷ bytes) =
     if nat_lt byte 32 then 32 ∷ tap_name bytes
     else (if byte == 35 || byte == 92 then 92 ∷ byte ∷ tap_name bytes else byte ∷ tap_name bytes)
 
+-- the words of TAP (the Test Anything Protocol) for a status: only 0 is ok
 abbrev pub tap_sign : (status : ℕ) → List ℕ
 tap_sign status = if status == 0 then codes "ok " else codes "not ok "
 
@@ -57,6 +61,7 @@ tap_sign status = if status == 0 then codes "ok " else codes "not ok "
 abbrev pub tap_point : (number status : ℕ) → (name : List ℕ) → List ℕ
 tap_point number status name = tap_sign status ++ (decimal number ++ (codes " - " ++ (tap_name name ++ 10 ∷ [])))
 
+-- what is written for a record as a test of TAP: its line, and notes on what isn't ok
 abbrev pub tap_piece : (number : ℕ) → (name : List ℕ) → (status : ℕ) → (text : List ℕ) → List ℕ
 tap_piece number name status text = tap_point number status name ++ notes_on status text
 
@@ -65,7 +70,7 @@ abbrev pub piece : (tap : Bool) → (number : ℕ) → (name : List ℕ) → ℕ
 piece true number name verdict = tap_piece number name verdict.0 verdict.1
 piece false number name verdict = listed_line name verdict.1
 
--- the same of many, the first of which has this number
+-- what is written for several records as tests of TAP, the first of which has this number
 abbrev pub pieces : (tap : Bool) → (number : ℕ) → (names : List (List ℕ)) → List (ℕ × List ℕ) → List ℕ
 pieces tap number [] verdicts = []
 pieces tap number (name ∷ names) [] = []
@@ -80,3 +85,8 @@ heading false count = []
 -- verdicts are listed where there are several records, or that is asked for
 abbrev pub is_list : (tap : Bool) → (count : ℕ) → Bool
 is_list tap count = tap || nat_lt 1 count
+
+-- the name of a record, if there is only one
+abbrev pub only_of : List (List ℕ) → Option (List ℕ)
+only_of (name ∷ []) = Some name
+only_of names = None

@@ -24,6 +24,7 @@ abbrev pub IsVerdictOn : State → List Allowance → Asked → (seen : List ℕ
 IsVerdictOn base allowances asked seen verdict =
     AppendsVerdict base allowances asked verdict.0 (Some seen) (Some []) (Some verdict.1)
 
+-- a verdict on each record, in the same order
 abbrev pub AreVerdicts : State → List Allowance → Asked → (records : List (List ℕ)) → List (ℕ × List ℕ) → Type 0
 AreVerdicts base allowances asked [] [] = Unit {0}
 AreVerdicts base allowances asked [] (verdict ∷ verdicts) = ⊥
@@ -48,7 +49,7 @@ AppendsListing base allowances asked tap names records status old new =
     (text : List ℕ) × IsListing base allowances asked tap (heading tap (length names)) names records status text
     × Appends old new text
 
--- the same, and with `--strict` the status is 8 instead of 0 if a line was faulty
+-- what is written for several records; with `--strict` the status is 8 instead of 0 if a line was faulty
 abbrev pub ListsAll : State → List Allowance → Asked → (strict tap : Bool) → (names records : List (List ℕ))
     → (status : ℕ) → Option (List ℕ) → Option (List ℕ) → Type 0
 ListsAll base allowances asked strict tap names records status old new =

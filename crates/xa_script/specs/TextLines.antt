@@ -26,6 +26,7 @@ is_fed line = ends_with nat_eq line (10 ∷ [])
 abbrev pub unfed : List ℕ → List ℕ
 unfed line = if is_fed line then take (length line - 1) line else line
 
+-- the number, or 0 if there is none
 abbrev pub or_zero : Option ℕ → ℕ
 or_zero None = 0
 or_zero (Some number) = number
@@ -46,17 +47,35 @@ first_number text = number_of_word (first_word text)
 abbrev pub past_number : List ℕ → List ℕ
 past_number text = if is_some (first_number text) then behind_first text else text
 
+-- whether the line is one that names an answer that could have been
 abbrev pub could_be : List ℕ → Bool
 could_be line = starts_with nat_eq line (codes "COULD BE ")
+
+-- what was seen: a line of a record, in canonical form
+abbrev pub was_seen : List ℕ → Bool
+was_seen line = starts_with nat_eq line (codes "SEEN ")
+
+-- its reply, behind the session and the sign
+abbrev pub seen_reply : List ℕ → List ℕ
+seen_reply line = behind_first (past_number (drop 5 line))
+
+-- the text of the call of what was seen, behind the line's number, the session and the sign
+abbrev pub called_text : List ℕ → List ℕ
+called_text line = behind_first (past_number (past_number (drop 10 line)))
+
+abbrev pub rows_in_verdict : List ℕ → ℕ
+rows_in_verdict line =
+    if could_be line then rows_of (drop 9 line) else (if was_seen line then rows_of (seen_reply line) else 0)
 
 -- how many rows a line says that the next lines are: an answer's reply comes after its session and its place
 abbrev pub rows_after : LineForm → (line : List ℕ) → ℕ
 rows_after Answers line = rows_of (past_number (past_number line))
 rows_after Shown line = rows_of (past_number (past_number line))
-rows_after Verdict line = if could_be line then rows_of (drop 9 line) else 0
+rows_after Verdict line = rows_in_verdict line
 rows_after Object line = 0
 rows_after Noted line = 0
 
+-- whether the bytes of a row have room for a gtrid and bqual of these lengths, if both could be read
 abbrev pub holds_texts : Option ℕ → Option ℕ → (bytes : List ℕ) → Bool
 holds_texts (Some gtrid) (Some bqual) bytes = nat_le (gtrid + bqual) (length bytes)
 holds_texts gtrid bqual bytes = true
@@ -69,19 +88,30 @@ is_whole_row row =
     let second = behind_first lengths in
     holds_texts (first_number lengths) (first_number second) (behind_first second)
 
+-- whether a text was read as a statement that the grammar has
 abbrev pub has_form : Result Statement ℕ → Bool
 has_form (Ok Unsupported) = false
 has_form (Ok statement) = true
 has_form (Err place) = false
 
+-- whether the line gives a session a statement that the grammar has
 abbrev pub is_given : Line → Bool
 is_given Blank = false
 is_given Bad = false
 is_given (Given session text) = has_form (read_of text)
 
--- a line of a verdict is a client's own unless it is an answer, of the store, or a statement that has a canonical form
+-- the call of what was seen is of a statement that has a canonical form
+abbrev pub is_called : List ℕ → Bool
+is_called line = starts_with nat_eq line (codes "CALL line ") && has_form (read_of (called_text line))
+
+-- an answer, what was seen, or a line of the store
+abbrev pub is_of_job : List ℕ → Bool
+is_of_job line = could_be line || (was_seen line || starts_with nat_eq line (codes "  "))
+
+-- a line of a verdict is a client's own unless it is an answer, what was seen, of the store, or a statement that has a
+-- canonical form
 abbrev pub is_own : (line : List ℕ) → Bool
-is_own line = not (could_be line) && (not (starts_with nat_eq line (codes "  ")) && not (is_given (line_of line)))
+is_own line = not (is_of_job line) && (not (is_called line) && not (is_given (line_of line)))
 
 -- a test point, or a line of a verdict in a comment that is a client's own
 abbrev pub is_point_or_own : (line : List ℕ) → Bool

@@ -9,11 +9,11 @@ use Rattle.std.specs.Prelude.{◌++◌, length, Ok, Err}
 use Rattle.xa_xid.specs.Literal.{Reading, literal_ahead}
 use Rattle.xa_xid.specs.Xid.{Text}
 
--- printable ASCII
+-- whether a byte is printable ASCII
 abbrev pub is_printable : ℕ → Bool
 is_printable byte = nat_le 32 byte && nat_le byte 126
 
--- all of them are
+-- whether all bytes are printable ASCII
 abbrev pub are_printable : List ℕ → Bool
 are_printable [] = true
 are_printable (byte ∷ bytes) = is_printable byte && are_printable bytes
@@ -24,7 +24,7 @@ between_quotes [] = []
 between_quotes (byte ∷ bytes) =
     if byte == 39 || byte == 92 then byte ∷ byte ∷ between_quotes bytes else byte ∷ between_quotes bytes
 
--- the text in quotes
+-- the text in single quotes, as a literal
 abbrev pub quoted : List ℕ → List ℕ
 quoted bytes = 39 ∷ (between_quotes bytes ++ 39 ∷ [])
 
@@ -33,7 +33,7 @@ abbrev pub text_or : List ℕ → (bytes rest : List ℕ) → List ℕ
 text_or word bytes [] = if are_printable bytes then quoted bytes else word
 text_or word bytes (byte ∷ rest) = word
 
--- the same of what was read
+-- the word with its literal in quotes, if its bytes were read and are printable; else the word as it was
 abbrev pub said_or : List ℕ → Reading Text → List ℕ
 said_or word (Ok (text, rest)) = text_or word text.items rest
 said_or word (Err fault) = word

@@ -16,6 +16,7 @@ use Rattle.xa_manager.specs.Calls.{call_of}
 use Rattle.xa_manager.specs.Scripts.{taken}
 use Rattle.xa_manager.specs.declared.call.Call.{Call}
 use Rattle.xa_manager.specs.declared.call.Call.TheVariants.{Unread}
+use Rattle.xa_record.specs.Lines.{reading_of_line, is_bad}
 use Rattle.xa_script.specs.declared.line_kind.LineKind.{LineKind}
 use Rattle.xa_script.specs.declared.line_kind.LineKind.TheVariants.{Statement as Stated, Shown, Raced, Explored}
 use Rattle.xa_script.specs.declared.line_kind.LineKind.TheVariants.{Call as Called, Stopped, Record as Recorded}
@@ -35,7 +36,7 @@ is_faulty (Given session text) = goes_wrong (read_of text)
 abbrev pub is_silent : List ℕ → Bool
 is_silent line = is_empty_line (unblank line) || is_comment_line line
 
--- one of the words that divide a script
+-- whether the line is a word that divides a script for exploring: BESIDE or AFTER
 abbrev pub divides_script : List ℕ → Bool
 divides_script line = is_word (codes "BESIDE") line || is_word (codes "AFTER") line
 
@@ -54,12 +55,13 @@ given_by (Given session text) = text
 abbrev pub has_sign : (sign text : List ℕ) → Bool
 has_sign sign text = pointwise nat_eq (first_word text) sign
 
--- what a client said isn't a statement, or the line is neither that nor what it saw
+-- a client calls for a text that isn't a statement
+abbrev pub is_no_call_of_record : List ℕ → Bool
+is_no_call_of_record text = has_sign (codes ">") text && goes_wrong (read_of (behind_word text))
+
+-- a line isn't written as a line of a record is, or the text of its call isn't a statement
 abbrev pub is_no_record : List ℕ → Bool
-is_no_record text =
-    if has_sign (codes ">") text
-    then goes_wrong (read_of (behind_word text))
-    else not (has_sign (codes "<") text || has_sign (codes "!") text || has_sign (codes "?") text)
+is_no_record line = is_bad (reading_of_line line) || is_no_call_of_record (given_by (line_of line))
 
 -- a line isn't one for a job that reads lines of this kind
 abbrev pub is_unread_by : LineKind → List ℕ → Bool
@@ -69,7 +71,7 @@ is_unread_by Shown line = not (is_silent line) && is_faulty (line_of line)
 is_unread_by Explored line = not (is_silent line || divides_script line) && is_faulty (line_of line)
 is_unread_by Called line = is_no_call (call_of line)
 is_unread_by Stopped line = is_no_call (taken (call_of line))
-is_unread_by Recorded line = not (is_silent line) && is_no_record (given_by (line_of line))
+is_unread_by Recorded line = not (is_silent line) && is_no_record line
 
 -- a script that is raced has comments if its first line that isn't blank is one
 abbrev pub kind_of_first : List ℕ → LineKind

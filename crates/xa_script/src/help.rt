@@ -186,12 +186,16 @@ that has a value. For example, session 2 has a branch that wrote a row:
     BRANCH 0x62,X'',1 ACTIVE SESSION 2
       HOLDS 0x6b WRITES 0x77
     ROW 0x6b VALUE 0x76
-With --explain an order that explains the lines before follows ILLEGAL, and then the store after that order:
+With --explain ILLEGAL is followed by what was seen, by its call with the number of its line, and, below what could
+have been answered, by an order that explains the lines before, and the store after that order:
+  SEEN 1 < NONE
+  CALL line 3 1 > GET 0x6b
+  COULD BE VALUE 0x76
   ORDER BEFORE
   1 PUT 0x6b,0x76
   STATE
     ROW 0x6b VALUE 0x76
-The object of --json has the keys verdict, line, could_be, order, state and faulty.
+The object of --json has the keys verdict, line, seen, call, call_line, could_be, order, state and faulty.
 If several records are named, a line for each has its name and the first line of its verdict, and the status is the
 least that isn't 0. With --tap a record is ok if it is LEGAL, and its verdict is in comments:
   TAP version 13

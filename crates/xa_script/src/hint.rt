@@ -4,6 +4,7 @@ use crate::line_fault::LineFault;
 use crate::wanted::wanted_at;
 use std::alloc::Global;
 use xa_lines::LINE_BYTES;
+use xa_record::LineWanted;
 use xa_xid::NoMemory;
 
 /// The forms of a line of a record.
@@ -16,13 +17,28 @@ const CALLS: &str =
 /// The first words of the calls that `stops` takes.
 const STOPPED_CALLS: &str = "BEGIN, WORK, PREPARE, DECIDE, FINISH, ABANDON or AT with its numbers";
 
+/// The words for what has to come in a line of a record.
+fn record_words(wanted: LineWanted) -> &'static str {
+    match wanted {
+        LineWanted::Form => RECORD_LINES,
+        LineWanted::Reply => "OK, NONE, VALUE, ROWS or ERROR",
+        LineWanted::Literal => "a quoted text or 0x.. of at most 64 bytes",
+        LineWanted::Count => "a number below 2^64",
+        LineWanted::ErrorNumber => "a number from 0 to 65535",
+        LineWanted::Error => "ERROR",
+        LineWanted::Loss => "LOST or GONE",
+        LineWanted::End => "the end of the line",
+    }
+}
+
 /// Writes what has to come at a byte of a line.
 fn tell_wanted<R: Eprint>(rt: &R, number: u64, at: u64, wanted: &str) {
     let _ = eprintln!(rt; "xa_script: line {number}, byte {at}: syntax fault; write {wanted} here");
 }
 
 /// Says what has to come in the line of this number, and at which byte. If only the statement is at fault,
-/// its own bytes are counted.
+/// its own bytes are counted; in a line of a record those after
+/// its sign.
 ///
 /// Errors: `NoMemory`. Doesn't wait, unless the standard error does.
 pub fn tell_line<R: Eprint + Alloc<A = Global>>(
@@ -41,7 +57,7 @@ pub fn tell_line<R: Eprint + Alloc<A = Global>>(
         LineFault::NoCall => tell_wanted(rt, number, 0, CALLS),
         LineFault::NoStopped => tell_wanted(rt, number, 0, STOPPED_CALLS),
         LineFault::NoWork => tell_wanted(rt, number, 0, "GET, PUT or DEL"),
-        LineFault::NoRecord => tell_wanted(rt, number, 0, RECORD_LINES),
+        LineFault::NoRecord(gap) => tell_wanted(rt, number, gap.at, record_words(gap.wanted)),
         LineFault::TooLong => {
             let _ = eprintln!(rt;
                 "xa_script: line {number}: too long; write at most {LINE_BYTES} bytes"

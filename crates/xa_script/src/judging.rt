@@ -1,14 +1,14 @@
 //! Judges a record, and returns the exit status for how that ended.
-ghost use Rattle.std.specs.Prelude.{◌≡◌, IfOk, IfErr};
+ghost use Rattle.std.specs.Prelude.{◌≡◌, Some, IfOk, IfErr};
 ghost use Rattle.xa_record.specs.Judged.{AfterJudgeFaultFrom};
 ghost use Rattle.xa_script.specs.CommandLine.{IsLimit};
 ghost use Rattle.xa_script.specs.Status.{asked_of, form_of, status_for, AppendsVerdict};
 
 use std::alloc::Global;
-use std::io::{Read, Write};
+use std::io::Write;
 use xa_judge::Progress;
-use xa_lines::ScriptFault;
-use xa_record::{Allowance, Asked, Form, Outcome, judge_record_from};
+use xa_lines::{ScriptFault, write_whole};
+use xa_record::{Allowance, Asked, Form, Outcome, judge_text_from};
 use xa_server::Server;
 
 /// The status of a record that some order explains.
@@ -65,17 +65,18 @@ pub fn asked(limit: u64, explains: bool, json: bool, strict_calls: bool) -> Aske
     }
 }
 
-/// Judges a record that begins with this server, writes the verdict or its faulty lines, and returns the exit
-/// status for it.
+/// Judges the record of this text, which begins with this server, writes the verdict or its faulty lines, and returns
+/// the exit status for it.
 ///
 /// The limit of `asked` is in `[1, 1_000_000]`.
-/// Errors: as `judge_record_from`. After `Write` a prefix of the text was written, after any other error nothing.
-/// May return `NoMemory`. Doesn't wait, unless the reader, the writer or the receiver of the progress does.
+/// Errors: `NoMemory` if an allocation failed; `Write` if a write failed or took no byte. After `Write` a prefix of the
+/// text was written, after `NoMemory` nothing.
+/// May return `NoMemory`. Doesn't wait, unless the writer or the receiver of the progress does.
 /// Own rule: docs/COMMANDS.md#options-of-every-job.
-pub fn judge_within<R: Read, W: Write, P: Progress>(
+pub fn judge_within<W: Write, P: Progress>(
     alloc: Global,
     base: &Server,
-    reader: &mut R,
+    text: &[u8],
     writer: &mut W,
     allowances: &[Allowance],
     asked: Asked,
@@ -85,12 +86,13 @@ pub fn judge_within<R: Read, W: Write, P: Progress>(
     // Proved (scripts, status-of-an-end): The status that judging, exploring, counted races and stops return is the
     //   one that the table has for their end. The text that was written is right for that end.
     ensures judged { IfOk result
-        (λ status. AppendsVerdict base.now allowances.now asked status (R.remaining reader.old)
+        (λ status. AppendsVerdict base.now allowances.now asked status (Some text.now)
         (W.contents writer.old) (W.contents writer.new)) }
     ensures fault { IfErr result
-        (λ fault. AfterJudgeFaultFrom base.now allowances.now asked fault (R.remaining reader.old)
+        (λ fault. AfterJudgeFaultFrom base.now allowances.now asked fault (Some text.now)
         (W.contents writer.old) (W.contents writer.new)) }
 {
-    let outcome = judge_record_from(alloc, base, reader, writer, allowances, asked, progress)?;
-    Ok(status_of_outcome(outcome))
+    let judged = judge_text_from(alloc, base, text, allowances, asked, progress)?;
+    write_whole(writer, judged.text.as_slice())?;
+    Ok(status_of_outcome(judged.outcome))
 }

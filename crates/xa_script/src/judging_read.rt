@@ -70,11 +70,11 @@ pub fn judge_read<I: Read, W: Write, R: Eprint + Alloc<A = Global>, P: Progress>
         (W.contents writer.old) (W.contents writer.new)) }
 {
     let record_read = record_in(rt, reader)?;
-    let mut rest = record_read.as_slice();
+    let record = record_read.as_slice();
     judge_within(
         rt.alloc(),
         base,
-        &mut rest,
+        record,
         writer,
         allowances,
         asked,

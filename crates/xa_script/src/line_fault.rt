@@ -1,5 +1,7 @@
 //! Why a line isn't read.
 
+use xa_record::LineGap;
+
 /// Why a line isn't read, for the job that reads it.
 #[derive(Clone, Copy, Debug, PartialEq, Eq)]
 pub enum LineFault<'a> {
@@ -13,8 +15,8 @@ pub enum LineFault<'a> {
     NoStopped,
     /// It gives a statement that `WORK` doesn't take.
     NoWork,
-    /// It isn't a line of a record.
-    NoRecord,
+    /// It isn't a line of a record, from this place on.
+    NoRecord(LineGap),
     /// It is too long.
     TooLong,
 }

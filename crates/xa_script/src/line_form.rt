@@ -4,6 +4,7 @@ ghost use Rattle.std.specs.List.{starts_with};
 ghost use Rattle.xa_statement.specs.Reading.{read_of};
 ghost use Rattle.xa_lines.specs.Script.{line_of};
 ghost use Rattle.xa_script.specs.TextLines.{behind_first as after_first, first_number as number_first, could_be as is_answer};
+ghost use Rattle.xa_script.specs.TextLines.{was_seen, is_called, is_of_job, rows_in_verdict};
 ghost use Rattle.xa_script.specs.TextLines.{has_form, is_given, is_own, rows_of as rows_said, past_number as after_number};
 ghost use Rattle.xa_script.specs.TextLines.{rows_after, keeps_line, is_whole_row as is_row_whole};
 
@@ -51,6 +52,14 @@ fn could_be(line: &[u8]) -> Option<&[u8]>
     line.strip_prefix(b"COULD BE ")
 }
 
+/// Returns what comes after `SEEN ` in a line of a verdict.
+fn seen_in(line: &[u8]) -> Option<&[u8]>
+    ensures { MatchOption result (was_seen line.now ≡ false)
+        (λ seen. (was_seen line.now ≡ true) × (seen.now ≡ drop 5 line.now)) }
+{
+    line.strip_prefix(b"SEEN ")
+}
+
 /// Returns whether the text is a statement with a canonical form, in which a verdict then writes it.
 fn is_statement(text: &[u8]) -> bool
     ensures { result ≡ has_form (read_of text.now) }
@@ -72,6 +81,16 @@ fn has_statement(line: &[u8]) -> bool
     }
 }
 
+/// Whether a line of a verdict is the call of what was seen, and has a statement that isn't a client's own text.
+fn has_call(line: &[u8]) -> bool
+    ensures { result ≡ is_called line.now }
+{
+    match line.strip_prefix(b"CALL line ") {
+        Some(rest) => is_statement(behind_first(past_number(past_number(rest)))),
+        None => false,
+    }
+}
+
 /// Whether a line of a verdict shows a branch or a row of the store.
 fn is_of_store(line: &[u8]) -> bool
     ensures { result ≡ starts_with nat_eq line.now (codes "  ") }
@@ -79,11 +98,18 @@ fn is_of_store(line: &[u8]) -> bool
     line.starts_with(b"  ")
 }
 
+/// Whether a line of a verdict is an answer, what was seen, or of the store.
+fn is_of_job_itself(line: &[u8]) -> bool
+    ensures { result ≡ is_of_job line.now }
+{
+    could_be(line).is_some() || seen_in(line).is_some() || is_of_store(line)
+}
+
 /// Whether a line of a verdict has nothing that is written in literals of the job's own.
 fn is_said(line: &[u8]) -> bool
     ensures { result ≡ is_own line.now }
 {
-    could_be(line).is_none() && !is_of_store(line) && !has_statement(line)
+    !is_of_job_itself(line) && !has_call(line) && !has_statement(line)
 }
 
 /// Returns how many rows a reply says that the next lines are.
@@ -113,6 +139,19 @@ fn reply_in(line: &[u8]) -> &[u8]
 {
     // Not every answer has a place, and a comment has no session either.
     past_number(past_number(line))
+}
+
+/// Returns how many rows a line of a verdict says that the next lines are.
+fn rows_of_verdict(line: &[u8]) -> u64
+    ensures { result ≡ rows_in_verdict line.now }
+{
+    match could_be(line) {
+        Some(reply) => rows_of(reply),
+        None => match seen_in(line) {
+            Some(seen) => rows_of(behind_first(past_number(seen))),
+            None => 0,
+        },
+    }
 }
 
 impl LineForm {
@@ -147,10 +186,7 @@ impl LineForm {
     {
         match self {
             LineForm::Answers | LineForm::Shown => rows_of(reply_in(line)),
-            LineForm::Verdict => match could_be(line) {
-                Some(reply) => rows_of(reply),
-                None => 0,
-            },
+            LineForm::Verdict => rows_of_verdict(line),
             LineForm::Object | LineForm::Noted => 0,
         }
     }

@@ -5,11 +5,13 @@ ghost use Rattle.xa_lines.specs.Script.{line_of};
 ghost use Rattle.xa_manager.specs.Calls.{call_of};
 ghost use Rattle.xa_manager.specs.Scripts.{taken};
 ghost use Rattle.xa_script.specs.Unread.{goes_wrong, is_faulty, divides_script, is_no_call, given_by, is_no_record};
+ghost use Rattle.xa_script.specs.Unread.{is_no_call_of_record};
 ghost use Rattle.xa_script.specs.Unread.{is_unread_by, kind_after, kind_of_first};
 
 use crate::line_fault::LineFault;
 use xa_lines::{ScriptLine, is_comment, number_in, read_line, split_word};
 use xa_manager::{Call, read_call};
+use xa_record::wanted_in;
 use xa_statement::read_statement;
 use xa_xid::skip_blanks;
 
@@ -127,17 +129,25 @@ pub fn rows_behind(line: &[u8]) -> u64 {
     }
 }
 
-/// Why a line isn't one of a record, by its first words.
-fn record_fault(line: &[u8]) -> Option<LineFault<'_>>
-    ensures { is_some result ≡ is_no_record (given_by (line_of line.now)) }
+/// Why what comes after the session of a line of a record isn't a call of a statement, if it is a call.
+fn recorded_call_fault(text: &[u8]) -> Option<LineFault<'_>>
+    ensures { is_some result ≡ is_no_call_of_record text.now }
 {
-    let (sign, rest) = split_word(given_in(line));
+    let (sign, rest) = split_word(text);
     if sign == b">".as_slice() {
         statement_fault(skip_blanks(rest))
-    } else if sign == b"<".as_slice() || sign == b"!".as_slice() || sign == b"?".as_slice() {
-        None
     } else {
-        Some(LineFault::NoRecord)
+        None
+    }
+}
+
+/// Why a line isn't one of a record, or its call isn't one of a statement.
+fn record_fault(line: &[u8]) -> Option<LineFault<'_>>
+    ensures { is_some result ≡ is_no_record line.now }
+{
+    match wanted_in(line) {
+        Some(gap) => Some(LineFault::NoRecord(gap)),
+        None => recorded_call_fault(given_in(line)),
     }
 }
 

@@ -3,7 +3,7 @@ ghost use Rattle.std.specs.Prelude.{◌≡◌, ◌≤◌, [], IfOk, map, length,
 ghost use Rattle.std.specs.Prelude.{option_map, unwrap_or};
 ghost use Rattle.clap.specs.Words.{app_of, found_of, matched_of, one_text, raw_values};
 ghost use Rattle.xa_script.specs.CommandLine.{script_app, IsFlagOf};
-ghost use Rattle.xa_script.specs.Listing.{is_list};
+ghost use Rattle.xa_script.specs.Listing.{is_list, only_of};
 ghost use Rattle.xa_script.specs.Manner.{HasRecords};
 
 use crate::manner::flag_in;
@@ -38,7 +38,10 @@ impl<'a> Records<'a> {
     /// Returns the name of the record, if there is only one.
     ///
     /// Takes no memory. Doesn't wait.
-    pub fn only_name(&self) -> Option<&'a str> {
+    pub fn only_name(&self) -> Option<&'a str>
+        // Proved (scripts, records-of-judge)
+        ensures { option_map (λ name. name.now) result ≡ only_of (map (λ name. name.now) self.now.names.items) }
+    {
         match self.names.as_slice() {
             [name] => Some(*name),
             _ => None,

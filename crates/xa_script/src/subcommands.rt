@@ -85,7 +85,7 @@ fn judge_command<'a>(alloc: Global) -> Result<Command<'a>, AllocError>
     let about = "Judges a record: whether some order of its statements explains what clients saw";
     let limit = "How many configurations may be kept at a line before the verdict is UNDECIDED";
     let explain =
-        "After ILLEGAL, prints an order that explains the lines before, and the store after it";
+        "After ILLEGAL, prints what was seen, its call, an order of the lines before, and the store after it";
     let json = "Prints the verdict as one JSON object, in one line";
     let quiet = "Doesn't report on the standard error how far the judging is";
     let strict = "Takes each call whose text isn't a statement as a faulty line";

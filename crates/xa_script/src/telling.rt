@@ -2,7 +2,7 @@
 use std::alloc::Global;
 use std::rt::Clock;
 use std::time::Instant;
-use xa_judge::Progress;
+use xa_judge::{Progress, SoFar};
 use xa_xid::NoMemory;
 
 /// Reports on the standard error how far judging a record is, at most once a second, and not in the first
@@ -40,11 +40,11 @@ impl<'r, R: Clock + Eprint + Alloc<A = Global>> Telling<'r, R> {
     }
 
     /// Writes a line.
-    fn say(&self, done: u64, all: u64, configurations: u64) -> Result<(), NoMemory> {
+    fn say(&self, so_far: SoFar) -> Result<(), NoMemory> {
         let alloc = self.rt.alloc();
-        let done = grouped(alloc, done)?;
-        let all = grouped(alloc, all)?;
-        let configurations = grouped(alloc, configurations)?;
+        let done = grouped(alloc, so_far.done())?;
+        let all = grouped(alloc, so_far.all())?;
+        let configurations = grouped(alloc, so_far.configurations())?;
         let _ = eprintln!(self.rt;
             "judged {done} of {all} events, {configurations} configurations"
         );
@@ -53,12 +53,12 @@ impl<'r, R: Clock + Eprint + Alloc<A = Global>> Telling<'r, R> {
 }
 
 impl<'r, R: Clock + Eprint + Alloc<A = Global>> Progress for Telling<'r, R> {
-    fn judged(&mut self, done: u64, all: u64, configurations: u64) {
+    fn judged(&mut self, so_far: SoFar) {
         if let Some(last) = self.last {
             let passed = last.elapsed(self.rt);
             // Less than a second after the last line a new one would say little.
             if passed.is_ok_and(|passed| passed.as_secs() >= 1) {
-                let _ = self.say(done, all, configurations);
+                let _ = self.say(so_far);
                 self.last = Instant::now(self.rt).ok();
             }
         }

@@ -32,6 +32,7 @@ use Rattle.xa_server.proofs.Steps.{same_state, same_branches}
 
 -- ---- what a session has associated
 
+-- what a session has open by a branch's phase is a branch that is there in that phase
 in_phase : (state : State) (phase : Option Phase) (xid : Xid) → phase_at state xid ≡ phase
     → IsOpen state (association_in phase xid)
 in_phase state None xid e = tt
@@ -48,10 +49,12 @@ open_association state session = by (own_xid state session)
     by None = tt
     by (Some xid) = in_phase state (phase_at state xid) xid refl
 
+-- a session's association is one with a branch that is open, or free
 pub open_as : (state : State) (session : ℕ) (association : Association) → association ≡ association_of state session
     → IsOpen state association
 open_as state session association is = subst (IsOpen state) (sym is) (open_association state session)
 
+-- a branch that has a phase is there
 known_found : (found : Option Branch) (phase : Phase) → option_map (λ (b : Branch). b.phase) found ≡ Some phase
     → is_some found ≡ true
 known_found None phase e = not_none phase e
@@ -76,29 +79,35 @@ pub known_active : (state : State) (session : ℕ) (own : Xid) → association_o
 known_active state session own is =
     known_in state own PhaseActive (subst (IsOpen state) is (open_association state session))
 
+-- a branch that is IDLE is there
 pub known_idle : (state : State) (session : ℕ) (own : Xid) → association_of state session ≡ Idle own
     → is_known state own ≡ true
 known_idle state session own is =
     known_in state own PhaseIdle (subst (IsOpen state) is (open_association state session))
 
+-- a branch that is ACTIVE isn't PREPARED
 unprepared : (state : State) (xid : Xid) → phase_at state xid ≡ Some PhaseActive → is_prepared state xid ≡ false
 unprepared state xid e = ap (λ phase. option_map_or is_prepared_phase phase false) e
 
 -- ---- tests that let a statement through
 
+-- a reply that is Ok only if a test holds isn't a refusal: the test held
 pub passes : (b : Bool) (error : XaError) → is_refused (ok_if b error) ≡ false → b ≡ true
 passes true error e = refl
 passes false error e = absurd (true≢false e)
 
+-- a reply that is a refusal if a test holds isn't one: the test failed
 let_through : (b : Bool) (error : XaError) (reply : Reply) → is_refused (refused_if b error reply) ≡ false → b ≡ false
 let_through true error reply e = absurd (true≢false e)
 let_through false error reply e = refl
 
+-- a statement that has to name the session's own branch wasn't refused: it names it
 pub own_is : (xid own : Xid) (error : XaError) → is_refused (ok_if (same_xid xid own) error) ≡ false → xid ≡ own
 own_is xid own error e = same_is xids_total exact_xids xid own (passes (same_xid xid own) error e)
 
 -- ---- accepted statements
 
+-- an XA START is accepted only of a free session, and for an identifier that isn't known
 pub accepted_start : (state : State) (association : Association) (xid : Xid)
     → is_refused (table state association (Start xid)) ≡ false
     → (association ≡ Free) × (is_known state xid ≡ false)
@@ -107,6 +116,7 @@ accepted_start state Free xid e = (refl, let_through (is_known state xid) _ _ e)
 accepted_start state (Active own) xid e = absurd (true≢false e)
 accepted_start state (Idle own) xid e = absurd (true≢false e)
 
+-- an XA END is accepted only if the branch isn't PREPARED
 pub accepted_end : (state : State) (association : Association) (xid : Xid) → IsOpen state association
     → is_refused (table state association (End xid)) ≡ false
     → is_prepared state xid ≡ false
@@ -116,6 +126,7 @@ accepted_end state (Active own) xid associated e =
     ap (is_prepared state) (own_is xid own _ e) ∙ unprepared state own associated
 accepted_end state (Idle own) xid associated e = absurd (true≢false e)
 
+-- an XA COMMIT is accepted only if the branch is there
 pub accepted_commit : (state : State) (association : Association) (xid : Xid) (one_phase : Bool)
     → IsOpen state association
     → is_refused (table state association (Commit xid one_phase)) ≡ false → is_known state xid ≡ true
@@ -132,6 +143,7 @@ accepted_commit state (Idle own) xid false associated e = absurd (true≢false e
 accepted_commit state (Idle own) xid true associated e =
     ap (is_known state) (own_is xid own _ e) ∙ known_in state own PhaseIdle associated
 
+-- an XA ROLLBACK is accepted only if the branch is there
 pub accepted_rollback : (state : State) (association : Association) (xid : Xid) → IsOpen state association
     → is_refused (table state association (Rollback xid)) ≡ false
     → is_known state xid ≡ true
@@ -141,28 +153,33 @@ accepted_rollback state (Active own) xid associated e = absurd (true≢false e)
 accepted_rollback state (Idle own) xid associated e =
     ap (is_known state) (own_is xid own _ e) ∙ known_in state own PhaseIdle associated
 
+-- a GET is accepted only if no other branch has the row exclusively
 pub accepted_get : (state : State) (own : Xid) (key : List ℕ) → is_refused (table state (Active own) (Get key)) ≡ false
     → is_locked_against state (Active own) key ≡ false
 unfolding table
 accepted_get state own key e = let_through (is_locked_against state (Active own) key) _ _ e
 
+-- a PUT is accepted only if no other branch holds the row
 pub accepted_put : (state : State) (own : Xid) (key : List ℕ) (value : Text)
     → is_refused (table state (Active own) (Put key value)) ≡ false
     → is_held_against state (Active own) key ≡ false
 unfolding table
 accepted_put state own key value e = let_through (is_held_against state (Active own) key) _ _ e
 
+-- outside of a branch: only if no branch at all holds it
 pub accepted_put_free : (state : State) (key : List ℕ) (value : Text)
     → is_refused (table state Free (Put key value)) ≡ false
     → is_held_against state Free key ≡ false
 unfolding table
 accepted_put_free state key value e = let_through (is_held_against state Free key) _ _ e
 
+-- a DEL is accepted only if no other branch holds the row
 pub accepted_del : (state : State) (own : Xid) (key : List ℕ) → is_refused (table state (Active own) (Del key)) ≡ false
     → is_held_against state (Active own) key ≡ false
 unfolding table
 accepted_del state own key e = let_through (is_held_against state (Active own) key) _ _ e
 
+-- outside of a branch: only if no branch at all holds it
 pub accepted_del_free : (state : State) (key : List ℕ) → is_refused (table state Free (Del key)) ≡ false
     → is_held_against state Free key ≡ false
 unfolding table
@@ -170,7 +187,7 @@ accepted_del_free state key e = let_through (is_held_against state Free key) _ _
 
 -- ---- a row that the branch holds already
 
--- to lock it again changes nothing
+-- locking a row that the branch holds already changes nothing
 pub locked_again : (state : State) (own : Xid) (key : List ℕ) → holds state own key ≡ true
     → with_changed state own (with_lock key) ≡ state
 locked_again state own key held = by (map.get state.branches own) refl held
@@ -205,6 +222,7 @@ pub accepted_there : (state : State) (session : ℕ) (statement : Statement)
 unfolding reply_to
 accepted_there state session statement e = e
 
+-- a reply to a session that isn't a refusal, by what the session has open
 pub accepted_as : (state : State) (session : ℕ) (statement : Statement) (association : Association)
     → association_of state session ≡ association
     → is_refused (reply_to state session statement) ≡ false → is_refused (table state association statement) ≡ false
@@ -263,7 +281,7 @@ may_run_out old session statement accepted enters_it makes =
     or_true true = refl
     or_true false = refl
 
--- the same of a result that is a fault
+-- if a statement that isn't refused ends in a fault, it may enter: only such a one takes memory
 pub may_run_out_at : {T E : Type 0} (result : Result T E) (old : State) (session : ℕ) (statement : Statement) →
     is_refused (reply_to old session statement) ≡ false → OnErr result
     (may_enter old (association_of old session) statement ≡ true)

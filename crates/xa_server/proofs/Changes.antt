@@ -23,9 +23,11 @@ use Rattle.xa_server.specs.Step.{with_lock, with_own_write, effect, is_refused}
 use Rattle.xa_server.specs.Step.{unless_refused, after}
 use Rattle.xa_server.proofs.Maps.{same_or_apart}
 
+-- what XA END makes of a branch: it is IDLE
 unfoldable pub idle : Branch → Branch
 idle branch = record branch { phase = PhaseIdle }
 
+-- the branch after XA PREPARE: PREPARED, and no session's
 unfoldable pub detached : Branch → Branch
 detached branch = record branch { phase = PhasePrepared; owner = None }
 
@@ -55,15 +57,18 @@ branch_after session (Idle own) Disconnect at found = cond (same_xid at own) Non
 
 -- ---- the parts of a step
 
+-- the branch at an identifier, after a branch was put in: that one at its own, and the old one at others
 put_in : (state : State) (xid : Xid) (branch : Branch) (at : Xid)
     → map.get (with_branch state xid branch).branches at ≡ cond (same_xid at xid) (Some branch)
     (map.get state.branches at)
 put_in state xid branch at = get-insert xids_total state.branches xid branch at
 
+-- the branch at an identifier, after one was taken out: none at its own, and the old one at others
 taken_out : (state : State) (xid at : Xid) → map.get (without_branch state xid).branches at
     ≡ cond (same_xid at xid) None (map.get state.branches at)
 taken_out state xid at = get-remove xids_total state.branches xid at
 
+-- the branch at an identifier, after one was changed: the changed one at its own, and the old one at others
 changed : (state : State) (xid : Xid) (change : Branch → Branch) (at : Xid) →
     map.get (with_changed state xid change).branches at ≡ cond (same_xid at xid)
     (option_map change (map.get state.branches at)) (map.get state.branches at)
@@ -88,6 +93,7 @@ changed state xid change at = by (map.get state.branches xid) refl
           ∙ sym (ap (λ b. cond b (option_map change (map.get state.branches at)) (map.get state.branches at)) apart)
     ])
 
+-- the branch at an identifier, after one was committed: none at its own, and the old one at others
 ended : (state : State) (xid at : Xid) → map.get (committed state xid).branches at
     ≡ cond (same_xid at xid) None (map.get state.branches at)
 unfolding committed
@@ -148,7 +154,7 @@ refused_leaves state session statement e = by (reply_to state session statement)
     by (Recovered xids) e = absurd (true≢false (sym e))
     by (Refused error) e = refl
 
--- one that isn't is carried out
+-- a statement that isn't refused is carried out: the state after it is that of its effect
 pub accepted_done : (state : State) (session : ℕ) (statement : Statement)
     → is_refused (reply_to state session statement) ≡ false
     → after state session statement ≡ effect state session (association_of state session) statement

@@ -26,7 +26,7 @@ use Rattle.xa_server.proofs.Holders.{mode_of, none_of, beside_there, unwritten, 
 use Rattle.xa_server.proofs.Seen.{get-branches}
 use Rattle.xa_server.proofs.Steps.{same_state, same_branches, gather_same}
 
--- at each key the newest of the writes, else what stood there
+-- the committed value of a row after writes: what the newest write to it says, else what stood there
 get-with_writes : (writes : List (List ℕ × Write)) (rows : map.FinMap bytes_cmp Text) (key : List ℕ)
     → map.get (with_writes writes rows) key ≡ unwrap_or (find bytes_cmp key writes) (map.get rows key)
 get-with_writes [] rows key = refl
@@ -59,6 +59,7 @@ unneeded row e = by row.committed e
     by None e = (refl, e)
     by (Some value) e = absurd (true≢false e)
 
+-- no branch has locked the row of a record that isn't needed
 unneeded_mode : (xid : Xid) (row : RowRecord) → is_needed row ≡ false → lock_by xid row ≡ None
 unneeded_mode xid row e = none_of (lock_by xid row) (by (is_some (lock_by xid row)) refl)
   where
@@ -66,6 +67,7 @@ unneeded_mode xid row e = none_of (lock_by xid row) (by (is_some (lock_by xid ro
     by true held = absurd (true≢false (sym (beside_there Free row.lock xid held refl) ∙ (unneeded row e).1))
     by false none = refl
 
+-- no branch has written to the row of a record that isn't needed
 unneeded_write : (xid : Xid) (row : RowRecord) → is_needed row ≡ false → write_by xid row ≡ None
 unneeded_write xid row e = unwritten xid (Some row) (ap is_some (unneeded_mode xid row e))
 
@@ -87,7 +89,7 @@ freed_says says nothing commits xid same None = refl
 freed_says says nothing commits xid same (Some row) =
     kept_says says (freed_row commits xid row) (nothing (freed_row commits xid row)) ∙ same row
 
--- of the branch that ended it says nothing
+-- the record of a row says nothing any more of a branch that ended
 freed_mode : (commits : Bool) (xid : Xid) (found : Option RowRecord) → mode_of xid (freed commits xid found) ≡ None
 freed_mode commits xid None = refl
 freed_mode commits xid (Some row) = kept_says (lock_by xid) (freed_row commits xid row)
@@ -97,11 +99,12 @@ freed_mode commits xid (Some row) = kept_says (lock_by xid) (freed_row commits x
 value_after : Bool → Option Write → Option Text → Option Text
 value_after commits write value = cond commits (unwrap_or write value) value
 
+-- a choice between nothing and nothing is nothing
 never : (b : Bool) → ◌≡◌ {A = Option Text} None (cond b None None)
 never true = refl
 never false = refl
 
--- of a row, where there is one
+-- the committed value in a row's record after a branch ended: its write if it commits, else what stood there
 freed_value : (commits : Bool) (xid : Xid) (found : Option RowRecord)
     → committed_of (freed commits xid found) ≡ value_after commits (option_and_then (write_by xid) found)
     (committed_of found)
@@ -127,7 +130,7 @@ abbrev pub IsListedIn : Xid → List (List ℕ) → RowMap → Type 0
 IsListedIn xid keys rows = (key : List ℕ) → is_some (mode_of xid (map.get rows key)) ≡ true
     → list_any (eq_by_cmp bytes_cmp key) keys ≡ true
 
--- how another branch holds each row
+-- ending a branch leaves how another branch holds each row
 pub beside_mode : (commits : Bool) (xid : Xid) (keys : List (List ℕ)) (old new : RowMap)
     → Frees commits xid keys old new → (other : Xid)
     → same_xid other xid ≡ false → (key : List ℕ) →
@@ -141,7 +144,7 @@ beside_mode commits xid keys old new frees other apart key =
         (λ row. freed_beside xid other row.lock apart) (map.get old key)
     at false = refl
 
--- what another branch writes to each row
+-- ending a branch leaves what another branch writes to each row
 beside_write : (commits : Bool) (xid : Xid) (keys : List (List ℕ)) (old new : RowMap) → Frees commits xid keys old new
     → (other : Xid)
     → same_xid other xid ≡ false → (key : List ℕ) →
@@ -177,7 +180,7 @@ own_mode commits xid keys old new frees listed key =
     at true e = ap is_some (freed_mode commits xid (map.get old key))
     at false e = unlisted xid keys old listed key e
 
--- what the rows say of another branch
+-- ending a branch leaves what the rows say of another branch
 ended_beside : (commits : Bool) (xid : Xid) (keys : List (List ℕ)) (old new : RowMap) → Frees commits xid keys old new
     → (other : Xid)
     → same_xid other xid ≡ false → branch_seen new other ≡ branch_seen old other
@@ -190,7 +193,7 @@ ended_beside commits xid keys old new frees other apart =
     locks : gather (lock_by other) new ≡ gather (lock_by other) old
     locks = gather_same (lock_by other) old new (beside_mode commits xid keys old new frees other apart)
 
--- the committed value of each row
+-- after a branch's rows were freed, each row has its write if it commits, else its old value
 ended_value : (commits : Bool) (xid : Xid) (keys : List (List ℕ)) (old new : RowMap) → Frees commits xid keys old new
     → IsListedIn xid keys old
     → (key : List ℕ) →
@@ -205,7 +208,7 @@ ended_value commits xid keys old new frees listed key =
     at true e = freed_value commits xid (map.get old key)
     at false e = sym (unheld_value commits xid (map.get old key) (unlisted xid keys old listed key e))
 
--- the branches without the one that ended
+-- after a branch's rows were freed and its record dropped, the state has all branches but that one
 ended_branches : (branches : BranchMap) (commits : Bool) (xid : Xid) (keys : List (List ℕ)) (old new : RowMap)
     → Frees commits xid keys old new →
     (state_of (map.remove branches xid) new).branches ≡ map.remove (state_of branches old).branches xid
@@ -222,7 +225,7 @@ ended_branches branches commits xid keys old new frees =
           ∙ get-branches branches old other)
     ]))
 
--- a rollback
+-- freeing a branch's rows and dropping its record is, in the state, taking the branch out
 pub seen_rolled_back : (branches : BranchMap) (xid : Xid) (keys : List (List ℕ)) (old new : RowMap)
     → Frees false xid keys old new → IsListedIn xid keys old →
     state_of (map.remove branches xid) new ≡ without_branch (state_of branches old) xid
@@ -231,7 +234,7 @@ seen_rolled_back branches xid keys old new frees listed = same_state _ _
     (ended_branches branches false xid keys old new frees)
     (gather_same (λ row. row.committed) old new (ended_value false xid keys old new frees listed))
 
--- a commit
+-- freeing a branch's rows with its writes made committed values is, in the state, committing it
 pub seen_committed : (branches : BranchMap) (xid : Xid) (branch : BranchRecord) (keys : List (List ℕ))
     (old new : RowMap) → map.get branches xid ≡ Some branch
     → Frees true xid keys old new → IsListedIn xid keys old →

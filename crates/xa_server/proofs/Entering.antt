@@ -14,6 +14,7 @@ use Rattle.xa_server.specs.Step.{effect, is_refused, after, enters, may_enter}
 use Rattle.xa_server.proofs.Accepted.{locked_again}
 use Rattle.xa_server.proofs.Changes.{refused_leaves, accepted_done}
 
+-- if the negation of a test fails, the test holds
 refuted : (b : Bool) → not b ≡ false → b ≡ true
 refuted true e = refl
 refuted false e = absurd (true≢false e)
@@ -39,6 +40,7 @@ idles state session Free Disconnect e = refl
 idles state session (Active own) Disconnect e = absurd (true≢false e)
 idles state session (Idle own) Disconnect e = absurd (true≢false e)
 
+-- a statement that doesn't enter was refused, or only looks: the state stays
 pub unentered_leaves : (state : State) (session : ℕ) (statement : Statement) → enters state session statement ≡ false
     → after state session statement ≡ state
 unfolding enters

@@ -24,7 +24,7 @@ use Rattle.xa_server.proofs.Maps.{same_or_apart, same_itself}
 use Rattle.xa_server.proofs.Index.{same_value, not_none}
 use Rattle.xa_server.proofs.Changes.{idle, detached, branch_after, effect-branch, accepted_done, outcome}
 
--- the branch is PREPARED
+-- whether the branch is there and PREPARED
 is_ready : Option Branch → Bool
 is_ready found = option_map_or is_prepared_phase (option_map (λ (b : Branch). b.phase) found) false
 
@@ -36,22 +36,26 @@ stays : (b : Bool) (new found : Option Branch) → is_ready found ≡ false → 
 stays true new found e n = n
 stays false new found e n = e
 
+-- a branch that is IDLE isn't PREPARED
 idle_isn't : (found : Option Branch) → is_ready (option_map idle found) ≡ false
 unfolding is_ready idle
 idle_isn't None = refl
 idle_isn't (Some branch) = refl
 
+-- a lock more leaves whether a branch is PREPARED
 locked : (key : List ℕ) (found : Option Branch) → is_ready (option_map (with_lock key) found) ≡ is_ready found
 unfolding is_ready
 locked key None = refl
 locked key (Some branch) = refl
 
+-- a write more leaves whether a branch is PREPARED
 written : (key : List ℕ) (write : Write) (found : Option Branch)
     → is_ready (option_map (with_own_write key write) found) ≡ is_ready found
 unfolding is_ready
 written key write None = refl
 written key write (Some branch) = refl
 
+-- a test can't hold and fail
 never : {A : Type 0} (b : Bool) → b ≡ false → b ≡ true → A
 never b e f = absurd (true≢false (sym f ∙ e))
 
@@ -90,10 +94,12 @@ turns session Free Disconnect at found e f = never _ e f
 turns session (Active own) Disconnect at found e f = never _ (stays (same_xid at own) None found e refl) f
 turns session (Idle own) Disconnect at found e f = never _ (stays (same_xid at own) None found e refl) f
 
+-- a reply that is Ok only if a test holds, and isn't a refusal, is Ok
 passed : (b : Bool) (error : XaError) → is_refused (ok_if b error) ≡ false → ok_if b error ≡ Accepted
 passed true error e = refl
 passed false error e = absurd (true≢false e)
 
+-- an XA PREPARE that isn't refused is answered Ok
 prepare_answer : (state : State) (association : Association) (xid : Xid)
     → is_refused (table state association (Prepare xid)) ≡ false
     → table state association (Prepare xid) ≡ Accepted
@@ -151,12 +157,13 @@ record IsPreparedBefore (base : State) (history : List (ℕ × Statement)) (end_
   pub before : place < end_at
   pub prepares : PreparesAt base history place xid
 
+-- a prepare found in the rest of a history is one of the whole history, a place later
 later_prepare : (base : State) (entry : ℕ × Statement) (entries : List (ℕ × Statement)) (place : ℕ) (xid : Xid)
     → PreparesAt (after base entry.0 entry.1) entries place xid → PreparesAt base (entry ∷ entries) (suc place) xid
 later_prepare base entry entries place xid is =
     record { session = is.session; entry = is.entry; accepted = is.accepted }
 
--- by whether the first statement makes the branch PREPARED
+-- the induction's step: the first statement makes the branch PREPARED, or a later one does
 by_first : (base : State) (entry : ℕ × Statement) (entries : List (ℕ × Statement)) (end_at : ℕ) (xid : Xid)
     → is_prepared base xid ≡ false →
     (b : Bool) → is_prepared (after base entry.0 entry.1) xid ≡ b
@@ -203,6 +210,7 @@ later_finish base entry entries place xid is =
       accepted = is.accepted;
     }
 
+-- the entry that finishes a branch leaves it no longer PREPARED
 first_finish : (base : State) (entry : ℕ × Statement) (entries : List (ℕ × Statement)) (xid : Xid)
     → FinishesAt base (entry ∷ entries) zero xid
     → is_prepared (after base entry.0 entry.1) xid ≡ false
@@ -211,6 +219,7 @@ first_finish base entry entries xid is =
     (same_value entry (is.session, is.statement) is.entry)
     ∙ finished base is.session is.statement xid is.finishes is.accepted
 
+-- a branch that is finished twice was prepared between the two: no history finishes one preparation twice
 pub prepared_between : (base : State) (history : List (ℕ × Statement)) (first second : ℕ) (xid : Xid) → first < second
     → FinishesAt base history first xid
     → FinishesAt base history second xid → IsPreparedBetween base history first second xid

@@ -40,7 +40,7 @@ not_there sharers xid none =
     by true c e = sym e
     by false c e = refl
 
--- a row that a branch let go is let go
+-- letting a row's lock go twice for one branch is letting it go once
 freed_lock_twice : (xid : Xid) (lock : Lock) → freed_lock xid (freed_lock xid lock) ≡ freed_lock xid lock
 freed_lock_twice xid (HeldBy holder change) = by (same_xid holder xid) refl
   where
@@ -53,7 +53,7 @@ freed_lock_twice xid (SharedBy sharers) =
     ap SharedBy (not_there (set.remove sharers xid) xid (contains-remove xids_total sharers xid xid
     ∙ ap (λ b. not b && set.contains sharers xid) (itself xid)))
 
--- and has no write of the branch
+-- a lock that was freed of a branch has no write of it
 freed_unwritten : (xid : Xid) (lock : Lock) → write_in xid (freed_lock xid lock) ≡ None
 freed_unwritten xid (HeldBy holder change) = by (same_xid holder xid) refl
   where
@@ -62,7 +62,7 @@ freed_unwritten xid (HeldBy holder change) = by (same_xid holder xid) refl
     by false e = ap (λ b. cond b (Some (write_of change)) None) e
 freed_unwritten xid (SharedBy sharers) = refl
 
--- a record that a branch let go is let go
+-- letting a row go twice for one branch is letting it go once
 freed_row_twice : (commits : Bool) (xid : Xid) (row : RowRecord)
     → freed_row commits xid (freed_row commits xid row) ≡ freed_row commits xid row
 freed_row_twice commits xid row = λ i. record { committed = again i; lock = freed_lock_twice xid row.lock i }
@@ -79,7 +79,7 @@ freed_row_twice commits xid row = λ i. record { committed = again i; lock = fre
         (freed_row commits xid row).committed) (freed_unwritten xid row.lock)
         ∙ same commits (freed_row commits xid row).committed
 
--- and so is none
+-- freeing a row of a branch twice is freeing it once
 pub freed_twice : (commits : Bool) (xid : Xid) (found : Option RowRecord)
     → freed commits xid (freed commits xid found) ≡ freed commits xid found
 freed_twice commits xid None = refl
@@ -91,7 +91,7 @@ freed_twice commits xid (Some row) =
     by ended twice true e = rw e (ap kept twice ∙ rw e refl)
     by ended twice false e = rw e refl
 
--- one key of a list of one
+-- a test of the keys of a list with one key
 any_one : (b : Bool) {A : Type 0} (x y : A) → cond (b || false) x y ≡ cond b x y
 any_one true x y = refl
 any_one false x y = refl
@@ -117,11 +117,12 @@ abbrev pub Changes : Bool → Xid → List ℕ → BTreeMap (List ℕ) RowRecord
 Changes commits xid key old new = MatchOption (tree.get bytes_cmp old key) (new ≡ old)
     (λ row. Updates bytes_cmp old new key (Some (freed_row commits xid row)))
 
+-- `needed` says whether the row's record is still needed once the branch is freed; true if there is no record
 abbrev pub Tells : Bool → Xid → List ℕ → BTreeMap (List ℕ) RowRecord → Bool → Type 0
 Tells commits xid key old needed =
     MatchOption (tree.get bytes_cmp old key) (needed ≡ true) (λ row. needed ≡ is_needed (freed_row commits xid row))
 
--- the record stays
+-- a row's record that is still needed stays, without the branch
 pub frees_kept : (commits : Bool) (xid : Xid) (key : List ℕ) (old new : BTreeMap (List ℕ) RowRecord) (needed : Bool) →
     Changes commits xid key old new → Tells commits xid key old needed → needed ≡ true
     → Frees commits xid (key ∷ []) (rows_in old) (rows_in new)
@@ -144,7 +145,7 @@ frees_kept commits xid key old new needed changes tells is = by (tree.get bytes_
         ∙ sym (ap (freed commits xid) found ∙ ap (λ b. cond b (Some (freed_row commits xid row)) None) stays))
         (λ other apart. get_inserted_apart bytes_total exact_texts (rows_in old) key _ other apart))
 
--- the record goes
+-- a row's record that isn't needed any more after its branch was freed may be dropped
 pub frees_dropped : (commits : Bool) (xid : Xid) (key : List ℕ) (old mid new : BTreeMap (List ℕ) RowRecord)
     (needed : Bool) →
     Changes commits xid key old mid → Tells commits xid key old needed → needed ≡ false
@@ -175,6 +176,7 @@ pub record IsFreed (commits : Bool) (xid : Xid) (all rest : List (List ℕ)) (ol
       cond (list_any (eq_by_cmp bytes_cmp key) rest) (freed commits xid (map.get now key)) (map.get now key)
       ≡ cond (list_any (eq_by_cmp bytes_cmp key) all) (freed commits xid (map.get old key)) (map.get old key)
 
+-- freeing a key that may already be freed, then others: the same as freeing it among them, as freeing twice is once
 any_more : (b c : Bool) (f : Option RowRecord → Option RowRecord) (x : Option RowRecord) → f (f x) ≡ f x
     → cond b (f (cond (c || false) (f x) x)) (cond (c || false) (f x) x) ≡ cond (b || (c || false)) (f x) x
 any_more true true f x twice = twice
@@ -182,6 +184,7 @@ any_more true false f x twice = refl
 any_more false true f x twice = refl
 any_more false false f x twice = refl
 
+-- the step of the loop over a branch's keys: the last of those left is freed now
 pub freed_one_more : (commits : Bool) (xid : Xid) (all rest : List (List ℕ)) (key : List ℕ) (old now next : RowMap) →
     IsFreed commits xid all (rest ++ key ∷ []) old now → Frees commits xid (key ∷ []) now next
     → IsFreed commits xid all rest old next
@@ -265,7 +268,7 @@ Shares xid key old new =
     MatchOption (tree.get bytes_cmp old key) (new ≡ old) (λ row. Updates bytes_cmp old new key
     (Some (record row { lock = with_sharer xid row.lock })))
 
--- a row without a record has none after it
+-- sharing a row that has no record changes no record
 pub nothing_shared : (xid : Xid) (key : List ℕ) (old new : BTreeMap (List ℕ) RowRecord) → Shares xid key old new
     → is_some (tree.get bytes_cmp old key) ≡ false
     → new ≡ old

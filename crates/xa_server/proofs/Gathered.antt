@@ -15,6 +15,7 @@ use Rattle.std.proofs.lemmas.Map.Lookups.{CmpEqualImpliesEq}
 use Rattle.xa_server.specs.View.{gather_at, gather, map_values, mapped}
 use Rattle.xa_server.proofs.Maps.{same_or_apart, same_itself, get_inserted, get_inserted_apart}
 
+-- a choice between nothing and nothing is nothing
 none_at : {W : Type 0} (b : Bool) (here : Option W) → here ≡ None → cond b here None ≡ None
 none_at true here e = e
 none_at false here e = refl

@@ -28,11 +28,13 @@ use Rattle.xa_server.proofs.Seen.{get-branches, writes-seen, known_record}
 
 -- ---- branches
 
+-- a state's branch as a list shows it is the branch's record as it is kept
 entries-seen : (rows : RowMap) (es : List (Xid × BranchRecord))
     → map entry_of (map_values (branch_seen rows) es) ≡ map recorded_entry es
 entries-seen rows [] = refl
 entries-seen rows (e ∷ es) = ap (λ rest. recorded_entry e ∷ rest) (entries-seen rows es)
 
+-- the branches that a state lists are those of which there are records
 pub branches-seen : (branches : BranchMap) (rows : RowMap)
     → branches_of (state_of branches rows) ≡ recorded_entries branches
 unfolding branches_of state_of
@@ -58,7 +60,7 @@ hold-modes xid (SharedBy sharers) = by (set.contains sharers xid)
     by true = refl
     by false = refl
 
--- a row before others
+-- one row more in front of a list adds itself in front of those that the branch holds
 held-more : (branch : Branch) (xid : Xid) (e : List ℕ × RowRecord) (es : List (List ℕ × RowRecord))
     → fin.get branch.writes e.0 ≡ write_by xid e.1 →
     held_among xid es ≡ map (held_row branch) (kept (lock_by xid) es) → (mode : Option LockMode) →
@@ -70,6 +72,7 @@ held-more branch xid e es wrote rest (Some mode) =
     row ∷ held_among xid es) (sym wrote)
     ∙ ap (λ rows. held_row branch (e.0, mode) ∷ rows) rest
 
+-- the rows that a branch holds, by what the rows' records say of it
 held-kept : (branch : Branch) (xid : Xid) (es : List (List ℕ × RowRecord))
     → AllByRecursion (λ (e : List ℕ × RowRecord). fin.get branch.writes e.0 ≡ write_by xid e.1) es →
     held_among xid es ≡ map (held_row branch) (kept (lock_by xid) es)
@@ -89,6 +92,7 @@ wrote-each rows xid (e ∷ es) h = (
   wrote-each rows xid es h.1,
 )
 
+-- the rows that a branch holds in the state are those whose records name it
 rows-seen : (rows : RowMap) (xid : Xid) (branch : BranchRecord)
     → rows_held (branch_seen rows xid branch) ≡ held_among xid (fin.entries rows)
 rows-seen rows xid branch =
@@ -96,6 +100,7 @@ rows-seen rows xid branch =
     ∙ sym (held-kept (branch_seen rows xid branch) xid (fin.entries rows)
     (wrote-each rows xid (fin.entries rows) (found_entries bytes_total exact_texts rows)))
 
+-- the rows that a branch which is known holds, by the rows' records
 rows-known : (rows : RowMap) (xid : Xid) (found : Option BranchRecord) → is_some found ≡ true →
     option_map_or rows_held (option_map (branch_seen rows xid) found) [] ≡ held_among xid (fin.entries rows)
 rows-known rows xid None there = absurd (true≢false (sym there))

@@ -23,48 +23,55 @@ use Rattle.xa_server.proofs.Maps.{same_or_apart, same_itself, same_is}
 
 -- ---- tests
 
+-- a mode that is there if a test holds
 pub some_if : (b : Bool) (mode : LockMode) → is_some (cond b (Some mode) None) ≡ b
 some_if true mode = refl
 some_if false mode = refl
 
+-- how a row is held, by a test that says whether exclusively or not at all, is exclusive if the test holds
 pub exclusive_if : (b : Bool) → is_exclusive (cond b (Some Exclusive) None) ≡ b
 exclusive_if true = refl
 exclusive_if false = refl
 
+-- a row that is held shared or not at all isn't held exclusively
 pub share_only : (b : Bool) → is_exclusive (cond b (Some Shared) None) ≡ false
 share_only true = refl
 share_only false = refl
 
--- what is exclusive is something
+-- a row that is held exclusively is held
 pub exclusive_some : (mode : Option LockMode) → is_exclusive mode ≡ true → is_some mode ≡ true
 exclusive_some None e = e
 exclusive_some (Some mode) e = refl
 
+-- an option that isn't Some is None
 pub none_of : {A : Type 0} (found : Option A) → is_some found ≡ false → found ≡ None
 none_of None e = refl
 none_of (Some x) e = absurd (true≢false e)
 
--- no number is both
+-- a number can't be 0 and 1
 pub zero_or_one : (n : ℕ) → n ≡ 0 → n ≡ 1 → ⊥
 zero_or_one n zero one = omega (arith, zero, one)
 
--- two tests that pass together are one
+-- two tests that hold together are equal
 pub same_truth : (a b : Bool) → (a ≡ true → b ≡ true) → (b ≡ true → a ≡ true) → a ≡ b
 same_truth true b to from = sym (to refl)
 same_truth false true to from = from refl
 same_truth false false to from = refl
 
+-- if both of two tests hold, each does
 pub both : (a b : Bool) → (a && b) ≡ true → (a ≡ true) × (b ≡ true)
 both true b e = (refl, e)
 both false b e = absurd (true≢false (sym e))
 
+-- an identifier is equal to itself by the test
 pub itself : (xid : Xid) → same_xid xid xid ≡ true
 itself xid = same_itself xids_total exact_xids xid
 
+-- identifiers that are equal by the test are the same
 pub one_xid : (xid other : Xid) → same_xid xid other ≡ true → xid ≡ other
 one_xid xid other e = same_is xids_total exact_xids xid other e
 
--- tests of identifiers don't mind the order
+-- if two identifiers test as different, they do so in the other order too
 pub turned_apart : (xid other : Xid) → same_xid other xid ≡ false → same_xid xid other ≡ false
 turned_apart xid other apart = by (same_xid xid other) refl
   where
@@ -74,11 +81,12 @@ turned_apart xid other apart = by (same_xid xid other) refl
 
 -- ---- lists of identifiers
 
+-- one of two tests holds if the second does
 later : (b c : Bool) → c ≡ true → (b || c) ≡ true
 later true c e = refl
 later false c e = e
 
--- one that passes
+-- if some identifier of a list passes, there is one in it that does
 pub any_witness : (p : Xid → Bool) (xs : List Xid) → list_any p xs ≡ true
     → (x : Xid) × (list_any (same_xid x) xs ≡ true) × (p x ≡ true)
 any_witness p [] e = absurd (true≢false (sym e))
@@ -91,6 +99,7 @@ any_witness p (x ∷ xs) e = by (p x) refl e (any_witness p xs)
     by false is e rest =
         let found = rest e in (found.0, later (same_xid found.0 x) (list_any (same_xid found.0) xs) found.1, found.2)
 
+-- if an identifier of a list passes a test, some one does
 pub any_some : (p : Xid → Bool) (xs : List Xid) (xid : Xid) → list_any (same_xid xid) xs ≡ true → p xid ≡ true
     → list_any p xs ≡ true
 any_some p [] xid there here = there
@@ -123,11 +132,13 @@ pub mode_of-lock : (xid : Xid) (found : Option RowRecord) → mode_of xid found 
 mode_of-lock xid None = sym (ap (λ b. cond b (Some Shared) None) (contains-empty xid_cmp xid))
 mode_of-lock xid (Some row) = refl
 
+-- whether a row is held against a session depends on its lock alone
 pub held_against-lock : (association : Association) (found : Option RowRecord)
     → held_against association found ≡ held_beside association (lock_of found)
 held_against-lock association None = sym (none_passes (is_another association))
 held_against-lock association (Some row) = refl
 
+-- whether a row is locked against a session depends on its lock alone
 pub locked_against-lock : (association : Association) (found : Option RowRecord)
     → locked_against association found ≡ locked_beside association (lock_of found)
 locked_against-lock association None = refl
@@ -160,6 +171,7 @@ beside_there association (SharedBy sharers) xid e f =
     any_some (is_another association) (set.items sharers) xid
     (sym (contains-items sharers xid) ∙ sym (some_if (set.contains sharers xid) Shared) ∙ e) f
 
+-- if a lock is held beside a session's own branch, there is another branch that holds it
 pub beside_witness : (association : Association) (lock : Lock) → held_beside association lock ≡ true
     → (xid : Xid) × (is_some (mode_in xid lock) ≡ true) × (is_another association xid ≡ true)
 beside_witness association (HeldBy holder change) e =
@@ -168,6 +180,7 @@ beside_witness association (SharedBy sharers) e =
     let found = any_witness (is_another association) (set.items sharers) e in
     (found.0, some_if (set.contains sharers found.0) Shared ∙ contains-items sharers found.0 ∙ found.1, found.2)
 
+-- a branch other than the session's own with an exclusive lock locks the row against it
 pub locked_there : (association : Association) (lock : Lock) (xid : Xid) → is_exclusive (mode_in xid lock) ≡ true
     → is_another association xid ≡ true
     → locked_beside association lock ≡ true
@@ -176,6 +189,7 @@ locked_there association (HeldBy holder change) xid e f =
 locked_there association (SharedBy sharers) xid e f =
     absurd (true≢false (sym e ∙ share_only (set.contains sharers xid)))
 
+-- if a lock is exclusive beside a session's own branch, there is another branch that has it so
 pub locked_witness : (association : Association) (lock : Lock) → locked_beside association lock ≡ true
     → (xid : Xid) × (is_exclusive (mode_in xid lock) ≡ true) × (is_another association xid ≡ true)
 locked_witness association (HeldBy holder change) e = (holder, exclusive_if (same_xid holder holder) ∙ itself holder, e)
@@ -194,7 +208,7 @@ unwritten xid (Some row) e = by (write_in xid row.lock) refl
 
 -- ---- a row that comes to be shared
 
--- the branch that comes to share it
+-- a branch that comes to share a row, which nobody else holds exclusively, holds it shared
 pub sharer_there : (xid : Xid) (lock : Lock) → is_exclusive (mode_in xid lock) ≡ false
     → locked_beside (Active xid) lock ≡ false
     → mode_in xid (with_sharer xid lock) ≡ Some Shared
@@ -204,7 +218,7 @@ sharer_there xid (SharedBy sharers) unheld free =
     ap (λ b. cond b (Some Shared) None) (contains-insert xids_total sharers xid xid
     ∙ ap (λ b. b || set.contains sharers xid) (itself xid))
 
--- the others
+-- one sharer more leaves how other branches have locked the row
 pub sharer_beside : (xid other : Xid) (lock : Lock) → same_xid other xid ≡ false
     → mode_in other (with_sharer xid lock) ≡ mode_in other lock
 sharer_beside xid other (HeldBy holder change) apart = refl
@@ -212,14 +226,14 @@ sharer_beside xid other (SharedBy sharers) apart =
     ap (λ b. cond b (Some Shared) None) (contains-insert xids_total sharers xid other
     ∙ ap (λ b. b || set.contains sharers other) apart)
 
--- nobody's write
+-- one sharer more leaves every write as it was: who shares a row writes nothing
 pub sharer_writes : (xid other : Xid) (lock : Lock) → write_in other (with_sharer xid lock) ≡ write_in other lock
 sharer_writes xid other (HeldBy holder change) = refl
 sharer_writes xid other (SharedBy sharers) = refl
 
 -- ---- a row that a branch lets go
 
--- the branch that ends
+-- after a branch's lock was freed it holds the row no more
 pub freed_own : (xid : Xid) (lock : Lock) → mode_in xid (freed_lock xid lock) ≡ None
 freed_own xid (HeldBy holder change) = by (same_xid holder xid) refl
   where
@@ -230,7 +244,7 @@ freed_own xid (SharedBy sharers) =
     ap (λ b. cond b (Some Shared) None) (contains-remove xids_total sharers xid xid
     ∙ ap (λ b. not b && set.contains sharers xid) (itself xid))
 
--- the others
+-- after a branch's lock was freed the others have locked the row as before
 pub freed_beside : (xid other : Xid) (lock : Lock) → same_xid other xid ≡ false
     → mode_in other (freed_lock xid lock) ≡ mode_in other lock
 freed_beside xid other (HeldBy holder change) apart = by (same_xid holder xid) refl
@@ -246,7 +260,7 @@ freed_beside xid other (SharedBy sharers) apart =
     ap (λ b. cond b (Some Shared) None) (contains-remove xids_total sharers xid other
     ∙ ap (λ b. not b && set.contains sharers other) apart)
 
--- their writes
+-- after a branch's lock was freed the others' writes are as before
 pub freed_writes : (xid other : Xid) (lock : Lock) → same_xid other xid ≡ false
     → write_in other (freed_lock xid lock) ≡ write_in other lock
 freed_writes xid other (HeldBy holder change) apart = by (same_xid holder xid) refl

@@ -26,19 +26,22 @@ use Rattle.xa_server.proofs.Steps.{share_there, share_others}
 unfoldable pub use Rattle.xa_server.proofs.Whole.{longer}
 use Rattle.xa_server.proofs.Whole.{whole_more, whole_row, changed_at}
 
+-- the branch's record with a key more among those that it holds
 pub longer-is : (key : List ℕ) (branch : BranchRecord)
     → longer key branch ≡ record branch { held = branch.held ++ key ∷ [] }
 unfolding longer
 longer-is key branch = refl
 
--- the record without its last key
+-- the branch's record without the last key that it holds
 unfoldable pub shorter : BranchRecord → BranchRecord
 shorter branch = record branch { held = without_last branch.held }
 
+-- the branch's record without the last of the keys that it holds
 pub shorter-is : (branch : BranchRecord) → shorter branch ≡ record branch { held = without_last branch.held }
 unfolding shorter
 shorter-is branch = refl
 
+-- a list with one more behind it, without its last, is the list
 front_of : (keys : List (List ℕ)) (key : List ℕ) → without_last (keys ++ key ∷ []) ≡ keys
 front_of keys key = rw (length-append) (let n : (length keys + 1) - 1 ≡ length keys = omega arith in
     rw n (take-append_seam keys (key ∷ [])))
@@ -48,7 +51,7 @@ pub changed_as : (branches new : BranchMap) (own named : Xid) (change : BranchRe
     → new ≡ with_record branches named change → new ≡ with_record branches own change
 changed_as branches new own named change same is = is ∙ ap (λ xid. with_record branches xid change) same
 
--- a change that the state doesn't see
+-- changing a branch to itself leaves the state
 with_same : (state : State) (xid : Xid) → with_changed state xid (λ branch. branch) ≡ state
 with_same state xid = by (map.get state.branches xid) refl
   where
@@ -61,12 +64,14 @@ with_same state xid = by (map.get state.branches xid) refl
           | inr apart ↦ get_inserted_apart xids_total exact_xids state.branches xid branch other apart
         ])) refl
 
+-- a key that a branch lists but whose row doesn't name it yet changes nothing in the state
 pub seen_listed : (branches : BranchMap) (rows : RowMap) (xid : Xid) (key : List ℕ)
     → state_of (with_record branches xid (longer key)) rows ≡ state_of branches rows
 unfolding longer
 seen_listed branches rows xid key = seen_changed branches rows xid (longer key) (λ branch. branch) (λ branch. refl)
     ∙ with_same (state_of branches rows) xid
 
+-- listing a key and dropping it again leaves a branch's record as it was
 back : (key : List ℕ) (branch : BranchRecord) → shorter (longer key branch) ≡ branch
 unfolding longer shorter
 back key branch = λ i. record { phase = branch.phase; owner = branch.owner; held = front_of branch.held key i }
@@ -91,14 +96,15 @@ unlisted branches xid key = by (map.get branches xid) refl
               ∙ get_inserted_apart xids_total exact_xids branches xid (longer key branch) other apart
         ])
 
--- the branch that holds a row exclusively
+-- a branch that holds a row exclusively holds it
 holder_there : (own : Xid) → is_some (cond (same_xid own own) (Some Exclusive) None) ≡ true
 holder_there own = some_if (same_xid own own) Exclusive ∙ itself own
 
+-- a row that one branch holds exclusively isn't held by another
 holder_beside : (own other : Xid) → same_xid other own ≡ false → cond (same_xid own other) (Some Exclusive) None ≡ None
 holder_beside own other apart = ap (λ b. cond b (Some Exclusive) None) (turned_apart own other apart)
 
--- the branch has a record still
+-- a branch still has a record once a key was listed in it
 known_longer : (branches : BranchMap) (xid : Xid) (key : List ℕ) → is_some (map.get branches xid) ≡ true
     → is_some (map.get (with_record branches xid (longer key)) xid) ≡ true
 known_longer branches xid key known =
@@ -146,7 +152,7 @@ held_again branches rows own key change whole known unheld there =
       seen_held branches rows own key change (known_record branches rows own known) free,
     )
 
--- a row that may be shared
+-- a row that isn't held against a branch, and that the branch doesn't hold, may be shared by the branch
 shareable : (branches : BranchMap) (rows : RowMap) (own : Xid) (key : List ℕ) → IsWhole branches rows
     → is_locked_against (state_of branches rows) (Active own) key ≡ false
     → holds (state_of branches rows) own key ≡ false →

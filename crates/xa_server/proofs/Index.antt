@@ -23,21 +23,22 @@ use Rattle.xa_server.proofs.Maps.{get_view, same_or_apart, same_itself, get_inse
 use Rattle.xa_server.proofs.Maps.{get_removed_apart}
 use Rattle.xa_server.proofs.Records.{branches_in}
 
--- `Some` of two values that are equal
+-- if two values are equal under `Some`, they are equal
 pub same_value : {A : Type 0} (x y : A) → Some x ≡ Some y → x ≡ y
 same_value x y e = cc
 
+-- None is never Some
 pub not_none : {A : Type 0} (x : A) {P : Type 0} → None ≡ Some x → P
 not_none x e = cc
 
--- once its work has ended, what names a branch is that branch, IDLE
+-- after XA END a session that has a branch open has that branch open and IDLE
 pub ended_named : (association : Association) (xid : Xid) → named_in association ≡ Some xid
     → idle_of association ≡ Idle xid
 ended_named Free xid e = not_none xid e
 ended_named (Active own) xid e = ap Idle (same_value own xid e)
 ended_named (Idle own) xid e = ap Idle (same_value own xid e)
 
--- who owns the branch of a record, where there is one
+-- the owner that a branch's record names, if there is a record and it names one
 abbrev pub owner_in : Option BranchRecord → Option ℕ
 owner_in found = option_and_then (λ (branch : BranchRecord). branch.owner) found
 
@@ -45,7 +46,7 @@ owner_in found = option_and_then (λ (branch : BranchRecord). branch.owner) foun
 abbrev pub phase_of : Option BranchRecord → Option Phase
 phase_of found = option_map (λ (branch : BranchRecord). branch.phase) found
 
--- no records
+-- an empty index is right where there are no records
 pub indexed_empty : (nothing : Association) → nothing ≡ Free → IsIndexed [] nothing map.empty
 indexed_empty nothing free = record {
   free = free;
@@ -79,7 +80,7 @@ indexed_grown opened longer nothing branches same is = record {
   phased = λ session xid e. same session ∙ is.phased session xid e;
 }
 
--- one place more, with nothing open there
+-- one place more in the index, with nothing open there, changes nothing
 pub one_place_more : (opened : List Association) (at : ℕ) → opened_at (opened ++ Free ∷ []) at ≡ opened_at opened at
 one_place_more [] zero = refl
 one_place_more [] (suc at) = refl
@@ -93,6 +94,7 @@ named_within [] session xid e = not_none xid e
 named_within (association ∷ rest) zero xid e = omega arith
 named_within (association ∷ rest) (suc session) xid e = omega (arith, named_within rest session xid e)
 
+-- a session that owns a branch has a place in the index
 pub owner_within :
     (opened : List Association) (nothing : Association) (branches : BranchMap) (session : ℕ) (xid : Xid)
     → owner_of branches xid ≡ Some session →
@@ -104,15 +106,18 @@ owner_within opened nothing branches session xid owner is =
 pub found_with : BranchMap → Xid → Option BranchRecord → Xid → Option BranchRecord
 found_with old xid found other = cond (same_xid other xid) found (map.get old other)
 
+-- replacing the record of a branch, seen at that branch: the new record
 pub here : (old : BranchMap) (xid : Xid) (found : Option BranchRecord) → found_with old xid found xid ≡ found
 unfolding found_with
 here old xid found = ap (λ b. cond b found (map.get old xid)) (same_itself xids_total exact_xids xid)
 
+-- replacing the record of one branch leaves those of the others
 pub there : (old : BranchMap) (xid : Xid) (found : Option BranchRecord) (other : Xid) → same_xid other xid ≡ false
     → found_with old xid found other ≡ map.get old other
 unfolding found_with
 there old xid found other apart = ap (λ b. cond b found (map.get old other)) apart
 
+-- two numbers are the same or not
 numbers_apart : (m n : ℕ) → (m ≡ n) ⊎ (m ≢ n)
 numbers_apart m n = elim (eqb m n) as (λ b. eqb m n ≡ b
     → (m ≡ n) ⊎ (m ≢ n)) [ true ↦ λ e. inl (grind arith) | false ↦ λ e. inr (λ is. grind arith) ] refl
@@ -191,7 +196,7 @@ indexed_set opened nothing old new session xid found association gets seat is =
           )
     ]
 
--- a branch that nobody owns is changed
+-- changing a branch that nobody owns, before and after, leaves the index of sessions right
 pub indexed_apart :
     (opened : List Association) (nothing : Association) (old new : BranchMap) (xid : Xid) (found : Option BranchRecord)
     →
@@ -280,7 +285,7 @@ get-removed old xid other = elim (same_or_apart xids_total exact_xids other xid)
   | inr apart ↦ get_removed_apart xids_total exact_xids old xid other apart ∙ sym (there old xid None other apart)
 ]
 
--- the look-ups once a record is changed, where there is one
+-- what is found at an identifier once a record is changed, if there is a record to change
 pub get-changed :
     (old : BranchMap) (xid other : Xid) (change : BranchRecord → BranchRecord) →
     map.get (with_record old xid change) other ≡ found_with old xid (option_map change (map.get old xid)) other
@@ -295,7 +300,7 @@ get-changed old xid other change = by (map.get old xid) refl
     ]
     by (Some branch) e = get-inserted old xid (change branch) other
 
--- who owns a branch that is changed otherwise
+-- a change of a record that leaves its owner leaves who owns the branch
 pub same_owner : (change : BranchRecord → BranchRecord)
     → ((branch : BranchRecord) → (change branch).owner ≡ branch.owner) → (found : Option BranchRecord)
     → owner_in (option_map change found) ≡ owner_in found
@@ -325,7 +330,7 @@ module _ (old : BranchMap) (xid : Xid) (change : BranchRecord → BranchRecord) 
       by None = refl
       by (Some branch) = ap Some (same branch)
 
--- the record of a branch with an owner
+-- a branch with an owner has a record, which names this owner
 pub record_owned : (branches : BranchMap) (xid : Xid) (session : ℕ) → owner_of branches xid ≡ Some session
     → (branch : BranchRecord) × (map.get branches xid ≡ Some branch) × (branch.owner ≡ Some session)
 record_owned branches xid session owner = by (map.get branches xid) refl
@@ -410,7 +415,7 @@ indexed_started opened nothing old session xid branch within nobodys none owner 
     (seat_started opened old session xid branch within nobodys none owner
     (ap (λ p. association_in (Some p) xid) (sym phase))) is
 
--- who owns the branch that a look-up in the tree finds
+-- the owner of a branch, by what a look-up in the tree of records finds
 pub tree_owner : (table : BTreeMap Xid BranchRecord) (xid : Xid) (owner : Option ℕ)
     → owner ≡ owner_in (tree.get xid_cmp table xid)
     → owner_of (branches_in table) xid ≡ owner

@@ -34,12 +34,15 @@ use Rattle.xa_server.proofs.LockLaws.{lock_law}
 
 -- ---- what a branch keeps by itself
 
+-- whether the branch is there and PREPARED
 is_ready : Option Branch → Bool
 is_ready found = option_map_or is_prepared_phase (option_map (λ (b : Branch). b.phase) found) false
 
+-- the session that owns the branch, if it is there and has one
 owner_in : Option Branch → Option ℕ
 owner_in found = option_and_then (λ (b : Branch). b.owner) found
 
+-- whether the branch is there and has written to the row
 is_writing : List ℕ → Option Branch → Bool
 is_writing key found = is_some (option_and_then (λ (b : Branch). map.get b.writes key) found)
 
@@ -49,15 +52,19 @@ record IsSound (found : Option Branch) : Type 0 where
   pub attached : is_some found ≡ true → is_ready found ≡ false → is_some (owner_in found) ≡ true
   pub held : (key : List ℕ) → is_writing key found ≡ true → is_exclusive (mode_in key found) ≡ true
 
+-- the lock law, read as a fact about each branch: a PREPARED one has no owner, any other has one, and what it wrote
+-- it holds exclusively
 sound_in : (state : State) → LockLaw state → (xid : Xid) → IsSound (map.get state.branches xid)
 unfolding is_ready owner_in mode_in is_writing
 sound_in state law xid = record { detached = law.detached xid; attached = law.attached xid; held = law.held_writes xid }
 
+-- where no branch is, nothing contradicts the law
 sound_none : IsSound None
 unfolding is_ready owner_in mode_in is_writing
 sound_none = record
     { detached = λ e. refl; attached = λ e f. absurd (true≢false (sym e)); held = λ key e. absurd (true≢false (sym e)) }
 
+-- a branch that was just started is sound: it has an owner and holds nothing
 sound_started : (session : ℕ) → IsSound (Some (started_by session))
 unfolding is_ready owner_in mode_in is_writing
 sound_started session = record {
@@ -66,6 +73,7 @@ sound_started session = record {
   held = λ key e. absurd (true≢false (sym e ∙ ap is_some (get-empty bytes_cmp key)));
 }
 
+-- XA END keeps a branch sound if it isn't PREPARED
 sound_idle : (found : Option Branch) → is_ready found ≡ false → IsSound found → IsSound (option_map idle found)
 unfolding is_ready owner_in mode_in is_writing idle
 sound_idle None e sound = sound_none
@@ -77,12 +85,14 @@ sound_idle (Some branch) e sound =
       held = sound.held;
     }
 
+-- XA PREPARE keeps a branch sound: it drops the owner
 sound_detached : (found : Option Branch) → IsSound found → IsSound (option_map detached found)
 unfolding is_ready owner_in mode_in is_writing detached
 sound_detached None sound = sound_none
 sound_detached (Some branch) sound =
     record { detached = λ e. refl; attached = λ there e. absurd (true≢false e); held = sound.held }
 
+-- a branch that is sound stays so if it locks one row more
 sound_locked : (key : List ℕ) (found : Option Branch) → IsSound found → IsSound (option_map (with_lock key) found)
 unfolding is_ready owner_in mode_in is_writing
 sound_locked key None sound = sound_none
@@ -94,6 +104,7 @@ sound_locked key (Some branch) sound =
           share_exclusive branch.locks key other ∙ sound.held other e;
     }
 
+-- a write keeps a branch sound, since it takes the row exclusively
 sound_written : (key : List ℕ) (write : Write) (found : Option Branch) → IsSound found
     → IsSound (option_map (with_own_write key write) found)
 unfolding is_ready owner_in mode_in is_writing
@@ -109,10 +120,12 @@ sound_written key write (Some branch) sound = record {
   ];
 }
 
+-- if two branches are sound, so is the one of them that a test takes
 one_of : (b : Bool) (new found : Option Branch) → IsSound new → IsSound found → IsSound (cond b new found)
 one_of true new found n f = n
 one_of false new found n f = f
 
+-- XA END keeps the branch at each identifier sound, if its own branch isn't PREPARED
 idle_at : (state : State) (xid at : Xid) → is_prepared state xid ≡ false → IsSound (map.get state.branches at)
     → IsSound (cond (same_xid at xid) (option_map idle (map.get state.branches at)) (map.get state.branches at))
 unfolding is_ready
@@ -123,6 +136,7 @@ idle_at state xid at e sound = elim (same_or_apart xids_total exact_xids at xid)
       (sym apart) sound
 ]
 
+-- each accepted statement keeps each branch sound
 sound_after : (state : State) (session : ℕ) (association : Association) → IsOpen state association
     → (statement : Statement)
     → is_refused (table state association statement) ≡ false
@@ -161,6 +175,7 @@ sound_after state session (Idle own) associated Disconnect accepted at sound =
 
 -- ---- one branch for a session
 
+-- the session has no branch open
 is_free : Association → Bool
 is_free Free = true
 is_free (Active own) = false
@@ -188,6 +203,7 @@ owner_associated state session xid law e =
         absurd (true≢false (sym e ∙ nobodys state session xid law
         (ap (λ phase. option_map_or is_prepared_phase phase false) is)))
 
+-- equal XA START have equal identifiers
 start_of : (xid other : Xid) → Start xid ≡ Start other → xid ≡ other
 start_of xid other e = cc
 
@@ -203,6 +219,7 @@ starter_free state session who statement law accepted xid other started e =
     absurd (true≢false (sym (ap is_free free) ∙ owner_associated state session other law
     (ap (λ s. owns state s other) started.1 ∙ e)))
 
+-- a session owns at most one branch, also with the one that a statement starts: only a free session starts one
 one_branch : (state : State) (session who : ℕ) (statement : Statement) → LockLaw state
     → is_refused (table state (association_of state session) statement) ≡ false
     → (xid other : Xid) →
@@ -217,6 +234,7 @@ one_branch state session who statement law accepted xid other (inr e) (inr f) = 
 
 -- ---- the law
 
+-- an accepted statement keeps the lock law
 carried_out : (state : State) (session : ℕ) (statement : Statement) → LockLaw state
     → is_refused (table state (association_of state session) statement) ≡ false
     → LockLaw (effect state session (association_of state session) statement)
@@ -247,6 +265,7 @@ carried_out state session statement law accepted = record {
         (sound_after state session (association_of state session)
         (open_association state session) statement accepted xid (sound_in state law xid))
 
+-- each statement keeps the lock law: a refused one changes nothing
 pub law_after : (state : State) (session : ℕ) (statement : Statement) → LockLaw state
     → LockLaw (after state session statement)
 law_after state session statement law = elim (outcome state session statement) [
@@ -254,10 +273,12 @@ law_after state session statement law = elim (outcome state session statement) [
   | inr (accepted, done) ↦ subst LockLaw (sym done) (carried_out state session statement law accepted)
 ]
 
+-- each history keeps the lock law
 pub law_after_all : (state : State) (history : List (ℕ × Statement)) → LockLaw state → LockLaw (after_all state history)
 law_after_all state [] law = law
 law_after_all state (entry ∷ entries) law =
     law_after_all (after state entry.0 entry.1) entries (law_after state entry.0 entry.1 law)
 
+-- the empty state has the lock law
 pub law_no_state : LockLaw no_state
 law_no_state = subst LockLaw seen_empty (lock_law map.empty map.empty whole_empty)

@@ -20,21 +20,26 @@ use Rattle.xa_server.specs.View.{gather}
 use Rattle.xa_server.proofs.Gathered.{get-gather}
 use Rattle.xa_server.proofs.Maps.{same_or_apart, same_itself}
 
+-- if both of two tests hold, the first does
 first : (a b : Bool) → (a && b) ≡ true → a ≡ true
 first true b e = refl
 first false b e = absurd (true≢false (sym e))
 
+-- if both of two tests hold, the second does
 second : (a b : Bool) → (a && b) ≡ true → b ≡ true
 second true b e = e
 second false b e = absurd (true≢false (sym e))
 
+-- two tests that hold, hold together
 both : (a b : Bool) → a ≡ true → b ≡ true → (a && b) ≡ true
 both a b e f = ap (λ c. c && b) e ∙ f
 
+-- a test that holds, as an equation
 is_true : (b : Bool) → T b → b ≡ true
 is_true true t = refl
 is_true false t = absurd t
 
+-- what tests as less doesn't test as equal
 apart_below : (r : Ordering) → is_lt r ≡ true → is_eq r ≡ false
 apart_below Less e = refl
 apart_below Equal e = absurd (true≢false (sym e))

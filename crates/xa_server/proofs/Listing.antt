@@ -21,15 +21,18 @@ use Rattle.xa_server.proofs.Maps.{same_or_apart, same_itself}
 
 -- ---- in order
 
+-- two tests that hold together hold each
 halves : (a b : Bool) → T (a && b) → (a ≡ true) × T b
 halves true b h = (refl, h)
 halves false b h = absurd h
 
+-- an order that tests as less is less
 less : (r : Ordering) → is_lt r ≡ true → r ≡ Less
 less Less e = refl
 less Equal e = absurd (true≢false (sym e))
 less Greater e = absurd (true≢false (sym e))
 
+-- an identifier below all keys of the entries is below each of them
 all_above : (xid : Xid) (es : List (Xid × Branch)) → T (below_all xid_cmp xid es)
     → AllByRecursion (λ other. xid_cmp xid other ≡ Less) (map (λ (e : Xid × Branch). e.0) es)
 all_above xid [] h = tt
@@ -37,10 +40,12 @@ all_above xid (e ∷ es) h =
     let parts = halves (is_lt (xid_cmp xid e.0)) (below_all xid_cmp xid es) h in
     (less (xid_cmp xid e.0) parts.0, all_above xid es parts.1)
 
+-- a test that equals true holds
 above_T : (b : Bool) → b ≡ true → T b
 above_T true e = tt
 above_T false e = absurd (true≢false (sym e))
 
+-- entries in the map's order have strictly ascending identifiers
 ascending : (es : List (Xid × Branch)) → T (is_sorted xid_cmp es)
     → IsStrictlySortedBy xid_cmp (map (λ (e : Xid × Branch). e.0) es)
 unfolding IsStrictlySortedBy
@@ -49,6 +54,7 @@ ascending (e ∷ es) h =
     let parts = halves (below_all xid_cmp e.0 es) (is_sorted xid_cmp es) h in
     (all_above e.0 es (above_T (below_all xid_cmp e.0 es) parts.0), ascending es parts.1)
 
+-- what XA RECOVER lists ascends by the order of identifiers, each once
 pub prepared_ascend : (state : State) → IsStrictlySortedBy xid_cmp (prepared_xids state)
 unfolding prepared_xids
 prepared_ascend state =
@@ -57,10 +63,12 @@ prepared_ascend state =
 
 -- ---- exactly those
 
+-- both don't hold if the second doesn't
 and_false : (b : Bool) → (b && false) ≡ false
 and_false true = refl
 and_false false = refl
 
+-- the induction's step: one element more in front of the list that is filtered
 in_rest : (p : Xid → Bool) (x : Xid) (xs : List Xid) (xid : Xid)
     → list_any (same_xid xid) (filter p xs) ≡ (list_any (same_xid xid) xs && p xid) →
     (b : Bool) → p x ≡ b → list_any (same_xid xid) (cond b (x ∷ filter p xs) (filter p xs))
@@ -81,11 +89,13 @@ in_rest p x xs xid rest false is = rest ∙ (elim (same_or_apart xids_total exac
   | inr apart ↦ sym (ap (λ b. (b || list_any (same_xid xid) xs) && p xid) apart)
 ])
 
+-- what is in a filtered list is in the list and passes the test
 in_filter : (p : Xid → Bool) (xs : List Xid) (xid : Xid)
     → list_any (same_xid xid) (filter p xs) ≡ (list_any (same_xid xid) xs && p xid)
 in_filter p [] xid = refl
 in_filter p (x ∷ xs) xid = in_rest p x xs xid (in_filter p xs xid) (p x) refl
 
+-- XA RECOVER lists exactly the PREPARED branches
 pub prepared_exactly : (state : State) (xid : Xid) → list_any (same_xid xid) (prepared_xids state)
     ≡ is_prepared state xid
 unfolding prepared_xids

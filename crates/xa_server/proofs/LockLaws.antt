@@ -16,13 +16,16 @@ use Rattle.xa_server.proofs.Holders.{mode_of, mode_of-lock, alone_in, writes_in}
 use Rattle.xa_server.proofs.Seen.{lock_at-seen, holds-seen, is_known-seen, is_prepared-seen, owner_at-seen, owns_owner}
 use Rattle.xa_server.proofs.Seen.{write_at-seen}
 
+-- whether a branch has a record that says PREPARED
 is_prepared_in : Option BranchRecord → Bool
 is_prepared_in found = option_map_or is_prepared_phase (option_map (λ (b : BranchRecord). b.phase) found) false
 
+-- an owner that tests as none is none
 nobody : (owner : Option ℕ) → is_none owner ≡ true → owner ≡ None
 nobody None e = refl
 nobody (Some owner) e = absurd (true≢false (sym e))
 
+-- an owner that doesn't test as none is there
 somebody : (owner : Option ℕ) → is_none owner ≡ false → is_some owner ≡ true
 somebody None e = absurd (true≢false e)
 somebody (Some owner) e = refl
@@ -40,7 +43,7 @@ detached branches rows whole xid e =
     by None is e = absurd (true≢false (sym e))
     by (Some branch) is e = nobody branch.owner (whole.attached xid branch is ∙ e)
 
--- an ACTIVE or IDLE branch has one
+-- a branch that is ACTIVE or IDLE has an owner
 attached : (branches : BranchMap) (rows : RowMap) → IsWhole branches rows → (xid : Xid)
     → is_known (state_of branches rows) xid ≡ true
     → is_prepared (state_of branches rows) xid ≡ false →
@@ -70,6 +73,7 @@ writes : (xid : Xid) (found : Option RowRecord) → is_some (option_and_then (wr
 writes xid None e = absurd (true≢false (sym e))
 writes xid (Some row) e = writes_in xid row.lock e
 
+-- the state that whole records stand for keeps the lock law
 pub lock_law : (branches : BranchMap) (rows : RowMap) → IsWhole branches rows → LockLaw (state_of branches rows)
 lock_law branches rows whole = record {
   one_holder = λ xid other key e f. alone xid other (map.get rows key)

@@ -44,17 +44,19 @@ IsOwn state session Free = Unit {0}
 IsOwn state session (Active own) = owns state session own ≡ true
 IsOwn state session (Idle own) = owns state session own ≡ true
 
+-- the first element that passes a test passes it, whether it is this one or a later one
 passing : (p : Xid → Bool) (x : Xid) (rest : Option Xid) (xid : Xid) → (rest ≡ Some xid → p xid ≡ true) → (b : Bool)
     → p x ≡ b → cond b (Some x) rest ≡ Some xid
     → p xid ≡ true
 passing p x rest xid later true is e = ap p (sym (same_value x xid e)) ∙ is
 passing p x rest xid later false is e = later e
 
--- what is found passes
+-- an identifier that is found by a test passes it
 find_passes : (p : Xid → Bool) (xs : List Xid) (xid : Xid) → find p xs ≡ Some xid → p xid ≡ true
 find_passes p [] xid e = not_none xid e
 find_passes p (x ∷ xs) xid e = passing p x (find p xs) xid (find_passes p xs xid) (p x) refl e
 
+-- a branch that a session owns, in any phase, is its own
 in_phase : (state : State) (session : ℕ) (phase : Option Phase) (xid : Xid) → owns state session xid ≡ true
     → IsOwn state session (association_in phase xid)
 in_phase state session None xid e = tt
@@ -62,6 +64,7 @@ in_phase state session (Some PhaseActive) xid e = e
 in_phase state session (Some PhaseIdle) xid e = e
 in_phase state session (Some PhasePrepared) xid e = tt
 
+-- what a session has open is its own
 pub own_association : (state : State) (session : ℕ) → IsOwn state session (association_of state session)
 unfolding association_of own_xid
 own_association state session = by (own_xid state session) refl
@@ -72,6 +75,7 @@ own_association state session = by (own_xid state session) refl
     by (Some xid) e = in_phase state session (phase_at state xid) xid
         (find_passes (owns state session) (map.keys state.branches) xid e)
 
+-- a branch that is owned is there
 pub known_owned : (session : ℕ) (found : Option Branch) → is_owned session found ≡ true → is_some found ≡ true
 unfolding is_owned
 known_owned session None e = absurd (true≢false (sym e))
@@ -91,7 +95,7 @@ pub find_owned : (state : State) (session : ℕ) (xid : Xid) → own_xid state s
 unfolding own_xid
 find_owned state session xid e = find_passes (owns state session) (map.keys state.branches) xid e
 
--- where the session owns no branch, none is found
+-- a session that owns no branch has none open
 pub none_found : (state : State) (session : ℕ) → ((xid : Xid) → owns state session xid ≢ true)
     → own_xid state session ≡ None
 unfolding own_xid
@@ -104,6 +108,7 @@ none_found state session none =
 
 -- ---- whose branch an accepted statement changes
 
+-- an XA END is accepted only of a branch of the session
 pub accepted_end_own : (state : State) (session : ℕ) (association : Association) (xid : Xid)
     → IsOwn state session association
     → is_refused (table state association (End xid)) ≡ false
@@ -113,6 +118,7 @@ accepted_end_own state session Free xid own e = absurd (true≢false e)
 accepted_end_own state session (Active associated) xid own e = ap (owns state session) (own_is xid associated _ e) ∙ own
 accepted_end_own state session (Idle associated) xid own e = absurd (true≢false e)
 
+-- an XA PREPARE is accepted only of a branch of the session
 pub accepted_prepare_own : (state : State) (session : ℕ) (association : Association) (xid : Xid)
     → IsOwn state session association
     → is_refused (table state association (Prepare xid)) ≡ false → owns state session xid ≡ true
@@ -122,6 +128,7 @@ accepted_prepare_own state session (Active associated) xid own e = absurd (true�
 accepted_prepare_own state session (Idle associated) xid own e =
     ap (owns state session) (own_is xid associated _ e) ∙ own
 
+-- a reply that is a refusal in both cases isn't accepted
 never_done : {A : Type 0} (b : Bool) → is_refused (refused_if (not b) Nota (Refused (Rmfail StatePrepared))) ≡ false → A
 never_done true e = absurd (true≢false e)
 never_done false e = absurd (true≢false e)
@@ -130,6 +137,7 @@ never_done false e = absurd (true≢false e)
 abbrev pub IsFinishable : State → ℕ → Xid → Type 0
 IsFinishable state session xid = (owns state session xid ≡ true) ⊎ (is_prepared state xid ≡ true)
 
+-- an XA COMMIT is accepted only of a branch that the session owns, or of a PREPARED one
 pub accepted_commit_own : (state : State) (session : ℕ) (association : Association) (xid : Xid) (one_phase : Bool)
     → IsOwn state session association
     → is_refused (table state association (Commit xid one_phase)) ≡ false → IsFinishable state session xid
@@ -142,6 +150,7 @@ accepted_commit_own state session (Idle associated) xid false own e = absurd (tr
 accepted_commit_own state session (Idle associated) xid true own e =
     inl (ap (owns state session) (own_is xid associated _ e) ∙ own)
 
+-- an XA ROLLBACK is accepted only of a branch that the session owns, or of a PREPARED one
 pub accepted_rollback_own : (state : State) (session : ℕ) (association : Association) (xid : Xid)
     → IsOwn state session association
     → is_refused (table state association (Rollback xid)) ≡ false → IsFinishable state session xid
@@ -153,6 +162,7 @@ accepted_rollback_own state session (Idle associated) xid own e =
 
 -- ---- such a branch isn't another session's
 
+-- a branch that one session owns no other owns
 one_owner : (session other : ℕ) (owner : Option ℕ) → session ≢ other
     → option_map_or (λ o. o == session) owner false ≡ true
     → option_map_or (λ o. o == other) owner false ≡ false
@@ -162,19 +172,23 @@ one_owner session other owner apart e = by (option_map_or (λ o. o == other) own
     by true f = absurd (apart (same_value session other (sym (owned_is owner session e) ∙ owned_is owner other f)))
     by false f = refl
 
+-- a branch of the state that one session owns no other owns
 not_others : (state : State) (session other : ℕ) (xid : Xid) → session ≢ other → owns state session xid ≡ true
     → owns state other xid ≡ false
 not_others state session other xid apart e = one_owner session other (owner_at state xid) apart e
 
+-- a PREPARED branch nobody owns
 pub nobodys : (state : State) (other : ℕ) (xid : Xid) → LockLaw state → is_prepared state xid ≡ true
     → owns state other xid ≡ false
 nobodys state other xid law e = ap (λ owner. option_map_or (λ o. o == other) owner false) (law.detached xid e)
 
+-- a branch that a session may finish is no other session's
 not_anothers : (state : State) (session other : ℕ) (xid : Xid) → LockLaw state → session ≢ other
     → IsFinishable state session xid → owns state other xid ≡ false
 not_anothers state session other xid law apart (inl e) = not_others state session other xid apart e
 not_anothers state session other xid law apart (inr e) = nobodys state other xid law e
 
+-- nobody owns a branch that isn't there
 unknown_owned : (other : ℕ) (found : Option Branch) → is_some found ≡ false → is_owned other found ≡ false
 unfolding is_owned
 unknown_owned other None e = refl
@@ -236,11 +250,13 @@ kept state session other law apart (Idle associated) own Disconnect accepted at 
 
 -- ---- another session gets no branch
 
+-- what a test takes, a changed branch or the one found: if another session owns it, it owned the one found
 either : (other : ℕ) (b : Bool) (new found : Option Branch) → (is_owned other new ≡ true → is_owned other found ≡ true)
     → is_owned other (cond b new found) ≡ true → is_owned other found ≡ true
 either other true new found from e = from e
 either other false new found from e = e
 
+-- a change that leaves the owner leaves who owns it
 same_owner : (other : ℕ) (change : Branch → Branch) → ((branch : Branch) → (change branch).owner ≡ branch.owner)
     → (found : Option Branch)
     → is_owned other (option_map change found) ≡ true → is_owned other found ≡ true
@@ -249,12 +265,14 @@ same_owner other change same None e = e
 same_owner other change same (Some branch) e =
     ap (λ owner. option_map_or (λ o. o == other) owner false) (sym (same branch)) ∙ e
 
+-- a detached branch isn't owned, so nothing is to be shown
 ownerless : (other : ℕ) (found : Option Branch) → is_owned other (option_map detached found) ≡ true
     → is_owned other found ≡ true
 unfolding is_owned detached
 ownerless other None e = absurd (true≢false (sym e))
 ownerless other (Some branch) e = absurd (true≢false (sym e))
 
+-- a branch that is gone isn't owned, so nothing is to be shown
 removed : (other : ℕ) (found : Option Branch) → is_owned other None ≡ true → is_owned other found ≡ true
 unfolding is_owned
 removed other found e = absurd (true≢false (sym e))
@@ -306,7 +324,7 @@ owned_before session who (Active own) Disconnect at found e =
 owned_before session who (Idle own) Disconnect at found e =
     inl (either who (same_xid at own) _ found (removed who found) e)
 
--- so another session gets none
+-- no other session owns a branch after a statement that it didn't own before
 gained : (session other : ℕ) → session ≢ other → (association : Association) (statement : Statement) (at : Xid)
     (found : Option Branch)
     → is_owned other (branch_after session association statement at found) ≡ true → is_owned other found ≡ true
@@ -352,6 +370,7 @@ same_session old new session law same back =
         ∙ ap (λ p. association_in p xid) (phase xid (find_owned old session xid is))
         ∙ sym (ap (λ own. option_map_or (λ xid. association_in (phase_at old xid) xid) own Free) is)
 
+-- a statement of one session leaves the open branch of each other session
 pub others_left : (state : State) → LockLaw state → (session other : ℕ) (statement : Statement) → session ≢ other
     → LeavesSession state (after state session statement) other
 unfolding is_owned

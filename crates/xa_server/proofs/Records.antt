@@ -13,7 +13,7 @@ use Rattle.xa_server.specs.declared.branch.BranchRecord.{BranchRecord}
 use Rattle.xa_server.specs.Tables.{BranchMap, with_record}
 use Rattle.xa_server.proofs.Maps.{get_view, one_set, one_gone, same_or_apart, get_inserted, get_inserted_apart}
 
--- the map that the tree's entries make
+-- the map of identifiers to records that the tree's entries make
 abbrev pub branches_in : BTreeMap Xid BranchRecord → BranchMap
 branches_in table = from_entries {R = xid_cmp} table.entries
 
@@ -22,7 +22,7 @@ pub get_branch : (table : BTreeMap Xid BranchRecord) (seen : BranchMap) (xid : X
     → tree.get xid_cmp table xid ≡ map.get seen xid
 get_branch table seen xid is = sym (get_view xids_total exact_xids table xid) ∙ ap (λ m. map.get m xid) is
 
--- a record that is changed in place
+-- a record that is changed in place in the tree is changed in the map of records
 pub changed_in :
     (old new : BTreeMap Xid BranchRecord) (xid : Xid) (change : BranchRecord → BranchRecord) →
     MatchOption (tree.get xid_cmp old xid) (new ≡ old) (λ branch. Updates xid_cmp old new xid (Some (change branch))) →
@@ -57,7 +57,7 @@ with_record-same branches xid = by (map.get branches xid) refl
           | inr apart ↦ get_inserted_apart xids_total exact_xids branches xid branch other apart
         ])
 
--- a record that is taken out
+-- a record that is taken out of the tree is taken out of the map of records
 pub removed_in : (old new : BTreeMap Xid BranchRecord) (xid : Xid) → Updates xid_cmp old new xid None
     → branches_in new ≡ map.remove (branches_in old) xid
 removed_in old new xid updates = one_gone xids_total exact_xids old new xid updates

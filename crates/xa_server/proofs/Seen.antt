@@ -34,58 +34,67 @@ use Rattle.xa_server.proofs.Holders.{any_some, held_against-lock}
 use Rattle.xa_server.proofs.Holders.{locked_against-lock, beside_there, beside_witness, locked_there, locked_witness}
 use Rattle.xa_server.proofs.Holders.{unwritten}
 
--- the branch at an identifier
+-- the branch at an identifier of the state is that of its record, with writes and locks from the rows' records
 pub get-branches : (branches : BranchMap) (rows : RowMap) (xid : Xid)
     → map.get (state_of branches rows).branches xid ≡ option_map (branch_seen rows xid) (map.get branches xid)
 unfolding state_of
 get-branches branches rows xid = get-mapped xids_total exact_xids (branch_seen rows) branches xid
 
+-- the state has the branches of which there are records
 pub keys-branches : (branches : BranchMap) (rows : RowMap)
     → map.keys (state_of branches rows).branches ≡ map.keys branches
 unfolding state_of
 keys-branches branches rows = keys-mapped xids_total exact_xids (branch_seen rows) branches
 
--- the committed value of a row
+-- the committed value of a row in the state is that of its record
 pub committed-seen : (branches : BranchMap) (rows : RowMap) (key : List ℕ)
     → committed_value (state_of branches rows) key ≡ committed_of (map.get rows key)
 unfolding state_of
 committed-seen branches rows key = get-gather bytes_total exact_texts (λ row. row.committed) rows key
 
+-- what a branch has written to a row is what the row's record says
 pub writes-seen : (rows : RowMap) (xid : Xid) (key : List ℕ)
     → map.get (gather (write_by xid) rows) key ≡ option_and_then (write_by xid) (map.get rows key)
 writes-seen rows xid key = get-gather bytes_total exact_texts (write_by xid) rows key
 
+-- how a branch has locked a row is what the row's record says
 pub locks-seen : (rows : RowMap) (xid : Xid) (key : List ℕ)
     → map.get (gather (lock_by xid) rows) key ≡ option_and_then (lock_by xid) (map.get rows key)
 locks-seen rows xid key = get-gather bytes_total exact_texts (lock_by xid) rows key
 
+-- a branch's phase in the state is that of its record
 phase_in : (rows : RowMap) (xid : Xid) (found : Option BranchRecord)
     → option_map (λ (b : Branch). b.phase) (option_map (branch_seen rows xid) found)
     ≡ option_map (λ (b : BranchRecord). b.phase) found
 phase_in rows xid None = refl
 phase_in rows xid (Some branch) = refl
 
+-- the phase of the branch at an identifier is that of its record
 pub phase_at-seen : (branches : BranchMap) (rows : RowMap) (xid : Xid)
     → phase_at (state_of branches rows) xid ≡ option_map (λ (b : BranchRecord). b.phase) (map.get branches xid)
 phase_at-seen branches rows xid = ap (option_map (λ (b : Branch). b.phase)) (get-branches branches rows xid)
     ∙ phase_in rows xid (map.get branches xid)
 
+-- a branch's owner in the state is that of its record
 owner_in : (rows : RowMap) (xid : Xid) (found : Option BranchRecord)
     → option_and_then (λ (b : Branch). b.owner) (option_map (branch_seen rows xid) found)
     ≡ option_and_then (λ (b : BranchRecord). b.owner) found
 owner_in rows xid None = refl
 owner_in rows xid (Some branch) = refl
 
+-- the owner of the branch at an identifier is that of its record
 pub owner_at-seen : (branches : BranchMap) (rows : RowMap) (xid : Xid)
     → owner_at (state_of branches rows) xid ≡ owner_of branches xid
 owner_at-seen branches rows xid = ap (option_and_then (λ (b : Branch). b.owner)) (get-branches branches rows xid)
     ∙ owner_in rows xid (map.get branches xid)
 
+-- a branch is in the state if it has a record
 known_in : (rows : RowMap) (xid : Xid) (found : Option BranchRecord)
     → is_some (option_map (branch_seen rows xid) found) ≡ is_some found
 known_in rows xid None = refl
 known_in rows xid (Some branch) = refl
 
+-- a branch is at an identifier of the state if it has a record there
 pub is_known-seen : (branches : BranchMap) (rows : RowMap) (xid : Xid)
     → is_known (state_of branches rows) xid ≡ is_some (map.get branches xid)
 is_known-seen branches rows xid = ap is_some (get-branches branches rows xid) ∙ known_in rows xid (map.get branches xid)
@@ -95,6 +104,7 @@ pub known_record : (branches : BranchMap) (rows : RowMap) (xid : Xid) → is_kno
     → is_some (map.get branches xid) ≡ true
 known_record branches rows xid known = sym (is_known-seen branches rows xid) ∙ known
 
+-- a branch is PREPARED in the state if its record says so
 pub is_prepared-seen : (branches : BranchMap) (rows : RowMap) (xid : Xid)
     → is_prepared (state_of branches rows) xid ≡ option_map_or is_prepared_phase
     (option_map (λ (b : BranchRecord). b.phase) (map.get branches xid)) false
@@ -102,17 +112,19 @@ is_prepared-seen branches rows xid = ap (λ p. option_map_or is_prepared_phase p
 
 -- ---- what a session has open
 
+-- nothing is found if no element passes
 pub find_none : {A : Type 0} (p : A → Bool) (xs : List A) → ((x : A) → p x ≡ false) → find p xs ≡ None
 find_none p [] none = refl
 find_none p (x ∷ xs) none = ap (λ b. cond b (Some x) (find p xs)) (none x) ∙ find_none p xs none
 
+-- the element that alone passes is found, at the front or later
 found_first : (p : Xid → Bool) (x xid : Xid) (rest : Option Xid) → rest ≡ Some xid
     → ((other : Xid) → p other ≡ true → xid ≡ other) → (b : Bool) → p x ≡ b
     → cond b (Some x) rest ≡ Some xid
 found_first p x xid rest later only true is = ap Some (sym (only x is))
 found_first p x xid rest later only false is = later
 
--- the one element that passes
+-- if one element of a list alone passes, it is found
 pub find_one : (p : Xid → Bool) (xs : List Xid) (xid : Xid) → list_any (same_xid xid) xs ≡ true → p xid ≡ true
     → ((other : Xid) → p other ≡ true → xid ≡ other)
     → find p xs ≡ Some xid
@@ -123,28 +135,33 @@ find_one p (x ∷ xs) xid there here only = elim (same_or_apart xids_total exact
       (sym (ap (λ b. b || list_any (same_xid xid) xs) apart) ∙ there) here only) only (p x) refl
 ]
 
+-- a session owns a branch of the state if the record names it as the owner
 owns-seen : (branches : BranchMap) (rows : RowMap) (session : ℕ) (xid : Xid)
     → owns (state_of branches rows) session xid ≡ option_map_or (λ owner. owner == session)
     (owner_of branches xid) false
 owns-seen branches rows session xid =
     ap (λ owner. option_map_or (λ owner. owner == session) owner false) (owner_at-seen branches rows xid)
 
+-- the owner that passes the test for a session is that session
 pub owned_is : (owner : Option ℕ) (session : ℕ) → option_map_or (λ owner. owner == session) owner false ≡ true
     → owner ≡ Some session
 owned_is None session e = absurd (true≢false (sym e))
 owned_is (Some owner) session e = ap Some (eqb-true owner session e)
 
+-- who owns a branch in the state is named in its record
 pub owns_owner : (branches : BranchMap) (rows : RowMap) (session : ℕ) (xid : Xid)
     → owns (state_of branches rows) session xid ≡ true
     → owner_of branches xid ≡ Some session
 owns_owner branches rows session xid e = owned_is _ session (sym (owns-seen branches rows session xid) ∙ e)
 
+-- the session that a branch's record names owns it in the state
 pub owner_owns : (branches : BranchMap) (rows : RowMap) (session : ℕ) (xid : Xid) → owner_of branches xid ≡ Some session
     → owns (state_of branches rows) session xid ≡ true
 owner_owns branches rows session xid e =
     owns-seen branches rows session xid ∙ ap (λ owner. option_map_or (λ owner. owner == session) owner false) e
     ∙ eq-eqb session session refl
 
+-- if the owner isn't this session, the test for it fails
 not_owned : (owner : Option ℕ) (session : ℕ) → (owner ≢ Some session)
     → option_map_or (λ owner. owner == session) owner false ≡ false
 not_owned owner session none = by (option_map_or (λ owner. owner == session) owner false) refl
@@ -153,6 +170,7 @@ not_owned owner session none = by (option_map_or (λ owner. owner == session) ow
     by true e = absurd (none (owned_is owner session e))
     by false e = refl
 
+-- a branch with an owner has a record
 owner_known : (found : Option BranchRecord) (session : ℕ)
     → option_and_then (λ (b : BranchRecord). b.owner) found ≡ Some session → is_some found ≡ true
 owner_known None session e = not_none session e
@@ -164,6 +182,7 @@ key_there : (branches : BranchMap) (rows : RowMap) (xid : Xid) → is_some (map.
 key_there branches rows xid there =
     ap (list_any (same_xid xid)) (keys-branches branches rows) ∙ sym (contains_key-keys branches xid) ∙ there
 
+-- the one branch that a session owns by the records is the one that it has open in the state
 pub own_xid-owned : (branches : BranchMap) (rows : RowMap) (session : ℕ) (xid : Xid) → IsWhole branches rows
     → owner_of branches xid ≡ Some session
     → own_xid (state_of branches rows) session ≡ Some xid
@@ -174,6 +193,7 @@ own_xid-owned branches rows session xid whole owner =
     (owner_owns branches rows session xid owner)
     (λ other is. whole.one_owned session xid other owner (owns_owner branches rows session other is))
 
+-- a session that no record names as an owner has nothing open
 pub own_xid-free : (branches : BranchMap) (rows : RowMap) (session : ℕ)
     → ((xid : Xid) → owner_of branches xid ≢ Some session)
     → own_xid (state_of branches rows) session ≡ None
@@ -182,7 +202,7 @@ own_xid-free branches rows session free =
     find_none (owns (state_of branches rows) session) (map.keys (state_of branches rows).branches)
     (λ xid. owns-seen branches rows session xid ∙ not_owned (owner_of branches xid) session (free xid))
 
--- the association of a session that owns a branch
+-- a session that owns a branch has it open, in the phase of its record
 pub association-owned : (branches : BranchMap) (rows : RowMap) (session : ℕ) (xid : Xid) (phase : Option Phase)
     → IsWhole branches rows →
     owner_of branches xid ≡ Some session → option_map (λ (b : BranchRecord). b.phase) (map.get branches xid) ≡ phase
@@ -193,7 +213,7 @@ association-owned branches rows session xid phase whole owner is =
     (own_xid-owned branches rows session xid whole owner)
     ∙ ap (λ p. association_in p xid) (phase_at-seen branches rows xid ∙ is)
 
--- the association of a session that owns none
+-- a session that owns no branch is free
 pub association-free : (branches : BranchMap) (rows : RowMap) (session : ℕ)
     → ((xid : Xid) → owner_of branches xid ≢ Some session)
     → association_of (state_of branches rows) session ≡ Free
@@ -241,6 +261,7 @@ association-opened branches rows session opened whole named owned = by opened re
 
 -- ---- who holds a row
 
+-- if a count is 0, what it counts isn't there
 zero_only : (b : Bool) (n : ℕ) → n ≡ 0 → n ≡ cond b 1 0 → b ≡ false
 zero_only true n z e = absurd (zero_or_one n z e)
 zero_only false n z e = refl
@@ -263,6 +284,7 @@ holder_known branches rows xid key whole e = by (map.get branches xid) refl
     by None is = absurd (true≢false (sym e ∙ unknown_holds branches rows xid key whole is))
     by (Some branch) is = refl
 
+-- how a known branch has locked a row, by the row's record
 mode_within : (rows : RowMap) (xid : Xid) (key : List ℕ) (found : Option BranchRecord) → is_some found ≡ true →
     option_and_then (λ (branch : Branch). map.get branch.locks key) (option_map (branch_seen rows xid) found)
     ≡ mode_of xid (map.get rows key)
@@ -282,6 +304,7 @@ lock_at-seen branches rows xid key whole =
     by (Some branch) e = mode_within rows xid key (Some branch) refl
     by None e = sym (none_of (mode_of xid (map.get rows key)) (unknown_holds branches rows xid key whole e))
 
+-- a branch holds a row in the state if the row's record names it
 pub holds-seen : (branches : BranchMap) (rows : RowMap) (xid : Xid) (key : List ℕ) → IsWhole branches rows
     → holds (state_of branches rows) xid key ≡ is_some (mode_of xid (map.get rows key))
 holds-seen branches rows xid key whole = ap is_some (lock_at-seen branches rows xid key whole)
@@ -328,7 +351,7 @@ held_against-seen branches rows association key whole =
     ∙ beside_there association (lock_of (map.get rows key)) xid
     (sym (ap is_some (mode_of-lock xid (map.get rows key))) ∙ e) f)
 
--- and locked against it where the record says that another branch holds it exclusively
+-- a row is locked against a session if its record says that another branch holds it exclusively
 pub locked_against-seen : (branches : BranchMap) (rows : RowMap) (association : Association) (key : List ℕ)
     → IsWhole branches rows
     → is_locked_against (state_of branches rows) association key ≡ locked_against association (map.get rows key)
@@ -354,7 +377,7 @@ not_beside association found xid e another = by (is_some (mode_of xid found)) re
         ∙ beside_there association (lock_of found) xid (sym (ap is_some (mode_of-lock xid found)) ∙ held) another) ∙ e))
     by false none = refl
 
--- not by any, where the session is free
+-- if a row isn't held against a free session, its record names no branch
 pub unheld_row : (branches : BranchMap) (rows : RowMap) (key : List ℕ) → IsWhole branches rows
     → is_held_against (state_of branches rows) Free key ≡ false
     → (xid : Xid) → mode_of xid (map.get rows key) ≡ None
@@ -362,7 +385,7 @@ unheld_row branches rows key whole e xid =
     none_of (mode_of xid (map.get rows key)) (not_beside Free (map.get rows key) xid
     (sym (held_against-seen branches rows Free key whole) ∙ e) refl)
 
--- by none but the session's own, where it has an ACTIVE branch
+-- if a row isn't held against a session with an ACTIVE branch, its record names no other branch
 pub free_row : (branches : BranchMap) (rows : RowMap) (own : Xid) (key : List ℕ) → IsWhole branches rows
     → is_held_against (state_of branches rows) (Active own) key ≡ false →
     (other : Xid) → same_xid other own ≡ false → is_some (mode_of other (map.get rows key)) ≡ false
@@ -372,12 +395,14 @@ free_row branches rows own key whole e other apart =
 
 -- ---- what a branch sees
 
+-- what a known branch has written to a row, by the row's record
 write_in : (rows : RowMap) (xid : Xid) (key : List ℕ) (found : Option BranchRecord) → is_some found ≡ true →
     option_and_then (λ (branch : Branch). map.get branch.writes key) (option_map (branch_seen rows xid) found)
     ≡ option_and_then (write_by xid) (map.get rows key)
 write_in rows xid key None there = absurd (true≢false (sym there))
 write_in rows xid key (Some branch) there = writes-seen rows xid key
 
+-- what the branch at an identifier has written to a row, by the row's record, if the branch is known
 pub write_at-known : (branches : BranchMap) (rows : RowMap) (xid : Xid) (key : List ℕ)
     → is_some (map.get branches xid) ≡ true
     → write_at (state_of branches rows) xid key ≡ option_and_then (write_by xid) (map.get rows key)
@@ -385,6 +410,7 @@ write_at-known branches rows xid key there =
     ap (option_and_then (λ (branch : Branch). map.get branch.writes key)) (get-branches branches rows xid)
     ∙ write_in rows xid key (map.get branches xid) there
 
+-- what the branch at an identifier has written to a row, by the row's record, if the records are whole
 pub write_at-seen : (branches : BranchMap) (rows : RowMap) (xid : Xid) (key : List ℕ) → IsWhole branches rows
     → write_at (state_of branches rows) xid key ≡ option_and_then (write_by xid) (map.get rows key)
 write_at-seen branches rows xid key whole = by (map.get branches xid) refl
@@ -397,12 +423,13 @@ write_at-seen branches rows xid key whole = by (map.get branches xid) refl
         (get-branches branches rows xid ∙ ap (option_map (branch_seen rows xid)) e)
         ∙ sym (unwritten xid (map.get rows key) (unknown_holds branches rows xid key whole e))
 
+-- the value that a branch sees in a row depends on the row's record alone
 pub value_within-seen : (branches : BranchMap) (rows : RowMap) (xid : Xid) (key : List ℕ) → IsWhole branches rows
     → value_within (state_of branches rows) xid key ≡ value_seen xid (map.get rows key)
 value_within-seen branches rows xid key whole =
     λ i. unwrap_or (write_at-seen branches rows xid key whole i) (committed-seen branches rows key i)
 
--- the PREPARED branches
+-- the PREPARED branches of the state are those whose records say so
 pub prepared-seen : (branches : BranchMap) (rows : RowMap)
     → prepared_xids (state_of branches rows) ≡ prepared_among branches
 unfolding prepared_xids

@@ -18,7 +18,7 @@ use Rattle.xa_server.specs.Rows.{Sharing}
 use Rattle.xa_server.proofs.Holders.{both, itself, same_any, same_truth, turned_apart}
 use Rattle.xa_server.proofs.Maps.{same_or_apart}
 
--- the set that a list makes
+-- the set of the identifiers in a list
 abbrev pub listed : List Xid → Sharing
 listed few = set.from_list {R = xid_cmp} few
 
@@ -28,6 +28,7 @@ several_in few many = listed (few ++ many.keys)
 
 -- ---- tests
 
+-- a test or a false one is the test; the lemmas below are the cases that one more member of a set needs
 or_false : (b : Bool) → (b || false) ≡ b
 or_false true = refl
 or_false false = refl
@@ -36,40 +37,45 @@ and_false : (b : Bool) → (b && false) ≡ false
 and_false true = refl
 and_false false = refl
 
+-- how tests combine where a member is put behind the first ones of a set
 or_one_more : (a b c : Bool) → ((a || (b || false)) || c) ≡ (b || (a || c))
 or_one_more true true c = refl
 or_one_more true false c = refl
 or_one_more false true c = refl
 or_one_more false false c = refl
 
+-- how tests combine where a member is put among the later ones of a set
 or_cond : (a b c : Bool) → (a || cond b true c) ≡ (b || (a || c))
 or_cond true true c = refl
 or_cond true false c = refl
 or_cond false true c = refl
 or_cond false false c = refl
 
+-- how tests combine where a member is taken out of a set
 and_cond : (a b c : Bool) → ((not b && a) || cond b false c) ≡ (not b && (a || c))
 and_cond true true c = refl
 and_cond true false c = refl
 and_cond false true c = refl
 and_cond false false c = refl
 
+-- how tests combine where a member of a set is left that isn't the one taken out
 and_not : (b c : Bool) → (not b && c) ≡ (not b && (b || c))
 and_not true c = refl
 and_not false c = refl
 
--- what either of two tests says, where the first is told
+-- if the first of two tests holds, so does one of both
 pub or_first : (a b : Bool) → true ≡ a → a ≡ (a || b)
 or_first true b e = refl
 or_first false b e = absurd (true≢false e)
 
+-- if the first of two tests fails, the second decides
 pub or_second : (a b : Bool) → false ≡ a → b ≡ (a || b)
 or_second true b e = absurd (true≢false (sym e))
 or_second false b e = refl
 
 -- ---- one is sought
 
--- a look-up in the set of one
+-- a set of one identifier contains an identifier if that one is the same
 pub contains-one : (own xid : Xid) → set.contains (listed (own ∷ [])) xid ≡ same_xid xid own
 contains-one own xid = contains-from_list xids_total (own ∷ []) xid ∙ or_false (same_xid xid own)
 
@@ -84,15 +90,18 @@ pub any-listed : (p : Xid → Bool) (xids : List Xid) → list_any p (set.items 
 any-listed p xids = same_any p (set.items (listed xids)) xids
     (λ xid. sym (contains-items (listed xids) xid) ∙ contains-from_list xids_total xids xid)
 
+-- some member of a set of one passes a test if that one passes
 pub any-one : (p : Xid → Bool) (own : Xid) → list_any p (set.items (listed (own ∷ []))) ≡ p own
 any-one p own = any-listed p (own ∷ []) ∙ or_false (p own)
 
+-- some member of a set passes if one of the first or one of the later ones does
 pub any-several : (p : Xid → Bool) (few : List Xid) (many : BTreeSet Xid)
     → list_any p (set.items (several_in few many)) ≡ (list_any p few || list_any p many.keys)
 any-several p few many = any-listed p (few ++ many.keys) ∙ list_any-append p few many.keys
 
 -- ---- sets within sets
 
+-- if all members pass, each does
 all_some : (p : Xid → Bool) (xs : List Xid) (xid : Xid) → list_all p xs ≡ true → list_any (same_xid xid) xs ≡ true
     → p xid ≡ true
 all_some p [] xid all there = absurd (true≢false (sym there))
@@ -102,16 +111,18 @@ all_some p (x ∷ xs) xid all there = elim (same_or_apart xids_total exact_xids 
       (sym (ap (λ b. b || list_any (same_xid xid) xs) apart) ∙ there)
 ]
 
--- where a set has each of the list, it has all members
+-- if a set has each identifier of a list, the list's set is a subset of it
 pub subset-listed : (xids : List Xid) (all : Sharing) → list_all (set.contains all) xids ≡ true
     → set.is_subset (listed xids) all ≡ true
 subset-listed xids all each = contains-is_subset xids_total (listed xids) all (λ xid there.
     all_some (set.contains all) xids xid each (sym (contains-from_list xids_total xids xid) ∙ there))
 
+-- a set of one is a subset of a set that contains this one
 pub subset-one : (own : Xid) (all : Sharing) → set.contains all own ≡ true
     → set.is_subset (listed (own ∷ [])) all ≡ true
 subset-one own all has = subset-listed (own ∷ []) all (ap (λ b. b && true) has)
 
+-- if few and many members are all in a set, the set of both is a subset of it
 pub subset-several : (few : List Xid) (many : BTreeSet Xid) (all : Sharing) → list_all (set.contains all) few ≡ true
     → list_all (set.contains all) many.keys ≡ true → set.is_subset (several_in few many) all ≡ true
 subset-several few many all has_few has_many = subset-listed (few ++ many.keys) all
@@ -133,10 +144,12 @@ some_listed xid xids none = true≢false
     (sym (contains-insert xids_total (listed xids) xid xid ∙ ap (λ b. b || set.contains (listed xids) xid) (itself xid))
     ∙ ap (λ sharers. set.contains sharers xid) none ∙ contains-empty xid_cmp xid)
 
+-- an empty set lists nothing
 none_listed : (xids : List Xid) → listed xids ≡ set.empty → length xids ≡ 0
 none_listed [] none = refl
 none_listed (xid ∷ xids) none = absurd (some_listed xid xids none)
 
+-- an empty list makes an empty set
 nothing_listed : (xids : List Xid) → length xids ≡ 0 → listed xids ≡ set.empty
 nothing_listed [] none = refl
 nothing_listed (xid ∷ xids) none = absurd (omega (arith, none))
@@ -147,7 +160,7 @@ pub none_in : (few : List Xid) (many : BTreeSet Xid) → length few ≡ 0 → le
 none_in few many none no_more =
     nothing_listed (few ++ many.keys) (length-append few many.keys ∙ omega (arith, none, no_more))
 
--- and only then
+-- if first and later members make an empty set, there is none of either
 pub none_of : (few : List Xid) (many : BTreeSet Xid) → several_in few many ≡ set.empty
     → (length few ≡ 0) × (length many.keys ≡ 0)
 none_of few many none =
@@ -166,7 +179,7 @@ few_added few many xid = same_set xids_total exact_xids _ _ (λ other.
     ∙ sym (contains-insert xids_total (several_in few many) xid other
     ∙ ap (λ b. same_xid other xid || b) (contains-several few many other)))
 
--- and so is a tree with one key more
+-- a key more in the tree of later members is a member more of the set
 pub many_added : (few : List Xid) (old new : BTreeSet Xid) (xid : Xid) → Updates xid_cmp old new xid true
     → several_in few new ≡ set.insert (several_in few old) xid
 many_added few old new xid updates = same_set xids_total exact_xids _ _ (λ other.
@@ -180,11 +193,11 @@ many_added few old new xid updates = same_set xids_total exact_xids _ _ (λ othe
 
 -- ---- one goes
 
--- the list without a branch
+-- the list of identifiers without this one
 abbrev pub without : Xid → List Xid → List Xid
 without xid few = filter (λ own. not (same_xid own xid)) few
 
--- who is left
+-- who is in a list without one identifier: those who were in it, but that one
 any-without : (xid : Xid) (few : List Xid) (other : Xid)
     → list_any (same_xid other) (without xid few) ≡ (not (same_xid other xid) && list_any (same_xid other) few)
 any-without xid [] other = sym (and_false (not (same_xid other xid)))
@@ -217,7 +230,7 @@ listed_left xids xid = same_set xids_total exact_xids _ _ (λ other.
     ∙ sym (contains-remove xids_total (listed xids) xid other
     ∙ ap (λ b. not (same_xid other xid) && b) (contains-from_list xids_total xids other)))
 
--- the only one goes, or another
+-- removing an identifier from a set of one leaves nothing if it is the same, and else that one
 pub one_left : (own xid : Xid) → cond (same_xid own xid) set.empty (listed (own ∷ []))
     ≡ set.remove (listed (own ∷ [])) xid
 one_left own xid = by (same_xid own xid) ∙ listed_left (own ∷ []) xid
@@ -226,7 +239,7 @@ one_left own xid = by (same_xid own xid) ∙ listed_left (own ∷ []) xid
     by true = refl
     by false = refl
 
--- a list and a tree that a branch left
+-- once a branch left both the list and the tree of sharers, the set of both is without it
 pub several_left : (few : List Xid) (old new : BTreeSet Xid) (xid : Xid) → Updates xid_cmp old new xid false
     → several_in (without xid few) new ≡ set.remove (several_in few old) xid
 several_left few old new xid updates = same_set xids_total exact_xids _ _ (λ other.

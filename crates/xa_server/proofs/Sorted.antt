@@ -22,12 +22,14 @@ use Rattle.xa_server.proofs.Maps.{same_itself}
 
 -- ---- a list in order
 
+-- an identifier below each key of the entries, as the map's test says it
 below-all : (xid : Xid) (es : List (Xid × BranchRecord))
     → AllByRecursion (λ y. xid_cmp xid y ≡ Less) (map (λ (e : Xid × BranchRecord). e.0) es)
     → below_all xid_cmp xid es ≡ true
 below-all xid [] h = refl
 below-all xid (e ∷ es) h = ap (λ r. is_lt r && below_all xid_cmp xid es) h.0 ∙ below-all xid es h.1
 
+-- strictly ascending entries are sorted by the map's test
 sorted : (es : List (Xid × BranchRecord)) → IsStrictlySortedBy xid_cmp (map (λ (e : Xid × BranchRecord). e.0) es)
     → is_sorted xid_cmp es ≡ true
 unfolding IsStrictlySortedBy
@@ -46,12 +48,15 @@ entries-from es h =
 
 -- ---- the branches in it
 
+-- whether the entry of an identifier is there and says PREPARED
 tests : List (Xid × BranchRecord) → Xid → Bool
 tests es xid = option_map_or is_prepared_phase (option_map (λ (b : BranchRecord). b.phase) (find xid_cmp xid es)) false
 
+-- a greater identifier isn't equal to a smaller one
 flipped : (r : Ordering) (x y : Xid) → r ≡ Less → xid_cmp x y ≡ r → eq_by_cmp xid_cmp y x ≡ false
 flipped r x y less is = (eq_by_cmp_equiv xids_total).symm y x ∙ ap is_eq (is ∙ less)
 
+-- the first entry says nothing about a greater identifier
 test_beside : (e : Xid × BranchRecord) (all : List (Xid × BranchRecord)) (xid : Xid) → xid_cmp e.0 xid ≡ Less
     → tests (e ∷ all) xid ≡ tests all xid
 unfolding tests
@@ -60,7 +65,7 @@ test_beside e all xid less =
     (cond b (Some e.1) (find xid_cmp xid all))) false)
     (flipped (xid_cmp e.0 xid) e.0 xid less refl)
 
--- a record that stands before those in question doesn't matter
+-- the first entry, which is below all others, changes nothing about which of the others are PREPARED
 tests_beside : (e : Xid × BranchRecord) (all es : List (Xid × BranchRecord))
     → AllByRecursion (λ y. xid_cmp e.0 y ≡ Less) (map (λ (f : Xid × BranchRecord). f.0) es) →
     filter (tests (e ∷ all)) (map (λ (f : Xid × BranchRecord). f.0) es)
@@ -70,6 +75,7 @@ tests_beside e all [] h = refl
 tests_beside e all (f ∷ es) h =
     (λ i. cond (test_beside e all f.0 h.0 i) (f.0 ∷ tests_beside e all es h.1 i) (tests_beside e all es h.1 i))
 
+-- the induction's step: one entry more in front of those that are filtered
 prepared-more : (e : Xid × BranchRecord) (es : List (Xid × BranchRecord))
     → IsStrictlySortedBy xid_cmp (e.0 ∷ map (λ (e : Xid × BranchRecord). e.0) es)
     → filter (tests es) (map (λ (e : Xid × BranchRecord). e.0) es) ≡ prepared_keys es →
@@ -86,12 +92,14 @@ prepared-more e es h rest = (λ i. cond (here i) (e.0 ∷ later i) (later i))
     later : filter (tests (e ∷ es)) (map (λ (f : Xid × BranchRecord). f.0) es) ≡ prepared_keys es
     later = tests_beside e es es h.0 ∙ rest
 
+-- the keys of the entries that say PREPARED are those that pass the test
 prepared-keys : (es : List (Xid × BranchRecord)) → IsStrictlySortedBy xid_cmp (map (λ (e : Xid × BranchRecord). e.0) es)
     → filter (tests es) (map (λ (e : Xid × BranchRecord). e.0) es) ≡ prepared_keys es
 unfolding tests IsStrictlySortedBy
 prepared-keys [] h = refl
 prepared-keys (e ∷ es) h = prepared-more e es h (prepared-keys es h.1)
 
+-- the test by entries is the test by the map that they make
 tests-is : (es : List (Xid × BranchRecord)) → IsStrictlySortedBy xid_cmp (map (λ (e : Xid × BranchRecord). e.0) es)
     → (xid : Xid)
     → is_prepared_at (from_entries {R = xid_cmp} es) xid ≡ tests es xid
@@ -99,6 +107,7 @@ unfolding tests
 tests-is es h xid = ap (λ found. option_map_or is_prepared_phase
     (option_map (λ (b : BranchRecord). b.phase) found) false) (get-from_entries xids_total es xid)
 
+-- the PREPARED branches of the map are listed by the tree's entries, in their order
 pub prepared-among : (es : List (Xid × BranchRecord)) → IsStrictlySortedBy xid_cmp
     (map (λ (e : Xid × BranchRecord). e.0) es)
     → prepared_among (from_entries {R = xid_cmp} es) ≡ prepared_keys es
@@ -117,7 +126,7 @@ goes_in xids all left rest xid branch is left_is prepared = append_assoc xids (x
     ∙ ap (λ b. xids ++ cond b (xid ∷ prepared_keys rest) (prepared_keys rest)) (sym prepared)
     ∙ ap (λ es. xids ++ prepared_keys es) (sym left_is) ∙ is
 
--- another one doesn't
+-- the loop over entries: a branch that isn't PREPARED is left out
 pub stays_out : (xids all : List Xid) (left rest : List (Xid × BranchRecord)) (xid : Xid) (branch : BranchRecord)
     → xids ++ prepared_keys left ≡ all
     → left ≡ (xid, branch) ∷ rest → is_prepared_phase branch.phase ≡ false →

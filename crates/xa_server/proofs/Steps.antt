@@ -34,9 +34,11 @@ use Rattle.xa_server.proofs.Seen.{get-branches}
 pub same_state : (s t : State) → s.branches ≡ t.branches → s.rows ≡ t.rows → s ≡ t
 same_state s t b r = λ i. record { branches = b i; rows = r i }
 
+-- branches with equal fields are equal
 same_branch : (b c : Branch) → b.phase ≡ c.phase → b.owner ≡ c.owner → b.writes ≡ c.writes → b.locks ≡ c.locks → b ≡ c
 same_branch b c p o w l = λ i. record { phase = p i; owner = o i; writes = w i; locks = l i }
 
+-- maps with the same branch at each identifier are equal
 pub same_branches : (m n : map.FinMap xid_cmp Branch) → ((xid : Xid) → map.get m xid ≡ map.get n xid) → m ≡ n
 same_branches m n is = same_map xids_total exact_xids m n is
 
@@ -100,7 +102,7 @@ module _ {W : Type 0} (found : RowRecord → Option W) where
             ∙ get-gather bytes_total exact_texts found rows other)
       ]))
 
--- rows that say the same of every branch
+-- records of rows that say the same of every branch stand for the same state
 seen_same_rows : (branches : BranchMap) (old new : RowMap)
     → ((xid : Xid) → gather (write_by xid) new ≡ gather (write_by xid) old)
     → ((xid : Xid) → gather (lock_by xid) new ≡ gather (lock_by xid) old) →
@@ -116,6 +118,7 @@ seen_same_rows branches old new writes locks =
 
 -- ---- no records, records of branches
 
+-- no records stand for the empty state
 pub seen_empty : state_of map.empty map.empty ≡ no_state
 unfolding state_of no_state
 seen_empty = same_state _ _
@@ -143,7 +146,7 @@ seen_inserted branches rows xid branch = same_state _ _
     ])))
     refl
 
--- a record changed is a branch changed
+-- changing the record of a branch changes the branch in the state that the records stand for
 pub seen_changed : (branches : BranchMap) (rows : RowMap) (xid : Xid) (change : BranchRecord → BranchRecord)
     (seen : Branch → Branch) →
     ((branch : BranchRecord) → branch_seen rows xid (change branch) ≡ seen (branch_seen rows xid branch)) →
@@ -181,6 +184,7 @@ unheld_writes : (xid : Xid) (found : Option RowRecord) → mode_of xid found ≡
     → option_and_then (write_by xid) found ≡ None
 unheld_writes xid found none = unwritten xid found (ap is_some none)
 
+-- a committed value set in a record that nobody holds is one set in the state
 pub seen_put : (branches : BranchMap) (rows : RowMap) (key : List ℕ) (value : Text)
     → ((xid : Xid) → mode_of xid (map.get rows key) ≡ None) →
     state_of branches (map.insert rows key (record { committed = Some value; lock = SharedBy set.empty }))
@@ -192,6 +196,7 @@ seen_put branches rows key value free = same_state _ _
     (λ xid. gather_insert_same (lock_by xid) rows key _ (nobodys xid ∙ sym (free xid))))
     (gather_insert (λ row. row.committed) rows key _ value refl)
 
+-- removing the record of a row that nobody holds is deleting the row in the state
 pub seen_deleted : (branches : BranchMap) (rows : RowMap) (key : List ℕ)
     → ((xid : Xid) → mode_of xid (map.get rows key) ≡ None) →
     state_of branches (map.remove rows key) ≡ record (state_of branches rows)
@@ -239,14 +244,16 @@ seen_row branches rows xid key row change known value own others =
         ])))
         (gather_insert_same (λ row. row.committed) rows key _ value)
 
--- held by no other branch
+-- no other branch holds the row of this record
 abbrev pub IsFreeFor : Xid → Option RowRecord → Type 0
 IsFreeFor xid found = (other : Xid) → same_xid other xid ≡ false → is_some (mode_of other found) ≡ false
 
+-- a choice by a test that holds gives Some
 if_there : {A : Type 0} (b : Bool) (x : A) → b ≡ true → cond b (Some x) None ≡ Some x
 if_there true x e = refl
 if_there false x e = absurd (true≢false (sym e))
 
+-- a choice by a test that fails gives None
 if_apart : {A : Type 0} (b : Bool) (x : A) → b ≡ false → cond b (Some x) None ≡ None
 if_apart true x e = absurd (true≢false e)
 if_apart false x e = refl
@@ -260,7 +267,7 @@ held_branch rows xid key change branch = same_branch _ _ refl refl
     (if_there (same_xid xid xid) (write_of change) (itself xid)))
     (gather_insert (lock_by xid) rows key _ Exclusive (if_there (same_xid xid xid) Exclusive (itself xid)))
 
--- the others
+-- a row's record that is given to one branch leaves what the others have written and locked
 held_others : (rows : RowMap) (xid : Xid) (key : List ℕ) (change : Change) (other : Xid)
     → IsFreeFor xid (map.get rows key) → same_xid other xid ≡ false →
     branch_seen (map.insert rows key (held_row xid change (map.get rows key))) other ≡ branch_seen rows other
@@ -281,6 +288,7 @@ held_others rows xid key change other free apart =
         (if_apart (same_xid xid other) Exclusive (turned_apart xid other apart)
         ∙ sym (none_of (mode_of other (map.get rows key)) (free other apart)))
 
+-- a row's record that is given to a branch with a change: the branch has that write and lock in the state
 pub seen_held : (branches : BranchMap) (rows : RowMap) (xid : Xid) (key : List ℕ) (change : Change) →
     is_some (map.get branches xid) ≡ true → IsFreeFor xid (map.get rows key) →
     state_of branches (map.insert rows key (held_row xid change (map.get rows key)))
@@ -292,12 +300,12 @@ seen_held branches rows xid key change known free =
 
 -- ---- a row that a branch comes to share
 
--- it holds it in neither way, and none of the others holds it exclusively
+-- the branch may come to share the row: it doesn't hold it, and no other holds it exclusively
 pub record IsShareable (xid : Xid) (found : Option RowRecord) : Type 0 where
   pub unheld : is_some (mode_of xid found) ≡ false
   pub unlocked : locked_against (Active xid) found ≡ false
 
--- the branch that comes to share it
+-- a branch that comes to share a row that it may share holds it shared
 pub share_there : (xid : Xid) (found : Option RowRecord) → IsShareable xid found
     → lock_by xid (shared_row xid found) ≡ Some Shared
 share_there xid found is =
@@ -309,17 +317,18 @@ share_there xid found is =
     by None e = refl
     by (Some mode) e = absurd (true≢false e)
 
--- the others
+-- one branch more that shares a row leaves how the others have locked it
 pub share_others : (xid other : Xid) (found : Option RowRecord) → same_xid other xid ≡ false
     → lock_by other (shared_row xid found) ≡ mode_of other found
 share_others xid other found apart = sharer_beside xid other (lock_of found) apart ∙ sym (mode_of-lock other found)
 
--- nobody's write
+-- one branch more that shares a row leaves every write as it was
 share_writes : (xid other : Xid) (found : Option RowRecord)
     → write_by other (shared_row xid found) ≡ option_and_then (write_by other) found
 share_writes xid other None = refl
 share_writes xid other (Some row) = sharer_writes xid other row.lock
 
+-- a row that a branch comes to share: the branch has a lock more
 shared_branch : (rows : RowMap) (xid : Xid) (key : List ℕ) (branch : BranchRecord) → IsShareable xid (map.get rows key)
     →
     branch_seen (map.insert rows key (shared_row xid (map.get rows key))) xid branch
@@ -330,6 +339,7 @@ shared_branch rows xid key branch is = same_branch _ _ refl refl
     ∙ sym (ap (λ b. cond b (gather (lock_by xid) rows) (map.insert (gather (lock_by xid) rows) key Shared))
     (ap is_some (get-gather bytes_total exact_texts (lock_by xid) rows key) ∙ is.unheld)))
 
+-- a branch that comes to share a row leaves what the rows say of another branch
 shared_others : (rows : RowMap) (xid : Xid) (key : List ℕ) (other : Xid) → same_xid other xid ≡ false →
     branch_seen (map.insert rows key (shared_row xid (map.get rows key))) other ≡ branch_seen rows other
 shared_others rows xid key other apart =
@@ -343,6 +353,7 @@ shared_others rows xid key other apart =
         ≡ gather (lock_by other) rows
     locks = gather_insert_same (lock_by other) rows key _ (share_others xid other (map.get rows key) apart)
 
+-- a row's record with one sharer more is, in the state, that branch with a lock more
 pub seen_shared : (branches : BranchMap) (rows : RowMap) (xid : Xid) (key : List ℕ) →
     is_some (map.get branches xid) ≡ true → IsShareable xid (map.get rows key) →
     state_of branches (map.insert rows key (shared_row xid (map.get rows key)))

@@ -31,7 +31,7 @@ mode_in key found = option_and_then (λ (b : Branch). map.get b.locks key) found
 
 -- ---- how a row is held once another is
 
--- in share, where it wasn't held
+-- how a branch holds a row after it read it: as before, or shared if it didn't hold it
 shared_or : Option LockMode → LockMode
 shared_or None = Shared
 shared_or (Some mode) = mode
@@ -47,7 +47,7 @@ share_here locks key = by (map.get locks key) refl
     by None is = get_inserted bytes_total exact_texts locks key Shared
     by (Some mode) is = is
 
--- the other rows
+-- a shared lock more leaves the locks of other rows
 share_beside : (locks : RowLocks) (key other : List ℕ) → eq_by_cmp bytes_cmp other key ≡ false
     → map.get (with_share key locks) other ≡ map.get locks other
 share_beside locks key other apart = by (map.contains_key locks key)
@@ -56,7 +56,7 @@ share_beside locks key other apart = by (map.contains_key locks key)
     by true = refl
     by false = get_inserted_apart bytes_total exact_texts locks key Shared other apart
 
--- what was exclusive is, and nothing else
+-- sharing a row makes no row exclusive and leaves those that are
 pub share_exclusive : (locks : RowLocks) (key other : List ℕ)
     → is_exclusive (map.get (with_share key locks) other) ≡ is_exclusive (map.get locks other)
 unfolding shared_or
@@ -76,7 +76,7 @@ abbrev pub IsTaking : State → Association → Xid → List ℕ → Type 0
 IsTaking state association at key =
     (association ≡ Active at) × ((other : Xid) → holds_exclusively state other key ≡ true → other ≡ at)
 
--- one that comes to hold it exclusively is the session's, and no other holds it in either way
+-- the branch may come to hold the row exclusively: it is the session's, and no other holds the row
 abbrev pub IsLocking : State → Association → Xid → List ℕ → Type 0
 IsLocking state association at key =
     (association ≡ Active at) × ((other : Xid) → holds state other key ≡ true → other ≡ at)
@@ -85,12 +85,14 @@ IsLocking state association at key =
 unfoldable pub Before : (Option LockMode → Bool) → Type 0 → List ℕ → Option Branch → Option Branch → Type 0
 Before passes taking key new found = passes (mode_in key new) ≡ true → (passes (mode_in key found) ≡ true) ⊎ taking
 
+-- a branch that isn't there holds nothing, so nothing is to be shown of before
 before_none : (passes : Option LockMode → Bool) (taking : Type 0) → passes None ≡ false
     → (key : List ℕ) (found : Option Branch)
     → Before passes taking key None found
 unfolding Before mode_in
 before_none passes taking nothing key found e = absurd (true≢false (sym e ∙ nothing))
 
+-- a branch that was just started holds nothing, so nothing is to be shown of before
 before_started : (passes : Option LockMode → Bool) (taking : Type 0) → passes None ≡ false
     → (key : List ℕ) (session : ℕ) (found : Option Branch)
     → Before passes taking key (Some (started_by session)) found
@@ -107,7 +109,7 @@ before_same passes taking key change same None e = inl e
 before_same passes taking key change same (Some branch) e =
     inl (sym (ap (λ locks. passes (map.get locks key)) (same branch)) ∙ e)
 
--- a change that changes nothing
+-- a statement that changes nothing of a branch leaves what it holds
 before_still : (passes : Option LockMode → Bool) (taking : Type 0) (key : List ℕ) (found : Option Branch)
     → Before passes taking key found found
 unfolding Before
@@ -120,7 +122,7 @@ unfolding Before
 before_if passes taking key true new found from e = from refl e
 before_if passes taking key false new found from e = inl e
 
--- a GET
+-- a row that a branch holds after a GET it held before, or the GET took it
 read_held : (taking : Type 0) (key other : List ℕ) (found : Option Branch) → (other ≡ key → taking)
     → Before is_some taking other (option_map (with_lock key) found) found
 unfolding Before mode_in
@@ -130,13 +132,14 @@ read_held taking key other (Some branch) take e = elim (same_or_apart bytes_tota
   | inr apart ↦ inl (sym (ap is_some (share_beside branch.locks key other apart)) ∙ e)
 ]
 
+-- a GET takes nothing exclusively: what is exclusive after it was so before
 read_exclusive : (taking : Type 0) (key other : List ℕ) (found : Option Branch)
     → Before is_exclusive taking other (option_map (with_lock key) found) found
 unfolding Before mode_in
 read_exclusive taking key other None e = inl e
 read_exclusive taking key other (Some branch) e = inl (sym (share_exclusive branch.locks key other) ∙ e)
 
--- a PUT or a DEL
+-- a row that a branch holds after a PUT or DEL it held before, or the statement took it
 written_held : (passes : Option LockMode → Bool) (taking : Type 0) (key other : List ℕ) (write : Write)
     (found : Option Branch) → (other ≡ key → taking)
     → Before passes taking other (option_map (with_own_write key write) found) found
@@ -152,6 +155,7 @@ written_held passes taking key other write (Some branch) take e =
 
 -- ---- who holds a row against a session
 
+-- a branch that holds a row is there
 known_holder : (passes : Option LockMode → Bool) → passes None ≡ false → (key : List ℕ) (found : Option Branch)
     → passes (mode_in key found) ≡ true
     → is_some found ≡ true
@@ -159,6 +163,7 @@ unfolding mode_in
 known_holder passes nothing key None e = absurd (true≢false (sym e ∙ nothing))
 known_holder passes nothing key (Some branch) e = refl
 
+-- if no other branch holds a row in a way that passes, who does is the session's own branch
 against : (passes : Option LockMode → Bool) → passes None ≡ false → (state : State) (own : Xid) (key : List ℕ) →
     list_any (λ other. is_another (Active own) other && passes (lock_at state other key)) (map.keys state.branches)
     ≡ false → (xid : Xid)
@@ -173,12 +178,14 @@ against passes nothing state own key none xid e = elim (same_or_apart xids_total
       (ap (λ b. not b && passes (lock_at state xid key)) apart ∙ e)) ∙ none))
 ]
 
+-- if a row isn't locked against a session, only its own branch can hold it exclusively
 unlocked : (state : State) (own : Xid) (key : List ℕ) → is_locked_against state (Active own) key ≡ false → (xid : Xid)
     → holds_exclusively state xid key ≡ true
     → xid ≡ own
 unfolding is_locked_against
 unlocked state own key none = against is_exclusive refl state own key none
 
+-- if a row isn't held against a session, only its own branch can hold it
 unheld : (state : State) (own : Xid) (key : List ℕ) → is_held_against state (Active own) key ≡ false → (xid : Xid)
     → holds state xid key ≡ true → xid ≡ own
 unfolding is_held_against
@@ -186,7 +193,7 @@ unheld state own key none = against is_some refl state own key none
 
 -- ---- the session's own branch takes a row
 
--- by a GET
+-- a GET of a row that isn't locked against the session takes it
 takes : (state : State) (own at : Xid) (key other : List ℕ) → is_locked_against state (Active own) key ≡ false
     → same_xid at own ≡ true → other ≡ key
     → IsTaking state (Active own) at other
@@ -197,7 +204,7 @@ takes state own at key other none same is =
           ∙ sym here,
     )
 
--- by a PUT or a DEL
+-- a PUT or DEL of a row that isn't held against the session locks it
 locks : (state : State) (own at : Xid) (key other : List ℕ) → is_held_against state (Active own) key ≡ false
     → same_xid at own ≡ true → other ≡ key
     → IsLocking state (Active own) at other
@@ -205,12 +212,13 @@ locks state own at key other none same is =
     let here : at ≡ own = one_xid at own same in
     (ap Active (sym here), λ xid e. unheld state own key none xid (ap (holds state xid) (sym is) ∙ e) ∙ sym here)
 
--- who locks a row takes it
+-- who locks a row exclusively takes it
 locking_takes : (state : State) (association : Association) (at : Xid) (key : List ℕ)
     → IsLocking state association at key → IsTaking state association at key
 locking_takes state association at key locking =
     (locking.0, λ xid e. locking.1 xid (exclusive_some (lock_at state xid key) e))
 
+-- a row that a branch holds after an accepted statement it held before, or the statement took it
 pub held_before : (state : State) (session : ℕ) (association : Association) (statement : Statement)
     → is_refused (table state association statement) ≡ false
     → (at : Xid) (key : List ℕ) →
@@ -266,6 +274,7 @@ held_before state session (Idle own) Disconnect accepted at key =
     before_if is_some _ key (same_xid at own) _ (map.get state.branches at)
     (λ same. before_none is_some _ refl key (map.get state.branches at))
 
+-- a row that a branch holds exclusively after an accepted statement it held so before, or the statement took it so
 pub exclusive_before : (state : State) (session : ℕ) (association : Association) (statement : Statement)
     → is_refused (table state association statement) ≡ false
     → (at : Xid) (key : List ℕ) →
@@ -324,9 +333,11 @@ exclusive_before state session (Idle own) Disconnect accepted at key =
     before_if is_exclusive _ key (same_xid at own) _ (map.get state.branches at)
     (λ same. before_none is_exclusive _ refl key (map.get state.branches at))
 
+-- equal associations have equal identifiers
 active_of : (xid other : Xid) → Active xid ≡ Active other → xid ≡ other
 active_of xid other e = cc
 
+-- who holds a row exclusively, before or by a statement, alone holds it: so the lock law goes on
 pub one_holder : (state : State) (association : Association) → LockLaw state → (xid other : Xid) (key : List ℕ)
     → (holds_exclusively state xid key ≡ true) ⊎ IsLocking state association xid key
     → (holds state other key ≡ true) ⊎ IsTaking state association other key

@@ -23,25 +23,29 @@ use Rattle.xa_server.proofs.Index.{same_value, not_none}
 use Rattle.xa_server.proofs.Holders.{zero_or_one, mode_of}
 use Rattle.xa_server.proofs.Ending.{IsListedIn, own_mode, beside_mode}
 
+-- the session that owns a branch, by its record
 owner : Option BranchRecord → Option ℕ
 owner found = option_and_then (λ (b : BranchRecord). b.owner) found
 
--- how often a record lists the row
+-- how often a branch's record lists the row, 0 if there is no record
 times : List ℕ → Option BranchRecord → ℕ
 times key found = option_map_or (λ (b : BranchRecord). times_in key b.held) found 0
 
--- once, or never
+-- how often a key is listed that is listed at most once: 1 or 0, by a test
 once : Bool → ℕ
 once held = cond held 1 0
 
 -- ---- how often a list names a row
 
+-- a sum with one more in its first part
 one_more : (a b c : ℕ) → a ≡ b + c → suc a ≡ suc b + c
 one_more a b c e = omega (arith, e)
 
+-- adding 0 changes nothing
 plus_none : (n : ℕ) → n + 0 ≡ n
 plus_none n = omega arith
 
+-- how often a key is in a list with one key more
 pub times_more : (key other : List ℕ) (keys : List (List ℕ))
     → times_in key (keys ++ other ∷ []) ≡ times_in key keys + cond (eq_by_cmp bytes_cmp key other) 1 0
 times_more key other [] = by (eq_by_cmp bytes_cmp key other)
@@ -59,6 +63,7 @@ times_more key other (x ∷ keys) = by (eq_by_cmp bytes_cmp key x) (times_more k
     by true rest = one_more _ _ _ rest
     by false rest = rest
 
+-- a key that isn't in a list is there 0 times
 times_none : (key : List ℕ) (keys : List (List ℕ)) → list_any (eq_by_cmp bytes_cmp key) keys ≡ false
     → times_in key keys ≡ 0
 times_none key [] e = refl
@@ -91,6 +96,7 @@ abbrev OwnOne : BranchMap → Type 0
 OwnOne branches = (session : ℕ) (xid other : Xid) → owner_of branches xid ≡ Some session
     → owner_of branches other ≡ Some session → xid ≡ other
 
+-- where there are no records, they are whole
 pub whole_empty : IsWhole map.empty map.empty
 unfolding times once
 whole_empty = record {
@@ -191,7 +197,7 @@ owners_changed branches xid change attached owners all one = by (map.get branche
               (change branch) other apart)) ∙ e
         ]
 
--- the record, after the change
+-- changing the record of a branch, seen at that branch: the changed record, if there was one
 pub changed_at : (branches : BranchMap) (xid : Xid) (change : BranchRecord → BranchRecord)
     → map.get (with_record branches xid change) xid ≡ option_map change (map.get branches xid)
 changed_at branches xid change = by (map.get branches xid) refl
@@ -202,7 +208,7 @@ changed_at branches xid change = by (map.get branches xid) refl
     by None is = is
     by (Some branch) is = get_inserted xids_total exact_xids branches xid (change branch)
 
--- the other records
+-- changing one branch's record leaves the others'
 changed_beside : (branches : BranchMap) (xid : Xid) (change : BranchRecord → BranchRecord) (other : Xid)
     → same_xid other xid ≡ false
     → map.get (with_record branches xid change) other ≡ map.get branches other
@@ -242,7 +248,7 @@ whole_changed branches rows xid change attached owners held whole =
 
 -- ---- records of rows
 
--- rows that the same branches hold
+-- if each branch holds the same rows as before, the records still fit the new rows
 pub whole_rows : (branches : BranchMap) (old new : RowMap)
     → ((xid : Xid) (key : List ℕ) → is_some (mode_of xid (map.get new key)) ≡ is_some (mode_of xid (map.get old key)))
     → IsWhole branches old
@@ -253,7 +259,7 @@ whole_rows branches old new same whole = record {
   listed_once = λ xid key. whole.listed_once xid key ∙ ap (λ held. cond held 1 0) (sym (same xid key));
 }
 
--- a new record of a row that the same branches hold
+-- if the same branches hold a row by its new record, the records still fit each other
 pub whole_row : (branches : BranchMap) (rows : RowMap) (key : List ℕ) (row : RowRecord)
     → ((xid : Xid) → is_some (lock_by xid row) ≡ is_some (mode_of xid (map.get rows key))) → IsWhole branches rows
     → IsWhole branches (map.insert rows key row)
@@ -273,6 +279,7 @@ pub whole_put : (branches : BranchMap) (rows : RowMap) (key : List ℕ) (row : R
 whole_put branches rows key row after before whole =
     whole_row branches rows key row (λ xid. ap is_some (after xid) ∙ sym (ap is_some (before xid))) whole
 
+-- the records stay whole when a row's record is removed that no branch holds
 pub whole_deleted : (branches : BranchMap) (rows : RowMap) (key : List ℕ)
     → ((xid : Xid) → mode_of xid (map.get rows key) ≡ None) → IsWhole branches rows
     → IsWhole branches (map.remove rows key)
@@ -286,10 +293,11 @@ whole_deleted branches rows key free whole =
 
 -- ---- a branch that comes to hold a row, and lists it
 
--- the record with one key more
+-- the branch's record with one key more among those that it holds
 unfoldable pub longer : List ℕ → BranchRecord → BranchRecord
 longer key branch = record branch { held = branch.held ++ key ∷ [] }
 
+-- the records stay whole when a branch comes to hold a row, if it lists the row's key once more
 pub whole_more : (branches : BranchMap) (rows : RowMap) (xid : Xid) (key : List ℕ) (row : RowRecord)
     → is_some (map.get branches xid) ≡ true →
     is_some (mode_of xid (map.get rows key)) ≡ false → is_some (lock_by xid row) ≡ true →
@@ -355,6 +363,7 @@ unfolding times once
 listed_rows branches rows xid branch whole is key e =
     listed_of_times key branch.held (sym (ap (times key) is) ∙ whole.listed_once xid key ∙ ap once e)
 
+-- the records stay whole when a branch ends whose rows were all freed
 pub whole_ended : (branches : BranchMap) (commits : Bool) (xid : Xid) (keys : List (List ℕ)) (old new : RowMap)
     → Frees commits xid keys old new
     → IsListedIn xid keys old →

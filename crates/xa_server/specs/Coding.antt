@@ -57,9 +57,11 @@ abbrev pub mode_back : (mode : LockMode) → mode_of_number (number_of_mode mode
 mode_back Shared = refl
 mode_back Exclusive = refl
 
+-- a lock's mode is encoded as a number, too
 abbrev pub coded_mode : Coded LockMode
 coded_mode = code_by ℕ coded_ℕ number_of_mode mode_of_number mode_back
 
+-- a branch is encoded by its phase, owner, writes and locks
 abbrev pub coded_branch : Coded Branch
 coded_branch =
     code_by (Phase × (Option ℕ × (map.FinMap bytes_cmp Write × RowLocks)))
@@ -68,6 +70,7 @@ coded_branch =
     (λ b. (b.phase, (b.owner, (b.writes, b.locks))))
     (λ p. record { phase = p.0; owner = p.1.0; writes = p.1.1.0; locks = p.1.1.1 }) (λ _. refl)
 
+-- a state is encoded by its branches and rows
 abbrev pub coded_state : Coded State
 coded_state =
     code_by (map.FinMap xid_cmp Branch × map.FinMap bytes_cmp Text)
@@ -78,11 +81,13 @@ coded_state =
 abbrev pub coded_keys : Coded (List (List ℕ))
 coded_keys = coded_list coded_key
 
+-- the record of a branch is encoded by its fields
 abbrev pub coded_branch_record : Coded BranchRecord
 coded_branch_record =
     code_by (Phase × (Option ℕ × List (List ℕ))) (coded× coded_phase (coded× (coded_option coded_ℕ) coded_keys))
     (λ b. (b.phase, (b.owner, b.held))) (λ p. record { phase = p.0; owner = p.1.0; held = p.1.1 }) (λ _. refl)
 
+-- the map of all branches' records is encoded by its entries
 abbrev pub coded_branches : Coded (map.FinMap xid_cmp BranchRecord)
 coded_branches = map.code coded_xid coded_branch_record
 
@@ -96,6 +101,7 @@ abbrev pub change_back : (change : Change) → change_of (write_of change) ≡ c
 change_back (Put value) = refl
 change_back Delete = refl
 
+-- a change of a row is encoded as the write that it makes
 abbrev pub coded_change : Coded Change
 coded_change = code_by Write (coded_option coded_text) write_of change_of change_back
 
@@ -114,16 +120,19 @@ abbrev pub lock_back : (lock : Lock) → lock_of_parts (holder_and_sharers lock)
 lock_back (HeldBy holder change) = refl
 lock_back (SharedBy sharers) = refl
 
+-- a lock is encoded by who holds it, and by the change if it is exclusive
 abbrev pub coded_lock : Coded Lock
 coded_lock =
     code_by (Option (Xid × Change) × Sharing) (coded× (coded_option (coded× coded_xid coded_change))
     (set.code coded_xid))
     holder_and_sharers lock_of_parts lock_back
 
+-- the record of a row is encoded by its committed value and its lock
 abbrev pub coded_row_record : Coded RowRecord
 coded_row_record =
     code_by (Option Text × Lock) (coded× (coded_option coded_text) coded_lock)
     (λ r. (r.committed, r.lock)) (λ p. record { committed = p.0; lock = p.1 }) (λ _. refl)
 
+-- the map of all rows' records is encoded by its entries
 abbrev pub coded_rows : Coded (map.FinMap bytes_cmp RowRecord)
 coded_rows = map.code coded_key coded_row_record

@@ -11,6 +11,7 @@ use Rattle.xa_server.specs.declared.xa_error.XaError.TheVariants.{Nota, Inval, R
 use Rattle.xa_server.specs.declared.xa_error.BranchState.{BranchState}
 use Rattle.xa_server.specs.declared.xa_error.BranchState.TheVariants.{NonExisting, Active, Idle, Prepared}
 
+-- the number of a refusal
 abbrev pub number_of : XaError → ℕ
 number_of Nota = 1397
 number_of Inval = 1398
@@ -18,6 +19,7 @@ number_of (Rmfail state) = 1399
 number_of Dupid = 1440
 number_of RowLocked = 3572
 
+-- the SQLSTATE of a refusal
 abbrev pub sqlstate_of : XaError → List ℕ
 sqlstate_of Nota = codes "XAE04"
 sqlstate_of Inval = codes "XAE05"
@@ -33,6 +35,7 @@ xa_code_of (Rmfail state) = Some (negsuc 6)
 xa_code_of Dupid = Some (negsuc 7)
 xa_code_of RowLocked = None
 
+-- a branch's state as the text of XAER_RMFAIL names it
 abbrev pub state_text : BranchState → List ℕ
 state_text NonExisting = codes "NON-EXISTING"
 state_text Active = codes "ACTIVE"

@@ -18,7 +18,7 @@ use Rattle.xa_server.specs.declared.association.Association.{Association}
 use Rattle.xa_server.specs.declared.association.Association.TheVariants.{Free, Active, Idle}
 use Rattle.xa_server.specs.State.{Write, LockMode, Branch, State, association_of}
 
--- a branch, without its rows
+-- a branch as a list shows it: identifier, phase and owner, without its rows
 abbrev pub entry_of : Xid × Branch → BranchEntry
 entry_of named = record { xid = named.0; phase = named.1.phase; owner = named.1.owner }
 
@@ -44,7 +44,7 @@ rows_held branch = map (held_row branch) (fin.entries branch.locks)
 unfoldable pub rows_of : State → Xid → List HeldRow
 rows_of state xid = option_map_or rows_held (fin.get state.branches xid) []
 
--- the keys of rows
+-- the keys of rows that a branch holds
 abbrev pub keys_of : List HeldRow → List (List ℕ)
 keys_of rows = map (λ row. row.key) rows
 

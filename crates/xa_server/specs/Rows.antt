@@ -29,6 +29,7 @@ use Rattle.xa_server.specs.State.{Write, LockMode, Shared, Exclusive, Branch}
 use Rattle.xa_server.specs.Step.{with_own_write}
 use Rattle.xa_server.specs.Locks.{is_another}
 
+-- the records of rows, by their keys
 abbrev pub RowMap : Type 0
 RowMap = map.FinMap bytes_cmp RowRecord
 
@@ -36,15 +37,16 @@ RowMap = map.FinMap bytes_cmp RowRecord
 abbrev pub Sharing : Type 0
 Sharing = set.FinSet xid_cmp
 
+-- the committed value of a row, if it has a record and one in it
 abbrev pub committed_of : Option RowRecord → Option Text
 committed_of found = option_and_then (λ row. row.committed) found
 
--- who holds a row: nobody, if it has no record
+-- the lock of a row: nobody's, if it has no record
 abbrev pub lock_of : Option RowRecord → Lock
 lock_of None = SharedBy set.empty
 lock_of (Some row) = row.lock
 
--- what the change writes
+-- what a change writes to its row: a value, or none if it deletes
 abbrev pub write_of : Change → Write
 write_of (Put value) = Some value
 write_of Delete = None
@@ -54,6 +56,7 @@ abbrev pub write_in : Xid → Lock → Option Write
 write_in xid (HeldBy holder change) = cond (same_xid holder xid) (Some (write_of change)) None
 write_in xid (SharedBy sharers) = None
 
+-- what a branch has written to a row, if it holds it exclusively and has
 abbrev pub write_by : Xid → RowRecord → Option Write
 write_by xid row = write_in xid row.lock
 
@@ -62,6 +65,7 @@ abbrev pub mode_in : Xid → Lock → Option LockMode
 mode_in xid (HeldBy holder change) = cond (same_xid holder xid) (Some Exclusive) None
 mode_in xid (SharedBy sharers) = cond (set.contains sharers xid) (Some Shared) None
 
+-- how a branch has locked a row
 abbrev pub lock_by : Xid → RowRecord → Option LockMode
 lock_by xid row = mode_in xid row.lock
 
@@ -70,7 +74,7 @@ abbrev pub held_beside : Association → Lock → Bool
 held_beside association (HeldBy holder change) = is_another association holder
 held_beside association (SharedBy sharers) = list_any (is_another association) (set.items sharers)
 
--- such a branch holds the row exclusively
+-- whether another branch than the session's own holds the row exclusively, by its lock
 abbrev pub locked_beside : Association → Lock → Bool
 locked_beside association (HeldBy holder change) = is_another association holder
 locked_beside association (SharedBy sharers) = false
@@ -79,7 +83,7 @@ locked_beside association (SharedBy sharers) = false
 abbrev pub held_against : Association → Option RowRecord → Bool
 held_against association found = option_map_or (λ row. held_beside association row.lock) found false
 
--- such a branch holds it exclusively
+-- whether another branch than the session's own holds the row exclusively, by its record
 abbrev pub locked_against : Association → Option RowRecord → Bool
 locked_against association found = option_map_or (λ row. locked_beside association row.lock) found false
 

@@ -43,16 +43,17 @@ pub record Branch : Type 0 where
   -- the rows that it holds until it ends, each in share or exclusively
   pub locks : RowLocks
 
--- a resource manager
+-- the state of a resource manager: its branches and the committed values of its rows
 pub record State : Type 0 where
   pub branches : map.FinMap xid_cmp Branch
   -- the committed value of each row that has one
   pub rows : map.FinMap bytes_cmp Text
 
+-- the empty store: no branch, no row
 unfoldable pub no_state : State
 no_state = record { branches = map.empty; rows = map.empty }
 
--- a branch has this identifier
+-- whether a branch has this identifier
 abbrev pub is_known : State → Xid → Bool
 is_known state xid = map.contains_key state.branches xid
 
@@ -60,7 +61,7 @@ is_known state xid = map.contains_key state.branches xid
 abbrev pub phase_at : State → Xid → Option Phase
 phase_at state xid = option_map (λ branch. branch.phase) (map.get state.branches xid)
 
--- the phase is PREPARED
+-- whether the phase is PREPARED
 abbrev pub is_prepared_phase : Phase → Bool
 is_prepared_phase PhaseActive = false
 is_prepared_phase PhaseIdle = false

@@ -112,7 +112,7 @@ after state session statement = unless_refused (reply_to state session statement
 abbrev pub Step : State → ℕ → Statement → Reply → State → Type 0
 Step old session statement reply new = (reply ≡ reply_to old session statement) × (new ≡ after old session statement)
 
--- the reply is a refusal
+-- whether the reply is a refusal
 abbrev pub is_refused : Reply → Bool
 is_refused Accepted = false
 is_refused (Value value) = false

@@ -23,6 +23,7 @@ use Rattle.xa_server.specs.declared.association.Association.{Association}
 use Rattle.xa_server.specs.declared.association.Association.TheVariants.{Free, Active, Idle}
 use Rattle.xa_server.specs.State.{is_prepared_phase, association_in}
 
+-- the records of branches, by their identifiers
 abbrev pub BranchMap : Type 0
 BranchMap = map.FinMap xid_cmp BranchRecord
 

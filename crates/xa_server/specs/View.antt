@@ -55,7 +55,7 @@ unfoldable pub state_of : BranchMap → RowMap → State
 state_of branches rows =
     record { branches = mapped (branch_seen rows) branches; rows = gather (λ row. row.committed) rows }
 
--- how often a list names the row
+-- how often a list of keys names the row
 abbrev pub times_in : List ℕ → List (List ℕ) → ℕ
 times_in key keys = length (filter (eq_by_cmp bytes_cmp key) keys)
 
@@ -67,7 +67,7 @@ times_listed branches xid key = option_map_or (λ branch. times_in key branch.he
 abbrev pub is_holder : RowMap → Xid → List ℕ → Bool
 is_holder rows xid key = is_some (option_and_then (lock_by xid) (map.get rows key))
 
--- what the records keep
+-- what the records of branches and rows keep: each part says what it has to do with the others
 pub record IsWhole (branches : BranchMap) (rows : RowMap) : Type 0 where
   -- exactly the PREPARED branches have no owner
   pub attached : (xid : Xid) (branch : BranchRecord) → map.get branches xid ≡ Some branch

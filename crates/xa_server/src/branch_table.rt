@@ -76,6 +76,7 @@ fn make_place(opened: &mut Vec<Association>, session: SessionNo) -> Result<(), N
     ensures same { (at : ℕ) → opened_in opened.new.items at ≡ opened_in opened.old.items at }
     ensures there { OnOk result (session < length opened.new.items) }
 {
+    // The index only grows, and not beyond the greatest session number that was used.
     while opened.len() <= place_of(session) {
         opened.push(Association::Free)?;
     }

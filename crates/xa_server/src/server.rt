@@ -135,6 +135,7 @@ impl Server {
         // Proved (server, lock-law)
         ensures { LockLaw self.now }
     {
+        // The law is part of what every server keeps (`IsWhole`), so there is nothing to do.
         let _branches = &self.branches;
     }
 

@@ -105,6 +105,7 @@ fn take_out_of_list(few: &mut Vec<SharedXid>, xid: &Xid)
 fn take_out(many: &mut BTreeSet<Xid>, xid: &Xid)
     ensures { Updates xid_cmp many.old many.new xid.now false }
 {
+    // Whether it was there doesn't matter: it isn't afterwards.
     let _was_there = many.remove(xid);
     if many.is_empty() {
         many.clear();
@@ -136,7 +137,7 @@ impl SeveralSharers {
         has_all_in_list(sharers, &self.few) && has_all_in(sharers, &self.many)
     }
 
-    /// Copies them.
+    /// Copies the branches that share the row.
     pub fn copy(&self) -> Result<SeveralSharers, NoMemory>
         ensures { IfOk result (λ copy. copy ≡ self.now) }
     {
@@ -169,6 +170,7 @@ impl SeveralSharers {
         if self.few.len() < FEW {
             self.few.push(xid.try_clone()?)?;
         } else {
+            // A set, so adding one that is there changes nothing.
             let _is_new = self.many.insert(xid.xid().copy())?;
         }
         Ok(())

@@ -24,6 +24,7 @@ use Rattle.xa_xid.specs.declared.statement.Statement.TheVariants.{Disconnect}
 use Rattle.xa_session.proofs.Entering.{disconnect_accepted}
 use Rattle.xa_session.proofs.Replaying.{state_at-begins, state_at-whole}
 
+-- the entry that was put behind a history stands at its end
 pub slice_get-last : (xs : List Entry) (entry : Entry) → slice_get (xs ++ entry ∷ []) (length xs) ≡ Some entry
 slice_get-last [] entry = refl
 slice_get-last (x ∷ xs) entry = slice_get-last xs entry
@@ -52,10 +53,12 @@ replied base statement answer entering known server session replayed place state
           ∙ ap (λ n. enters (state_at base known.seen (length known.seen)) n statement) number;
     }
 
+-- a look goes on from what a session knew: it sees no less
 pub advances_looked : (old new : Known) → Looked old new → Advances old new
 advances_looked old new looked =
     record { number = looked.number; seen = looked.seen; looks = omega arith; tries = omega arith }
 
+-- and two steps that go on do together
 pub advances_through : (old mid new : Known) → Advances old mid → Advances mid new → Advances old new
 advances_through old mid new first second = record {
   number = second.number ∙ first.number;
@@ -64,7 +67,7 @@ advances_through old mid new first second = record {
   tries = omega arith;
 }
 
--- a statement that doesn't enter
+-- a look and then a reply that doesn't enter the history are an answer
 pub answered_outside : (base : State) (statement : Statement) (answer : Answer) (old new : Known) → Looked old new
     → IsReply base statement answer false new
     → IsAnswered base statement answer old new
@@ -89,7 +92,7 @@ answered_outside base statement answer old new looked is =
       outside = λ _. record { whole = sym is.place; mine = looked.mine };
     }
 
--- a statement that enters, and was added
+-- a statement that enters the history is answered once its entry is added
 pub answered_entered : (base : State) (statement : Statement) (answer : Answer) (old mid new : Known) → Looked old mid
     → IsReply base statement answer true mid
     → IsAdded (entry_of mid.number statement) mid new → IsAnswered base statement answer old new
@@ -149,7 +152,7 @@ kept_by (Ok _) entry old new replayed grown added whole next memory =
     let longer = ap length added.seen ∙ length-append old.seen (entry ∷ []) in inl (omega arith)
 kept_by (Err _) entry old new replayed grown added whole next memory = inr memory
 
--- the same, as the answer's place has it
+-- the replica after an entry was carried out on it, as the place of the entry's answer has it
 pub kept_entered : (base : State) (statement : Statement) (answer : Answer) (entry : Entry) (mid new : Known)
     (replica : Replica) (server : State)
     (session replayed : ℕ)
@@ -168,13 +171,16 @@ kept_entered base statement answer entry mid new replica server session replayed
     (ap (λ s. may_take_memory s new.number statement) there
     ∙ ap (λ n. may_take_memory server n statement) (added.number ∙ sym number) ∙ m)) kept
 
+-- a look that isn't followed by an answer adds nothing
 pub unanswered_looked : (old new : Known) → Looked old new → IsUnanswered old new
 unanswered_looked old new looked = record { advances = advances_looked old new looked; mine = looked.mine }
 
+-- two steps of a session, neither of which is answered, add nothing together
 pub unanswered_through : (old mid new : Known) → IsUnanswered old mid → IsUnanswered mid new → IsUnanswered old new
 unanswered_through old mid new first second =
     record { advances = advances_through old mid new first.advances second.advances; mine = second.mine ∙ first.mine }
 
+-- an attempt that another client got ahead of, with a look before it
 pub fails_overtaken : (front : ℕ) (old mid new : Known) → Looked old mid → IsOvertaken front mid new
     → IsOvertaken front old new
 fails_overtaken front old mid new looked lost = record {
@@ -187,6 +193,7 @@ fails_overtaken front old mid new looked lost = record {
   tries = omega arith;
 }
 
+-- an attempt whose reply would enter, in a log that is full
 pub fails_full : (base : State) (capacity : ℕ) (statement : Statement) (answer : Answer) (old new : Known)
     → Looked old new
     → IsReply base statement answer true new → length new.seen ≡ capacity → IsFull base capacity statement old new
@@ -198,6 +205,7 @@ fails_full base capacity statement answer old new looked is full = record {
   full = full;
 }
 
+-- an attempt that found another client at work
 pub fails_busy : (old mid new : Known) → Looked old mid → IsBusy mid new → IsUnanswered old new
 fails_busy old mid new looked busy = record {
   advances = record {
@@ -211,6 +219,7 @@ fails_busy old mid new looked busy = record {
 
 -- tries one after another
 
+-- so an attempt that fails, for whatever reason, adds nothing
 pub fails_unanswered : (turns : Bool) (capacity : ℕ) (base : State) (statement : Statement) (fault : Fault)
     (old new : Known)
     → Fails turns capacity base statement fault old new → IsUnanswered old new
@@ -222,6 +231,7 @@ fails_unanswered turns capacity base statement Full old new fails = fails.unansw
 fails_unanswered turns capacity base statement NoMemory old new fails = fails
 fails_unanswered turns capacity base statement Busy old new fails = fails.1
 
+-- a session that makes no attempt adds nothing
 pub unanswered_itself : (known : Known) → IsUnanswered known known
 unanswered_itself known =
     record {
@@ -230,6 +240,7 @@ unanswered_itself known =
       mine = refl;
     }
 
+-- an answer after attempts that failed is an answer to the statement
 pub then_answered : (base : State) (statement : Statement) (answer : Answer) (old mid new : Known)
     → IsUnanswered old mid
     → IsAnswered base statement answer mid new → IsAnswered base statement answer old new
@@ -253,6 +264,7 @@ then_answered base statement answer old mid new first is =
           record { whole = stays.whole; mine = stays.mine ∙ first.mine };
     }
 
+-- a log that is full after attempts that failed is full for the statement
 pub then_full : (base : State) (capacity : ℕ) (statement : Statement) (old mid new : Known) → IsUnanswered old mid
     → IsFull base capacity statement mid new
     → IsFull base capacity statement old new
@@ -262,7 +274,7 @@ then_full base capacity statement old mid new first is = record {
   full = is.full;
 }
 
--- DISCONNECT is answered Ok
+-- an answer to DISCONNECT is Ok
 pub disconnected : (base : State) (answer : Answer) (old new : Known) → IsAnswered base Disconnect answer old new
     → IsAnswered base Disconnect (record { place = answer.place; reply = Accepted }) old new
 disconnected base answer old new is = record {

@@ -19,7 +19,7 @@ use Rattle.xa_session.specs.Replay.{state_after, state_at}
 use Rattle.xa_session.specs.declared.answer.Answer.{Answer}
 use Rattle.xa_session.proofs.Replaying.{state_after-last, state_at-whole}
 
--- an entry that is left out of the entries of a number
+-- if an entry and the rest, filtered, leave nothing, the entry didn't pass and the rest is empty
 left_out : (is : Bool) (entry : Entry) (rest : List Entry) → cond is (entry ∷ rest) rest ≡ []
     → (is ≡ false) × (rest ≡ [])
 left_out true entry rest none = absurd (cc)
@@ -36,18 +36,20 @@ others_only number (entry ∷ rest) state law none =
     others_only number rest next (law_after state entry.session entry.statement law) out.1
     ∙ (others_left state law entry.session number entry.statement (eqb-false entry.session number out.0)).association
 
+-- the state after two parts of a history is the state after the second, from that after the first
 state_after-append : (base : State) (xs ys : List Entry)
     → state_after base (xs ++ ys) ≡ state_after (state_after base xs) ys
 unfolding state_after
 state_after-append base [] ys = refl
 state_after-append base (x ∷ xs) ys = state_after-append (after base x.session x.statement) xs ys
 
+-- the lock law holds after each history, if it holds of the base
 pub law_seen : (base : State) (seen : List Entry) → LockLaw base → LockLaw (state_after base seen)
 unfolding state_after
 law_seen base [] law = law
 law_seen base (x ∷ xs) law = law_seen (after base x.session x.statement) xs (law_after base x.session x.statement law)
 
--- a longer history in which the session has no more entries
+-- a longer history, in which the session has no more entries, leaves what the session has open
 pub association_kept : (base : State) → LockLaw base → (number : ℕ) (old new : List Entry) → Begins old new
     → entries_of number new ≡ entries_of number old
     → association_of (state_after base new) number ≡ association_of (state_after base old) number
@@ -62,7 +64,7 @@ association_kept base law number old new begins own =
     ∙ ap (λ state. association_of state number) (state_after-append base old rest)
     ∙ others_only number rest (state_after base old) (law_seen base old law) none
 
--- nothing was added
+-- what a session has open stays while it has no statement answered, whatever others add
 pub association_unanswered : (base : State) → LockLaw base → (old new : Known) → IsUnanswered old new
     → entries_of old.number old.seen ≡ old.mine
     → entries_of new.number new.seen ≡ new.mine →
@@ -77,6 +79,7 @@ record IsBefore (old : Known) (front : List Entry) : Type 0 where
   begins : Begins old.seen front
   own : entries_of old.number front ≡ entries_of old.number old.seen
 
+-- the state in which a statement was answered, and what its session had open there
 before : (base : State) (statement : Statement) (answer : Answer) (old new : Known)
     → IsAnswered base statement answer old new →
     entries_of old.number old.seen ≡ old.mine → entries_of new.number new.seen ≡ new.mine
@@ -123,7 +126,7 @@ association_at base law statement answer old new is own_old own_new =
     let front = before base statement answer old new is own_old own_new in
     association_kept base law old.number old.seen (take answer.place new.seen) front.begins front.own
 
--- what an answered statement leaves
+-- after an answered statement that entered, its entry is the last one seen: the state is the one after it
 pub state_entered : (base : State) (statement : Statement) (answer : Answer) (old new : Known)
     → IsAnswered base statement answer old new
     → enters (state_at base new.seen answer.place) old.number statement ≡ true →

@@ -7,6 +7,7 @@ use Rattle.xa_session.specs.declared.answer.Answer.{Answer}
 use Rattle.xa_session.specs.declared.fault.Fault.{Fault}
 use Rattle.xa_session.specs.declared.session.Session.{Session}
 
+-- what an attempt finds on the session's replica is what the session is answered
 pub found_answers : {Log Pass : Type 0} {log : LogOf Log Pass} (statement : Statement) (result : Result Answer Fault)
     (old new : Session Log Pass log)
     → Finds log.TURNS (log.belongs_to old.pass).capacity old.base.now statement result new.replica (log.known old.pass)

@@ -14,10 +14,12 @@ use Rattle.xa_server.specs.declared.association.Association.TheVariants.{Free, A
 use Rattle.xa_server.specs.declared.reply.Reply.TheVariants.{Ok as Accepted, Recovered}
 use Rattle.xa_server.specs.Step.{enters, may_enter, is_refused}
 
+-- both don't hold if the second doesn't
 never_both : (b : Bool) → b && false ≡ true → ⊥
 never_both true is = cc
 never_both false is = cc
 
+-- a statement that enters is of a kind that makes an entry
 pub entering_makes_entry : (state : State) (session : ℕ) (statement : Statement) → enters state session statement ≡ true
     → makes_entry statement ≡ true
 unfolding enters may_enter
@@ -46,12 +48,14 @@ entering_accepted state session statement is =
     by true rest e = absurd (cc)
     by false rest e = refl
 
+-- DISCONNECT is accepted, whatever the session has open
 disconnect_in : (state : State) (association : Association) → table state association Disconnect ≡ Accepted
 unfolding table
 disconnect_in state Free = refl
 disconnect_in state (Active own) = refl
 disconnect_in state (Idle own) = refl
 
+-- DISCONNECT is answered Ok in each state
 pub disconnect_accepted : (state : State) (session : ℕ) → reply_to state session Disconnect ≡ Accepted
 unfolding reply_to
 disconnect_accepted state session = disconnect_in state (association_of state session)
@@ -65,7 +69,7 @@ recover_outside state session convert = none (not (is_refused (reply_to state se
     none true = refl
     none false = refl
 
--- and is answered the list of the prepared branches
+-- XA RECOVER is answered the list of the prepared branches
 pub recover_reply : (state : State) (session : ℕ) (convert : Bool)
     → reply_to state session (Recover convert) ≡ Recovered (prepared_xids state)
 unfolding reply_to table
@@ -82,6 +86,7 @@ pub is_made : (makes : Bool) (found : Option Entry) (entry : Entry) → found �
 is_made true found entry is makes = let P : Option Entry → Type 0 = λ o. IsSome o in subst P (sym is) (search rules)
 is_made false found entry is makes = absurd (cc)
 
+-- the entry that was made is the statement's
 pub made_entry : (makes : Bool) (found : Option Entry) (entry made : Entry)
     → found ≡ (if makes then Some entry else None) → found ≡ Some made → made ≡ entry
 made_entry true found entry made is was = cc

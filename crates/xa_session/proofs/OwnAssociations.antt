@@ -30,6 +30,7 @@ pub record IsOwned (session : ℕ) (state : State) (xid : Xid) : Type 0 where
   pub found : map.get state.branches xid ≡ Some branch
   pub owner : branch.owner ≡ Some session
 
+-- a session that owns a branch has it open
 owned_found : (session : ℕ) (state : State) (xid : Xid) → owns state session xid ≡ true → IsOwned session state xid
 owned_found session state xid is = by (map.get state.branches xid) refl
   where
@@ -66,7 +67,7 @@ associated state law session xid branch found owner =
     (own_found state session xid owned (λ other also. law.one_branch session xid other owned also))
     ∙ ap (λ (f : Option Branch). association_in (option_map (λ (b : Branch). b.phase) f) xid) found
 
--- the branches after an accepted statement
+-- an accepted statement leaves at each identifier the branch that branch_after gives
 done : (state : State) (session : ℕ) (statement : Statement) (at : Xid)
     → is_refused (reply_to state session statement) ≡ false →
     map.get (after state session statement).branches at ≡ branch_after session
@@ -87,7 +88,7 @@ started state law session xid accepted =
     ∙ ap (λ b. cond b (Some (started_by session)) (map.get state.branches xid))
     (same_itself xids_total exact_xids xid)) refl
 
--- after XA END it is IDLE
+-- after XA END the branch is the session's, and IDLE
 pub ended : (state : State) → LockLaw state → (session : ℕ) (xid : Xid)
     → is_refused (reply_to state session (End xid)) ≡ false
     → association_of (after state session (End xid)) session ≡ Idle xid
@@ -205,7 +206,7 @@ let_go state law session = by (association_of state session) refl (own_associati
     by (Active owned) is own = freed state law session owned own
     by (Idle owned) is own = freed state law session owned own
 
--- where it doesn't enter, the session had nothing open
+-- a DISCONNECT that doesn't enter the history is that of a session with nothing open
 pub outside_free : (state : State) (session : ℕ) → enters state session Disconnect ≡ false
     → association_of state session ≡ Free
 unfolding enters may_enter reply_to table

@@ -1,10 +1,29 @@
--- A session stays of its log, over calls one after another.
-use Rattle.std.proofs.Common.{refl, ◌∙◌}
-use Rattle.xa_session.specs.View.{SessionView, StaysOfLog}
+-- A session stays of its log, over calls one after another, and what they take adds up.
+use Rattle.std.proofs.Common.{◌≡◌, ◌+◌, ℕ, Option, Some, None, refl, sym, ◌∙◌, subst, arith}
+use Rattle.xa_session.specs.View.{SessionView, KeepsLimit, StaysOfLog, Takes}
 
+limit_itself : (left : Option ℕ) → KeepsLimit left left
+limit_itself None = refl
+limit_itself (Some left) = (left, refl, omega arith)
+
+limit_through : (old mid new : Option ℕ) → KeepsLimit old mid → KeepsLimit mid new → KeepsLimit old new
+limit_through None mid new first second = subst (λ m. KeepsLimit m new) first second
+limit_through (Some before) mid new first second =
+    let last = subst (λ m. KeepsLimit m new) first.1 second in
+    (last.0, last.1, omega (arith, first.2, last.2))
+
+-- a session that isn't used stays of its log
 pub stays_itself : (session : SessionView) → StaysOfLog session session
-stays_itself session = record { identity = refl; turns = refl; base = refl; beside = refl }
+stays_itself session = record {
+  identity = refl;
+  turns = refl;
+  base = refl;
+  beside = refl;
+  left = limit_itself session.left;
+  starved = λ starved. starved;
+}
 
+-- a session that stays of its log through each of two calls stays so through both
 pub stays_through : (old mid new : SessionView) → StaysOfLog old mid → StaysOfLog mid new → StaysOfLog old new
 stays_through old mid new first second =
     record {
@@ -12,4 +31,14 @@ stays_through old mid new first second =
       turns = second.turns ∙ first.turns;
       base = second.base ∙ first.base;
       beside = second.beside ∙ first.beside;
+      left = limit_through old.left mid.left new.left first.left second.left;
+      starved = λ starved. second.starved (first.starved starved);
     }
+
+-- some statements, and then some more
+pub takes_through : (count more : ℕ) (old mid new : Option ℕ) → Takes count old mid → Takes more mid new
+    → Takes (count + more) old new
+takes_through count more None mid new first second = subst (λ m. Takes more m new) first second
+takes_through count more (Some before) mid new first second =
+    let last = subst (λ m. Takes more m new) first.1 second in
+    (last.0, last.1, omega (arith, first.2, last.2))

@@ -8,7 +8,7 @@ use Rattle.decision_log.specs.declared.fault.AddFault.TheVariants.{Busy as IsBus
 use Rattle.xa_session.specs.declared.fault.Fault.{Fault}
 use Rattle.xa_session.specs.declared.fault.Fault.TheVariants.{Overtaken, Full, NoMemory, Busy}
 
--- in the order of docs/RATTLE.md#faults-of-a-session
+-- the number of a session's fault, in the order of docs/RATTLE.md#faults-of-a-session
 abbrev pub number_of_fault : Fault → ℕ
 number_of_fault (Overtaken front) = 1
 number_of_fault Full = 2

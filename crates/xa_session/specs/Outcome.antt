@@ -37,7 +37,7 @@ abbrev pub Answers : {Log Pass : Type 0} {log : LogOf Log Pass} → Statement �
 Answers statement (Ok answer) old new = HasAnswered statement answer old new
 Answers statement (Err fault) old new = HasFailed statement fault old new
 
--- the same for a replica that is in no session, in a log with a turn or without, of a capacity
+-- what a try comes to for a replica that is in no session, in a log with a turn or without, of a capacity
 abbrev pub Finds : Bool → ℕ → State → Statement → Result Answer Fault → Replica → Known → Known → Type 0
 Finds turns capacity base statement (Ok answer) replica old new =
     IsAnswered base statement answer old new × (answer.place ≤ replica.replayed)

@@ -10,7 +10,7 @@ abbrev pub ReplaysOne : {E : Type 0} → Result (Unit {0}) E → Replica → Rep
 ReplaysOne (Ok _) old new = new.replayed ≡ old.replayed + 1
 ReplaysOne (Err _) old new = new ≡ old
 
--- all that is seen is replayed, or not all of it
+-- after Ok the replica has replayed all that is seen, after Err not all of it
 abbrev pub CatchesUp : {A E : Type 0} → Result A E → Replica → Known → Type 0
 CatchesUp (Ok _) replica known = replica.replayed ≡ length known.seen
 CatchesUp (Err _) replica known = replica.replayed < length known.seen

@@ -1,23 +1,57 @@
 -- What a contract sees of a session, or of any other value that answers statements as one.
---     SessionView      its log, whether that has turns, the state in which its history begins, what it knows, and what
---                      its other sessions know
---     StaysOfLog       it is of the same log, and no other session of the value spoke
-use Rattle.std.specs.Prelude.{◌≡◌, Bool, List}
+--     SessionView      its log, whether that has turns, the state in which its history begins, what it knows, what
+--                      its other sessions know, how many more statements it takes, and whether memory may have been
+--                      refused for one
+--     KeepsLimit       a limit isn't lifted
+--     StaysOfLog       it is of the same log, no other session of the value spoke, and its limit isn't lifted
+--     Takes            so many statements were taken
+--     TakesUnanswered  a statement was taken and not answered, or wasn't taken
+--     TakesBy          a statement was taken, by the answer
+use Rattle.std.specs.Prelude.{◌≡◌, ◌≤◌, ◌+◌, ◌⊎◌, ℕ, Bool, true, List, Option, Some, None, Result, Ok, Err}
 use Rattle.xa_server.specs.State.{State}
 use Rattle.decision_log.specs.Known.{LogIdentity}
 use Rattle.decision_log.specs.declared.known.Known.{Known}
+use Rattle.xa_session.specs.declared.answer.Answer.{Answer}
+use Rattle.xa_session.specs.declared.fault.Fault.{Fault}
+use Rattle.xa_session.specs.declared.fault.Fault.TheVariants.{NoMemory}
 
--- a session, as contracts see it
+-- a session, as contracts see it; none is left if the statements that it takes aren't limited
 pub record SessionView : Type 0 where
   pub identity : LogIdentity
   pub turns : Bool
   pub base : State
   pub known : Known
   pub beside : List Known
+  pub left : Option ℕ
+  pub starved : Bool
 
--- the log is the same, its history begins in the same state, and the value's other sessions know what they knew
+-- a session without a limit has none afterwards, and one with a limit takes no more statements than before
+abbrev pub KeepsLimit : Option ℕ → Option ℕ → Type 0
+KeepsLimit None new = new ≡ None
+KeepsLimit (Some before) new = (after : ℕ) × (new ≡ Some after) × (after ≤ before)
+
+-- the log is the same, its history begins in the same state, the value's other sessions know what they knew, its limit
+-- isn't lifted, and what was refused stays noted
 pub record StaysOfLog (old new : SessionView) : Type 0 where
   pub identity : new.identity ≡ old.identity
   pub turns : new.turns ≡ old.turns
   pub base : new.base ≡ old.base
   pub beside : new.beside ≡ old.beside
+  pub left : KeepsLimit old.left new.left
+  pub starved : old.starved ≡ true → new.starved ≡ true
+
+-- if there is a limit, so many statements fewer are left
+abbrev pub Takes : ℕ → Option ℕ → Option ℕ → Type 0
+Takes count None new = new ≡ None
+Takes count (Some before) new = (after : ℕ) × (new ≡ Some after) × (after + count ≡ before)
+
+-- the statement was taken, and memory may have been refused for it if the fault says so; or none was left
+abbrev pub TakesUnanswered : Fault → SessionView → SessionView → Type 0
+TakesUnanswered fault old new =
+    (Takes 1 old.left new.left × (fault ≡ NoMemory → new.starved ≡ true))
+    ⊎ ((fault ≡ NoMemory) × (old.left ≡ Some 0) × (new.left ≡ Some 0))
+
+-- the one statement was taken, and if it wasn't answered, the fault has its cause
+abbrev pub TakesBy : Result Answer Fault → SessionView → SessionView → Type 0
+TakesBy (Ok answer) old new = Takes 1 old.left new.left
+TakesBy (Err fault) old new = TakesUnanswered fault old new

@@ -25,10 +25,12 @@ pub struct Session<'a, L: DecisionLog> {
     pub(crate) base: &'a Server,
     /// Its own server, which has replayed a prefix of what the pass has seen.
     pub(crate) replica: Replica,
+    // The pass is one of this log.
     ghost belongs: { L.belongs_to pass ≡ L.identity log.now },
     // Proved (sessions, replica-is-a-prefix): At every moment a session's replica is the server after a
     //   prefix of what the session has seen.
     ghost stands: { Stands base.now (L.known pass).seen replica },
+    // The state in which the history begins keeps the lock law.
     ghost lawful: { LockLaw base.now },
 }
 

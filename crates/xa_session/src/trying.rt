@@ -1,4 +1,7 @@
 //! A single try by a replica and a pass, which needn't be in a session then.
+//!
+//! Of the contracts' clauses, `belongs` says that the pass is still of its log, `stands` that the replica is the
+//! state after the prefix that it has replayed, and `folds` that this prefix gets no shorter.
 ghost use Rattle.std.specs.Prelude.{◌≡◌, ◌⊎◌, ◌<◌, ◌≤◌, ◌^◌, true, length, slice_get, Some, IfOk, IfErr, OnOk, OnErr};
 ghost use Rattle.decision_log.specs.Calls.{Looked, Adds};
 ghost use Rattle.xa_server.specs.Step.{enters, may_take_memory};
@@ -130,6 +133,8 @@ impl Replica {
     {
         let entry = Entry::entering(session, statement.copy());
         log.try_add(pass, &entry)?;
+        // The entry is in the history now. If there is no memory to carry it out on the replica, a later call replays
+        // it.
         let _kept = self.keep(log, pass, base, session, statement);
         Ok(())
     }

@@ -23,10 +23,12 @@ use Rattle.xa_statement.proofs.Run.{from_next, read_from-cons, read_from-nil, re
 use Rattle.xa_statement.proofs.Viable.{said, reach, goes_on, viable, stuck, none_is_some}
 use Rattle.xa_statement.proofs.Walk.{walk, walk_on, walk-nil, walk-cons, answer, said_read}
 
+-- the tokens of two lists of pieces, one behind the other, are the tokens of each
 bare-append : (front back : List Piece) → bare (front ++ back) ≡ bare front ++ bare back
 bare-append [] back = refl
 bare-append (piece ∷ front) back = ap (λ ts. piece.0 ∷ ts) (bare-append front back)
 
+-- an Ok isn't an Err
 ok_is_err : {A B : Type 0} (a : A) (b : B) → Ok a ≡ Err b → ⊥
 ok_is_err a b e = cc
 
@@ -38,6 +40,7 @@ run_next : (reached : Option State) (left : ℕ) (front back : List Piece) (last
 run_next None left front back last e each = absurd (none_is_some last e)
 run_next (Some s) left front back last e each = each s e
 
+-- reading from a state past tokens that lead to another goes on from there
 run_on : (front back : List Piece) (state last : State) → walk state (bare front) ≡ Some last
     → read_from state (front ++ back) ≡ read_from last back
 run_on [] back state last e =
@@ -48,7 +51,7 @@ run_on (piece ∷ front) back state last e =
     ∙ run_next (after_token state piece.0) piece.1 front back last (sym (walk-cons state piece.0 (bare front)) ∙ e)
     (λ s w. run_on front back s last w)
 
--- where a reading stops at a token
+-- reading stops at a token that leads nowhere, with so many bytes left from it on
 record StopsAt (state : State) (text : List Piece) (left : ℕ) : Type 0 where
   front : List Piece
   back : List Piece
@@ -58,21 +61,24 @@ record StopsAt (state : State) (text : List Piece) (left : ℕ) : Type 0 where
   led : walk state (bare front) ≡ Some last
   stops : after_token last token ≡ None
 
--- where a reading ends with no statement
+-- reading comes to the end of the text, where no statement is whole
 record StopsEnd (state : State) (text : List Piece) (left : ℕ) : Type 0 where
   last : State
   led : walk state (bare text) ≡ Some last
   unfinished : finish last ≡ None
   none_left : left ≡ 0
 
+-- reading that fails at the end of the text failed since no statement was whole there
 ended_err : (found : Option Statement) (left : ℕ) → read_end found ≡ Err left → (found ≡ None) × (left ≡ 0)
 ended_err None left e = let same : 0 ≡ left = cc in (refl, sym same)
 ended_err (Some statement) left e = absurd (ok_is_err statement left e)
 
+-- reading that succeeds at the end of the text found a whole statement there
 ended_ok : (found : Option Statement) (statement : Statement) → read_end found ≡ Ok statement → found ≡ Some statement
 ended_ok None statement e = absurd (ok_is_err statement 0 (sym e))
 ended_ok (Some other) statement e = let same : other ≡ statement = cc in ap (λ st. Some st) same
 
+-- reading that stops behind a token stops there also in the text with that token in front
 later_stop : (state next : State) (piece : Piece) (more : List Piece) (left : ℕ) → after_token state piece.0 ≡ Some next
     → StopsAt next more left ⊎ StopsEnd next more left → StopsAt state (piece ∷ more) left
     ⊎ StopsEnd state (piece ∷ more) left
@@ -92,6 +98,7 @@ later_stop state next piece more left e (inr s) = inr (record {
   none_left = s.none_left;
 })
 
+-- reading stops at a token that leads nowhere
 stop_here : (state : State) (piece : Piece) (more : List Piece) (left : ℕ) → after_token state piece.0 ≡ None
     → piece.1 ≡ left
     → StopsAt state (piece ∷ more) left
@@ -105,6 +112,7 @@ stop_here state piece more left stops same = record {
   stops = stops;
 }
 
+-- the step: if stopping is explained for the rest of the tokens, it is with one token more in front
 err_next : (reached : Option State) (state : State) (piece : Piece) (more : List Piece) (left : ℕ)
     → after_token state piece.0 ≡ reached
     → from_next reached piece.1 more ≡ Err left
@@ -114,6 +122,7 @@ err_next None state piece more left e read each = let same : piece.1 ≡ left = 
     inl (stop_here state piece more left e same)
 err_next (Some s) state piece more left e read each = later_stop state s piece more left e (each s read)
 
+-- reading that fails stopped at a token, or at the end of the text
 err_stops : (text : List Piece) (state : State) (left : ℕ) → read_from state text ≡ Err left
     → StopsAt state text left ⊎ StopsEnd state text left
 err_stops [] state left e =
@@ -128,6 +137,7 @@ abbrev Within : ℕ → List Piece → Type 0
 Within most [] = Unit {0}
 Within most (piece ∷ more) = (piece.1 ≤ most) × Within most more
 
+-- the pieces behind the first one have no more bytes left than the text
 within_first : (fuel most : ℕ) (text : List ℕ) → length text ≤ most
     → ((rest : List ℕ) → length rest ≤ most → Within most (pieces fuel rest))
     → Within most (go_on fuel (first_piece text))
@@ -135,6 +145,7 @@ within_first fuel most [] short each = tt
 within_first fuel most (byte ∷ text) short each =
     (short, each (token_at (byte ∷ text)).1 (omega (arith, token-short byte text)))
 
+-- each piece has at most as many bytes left as the text has
 within_pieces : (fuel most : ℕ) (text : List ℕ) → length text ≤ most → Within most (pieces fuel text)
 unfolding pieces
 within_pieces zero most text short = tt
@@ -142,6 +153,7 @@ within_pieces (suc fuel) most text short =
     within_first fuel most (unblank text) (omega (arith, behind-short (belongs blank_byte) text))
     (λ rest s. within_pieces fuel most rest s)
 
+-- a piece anywhere among those of a text has at most as many bytes left as the text has
 within_at : (most : ℕ) (front back : List Piece) (piece : Piece) → Within most (front ++ piece ∷ back) → piece.1 ≤ most
 within_at most [] back piece w = w.0
 within_at most (first ∷ front) back piece w = within_at most front back piece w.1
@@ -150,6 +162,7 @@ within_at most (first ∷ front) back piece w = within_at most front back piece 
 led_on : (tokens : List Token) (last : State) → walk AtFirst tokens ≡ Some last → Front last tokens
 led_on tokens last e = rw e at (reach tokens AtFirst [] refl)
 
+-- a text that is read as a statement, and whose tokens lead to a state, spells it
 spelled : (text : List ℕ) (statement : Statement) → read_from AtFirst (tokens_of text) ≡ Ok statement → (last : State)
     → walk AtFirst (bare (tokens_of text)) ≡ Some last → Spells text statement
 spelled text statement read last e =
@@ -168,6 +181,7 @@ ok_next : (reached : Option State) (left : ℕ) (more : List Piece) (statement :
 ok_next None left more statement e each = absurd (ok_is_err statement left (sym e))
 ok_next (Some s) left more statement e each = each s e
 
+-- the tokens of a text that is read lead to a state
 ok_led : (text : List Piece) (state : State) (statement : Statement) → read_from state text ≡ Ok statement
     → (last : State) × (walk state (bare text) ≡ Some last)
 ok_led [] state statement e = (state, walk-nil state)
@@ -176,11 +190,13 @@ ok_led (piece ∷ more) state statement e =
     (λ s r. ok_led more s statement r) in
     (led.0, walk-cons state piece.0 (bare more) ∙ led.1)
 
+-- a text that is read as a statement spells it
 pub ok_sound : (text : List ℕ) (statement : Statement) → read_from AtFirst (tokens_of text) ≡ Ok statement
     → Spells text statement
 ok_sound text statement e =
     let led = ok_led (tokens_of text) AtFirst statement e in spelled text statement e led.0 led.1
 
+-- an answer comes from a state that was reached
 some_answered : (reached : Option State) (statement : Statement) → answer reached ≡ Some statement
     → (s : State) × (reached ≡ Some s)
 some_answered None statement e = absurd (none_is_some statement e)
@@ -197,11 +213,13 @@ ok_complete text statement s =
     ap (read_from AtFirst) (sym (append-nil (tokens_of text)))
     ∙ run_on (tokens_of text) [] AtFirst led.0 led.1 ∙ read_from-nil led.0 ∙ ap read_end ends
 
+-- a text whose tokens lead to a state that is no statement spells none
 unspelled : (text : List ℕ) (last : State) → walk AtFirst (bare (tokens_of text)) ≡ Some last → finish last ≡ None
     → (statement : Statement) → Spells text statement → ⊥
 unspelled text last led unfinished statement s =
     none_is_some statement (sym unfinished ∙ ap answer (sym led) ∙ said_read (bare (tokens_of text)) statement s)
 
+-- the place at which reading stops is the text's fault: the first from which no statement can be made any more
 fault_of : (text : List ℕ) (left : ℕ) → StopsAt AtFirst (tokens_of text) left ⊎ StopsEnd AtFirst (tokens_of text) left
     → FaultAt text (length text - left)
 fault_of text left (inl s) =
@@ -217,7 +235,7 @@ fault_of text left (inr s) =
     rw (← place) (at_end (unspelled text s.last s.led s.unfinished)
     (goes_on s.last (bare (tokens_of text)) (led_on (bare (tokens_of text)) s.last s.led)))
 
--- where a reading stops, the text stops being a statement
+-- if reading fails, its place is the text's fault
 pub err_sound : (text : List ℕ) (left : ℕ) → read_from AtFirst (tokens_of text) ≡ Err left
     → FaultAt text (length text - left)
 err_sound text left e = fault_of text left (err_stops (tokens_of text) AtFirst left e)
@@ -230,6 +248,7 @@ stops_there tokens token last led never None e = e
 stops_there tokens token last led never (Some s) e =
     absurd (never (goes_on s (tokens ++ token ∷ []) (rw e at (next last token tokens (led_on tokens last led)))))
 
+-- if a token is the text's fault, reading fails at that token
 fault_read : (text : List ℕ) (place left : ℕ) (front back : List Piece) (token : Token)
     → tokens_of text ≡ front ++ (token, left) ∷ back
     → MayGoOn (bare front) → (MayGoOn (bare front ++ token ∷ []) → ⊥) → place + left ≡ length text
@@ -251,6 +270,7 @@ unfinished_there text last led never None e = e
 unfinished_there text last led never (Some statement) e =
     absurd (never statement (rw e at (said last (bare (tokens_of text)) (led_on (bare (tokens_of text)) last led))))
 
+-- if a text is only the beginning of statements, reading fails at its end
 end_read : (text : List ℕ) → ((statement : Statement) → Spells text statement → ⊥) → MayGoOn (bare (tokens_of text))
     → (found : ℕ) × ((read_from AtFirst (tokens_of text) ≡ Err found) × (length text ≡ length text - found))
 end_read text never may =
@@ -261,29 +281,32 @@ end_read text never may =
     ∙ run_on (tokens_of text) [] AtFirst led.0 led.1 ∙ read_from-nil led.0 ∙ ap read_end none in
     (0, (read, omega arith))
 
--- and only there
+-- if a text has a fault, reading fails at its place
 pub err_complete : (text : List ℕ) (place : ℕ) → FaultAt text place
     → (found : ℕ) × ((read_from AtFirst (tokens_of text) ≡ Err found) × (place ≡ length text - found))
 err_complete text _ (at_token place left front back token cut may never sum) =
     fault_read text place left front back token cut may never sum
 err_complete text _ (at_end never may) = end_read text never may
 
--- the reading and what it is to be
+-- what is read of a text is what is read of its tokens, with a fault's place counted in the text
 read_as : (text : List ℕ) (found : Result Statement ℕ) → read_from AtFirst (tokens_of text) ≡ found
     → read_of text ≡ placed_in text found
 unfolding read_of
 read_as text found e = ap (placed_in text) e
 
+-- counting places from the front instead of the end changes no statement
 placed_ok : (text : List ℕ) (found : Result Statement ℕ) (statement : Statement) → placed_in text found ≡ Ok statement
     → found ≡ Ok statement
 placed_ok text (Ok other) statement e = e
 placed_ok text (Err left) statement e = absurd (ok_is_err statement (length text - left) (sym e))
 
+-- counting places from the front makes the bytes that were left the place of the fault
 placed_err : (text : List ℕ) (found : Result Statement ℕ) (place : ℕ) → placed_in text found ≡ Err place
     → (left : ℕ) × ((found ≡ Err left) × (length text - left ≡ place))
 placed_err text (Ok statement) place e = absurd (ok_is_err statement place e)
 placed_err text (Err left) place e = let same : length text - left ≡ place = cc in (left, (refl, same))
 
+-- reading a text is reading its tokens, with the place of a fault counted in the text
 found_of : (text : List ℕ) → read_of text ≡ placed_in text (read_from AtFirst (tokens_of text))
 found_of text = read_as text (read_from AtFirst (tokens_of text)) refl
 
@@ -305,6 +328,7 @@ reads_fault text place = (
   λ f. let found = err_complete text place f in read_as text (Err found.0) found.1.0 ∙ ap (λ n. Err n) (sym found.1.1),
 )
 
+-- equal Ok have equal statements
 same_ok : (one other : Statement) → ◌≡◌ {A = Result Statement ℕ} (Ok one) (Ok other) → one ≡ other
 same_ok one other e = cc
 
@@ -315,29 +339,34 @@ spells_one text one other s t =
     let again : read_of text ≡ Ok other = (reads_spelled text other).1 t in
     same_ok one other (same ∙ again)
 
+-- a statement that the reader returns is spelled by the text
 seen_ok : (text : List ℕ) (found : Result Statement ℕ) → read_of text ≡ found → IfOk (seen_of found) (Spells text)
 seen_ok text (Ok statement) e = (reads_spelled text statement).0 e
 seen_ok text (Err place) e = tt
 
+-- a fault that the reader returns is the text's
 seen_err : (text : List ℕ) (found : Result Statement ℕ) → read_of text ≡ found
     → IfErr (seen_of found) (λ fault. FaultAt text fault.at)
 seen_err text (Ok statement) e = tt
 seen_err text (Err place) e = (reads_fault text place).0 e
 
--- the same of what a program sees
+-- a statement that a program gets from the reader is spelled by the text
 pub seen_spelled : (text : List ℕ) (seen : Result Statement SyntaxFault) → seen ≡ seen_of (read_of text)
     → IfOk seen (Spells text)
 seen_spelled text seen e = rw e (seen_ok text (read_of text) refl)
 
+-- a fault that a program gets from the reader is the text's
 pub seen_fault : (text : List ℕ) (seen : Result Statement SyntaxFault) → seen ≡ seen_of (read_of text)
     → IfErr seen (λ fault. FaultAt text fault.at)
 seen_fault text seen e = rw e (seen_err text (read_of text) refl)
 
+-- a program gets the statement that a text spells
 pub spelled_seen : (text : List ℕ) (seen : Result Statement SyntaxFault) → seen ≡ seen_of (read_of text)
     → (statement : Statement) → Spells text statement
     → seen ≡ Ok statement
 spelled_seen text seen e statement s = e ∙ ap seen_of ((reads_spelled text statement).1 s)
 
+-- a program gets the fault of a text that has one
 pub fault_seen : (text : List ℕ) (seen : Result Statement SyntaxFault) → seen ≡ seen_of (read_of text) → (place : ℕ)
     → FaultAt text place
     → seen ≡ Err (record { at = place })

@@ -49,26 +49,26 @@ row_word Gets = GET
 row_word Puts = PUT
 row_word Deletes = DEL
 
--- XA, a word of the verb, and more
+-- the tokens are XA, a word of the verb, and these more
 pub record Opened (verb : Verb) (tail tokens : List Token) : Type 0 where
   pub word : Keyword
   pub is : VerbWord verb word
   pub same : tokens ≡ Word XA ∷ Word word ∷ tail
 
--- XA, a word, an xid, and more
+-- the tokens are XA, a word, an identifier, and these more
 pub record ClauseOf (word : Keyword) (tail tokens : List Token) : Type 0 where
   pub x : List Token
   pub xid : Xid
   pub form : XidTokens x xid
   pub same : tokens ≡ Word XA ∷ Word word ∷ (x ++ tail)
 
--- XA COMMIT xid ONE
+-- the tokens are those of XA COMMIT with this identifier and the word ONE
 pub record OnePhaseOf (xid : Xid) (tokens : List Token) : Type 0 where
   pub x : List Token
   pub form : XidTokens x xid
   pub same : tokens ≡ Word XA ∷ Word COMMIT ∷ (x ++ Word ONE ∷ [])
 
--- PUT, a key, and more
+-- the tokens are PUT, a key that isn't empty, and these more
 pub record KeyOf (key : List ℕ) (tail tokens : List Token) : Type 0 where
   pub text : Text
   pub number : Option ℕ
@@ -76,7 +76,7 @@ pub record KeyOf (key : List ℕ) (tail tokens : List Token) : Type 0 where
   pub is : key ≡ text.items
   pub same : tokens ≡ Word PUT ∷ Value (Some text) number ∷ tail
 
--- an xid that is whole
+-- the tokens are a verb and a whole identifier
 pub record XidOf (verb : Verb) (xid : Xid) (tokens : List Token) : Type 0 where
   pub x : List Token
   pub form : XidTokens x xid
@@ -105,16 +105,17 @@ Front (WantsValue key) tokens = KeyOf key (Comma ∷ []) tokens
 Front (Whole statement) tokens = Row tokens statement
 Front (Ended statement) tokens = Says tokens statement
 
--- the same of a state that there may be
+-- if a state is reached, the tokens are some that lead to it
 abbrev pub FrontOf : Option State → List Token → Type 0
 FrontOf None tokens = Unit {0}
 FrontOf (Some state) tokens = Front state tokens
 
--- one token more behind the verb
+-- one token more behind those that follow a verb keeps the verb and is the last of them
 opened_more : (verb : Verb) (tail tokens : List Token) (token : Token) → Opened verb tail tokens
     → Opened verb (tail ++ token ∷ []) (tokens ++ token ∷ [])
 opened_more verb tail tokens token o = record { word = o.word; is = o.is; same = ap (λ ts. ts ++ token ∷ []) o.same }
 
+-- XA END or XA START with a clause of which one word more has come
 clause_more : (word : Keyword) (tail tokens : List Token) (token : Token) → ClauseOf word tail tokens
     → ClauseOf word (tail ++ token ∷ []) (tokens ++ token ∷ [])
 clause_more word tail tokens token c = record {
@@ -124,6 +125,7 @@ clause_more word tail tokens token c = record {
   same = ap (λ ts. ts ++ token ∷ []) c.same ∙ ap (λ ts. Word XA ∷ Word word ∷ ts) (append_assoc c.x tail (token ∷ []));
 }
 
+-- PUT with a key, behind which one token more has come
 key_more : (key : List ℕ) (tail tokens : List Token) (token : Token) → KeyOf key tail tokens
     → KeyOf key (tail ++ token ∷ []) (tokens ++ token ∷ [])
 key_more key tail tokens token k = record {
@@ -134,7 +136,7 @@ key_more key tail tokens token k = record {
   same = ap (λ ts. ts ++ token ∷ []) k.same;
 }
 
--- a word behind an xid
+-- a word behind a whole identifier leads to a state whose tokens are those before, and the word
 xid_next : (verb : Verb) (xid : Xid) (word : Keyword) (tokens : List Token) → XidOf verb xid tokens
     → FrontOf (xid_word verb xid word) (tokens ++ Word word ∷ [])
 xid_next Starts xid JOIN tokens f = rw f.before.same (start_clause f.before.is f.form is_join)
@@ -158,6 +160,7 @@ gtrid_xid : (verb : Verb) (g : Text) (tokens : List Token) → Front (AfterGtrid
     → XidOf verb (xid_of g no_text 1) tokens
 gtrid_xid verb g tokens f = record { x = Value (Some g) f.0 ∷ []; form = gtrid g f.0; before = f.1 }
 
+-- gtrid and bqual alone are an identifier, with the formatID 1
 bqual_xid : (verb : Verb) (g b : Text) (tokens : List Token) → Front (AfterBqual verb g b) tokens
     → XidOf verb (xid_of g b 1) tokens
 bqual_xid verb g b tokens f =
@@ -168,6 +171,7 @@ bqual_xid verb g b tokens f =
       before = f.1.1;
     }
 
+-- a word leads to a state whose tokens are those before, and the word
 word_next : (state : State) (word : Keyword) (tokens : List Token) → Front state tokens
     → FrontOf (after_word state word) (tokens ++ Word word ∷ [])
 word_next AtFirst XA tokens f = ap (λ ts. ts ++ Word XA ∷ []) f
@@ -199,6 +203,7 @@ word_next AfterRecover CONVERT tokens f = ap (λ ts. ts ++ Word CONVERT ∷ []) 
 word_next AfterConvert XID tokens f = rw f recover_convert
 word_next _ word tokens f = tt
 
+-- a comma leads to a state whose tokens are those before, and the comma
 comma_next : (state : State) (tokens : List Token) → Front state tokens
     → FrontOf (after_comma state) (tokens ++ Comma ∷ [])
 comma_next (AfterGtrid verb g) tokens f = (f.0, opened_more verb (Value (Some g) f.0 ∷ []) tokens Comma f.1)
@@ -207,7 +212,7 @@ comma_next (AfterBqual verb g b) tokens f =
 comma_next (AfterKey key) tokens f = key_more key [] tokens Comma f
 comma_next _ tokens f = tt
 
--- a literal in the place of a key
+-- a literal in the place of a key leads to what its verb wants next
 key_next : (verb : RowVerb) (text : Text) (number : Option ℕ) (tokens : List Token) (items : List ℕ)
     → items ≡ text.items → tokens ≡ Word (row_word verb) ∷ []
     → FrontOf (key_state verb items) (tokens ++ Value (Some text) number ∷ [])
@@ -226,11 +231,13 @@ key_next Puts text number tokens (byte ∷ bytes) e f =
 key_next Deletes text number tokens (byte ∷ bytes) e f =
     let some : 0 < length text.items = rw (← e) (omega arith) in rw (f, e) (del text number some)
 
+-- PUT with a key that isn't empty, a comma and a value is a row of the grammar
 put_row : (key : List ℕ) (text value : Text) (m n : Option ℕ) (tokens : List Token) → 0 < length text.items
     → key ≡ text.items
     → tokens ≡ Word PUT ∷ Value (Some text) m ∷ Comma ∷ Value (Some value) n ∷ [] → Row tokens (Put key value)
 put_row key text value m n tokens some e same = rw (same, e) (put text value m n some)
 
+-- a value leads to a state whose tokens are those before, and the value
 value_next : (state : State) (literal : Option Text) (number : Option ℕ) (tokens : List Token) → Front state tokens
     → FrontOf (after_value state literal number) (tokens ++ Value literal number ∷ [])
 value_next (WantsGtrid verb) (Some g) m tokens f = (m, opened_more verb [] tokens (Value (Some g) m) f)
@@ -253,6 +260,7 @@ abbrev pub RowOf : Option Statement → List Token → Type 0
 RowOf None tokens = Unit {0}
 RowOf (Some statement) tokens = Row tokens statement
 
+-- a verb with an identifier is a row of the grammar
 xid_row : (verb : Verb) (xid : Xid) (tokens : List Token) → XidOf verb xid tokens → Row tokens (statement_of verb xid)
 xid_row Starts xid tokens f = rw f.before.same (start f.before.is f.form)
 xid_row Ends xid tokens f = rw (f.before.same, f.before.is) (end f.form)
@@ -260,6 +268,7 @@ xid_row Prepares xid tokens f = rw (f.before.same, f.before.is) (prepare f.form)
 xid_row Commits xid tokens f = rw (f.before.same, f.before.is) (commit f.form)
 xid_row RollsBack xid tokens f = rw (f.before.same, f.before.is) (rollback f.form)
 
+-- tokens that lead to a state which is a whole statement are that statement's row
 pub row_of : (state : State) (tokens : List Token) → Front state tokens → RowOf (unended state) tokens
 row_of (AfterGtrid verb g) tokens f = xid_row verb (xid_of g no_text 1) tokens (gtrid_xid verb g tokens f)
 row_of (AfterBqual verb g b) tokens f = xid_row verb (xid_of g b 1) tokens (bqual_xid verb g b tokens f)
@@ -269,12 +278,13 @@ row_of AfterRecover tokens f = rw f recover
 row_of (Whole statement) tokens f = f
 row_of _ tokens f = tt
 
+-- a semicolon behind a whole statement leads to a state that has ended with it
 semicolon_next : (found : Option Statement) (tokens : List Token) → RowOf found tokens
     → FrontOf (ended found) (tokens ++ Semicolon ∷ [])
 semicolon_next None tokens row = tt
 semicolon_next (Some statement) tokens row = ended_row row
 
--- one token more
+-- any token leads to a state whose tokens are those before, and the token
 pub next : (state : State) (token : Token) (tokens : List Token) → Front state tokens
     → FrontOf (after_token state token) (tokens ++ token ∷ [])
 unfolding after_token

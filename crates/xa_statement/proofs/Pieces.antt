@@ -19,10 +19,12 @@ use Rattle.xa_statement.specs.Token.{Piece}
 abbrev Leaves : ℕ → Token × List ℕ → Type 0
 Leaves most cut = length cut.1 ≤ most
 
+-- a literal in quotes leaves as little as its reading does
 leaves_quoted : (most : ℕ) (reading : Reading Text) → ShortReading most reading → Leaves most (quoted_piece reading)
 leaves_quoted most (Ok found) short = short
 leaves_quoted most (Err fault) short = omega arith
 
+-- each token takes at least one byte
 pub token-short : (byte : ℕ) (text : List ℕ) → length (token_at (byte ∷ text)).1 ≤ length text
 unfolding token_at
 token-short byte text =
@@ -40,41 +42,48 @@ token-short byte text =
     (λ is. rw (behind-passes (belongs word_byte) byte text is) (behind-short (belongs word_byte) text))
     (λ _. omega arith))))
 
--- a first token leaves fewer bytes
+-- if a first token is cut off, it leaves fewer than so many bytes
 abbrev Fewer : ℕ → Option (Piece × List ℕ) → Type 0
 Fewer most None = Unit {0}
 Fewer most (Some cut) = length cut.1 < most
 
+-- less is left behind the first piece of a text than there was
 fewer_first : (text : List ℕ) → Fewer (length text) (first_piece text)
 fewer_first [] = tt
 fewer_first (byte ∷ text) = let short = token-short byte text in omega (arith, short)
 
+-- what is below a bound is below a greater one
 fewer_more : (least most : ℕ) (cut : Option (Piece × List ℕ)) → least ≤ most → Fewer least cut → Fewer most cut
 fewer_more least most None more fewer = tt
 fewer_more least most (Some cut) more fewer = omega arith
 
+-- less is left behind the first piece of a text than there was, also if blanks come first
 fewer : (text : List ℕ) → Fewer (length text) (first_piece (unblank text))
 fewer text = fewer_more _ _ (first_piece (unblank text)) (behind-short (belongs blank_byte) text)
     (fewer_first (unblank text))
 
+-- a text without a byte has no pieces
 pub pieces-nil : (most : ℕ) → pieces most [] ≡ []
 unfolding pieces behind
 pieces-nil zero = refl
 pieces-nil (suc most) = refl
 
+-- a text of length 0 is the empty one
 no_bytes : (text : List ℕ) → length text ≤ 0 → text ≡ []
 no_bytes [] none = refl
 no_bytes (byte ∷ text) none = absurd (omega arith)
 
--- the tokens from a first one on
+-- the pieces from a first one on, if one could be cut off
 abbrev pub go_on : ℕ → Option (Piece × List ℕ) → List Piece
 go_on most None = []
 go_on most (Some cut) = cut.0 ∷ pieces most cut.1
 
+-- with one step more allowed, the first piece is cut off and the rest is cut on
 pub pieces-suc : (most : ℕ) (text : List ℕ) → pieces (suc most) text ≡ go_on most (first_piece (unblank text))
 unfolding pieces
 pieces-suc most text = refl
 
+-- two numbers of steps that both suffice cut the same pieces
 same_more : (most other : ℕ) (cut : Option (Piece × List ℕ)) (bound : ℕ) → Fewer bound cut → bound ≤ suc most
     → bound ≤ suc other
     → ((text : List ℕ) → length text ≤ most → length text ≤ other → pieces most text ≡ pieces other text)
@@ -92,10 +101,11 @@ stable (suc most) (suc other) text a b =
     ∙ same_more most other (first_piece (unblank text)) (length text) (fewer text) a b (λ t. stable most other t)
     ∙ sym (pieces-suc other text)
 
--- no blank stands first
+-- the text begins with no blank
 pub record IsUnblank (text : List ℕ) : Type 0 where
   pub same : unblank text ≡ text
 
+-- skipping bytes of a kind twice is skipping them once
 behind-behind : (p : ℕ → Bool) (text : List ℕ) → behind p (behind p text) ≡ behind p text
 behind-behind p [] = rw (behind-nil p, behind-nil p) refl
 behind-behind p (byte ∷ text) =
@@ -104,10 +114,11 @@ behind-behind p (byte ∷ text) =
       | false ↦ λ e. rw (behind-stops p byte text e) (behind-stops p byte text e)
     ] refl
 
+-- a text whose leading blanks were skipped begins with no blank
 pub unblank-unblank : (text : List ℕ) → IsUnblank (unblank text)
 unblank-unblank text = record { same = behind-behind (belongs blank_byte) text }
 
--- the tokens of a text that begins with one
+-- a text that begins with no blank is cut into its first token and the tokens of the rest
 pub first_token : (byte : ℕ) (text : List ℕ) → IsUnblank (byte ∷ text)
     → tokens_of (byte ∷ text) ≡ ((token_at (byte ∷ text)).0, length (byte ∷ text)) ∷ tokens_of
     (token_at (byte ∷ text)).1
@@ -118,11 +129,13 @@ first_token byte text is =
     ∙ ap (λ more. ((token_at (byte ∷ text)).0, length (byte ∷ text)) ∷ more)
     (stable (length text) (length rest) rest (token-short byte text) (le_refl (length rest)))
 
+-- leading blanks change no piece
 same_start : (most : ℕ) (text : List ℕ) → pieces most (unblank text) ≡ pieces most text
 unfolding pieces
 same_start zero text = refl
 same_start (suc most) text = ap (λ t. go_on most (first_piece t)) (behind-behind (belongs blank_byte) text)
 
+-- leading blanks change no token
 pub tokens-unblank : (text : List ℕ) → tokens_of (unblank text) ≡ tokens_of text
 tokens-unblank text =
     stable (length (unblank text)) (length text) (unblank text) (le_refl _) (behind-short (belongs blank_byte) text)

@@ -24,13 +24,14 @@ use Rattle.xa_statement.proofs.Walk.{walk, walk_on, walk-nil, walk-cons, walk_th
 use Rattle.xa_statement.proofs.Walk.{said_read}
 use Rattle.xa_statement.proofs.Fronts.{Front, FrontOf, RowOf, row_of, next}
 
+-- the state after one token more, and after the tokens behind it, knows what led there
 reach_on : (reached : Option State) (token : Token) (more tokens : List Token) → FrontOf reached (tokens ++ token ∷ [])
     → ((s : State) → Front s (tokens ++ token ∷ []) → FrontOf (walk s more) ((tokens ++ token ∷ []) ++ more))
     → FrontOf (walk_on reached more) (tokens ++ token ∷ more)
 reach_on None token more tokens f each = tt
 reach_on (Some s) token more tokens f each = rw append_assoc at (each s f)
 
--- more tokens lead on
+-- tokens that lead from a state lead to one whose tokens are all of them
 pub reach : (more : List Token) (state : State) (tokens : List Token) → Front state tokens
     → FrontOf (walk state more) (tokens ++ more)
 reach [] state tokens f = rw (walk-nil state, append-nil tokens) f
@@ -44,10 +45,12 @@ abbrev pub SaysOf : Option Statement → List Token → Type 0
 SaysOf None tokens = Unit {0}
 SaysOf (Some statement) tokens = Says tokens statement
 
+-- the row of a state's statement, as what the tokens say
 said_row : (found : Option Statement) (tokens : List Token) → RowOf found tokens → SaysOf found tokens
 said_row None tokens row = tt
 said_row (Some statement) tokens row = bare_row row
 
+-- a state says the statement that its tokens say, if they say one
 pub said : (state : State) (tokens : List Token) → Front state tokens → SaysOf (finish state) tokens
 unfolding finish
 said (Ended statement) tokens f = f
@@ -60,11 +63,12 @@ said AfterRecover tokens f = said_row (unended AfterRecover) tokens (row_of Afte
 said (Whole statement) tokens f = said_row (unended (Whole statement)) tokens f
 said _ tokens f = tt
 
+-- if a state was reached, it says what its tokens say
 said_of : (reached : Option State) (tokens : List Token) → FrontOf reached tokens → SaysOf (answer reached) tokens
 said_of None tokens f = tt
 said_of (Some state) tokens f = said state tokens f
 
--- one way on from a state to a statement
+-- tokens that lead on from a state to a statement make it one that may go on
 way : (state : State) (tokens more : List Token) (statement : Statement) → answer (walk state more) ≡ Some statement
     → Front state tokens → MayGoOn tokens
 way state tokens more statement e f = record {
@@ -73,12 +77,15 @@ way state tokens more statement e f = record {
   says = rw e at (said_of (walk state more) (tokens ++ more) (reach more state tokens f));
 }
 
+-- tokens to go on with: a literal in the place of a gtrid or bqual
 abbrev any_literal : Token
 any_literal = Value (Some no_text) None
 
+-- a literal that isn't empty, as a key has to be
 abbrev one_byte : Text
 one_byte = record { items = 0 ∷ [] }
 
+-- a token that can be a key: a literal of one byte, which is no number
 abbrev any_key : Token
 any_key = Value (Some one_byte) None
 
@@ -109,9 +116,11 @@ goes_on (WantsValue key) ts f = way (WantsValue key) ts (any_literal ∷ []) (Pu
 goes_on (Whole statement) ts f = way (Whole statement) ts [] statement refl f
 goes_on (Ended statement) ts f = way (Ended statement) ts [] statement refl f
 
+-- None is never Some
 pub none_is_some : {A : Type 0} (value : A) → None ≡ Some value → ⊥
 none_is_some value e = cc
 
+-- if the tokens lead to an answer, the first of them led to a state
 pub some_reached : (reached : Option State) (more : List Token) (statement : Statement)
     → answer (walk_on reached more) ≡ Some statement
     → (s : State) × (reached ≡ Some s)
@@ -124,7 +133,7 @@ viable tokens m =
     some_reached (walk AtFirst tokens) m.more m.statement
     (ap answer (sym (walk-append tokens m.more AtFirst)) ∙ said_read (tokens ++ m.more) m.statement m.says)
 
--- and none where it has no next one
+-- if the state after some tokens has no next one for a token, no statement begins with them and it
 pub stuck : (tokens : List Token) (token : Token) (s : State) → walk AtFirst tokens ≡ Some s
     → after_token s token ≡ None → MayGoOn (tokens ++ token ∷ []) → ⊥
 stuck tokens token s e stops m =

@@ -27,12 +27,12 @@ use Rattle.xa_statement.specs.Grammar.{get, put, del, disconnect, Says, bare_row
 use Rattle.xa_statement.specs.Machine.{after_token, finish, unended, ended, statement_of, xid_word, key_state}
 use Rattle.xa_statement.specs.Machine.{after_key}
 
--- the state after tokens
+-- the state after these tokens, if each leads on
 unfoldable pub walk : State → List Token → Option State
 walk state [] = Some state
 walk state (token ∷ more) = elim (after_token state token) [ None ↦ None | Some next ↦ walk next more ]
 
--- the same from a state that there may be
+-- the state after these tokens, if there is a state before them
 abbrev pub walk_on : Option State → List Token → Option State
 walk_on None more = None
 walk_on (Some next) more = walk next more
@@ -42,20 +42,24 @@ abbrev pub answer : Option State → Option Statement
 answer None = None
 answer (Some state) = finish state
 
+-- a walk along no token stays in its state
 pub walk-nil : (state : State) → walk state [] ≡ Some state
 unfolding walk
 walk-nil state = refl
 
+-- a token that leads nowhere ends the walk
 pub walk-stop : (state : State) (token : Token) (more : List Token) → after_token state token ≡ None
     → walk state (token ∷ more) ≡ None
 unfolding walk
 walk-stop state token more e = rw (e, walk) refl
 
+-- a walk goes on from the state to which its first token leads
 pub walk-go : (state next : State) (token : Token) (more : List Token) → after_token state token ≡ Some next
     → walk state (token ∷ more) ≡ walk next more
 unfolding walk
 walk-go state next token more e = rw (e, walk) refl
 
+-- a walk takes its first token, and ends or goes on by where it leads
 pub walk-cons : (state : State) (token : Token) (more : List Token)
     → walk state (token ∷ more) ≡ walk_on (after_token state token) more
 walk-cons state token more =
@@ -64,12 +68,14 @@ walk-cons state token more =
       | Some next ↦ λ e. walk-go state next token more e
     ] refl
 
+-- walking two lists of tokens is walking the second from where the first ends, if that is so from each state
 walk_on-append : (reached : Option State) (front back : List Token)
     → ((s : State) → walk s (front ++ back) ≡ walk_on (walk s front) back)
     → walk_on reached (front ++ back) ≡ walk_on (walk_on reached front) back
 walk_on-append None front back each = refl
 walk_on-append (Some state) front back each = each state
 
+-- walking two lists of tokens is walking the second from where the first ends
 pub walk-append : (front back : List Token) (state : State)
     → walk state (front ++ back) ≡ walk_on (walk state front) back
 walk-append [] back state = ap (λ o. walk_on o back) (sym (walk-nil state))
@@ -78,11 +84,12 @@ walk-append (token ∷ front) back state =
     ∙ walk_on-append (after_token state token) front back (λ s. walk-append front back s)
     ∙ ap (λ o. walk_on o back) (sym (walk-cons state token front))
 
+-- from a state that the first list reaches
 pub walk_then : (front back : List Token) (state next : State) → walk state front ≡ Some next
     → walk state (front ++ back) ≡ walk next back
 walk_then front back state next e = walk-append front back state ∙ ap (λ o. walk_on o back) e
 
--- where an xid leads
+-- the tokens of an identifier lead from its verb to a state that says the statement
 pub record XidRead (verb : Verb) (xid : Xid) (tokens : List Token) : Type 0 where
   pub state : State
   pub reached : walk (WantsGtrid verb) tokens ≡ Some state
@@ -90,6 +97,7 @@ pub record XidRead (verb : Verb) (xid : Xid) (tokens : List Token) : Type 0 wher
   pub closed_end : finish state ≡ Some (statement_of verb xid)
   pub goes : (word : Keyword) → after_token state (Word word) ≡ xid_word verb xid word
 
+-- the tokens of an identifier lead from the verb to its statement
 xid_read : (verb : Verb) (tokens : List Token) (xid : Xid) → XidTokens tokens xid → XidRead verb xid tokens
 unfolding walk after_token finish
 xid_read verb _ _ (gtrid g m) =
@@ -106,14 +114,14 @@ xid_read verb _ _ (gtrid_bqual_format g b m n l f) =
           refl;
     }
 
--- where a row leads
+-- the tokens of a row lead to a state that says its statement, with a semicolon or without
 pub record RowRead (tokens : List Token) (statement : Statement) : Type 0 where
   pub state : State
   pub reached : walk AtFirst tokens ≡ Some state
   pub open_end : unended state ≡ Some statement
   pub closed_end : finish state ≡ Some statement
 
--- a row that ends with its xid
+-- a statement of a verb and an identifier is read, if the walk reaches the identifier's tokens
 plain_row : (verb : Verb) (tokens x : List Token) (xid : Xid) → walk AtFirst tokens ≡ walk (WantsGtrid verb) x
     → XidTokens x xid
     → RowRead tokens (statement_of verb xid)
@@ -121,7 +129,7 @@ plain_row verb tokens x xid e form =
     let read = xid_read verb x xid form in
     record { state = read.state; reached = e ∙ read.reached; open_end = read.open_end; closed_end = read.closed_end }
 
--- a word behind the xid
+-- the tokens of an identifier and a word behind it lead on by that word
 clause_step : (verb : Verb) (x more : List Token) (xid : Xid) (word : Keyword) (next : State) → XidTokens x xid
     → xid_word verb xid word ≡ Some next
     → walk (WantsGtrid verb) (x ++ Word word ∷ more) ≡ walk next more
@@ -130,31 +138,35 @@ clause_step verb x more xid word next form e =
     walk_then x (Word word ∷ more) (WantsGtrid verb) read.state read.reached
     ∙ walk-go read.state next (Word word) more (read.goes word ∙ e)
 
+-- XA START and XA BEGIN lead to the same state
 start_read : (word : Keyword) (x : List Token) → StartWord word
     → walk AtFirst (Word XA ∷ Word word ∷ x) ≡ walk (WantsGtrid Starts) x
 unfolding walk after_token
 start_read _ x is_start = refl
 start_read _ x is_begin = refl
 
+-- JOIN and RESUME make it a statement that isn't supported
 join_next : (word : Keyword) (xid : Xid) → JoinWord word → xid_word Starts xid word ≡ Some (Whole Unsupported)
 join_next _ xid is_join = refl
 join_next _ xid is_resume = refl
 
--- a row that reaches a whole statement
+-- tokens that lead to a whole statement are a row that says it
 whole_row : (tokens : List Token) (statement : Statement) → walk AtFirst tokens ≡ Some (Whole statement)
     → RowRead tokens statement
 unfolding finish
 whole_row tokens statement e = record { state = Whole statement; reached = e; open_end = refl; closed_end = refl }
 
--- a row that reaches the word SUSPEND
+-- tokens that lead to the word SUSPEND are a row of a statement that isn't supported
 suspend_row : (tokens : List Token) → walk AtFirst tokens ≡ Some AfterSuspend → RowRead tokens Unsupported
 unfolding finish
 suspend_row tokens e = record { state = AfterSuspend; reached = e; open_end = refl; closed_end = refl }
 
+-- a key that isn't empty leads to what its verb wants next
 key_next : (items : List ℕ) → 0 < length items → (verb : RowVerb) → key_state verb items ≡ Some (after_key verb items)
 key_next [] some verb = absurd (omega arith)
 key_next (byte ∷ items) some verb = refl
 
+-- the tokens of each row of the grammar lead to its statement
 pub row_read : (tokens : List Token) (statement : Statement) → Row tokens statement → RowRead tokens statement
 unfolding walk after_token finish
 row_read _ _ (start {word} {parts = x} {xid} is form) = plain_row Starts _ x xid (start_read word x is) form
@@ -178,12 +190,13 @@ row_read _ _ (put key value m n some) = whole_row _ (Put key.items value) (rw (k
 row_read _ _ (del key m some) = whole_row _ (Del key.items) (rw (key_next key.items some Deletes, walk) refl)
 row_read _ _ disconnect = whole_row _ Disconnect refl
 
+-- a semicolon behind a whole statement leads to the end of that statement
 semicolon_step : (state : State) (statement : Statement) → unended state ≡ Some statement
     → after_token state Semicolon ≡ Some (Ended statement)
 unfolding after_token
 semicolon_step state statement e = ap ended e
 
--- each statement's tokens are answered by it
+-- if tokens spell a statement by the grammar, the walk along them answers that statement
 pub said_read : (tokens : List Token) (statement : Statement) → Says tokens statement
     → answer (walk AtFirst tokens) ≡ Some statement
 unfolding finish

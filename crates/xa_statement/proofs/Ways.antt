@@ -33,7 +33,7 @@ use Rattle.xa_statement.specs.Ways.{Goes, TakesToken, TakesLiteral, TakesNumber,
 use Rattle.xa_statement.proofs.Pieces.{unblank-unblank, tokens-unblank}
 use Rattle.xa_statement.proofs.Run.{from_next, step_of, read_all, seen}
 
--- a token that stands first behind blanks
+-- a token that stands at the front of a text, behind blanks, is taken from it
 pub takes : (token : Token) (text found rest : List ℕ) → found ≡ unblank text → 0 < length found
     → token_at found ≡ (token, rest) → TakesToken token text rest
 takes token text found rest is some first =
@@ -45,46 +45,56 @@ takes token text found rest is some first =
     ∙ ap (λ cut. from_next (after_token state cut.0) (length (unblank text)) (tokens_of cut.1)) here
     ∙ ap (λ o. from_next o (length (unblank text)) (tokens_of rest)) steps
 
+-- a text that begins with a comma (44) has the comma as its first token
 comma_first : (rest : List ℕ) → token_at (44 ∷ rest) ≡ (Comma, rest)
 unfolding token_at
 comma_first rest = refl
 
+-- a text that begins with a semicolon (59) has the semicolon as its first token
 semicolon_first : (rest : List ℕ) → token_at (59 ∷ rest) ≡ (Semicolon, rest)
 unfolding token_at
 semicolon_first rest = refl
 
+-- a state in which a statement could end takes a semicolon
 takes_semicolon : (state : State) (said : Statement) → unended state ≡ Some said
     → after_token state Semicolon ≡ Some (Ended said)
 unfolding after_token
 takes_semicolon state said un = ap ended un
 
+-- a statement that a semicolon ended is still said
 ended_said : (said : Statement) → finish (Ended said) ≡ Some said
 unfolding finish
 ended_said said = refl
 
+-- a whole statement with nothing but blanks behind it is read
 at_end : (text : List ℕ) (state : State) (said : Statement) → unblank text ≡ [] → finish state ≡ Some said
     → read_from state (tokens_of text) ≡ Ok said
 at_end text state said none fin =
     ap (read_from state) (sym (tokens-unblank text)) ∙ read_all state (unblank text) (ap length none) ∙ ap read_end fin
 
+-- blanks and a comma are read as the comma
 pub takes_comma : (text found rest : List ℕ) → found ≡ unblank text → found ≡ 44 ∷ rest → TakesToken Comma text rest
 takes_comma text found rest is first =
     takes Comma text (44 ∷ rest) rest (sym first ∙ is) (omega arith) (comma_first rest)
 
+-- false isn't true
 false_is_true : false ≡ true → ⊥
 false_is_true e = cc
 
+-- a text that tests as empty is empty
 no_bytes : (text : List ℕ) (empty : Bool) → empty ≡ (length text == 0) → IsTrue empty → text ≡ []
 no_bytes [] empty is e = refl
 no_bytes (byte ∷ text) true is e = let none : length (byte ∷ text) ≡ 0 = eqb-true _ _ (sym is) in
     absurd (omega (arith, none))
 no_bytes (byte ∷ text) false is e = absurd (false_is_true e)
 
+-- a statement may end with blanks
 pub ends_bare : (text found : List ℕ) (empty : Bool) → found ≡ unblank text → empty ≡ (length found == 0) → IsTrue empty
     → Ends text
 ends_bare text found empty is tested e =
     λ state said un fin. at_end text state said (sym is ∙ no_bytes found empty tested e) fin
 
+-- a statement may end with a semicolon and blanks
 pub ends_marked : (text found rest last : List ℕ) (empty : Bool) → found ≡ unblank text → found ≡ 59 ∷ rest
     → last ≡ unblank rest
     → empty ≡ (length last == 0) → IsTrue empty → Ends text
@@ -93,32 +103,35 @@ ends_marked text found rest last empty is first behind_it tested e = λ state sa
     (takes_semicolon state said un)
     ∙ at_end rest (Ended said) said (sym behind_it ∙ no_bytes last empty tested e) (ended_said said)
 
--- a text that reading ends with
+-- if the machine's states lead through a text to a statement and its end, reading gives that statement
 pub said_so : (text rest end : List ℕ) (state : State) (said : Statement) → Goes AtFirst text state rest
     → Leads state rest said end → Ends end
     → Ok said ≡ seen_of (read_of text)
 said_so text rest end state said goes leads ends =
     sym (seen text (Ok said) (goes ∙ leads.1.0 ∙ ends leads.0 said leads.1.1.0 leads.1.1.1))
 
--- the same of a statement that is known under another name
+-- a statement that a text leads to, by an equal one
 pub told_so : (text rest end : List ℕ) (state : State) (said told : Statement) → told ≡ said
     → Goes AtFirst text state rest → Leads state rest said end
     → Ends end → Ok told ≡ seen_of (read_of text)
 told_so text rest end state said told is goes leads ends = rw is (said_so text rest end state said goes leads ends)
 
--- bytes between quotes that stand for themselves
+-- putting no bytes in front of what was found changes nothing
 onto_nil : (found : Option (List ℕ × List ℕ)) → onto [] found ≡ found
 onto_nil None = refl
 onto_nil (Some (bytes, rest)) = refl
 
+-- a byte put in front of what was read, before or after the others
 onto_onto : (byte : ℕ) (xs : List ℕ) (found : Option (List ℕ × List ℕ))
     → onto (byte ∷ []) (onto xs found) ≡ onto (byte ∷ xs) found
 onto_onto byte xs None = refl
 onto_onto byte xs (Some (bytes, rest)) = refl
 
+-- a byte that tests as different from a backslash (92) is no backslash
 not_92 : (byte : ℕ) → not (byte == 92) ≡ true → byte ≡ 92 → ⊥
 not_92 byte e is = false_is_true (rw (eq-eqb byte 92 is) at e)
 
+-- a plain byte within quotes is neither the quote nor a backslash
 other : (quote byte : ℕ) → plain_in quote byte ≡ true → (byte ≡ quote → ⊥) × (byte ≡ 92 → ⊥)
 other quote byte plain =
     elim (byte == quote) as (λ b. (byte == quote) ≡ b → (if b then false else not (byte == 92)) ≡ true
@@ -127,6 +140,7 @@ other quote byte plain =
       | false ↦ λ same e. (eqb-false byte quote same, not_92 byte e)
     ] refl plain
 
+-- the plain bytes at the front are read as they are
 quoted_front : (quote : ℕ) (body : List ℕ)
     → read_in_quotes quote Plain body ≡ onto (front (plain_in quote) body)
     (read_in_quotes quote Plain (behind (plain_in quote) body))
@@ -142,10 +156,12 @@ quoted_front quote (byte ∷ body) =
       | false ↦ λ e. rw (front-stops p byte body e, behind-stops p byte body e) (sym (onto_nil _))
     ] refl
 
+-- a quote that no other quote follows ends the literal
 quote_ends : (quote : ℕ) (rest : List ℕ) → heads quote rest ≡ false → read_in_quotes quote Quote rest ≡ Some ([], rest)
 quote_ends quote [] none = quoted-nil-quote quote
 quote_ends quote (byte ∷ rest) none = quote_closes quote byte rest (eqb-false byte quote none)
 
+-- a literal in quotes without escapes is the bytes between them
 quoted_whole : (quote : ℕ) (body rest : List ℕ) → Closes quote (behind (plain_in quote) body) rest
     → read_in_quotes quote Plain body ≡ Some (front (plain_in quote) body, rest)
 quoted_whole quote body rest closes =
@@ -155,6 +171,7 @@ quoted_whole quote body rest closes =
     ∙ ap (onto plain) (plain_quote quote quote rest refl ∙ quote_ends quote rest closes.1)
     ∙ ap (λ bytes. Some (bytes, rest)) (append-nil plain)
 
+-- a literal in quotes without escapes is a text if it has at most 64 bytes
 plain_read : (quote : ℕ) (body rest : List ℕ) (text : Text) → Closes quote (behind (plain_in quote) body) rest
     → text.items ≡ front (plain_in quote) body → length text.items ≤ 64
     → text_literal_of (read_in_quotes quote Plain body) ≡ Ok (text, rest)
@@ -162,7 +179,7 @@ plain_read quote body rest text closes items fits =
     ap text_literal_of (quoted_whole quote body rest closes ∙ ap (λ bytes. Some (bytes, rest)) (sym items))
     ∙ ap (λ found. sized found rest) (kept-fits text.items fits)
 
--- the same, as it is put into an empty text
+-- a literal in quotes without escapes, as the program takes it: its bytes are put into an empty text
 pub plain_taken : (quote : ℕ) (body plain closing rest : List ℕ) (old text : Text) → plain ≡ front (plain_in quote) body
     → closing ≡ behind (plain_in quote) body → Closes quote closing rest → old.items ≡ []
     → text.items ≡ old.items ++ plain
@@ -172,42 +189,46 @@ plain_taken quote body plain closing rest old text is_front is_behind closes non
     let few : length text.items ≤ 64 = rw held (omega (arith, fits)) in
     plain_read quote body rest text (sym is_behind ∙ closes.0, closes.1) (held ∙ is_front) few
 
--- a literal in quotes, at a place in a text
+-- a literal in single quotes (39) in front is one token
 pub single_first : (body rest : List ℕ) (text : Text) → text_literal_of (read_in_quotes 39 Plain body) ≡ Ok (text, rest)
     → token_at (39 ∷ body) ≡ (Value (Some text) None, rest)
 unfolding token_at literal_ahead
 single_first body rest text read = ap quoted_piece read
 
+-- a literal in double quotes (34) in front is one token
 pub double_first : (body rest : List ℕ) (text : Text) → text_literal_of (read_in_quotes 34 Plain body) ≡ Ok (text, rest)
     → token_at (34 ∷ body) ≡ (Value (Some text) None, rest)
 unfolding token_at literal_ahead
 double_first body rest text read = ap quoted_piece read
 
--- a word leads on
+-- a text with a word in front leads on as the grammar's word does
 pub goes_word : (text rest : List ℕ) (state next : State) (word : Keyword) → after_word state word ≡ Some next
     → TakesToken (Word word) text rest
     → Goes state text next rest
 unfolding after_token
 goes_word text rest state next word steps first = first state next steps
 
+-- a word that was found leads on as the grammar's word does
 pub goes_known : (text rest : List ℕ) (state next : State) (found word : Keyword) → found ≡ word
     → after_word state word ≡ Some next
     → TakesToken (Word found) text rest → Goes state text next rest
 goes_known text rest state next found word is steps first =
     goes_word text rest state next found (ap (after_word state) is ∙ steps) first
 
+-- reading may go on from where it has come
 pub goes_then : (text rest end : List ℕ) (state next : State) (said : Statement) → Goes state text next rest
     → Leads next rest said end
     → Leads state text said end
 goes_then text rest end state next said goes leads = (leads.0, (goes ∙ leads.1.0, leads.1.1))
 
--- the parts of an xid
+-- a gtrid alone leads to the identifier with an empty bqual and the formatID 1
 pub gtrid_leads : (verb : Verb) (text rest : List ℕ) (found : Text) → TakesLiteral text found rest
     → Leads (WantsGtrid verb) text (statement_of verb (xid_of found no_text 1)) rest
 unfolding after_token finish
 gtrid_leads verb text rest found first =
     (AfterGtrid verb found, (first.1 (WantsGtrid verb) (AfterGtrid verb found) refl, (refl, refl)))
 
+-- a gtrid and the comma behind it lead to where a bqual is wanted
 pub gtrid_goes : (verb : Verb) (text middle rest : List ℕ) (found : Text) → TakesLiteral text found middle
     → TakesToken Comma middle rest
     → Goes (WantsGtrid verb) text (WantsBqual verb found) rest
@@ -215,12 +236,14 @@ unfolding after_token
 gtrid_goes verb text middle rest found first comma =
     first.1 (WantsGtrid verb) (AfterGtrid verb found) refl ∙ comma (AfterGtrid verb found) (WantsBqual verb found) refl
 
+-- a bqual at the end: the formatID is 1
 pub bqual_leads : (verb : Verb) (gtrid : Text) (text rest : List ℕ) (found : Text) → TakesLiteral text found rest
     → Leads (WantsBqual verb gtrid) text (statement_of verb (xid_of gtrid found 1)) rest
 unfolding after_token finish
 bqual_leads verb gtrid text rest found first =
     (AfterBqual verb gtrid found, (first.1 (WantsBqual verb gtrid) (AfterBqual verb gtrid found) refl, (refl, refl)))
 
+-- a bqual and the comma behind it lead to where a formatID is wanted
 pub bqual_goes : (verb : Verb) (gtrid : Text) (text middle rest : List ℕ) (found : Text)
     → TakesLiteral text found middle → TakesToken Comma middle rest
     → Goes (WantsBqual verb gtrid) text (WantsFormatId verb gtrid found) rest
@@ -229,17 +252,19 @@ bqual_goes verb gtrid text middle rest found first comma =
     first.1 (WantsBqual verb gtrid) (AfterBqual verb gtrid found) refl
     ∙ comma (AfterBqual verb gtrid found) (WantsFormatId verb gtrid found) refl
 
--- the same of an xid whose other parts are those that are left out
+-- a gtrid alone leads to the identifier with an empty bqual and the formatID 1
 pub gtrid_said : (verb : Verb) (text rest : List ℕ) (found bqual : Text) (number : ℕ) → bqual ≡ no_text → number ≡ 1
     → TakesLiteral text found rest
     → Leads (WantsGtrid verb) text (statement_of verb (xid_of found bqual number)) rest
 gtrid_said verb text rest found bqual number none one first = rw (none, one) (gtrid_leads verb text rest found first)
 
+-- a bqual at the end leads to the identifier with the formatID 1
 pub bqual_said : (verb : Verb) (gtrid : Text) (text rest : List ℕ) (found : Text) (number : ℕ) → number ≡ 1
     → TakesLiteral text found rest
     → Leads (WantsBqual verb gtrid) text (statement_of verb (xid_of gtrid found number)) rest
 bqual_said verb gtrid text rest found number one first = rw one (bqual_leads verb gtrid text rest found first)
 
+-- a number is the formatID, as a literal or in digits
 format_steps : (verb : Verb) (gtrid bqual : Text) (literal : Option Text) (number : ℕ)
     → after_token (WantsFormatId verb gtrid bqual) (Value literal (Some number))
     ≡ Some (AfterXid verb (xid_of gtrid bqual number))
@@ -247,6 +272,7 @@ unfolding after_token
 format_steps verb gtrid bqual None number = refl
 format_steps verb gtrid bqual (Some text) number = refl
 
+-- a formatID ends the identifier
 pub format_leads : (verb : Verb) (gtrid bqual : Text) (text rest : List ℕ) (number : ℕ) → TakesNumber text number rest
     → Leads (WantsFormatId verb gtrid bqual) text (statement_of verb (xid_of gtrid bqual number)) rest
 unfolding after_token finish
@@ -254,27 +280,31 @@ format_leads verb gtrid bqual text rest number first =
     let next : State = AfterXid verb (xid_of gtrid bqual number) in
     (next, (first.1 (WantsFormatId verb gtrid bqual) next (format_steps verb gtrid bqual first.0 number), (refl, refl)))
 
--- the parts of a row
+-- a key that isn't empty leads to what its verb wants next
 key_some : (verb : RowVerb) (bytes : List ℕ) → 0 < length bytes → key_state verb bytes ≡ Some (after_key verb bytes)
 key_some verb [] some = absurd (omega arith)
 key_some verb (byte ∷ bytes) some = refl
 
+-- a key leads to what its verb wants next
 key_goes : (verb : RowVerb) (text rest : List ℕ) (key : Text) → TakesLiteral text key rest → 0 < length key.items
     → Goes (WantsKey verb) text (after_key verb key.items) rest
 unfolding after_token
 key_goes verb text rest key first some =
     first.1 (WantsKey verb) (after_key verb key.items) (key_some verb key.items some)
 
+-- GET with its key is whole
 pub get_leads : (text rest : List ℕ) (key : Text) → TakesLiteral text key rest → 0 < length key.items
     → Leads (WantsKey Gets) text (Get key.items) rest
 unfolding finish
 get_leads text rest key first some = (Whole (Get key.items), (key_goes Gets text rest key first some, (refl, refl)))
 
+-- DEL with its key is a whole statement
 pub del_leads : (text rest : List ℕ) (key : Text) → TakesLiteral text key rest → 0 < length key.items
     → Leads (WantsKey Deletes) text (Del key.items) rest
 unfolding finish
 del_leads text rest key first some = (Whole (Del key.items), (key_goes Deletes text rest key first some, (refl, refl)))
 
+-- PUT with key, comma and value is a whole statement
 pub row_leads : (text behind_key behind_comma rest : List ℕ) (key value : Text) → TakesLiteral text key behind_key
     → TakesToken Comma behind_key behind_comma
     → TakesLiteral behind_comma value rest → 0 < length key.items

@@ -5,6 +5,7 @@ use Rattle.std.specs.Cmp.Lexicographic.{bytes_decides}
 use Rattle.std.proofs.lemmas.Bool.Decides.{same_from_decides}
 use Rattle.xa_statement.specs.Token.{is_word}
 
+-- a comparison that ignores the case of letters decides whether the run is the word
 pub is_word_from : (word run : List ℕ) (answer : Bool)
     → (IsTrue answer ↔ (map to_ascii_lowercase run ≡ map to_ascii_lowercase word))
     → answer ≡ is_word word run

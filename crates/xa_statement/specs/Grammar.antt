@@ -41,12 +41,12 @@ pub data XidTokens : List Token → Xid → Type 0 where
       → XidTokens (Literal name number ∷ Comma ∷ Literal branch other ∷ Comma ∷ Number literal format_id ∷ [])
       (xid_of name branch format_id)
 
--- START and BEGIN are the same
+-- the words that may stand in XA START: START and BEGIN mean the same
 pub data StartWord : Keyword → Type 0 where
   is_start : StartWord START
   is_begin : StartWord BEGIN
 
--- JOIN and RESUME are the same
+-- the word of a clause that may stand behind the identifier in XA START, and which the server refuses
 pub data JoinWord : Keyword → Type 0 where
   is_join : JoinWord JOIN
   is_resume : JoinWord RESUME

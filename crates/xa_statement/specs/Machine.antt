@@ -38,7 +38,7 @@ statement_of Prepares xid = Prepare xid
 statement_of Commits xid = Commit xid false
 statement_of RollsBack xid = Rollback xid
 
--- a word after an xid
+-- the state after a word that stands behind an identifier, if it may
 abbrev pub xid_word : Verb → Xid → Keyword → Option State
 xid_word Starts xid JOIN = Some (Whole Unsupported)
 xid_word Starts xid RESUME = Some (Whole Unsupported)
@@ -46,7 +46,7 @@ xid_word Ends xid SUSPEND = Some AfterSuspend
 xid_word Commits xid ONE = Some (AfterOne xid)
 xid_word _ _ _ = None
 
--- a word of the grammar
+-- the state after a word of the grammar, if it may stand there
 abbrev pub after_word : State → Keyword → Option State
 after_word AtFirst XA = Some AfterXa
 after_word AtFirst GET = Some (WantsKey Gets)
@@ -70,14 +70,14 @@ after_word AfterRecover CONVERT = Some AfterConvert
 after_word AfterConvert XID = Some (Whole (Recover true))
 after_word _ _ = None
 
--- a comma
+-- the state after a comma, if one may stand there
 abbrev pub after_comma : State → Option State
 after_comma (AfterGtrid verb gtrid) = Some (WantsBqual verb gtrid)
 after_comma (AfterBqual verb gtrid bqual) = Some (WantsFormatId verb gtrid bqual)
 after_comma (AfterKey key) = Some (WantsValue key)
 after_comma _ = None
 
--- a key of a verb
+-- the state after a key, by what its verb wants next
 abbrev pub after_key : RowVerb → List ℕ → State
 after_key Gets key = Whole (Get key)
 after_key Puts key = AfterKey key
@@ -88,7 +88,7 @@ abbrev pub key_state : RowVerb → List ℕ → Option State
 key_state verb [] = None
 key_state verb (byte ∷ bytes) = Some (after_key verb (byte ∷ bytes))
 
--- a literal or a number
+-- the state after a literal or a number, if one may stand there
 abbrev pub after_value : State → Option Text → Option ℕ → Option State
 after_value (WantsGtrid verb) (Some text) _ = Some (AfterGtrid verb text)
 after_value (WantsBqual verb gtrid) (Some text) _ = Some (AfterBqual verb gtrid text)
@@ -107,7 +107,7 @@ unended AfterRecover = Some (Recover false)
 unended (Whole statement) = Some statement
 unended _ = None
 
--- the state after a ;
+-- the state after a semicolon, if a whole statement stands before it
 abbrev pub ended : Option Statement → Option State
 ended None = None
 ended (Some statement) = Some (Ended statement)

@@ -30,7 +30,7 @@ placed_in text (Err left) = Err (length text - left)
 unfoldable pub read_of : List ℕ → Result Statement ℕ
 read_of text = placed_in text (read_from AtFirst (tokens_of text))
 
--- the same, the place as a fault
+-- what a program gets of a reading: the statement, or the place as a fault
 abbrev pub seen_of : Result Statement ℕ → Result Statement SyntaxFault
 seen_of (Ok statement) = Ok statement
 seen_of (Err place) = Err (record { at = place })

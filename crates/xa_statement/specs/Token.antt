@@ -24,7 +24,7 @@ use Rattle.xa_statement.specs.declared.token.Keyword.TheVariants.{Disconnect as 
 use Rattle.xa_statement.specs.declared.token.Token.{Token}
 use Rattle.xa_statement.specs.declared.token.Token.TheVariants.{Word, Comma, Semicolon, Value}
 
--- without regard to case
+-- whether the bytes are this word, without regard to case
 unfoldable pub is_word : List ℕ → List ℕ → Bool
 is_word word run = bytes_eq (map to_ascii_lowercase run) (map to_ascii_lowercase word)
 
@@ -57,7 +57,7 @@ clause_word run =
     if is_word (codes "CONVERT") run then Some CONVERT else
     if is_word (codes "XID") run then Some XID else None
 
--- the first of two answers that is one
+-- the first of two answers, or the second if there is no first
 abbrev pub or_else : {Answer : Type 0} → Option Answer → Option Answer → Option Answer
 or_else (Some answer) other = Some answer
 or_else None other = other
@@ -71,7 +71,7 @@ abbrev pub part_of : {Answer : Type 0} → Reading Answer → Option Answer
 part_of (Ok (answer, rest)) = Some answer
 part_of (Err fault) = None
 
--- a literal in quotes; the end of a faulty one can't be observed, since no statement has one
+-- the token of a literal in quotes, and the rest; where a faulty one ends can't be observed: no statement has one
 abbrev pub quoted_piece : Reading Text → Token × List ℕ
 quoted_piece (Ok (text, rest)) = (Value (Some text) None, rest)
 quoted_piece (Err fault) = (Value None None, [])
@@ -81,7 +81,7 @@ abbrev pub run_token : Option Keyword → List ℕ → Token
 run_token (Some word) text = Word word
 run_token None text = Value (part_of (literal_ahead text)) (part_of (number_ahead text))
 
--- a run of word bytes
+-- a run of word bytes in front, as a token, and what is left
 abbrev pub run_at : List ℕ → Token × List ℕ
 run_at text = (run_token (keyword_of (run text)) text, after_run text)
 
@@ -117,7 +117,7 @@ pieces (suc most) text = elim (first_piece (unblank text)) [ None ↦ [] | Some 
 abbrev pub tokens_of : List ℕ → List Piece
 tokens_of text = pieces (length text) text
 
--- the tokens without these numbers
+-- the tokens of pieces, without the numbers of bytes that are left
 abbrev pub bare : List Piece → List Token
 bare [] = []
 bare (piece ∷ more) = piece.0 ∷ bare more

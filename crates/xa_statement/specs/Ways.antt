@@ -27,7 +27,7 @@ heads byte (first ∷ _) = first == byte
 abbrev pub Closes : ℕ → List ℕ → List ℕ → Type 0
 Closes quote text rest = (text ≡ quote ∷ rest) × (heads quote rest ≡ false)
 
--- reading the one is reading the other
+-- reading the first text from the first state is reading the second from the second
 abbrev pub Goes : State → List ℕ → State → List ℕ → Type 0
 Goes state text next rest = read_from state (tokens_of text) ≡ read_from next (tokens_of rest)
 
@@ -48,7 +48,7 @@ abbrev pub Leads : State → List ℕ → Statement → List ℕ → Type 0
 Leads state text said rest =
     (next : State) × (Goes state text next rest × ((unended next ≡ Some said) × (finish next ≡ Some said)))
 
--- no token is left, or one ;
+-- the text may stand behind a whole statement: nothing but blanks, or one semicolon and blanks
 abbrev pub Ends : List ℕ → Type 0
 Ends text = (state : State) (said : Statement) → unended state ≡ Some said → finish state ≡ Some said
     → read_from state (tokens_of text) ≡ Ok said

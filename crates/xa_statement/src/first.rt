@@ -21,7 +21,7 @@ pub(crate) fn first_word(text: &[u8]) -> Option<(Keyword, &[u8])>
     Some((word, rest))
 }
 
-/// Does the same for a text that doesn't begin with a blank.
+/// Takes a word of the grammar from the front of a text that doesn't begin with a blank.
 #[tactic(auto, unfolding(crate::specs::Token::token_at))]
 fn word_in_front(text: &[u8]) -> Option<(Keyword, &[u8])>
     ensures some { IfSome result (λ found. 0 < length text.now) }
@@ -64,7 +64,7 @@ pub(crate) fn first_number(text: &[u8]) -> Option<(u64, &[u8])>
     Some((number, rest))
 }
 
-/// Does the same for a text that doesn't begin with a blank.
+/// Takes a number from the front of a text that doesn't begin with a blank.
 #[tactic(auto, unfolding(crate::specs::Token::token_at))]
 fn number_in_front(text: &[u8]) -> Option<(u64, &[u8])>
     ensures some { IfSome result (λ found. 0 < length text.now) }
@@ -185,7 +185,7 @@ fn take_plain<'a>(bytes: &mut Bytes, text: &'a [u8]) -> Option<&'a [u8]>
     }
 }
 
-/// Does the same after the opening quote.
+/// Takes a literal in quotes, of plain bytes alone, from the text behind its opening quote.
 fn take_quoted<'a>(quote: u8, bytes: &mut Bytes, body: &'a [u8]) -> Option<&'a [u8]>
     requires { bytes.now.items ≡ [] }
     ensures { IfSome result (λ rest. text_literal_of (read_in_quotes quote Plain body.now) ≡ Ok (bytes.new, rest.now)) }

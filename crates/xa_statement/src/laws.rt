@@ -44,6 +44,7 @@ pub fn canonical_text_is_spelled(statement: &Statement)
         Statement::Commit { xid, one_phase: _ } => is_writable(xid),
         Statement::Rollback(xid) => is_writable(xid),
         Statement::Recover { convert: _ } => {}
+        // It has no canonical form, and is excluded by the clause above.
         Statement::Unsupported => unreachable!(),
         Statement::Get(key) => is_key(key),
         Statement::Put(key, value) => {

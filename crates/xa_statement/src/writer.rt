@@ -38,6 +38,7 @@ pub fn write_statement(alloc: Global, statement: &Statement) -> Result<Vec<u8>, 
                 with_text(text, b"XA RECOVER")
             }
         }
+        // It has no canonical form, and is excluded by the clause above.
         Statement::Unsupported => unreachable!(),
         Statement::Get(key) => key_statement(text, b"GET ", key),
         Statement::Put(key, value) => {

@@ -14,6 +14,7 @@ use Rattle.xa_store.specs.Gathered.{AddsNothing, last_known}
 pub meets_nobody : (known : Known) → MeetsFirst known known
 meets_nobody known = record { number = refl; seen = refl; mine = refl; looks = omega arith; tries = refl }
 
+-- two meetings, one after the other, are one
 pub meets_again : (old now new : Known) → MeetsFirst old now → MeetsFirst now new → MeetsFirst old new
 meets_again old now new m n =
     record {
@@ -25,10 +26,12 @@ meets_again old now new m n =
       tries = n.tries ∙ m.tries;
     }
 
+-- a session that does nothing adds nothing
 pub keeps_itself : (known : Known) → AddsNothing known known
 keeps_itself known =
     record { number = refl; seen = begins_itself known.seen; mine = refl; looks = omega arith; tries = refl }
 
+-- a session that adds nothing in each of two calls adds nothing in both
 pub keeps_again : (old now new : Known) → AddsNothing old now → AddsNothing now new → AddsNothing old new
 keeps_again old now new k l =
     record {
@@ -44,15 +47,16 @@ pub looks_keeps : (old new : Known) → Looked old new → AddsNothing old new
 looks_keeps old new l =
     record { number = l.number; seen = l.seen; mine = l.mine; looks = omega (arith, l.looks); tries = l.tries }
 
--- the last of two that meet
+-- of two sessions that meet, the second one adds nothing by it
 met_keeps : (first old new : Known) → MeetsSecond first old new → AddsNothing old new
 met_keeps first old new m = record { number = m.number; seen = m.seen; mine = m.mine; looks = m.looks; tries = m.tries }
 
+-- a list is related to itself place by place, if each element is to itself
 pub zip_itself : {S : Type 0} (R : S → S → Type 0) → ((s : S) → R s s) → (list : List S) → AllZip R list list
 zip_itself R itself [] = tt
 zip_itself R itself (s ∷ list) = (itself s, zip_itself R itself list)
 
--- one element more has changed
+-- the loop over elements: one more has changed as the relation says
 zip_set : {S : Type 0} (R : S → S → Type 0) → ((a b c : S) → R a b → R b c → R a c)
     → (before now : List S) (index : ℕ) (new d : S) → index < length now
     → AllZip R before now → R (get_or now index d) new → AllZip R before (set now index new)
@@ -63,6 +67,7 @@ zip_set R through (s ∷ before) (t ∷ now) zero new d below zip step = (throug
 zip_set R through (s ∷ before) (t ∷ now) (suc index) new d below zip step =
     (zip.0, zip_set R through before now index new d (omega (arith, below)) zip.1 step)
 
+-- lists related place by place to middle ones, and these to later ones, are related if the relation goes through
 pub zip_through : {S : Type 0} (R : S → S → Type 0) → ((a b c : S) → R a b → R b c → R a c)
     → (before now after : List S) → AllZip R before now
     → AllZip R now after → AllZip R before after
@@ -74,7 +79,7 @@ zip_through R through (a ∷ before) (b ∷ now) [] zip zip' = absurd zip'
 zip_through R through (a ∷ before) (b ∷ now) (c ∷ after) zip zip' =
     (through a b c zip.0 zip'.0, zip_through R through before now after zip.1 zip'.1)
 
--- what is true of each element stays so where its change keeps it
+-- what is true of each element is true of each changed one, if the change keeps it
 pub all_kept : {S : Type 0} (R : S → S → Type 0) (P Q : S → Type 0) → ((a b : S) → R a b → P a → Q b)
     → (before now : List S) → AllZip R before now
     → All P before → All Q now
@@ -83,6 +88,7 @@ all_kept R P Q keep before now zip all k d below =
     keep (get_or before k d) (get_or now k d) (AllZip-get_or R before now k d d zip (omega (arith, below, long)))
     (All-get_or P before k d (omega (arith, below, long)) all)
 
+-- what follows of each pair follows of lists related place by place
 pub zip_weaker : {S : Type 0} (R Q : S → S → Type 0) → ((a b : S) → R a b → Q a b) → (before now : List S)
     → AllZip R before now → AllZip Q before now
 zip_weaker R Q weaker [] [] zip = tt
@@ -101,6 +107,7 @@ meets_keeps old new m =
       tries = m.tries;
     }
 
+-- the last of what some sessions know is what the last session knows
 pub last_known_of : {S : Type 0} (known : S → Known) (others : List S) (last : S)
     → last_known (map known (others ++ last ∷ [])) ≡ known last
 last_known_of known [] last = refl

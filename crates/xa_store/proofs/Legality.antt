@@ -23,11 +23,12 @@ use Rattle.xa_store.specs.Legal.{Stops}
 use Rattle.xa_store.specs.declared.race_fault.RaceFault.{RaceFault}
 use Rattle.xa_store.specs.declared.race_fault.RaceFault.TheVariants.{GateShut, Full, NoMemory, ThreadRefused}
 
+-- a test holds or fails
 either_way : (b : Bool) → (b ≡ true) ⊎ (b ≡ false)
 either_way true = inl refl
 either_way false = inr refl
 
--- where the next answer may stand, after all of these
+-- from which place of the history on the next answer may stand, after these statements and answers
 unfoldable pub reached : State → List Entry → ℕ → ℕ → List Statement → List Answer → ℕ
 reached base history session from [] answers = from
 reached base history session from (statement ∷ statements) [] = from
@@ -157,7 +158,7 @@ pub record IsOnTheWay (base : State) (old now : Known) (statements : List Statem
   pub legal : IsLegal base now.seen old statements answers
   pub within : reached base now.seen old.number (length old.seen) statements answers ≤ length now.seen
 
--- before its first statement a session is on the way
+-- before its first statement a session is on its way, with no answer yet
 pub sets_out : (base : State) (old : Known) → entries_of old.number old.seen ≡ old.mine → IsOnTheWay base old old [] []
 unfolding reached
 sets_out base old part = record {

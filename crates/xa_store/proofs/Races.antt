@@ -34,7 +34,7 @@ legal_in gate base history old new last statements answers part answered keeps t
     legal_longer base history old new statements answers answered.number part
     (taken_before history new last keeps taken) answered.legal
 
--- the fault of a run that stopped blames this run
+-- the fault with which a run stops is a fault for which this run is to blame
 pub blames : (gate : ℕ → ℕ → Bool → Type 0) (base : State) (runs : List Run) (index : ℕ) (run : Run) (fault : RaceFault)
     → slice_get runs index ≡ Some run
     → Stops gate base (log_of run.pass).capacity (known_of run.pass) run.lines.items fault → Blames gate base runs fault

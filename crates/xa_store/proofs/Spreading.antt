@@ -7,15 +7,17 @@ use Rattle.std.specs.Result.{IfOk, IfErr}
 use Rattle.xa_store.specs.Spread.{HasStopped}
 use Rattle.xa_store.specs.declared.race_fault.RaceFault.{RaceFault}
 
+-- what holds of an Ok's value, of a result that is Ok
 pub when_ok : {T E : Type 0} (r : Result T E) (P : T → Type 0) (x : T) → IfOk r P → r ≡ Ok x → P x
 when_ok (Ok y) P x is same = let here : y ≡ x = cc in subst P here is
 when_ok (Err e) P x is same = absurd (cc)
 
+-- what holds of an Err's value, of a result that is that Err
 pub when_err : {T E : Type 0} (r : Result T E) (P : E → Type 0) (x : E) → IfErr r P → r ≡ Err x → P x
 when_err (Ok y) P x is same = absurd (cc)
 when_err (Err e) P x is same = let here : e ≡ x = cc in subst P here is
 
--- the second becomes a third
+-- lists related place by place, of which the second changes into a third: the first is related to the third
 pub zip_chain : {A B C : Type 0} (Z : A → B → Type 0) (R : B → C → Type 0) (Q : A → C → Type 0)
     → ((a : A) (b : B) (c : C) → Z a b → R b c → Q a c)
     → (xs : List A) (ys : List B) (zs : List C) → AllZip Z xs ys → AllZip R ys zs → AllZip Q xs zs
@@ -39,7 +41,7 @@ zip_ended H W Q f keep (a ∷ xs) (b ∷ ys) [] went left = absurd left
 zip_ended H W Q f keep (a ∷ xs) (b ∷ ys) (c ∷ zs) went left =
     (keep a b c went.0 left.0, zip_ended H W Q f keep xs ys zs went.1 left.1)
 
--- what each place has of its first
+-- what follows for each first element from its relation to the second holds of all first elements
 pub zip_first : {A B : Type 0} (K : A → B → Type 0) (P : A → Type 0) → ((a : A) (b : B) → K a b → P a)
     → (xs : List A) (ys : List B) → AllZip K xs ys
     → AllByRecursion P xs
@@ -57,6 +59,7 @@ zip_all K P Q keep [] (b ∷ ys) zip is = absurd zip
 zip_all K P Q keep (a ∷ xs) [] zip is = absurd zip
 zip_all K P Q keep (a ∷ xs) (b ∷ ys) zip is = (keep a b zip.0 is.0, zip_all K P Q keep xs ys zip.1 is.1)
 
+-- lists of which the first is mapped, related place by place: the elements themselves are related
 pub zip_unmapped : {A B C : Type 0} (K : B → C → Type 0) (f : A → B) (xs : List A) (ys : List C)
     → AllZip K (map f xs) ys → AllZip (λ x y. K (f x) y) xs ys
 zip_unmapped K f [] [] zip = tt
@@ -66,6 +69,7 @@ zip_unmapped K f (a ∷ xs) (b ∷ ys) zip = (zip.0, zip_unmapped K f xs ys zip.
 
 -- a list and another, element by element
 
+-- what holds of pairs and then of their images holds place by place
 pub zip_mapped : {A B C : Type 0} (K : A → B → Type 0) (Q : A → C → Type 0) (f : B → C)
     → ((a : A) (b : B) → K a b → Q a (f b)) → (xs : List A) (ys : List B)
     → AllZip K xs ys → AllZip Q xs (map f ys)
@@ -74,6 +78,7 @@ zip_mapped K Q f keep [] (b ∷ ys) zip = absurd zip
 zip_mapped K Q f keep (a ∷ xs) [] zip = absurd zip
 zip_mapped K Q f keep (a ∷ xs) (b ∷ ys) zip = (keep a b zip.0, zip_mapped K Q f keep xs ys zip.1)
 
+-- what holds place by place holds at a place
 pub zip_get : {A B : Type 0} (K : A → B → Type 0) (xs : List A) (ys : List B) (place : ℕ) (y : B) → AllZip K xs ys
     → slice_get ys place ≡ Some y
     → (x : A) × (slice_get xs place ≡ Some x) × K x y
@@ -86,12 +91,14 @@ zip_get K (a ∷ xs) [] place y zip is = absurd zip
 zip_get K (a ∷ xs) (b ∷ ys) zero y zip is = let same : b ≡ y = cc in (a, refl, subst (K a) same zip.0)
 zip_get K (a ∷ xs) (b ∷ ys) (suc place) y zip is = zip_get K xs ys place y zip.1 is
 
+-- mapping twice is mapping once with both
 pub map_twice : {A B C : Type 0} (f : A → B) (g : B → C) (xs : List A) → map g (map f xs) ≡ map (λ x. g (f x)) xs
 map_twice f g [] = refl
 map_twice f g (x ∷ xs) = ap (λ rest. g (f x) ∷ rest) (map_twice f g xs)
 
 -- places of a longer list
 
+-- what stands in the first of two lists stands in both
 pub get_front : {A : Type 0} (xs ys : List A) (place : ℕ) (x : A) → slice_get xs place ≡ Some x
     → slice_get (xs ++ ys) place ≡ Some x
 get_front [] ys place x is = absurd (never x is)
@@ -101,6 +108,7 @@ get_front [] ys place x is = absurd (never x is)
 get_front (a ∷ xs) ys zero x is = is
 get_front (a ∷ xs) ys (suc place) x is = get_front xs ys place x is
 
+-- what was put behind a list stands at its end
 pub get_end : {A : Type 0} (xs : List A) (x : A) → slice_get (xs ++ x ∷ []) (length xs) ≡ Some x
 get_end [] x = refl
 get_end (a ∷ xs) x = get_end xs x

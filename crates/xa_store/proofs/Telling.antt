@@ -16,6 +16,7 @@ use Rattle.xa_store.specs.declared.race_fault.RaceFault.TheVariants.{GateShut, F
 use Rattle.xa_store.specs.declared.run.Run.{Run}
 use Rattle.xa_store.proofs.Spreading.{zip_get, get_front, get_end}
 
+-- None is never Some
 never : {A : Type 0} (x : A) → None ≡ Some x → ⊥
 never x is = cc
 
@@ -27,7 +28,7 @@ front_or_end [] x (suc place) other is = absurd (never other is)
 front_or_end (a ∷ xs) x zero other is = inl is
 front_or_end (a ∷ xs) x (suc place) other is = front_or_end xs x place other is
 
--- the second at the place of a first
+-- lists related place by place: at the place of an element of the first there is one of the second
 pub zip_at : {A B : Type 0} (K : A → B → Type 0) (xs : List A) (ys : List B) (place : ℕ) (x : A) → AllZip K xs ys
     → slice_get xs place ≡ Some x
     → (y : B) × (slice_get ys place ≡ Some y) × K x y
@@ -40,6 +41,7 @@ zip_at K (a ∷ xs) (b ∷ ys) zero x zip is =
     (b, refl, subst P same zip.0)
 zip_at K (a ∷ xs) (b ∷ ys) (suc place) x zip is = zip_at K xs ys place x zip.1 is
 
+-- a list that has an element isn't empty
 some_at : {A : Type 0} (xs : List A) (place : ℕ) (x : A) → slice_get xs place ≡ Some x → 0 < length xs
 some_at [] place x is = absurd (never x is)
 some_at (a ∷ xs) place x is = omega arith

@@ -9,7 +9,7 @@ use Rattle.xa_store.specs.Passes.{Pass, log_of, known_of}
 use Rattle.xa_store.specs.Gathered.{IsTakenIn, AddsNothing, last_known}
 use Rattle.xa_store.specs.Renewal.{AreGathered}
 
--- it has added nothing, and the history has all that it knows
+-- a pass that has met the others: it has added nothing, and the history has all that it knows
 pub record HasLeft (history : List Entry) (old new : Pass) : Type 0 where
   pub same_log : log_of new ≡ log_of old
   pub adds_nothing : AddsNothing (known_of old) (known_of new)

@@ -4,7 +4,7 @@ use Rattle.std.specs.Prelude.{ℕ}
 use Rattle.xa_store.specs.declared.race_fault.RaceFault.{RaceFault}
 use Rattle.xa_store.specs.declared.race_fault.RaceFault.TheVariants.{GateShut, Full, NoMemory, ThreadRefused}
 
--- in the order of docs/RATTLE.md#races
+-- the number of a fault of a race, in the order of docs/RATTLE.md#races
 abbrev pub number_of_race_fault : RaceFault → ℕ
 number_of_race_fault (GateShut session line) = 1
 number_of_race_fault (Full session line) = 2

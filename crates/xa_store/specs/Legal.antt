@@ -168,7 +168,7 @@ Stops gate base capacity before statements (Full session line) = IsFullAt base c
 Stops gate base capacity before statements NoMemory = Unit {0}
 Stops gate base capacity before statements ThreadRefused = ⊥
 
--- one of the runs stops with this fault
+-- some run stops with this fault
 pub record IsBlamed (gate : ℕ → ℕ → Bool → Type 0) (base : State) (runs : List Run) (fault : RaceFault) : Type 0 where
   pub index : ℕ
   pub run : Run

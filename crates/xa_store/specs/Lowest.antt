@@ -21,7 +21,7 @@ use Rattle.xa_store.specs.declared.race_fault.RaceFault.{RaceFault}
 use Rattle.xa_store.specs.declared.race_fault.RaceFault.TheVariants.{GateShut, Full, NoMemory, ThreadRefused}
 use Rattle.xa_store.specs.declared.run.Run.{Run}
 
--- the run has a statement
+-- whether the run has a statement
 abbrev pub speaks : Run → Bool
 speaks run = not (vec_len run.lines == 0)
 

@@ -13,14 +13,14 @@ use Rattle.xa_store.specs.Legal.{IsLegal, LetsIn}
 use Rattle.xa_store.specs.declared.race_fault.RaceFault.{RaceFault}
 use Rattle.xa_store.specs.declared.race_fault.RaceFault.TheVariants.{NoMemory, ThreadRefused}
 
--- its answers are legal in what it has seen in the end, and the gate can have let it in
+-- a session's answers are legal in what it has seen in the end, and the gate can have let it in
 pub record HasAnswered (gate : ℕ → ℕ → Bool → Type 0) (base : State) (old new : Known) (statements : List Statement)
     (answers : List Answer) : Type 0 where
   pub number : new.number ≡ old.number
   pub legal : IsLegal base new.seen old statements answers
   pub opened : LetsIn gate old.number (length statements)
 
--- a session's base and pass, before its run and after it
+-- a session has run: base' and pass' are its base and pass afterwards, and its statements got these answers
 pub record HasRun {Pass : Type 0} (belongs_to : Pass → LogIdentity) (known : Pass → Known)
     (gate : ℕ → ℕ → Bool → Type 0) (base : State) (pass : Pass)
     (statements : List Statement) (base' : State) (pass' : Pass) (answers : List Answer) : Type 0 where
@@ -28,7 +28,7 @@ pub record HasRun {Pass : Type 0} (belongs_to : Pass → LogIdentity) (known : P
   pub same_log : belongs_to pass' ≡ belongs_to pass
   pub answered : HasAnswered gate base (known pass) (known pass') statements answers
 
--- one of the runs stops with this fault
+-- some run stops with this fault
 pub record HasStopped {Run : Type 0} (stops : Run → RaceFault → Type 0) (runs : List Run)
     (fault : RaceFault) : Type 0 where
   pub index : ℕ

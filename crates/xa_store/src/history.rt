@@ -41,7 +41,8 @@ impl Store {
             < (last_known (map (λ session. known_of session.pass) sessions.new.items)).looks }
         // Proved (stores, history-has-all): The history of a store's sessions begins with what each of them
         //   has seen, and its entries of each session's number are that session's own.
-        ensures whole { IfOk result (λ list. All (λ session. IsTakenIn list.items (known_of session.pass)) sessions.new.items) }
+        ensures whole { IfOk result (λ list. All (λ session. IsTakenIn list.items (known_of session.pass))
+            sessions.new.items) }
     {
         if sessions.is_empty() {
             return Ok(Vec::new(alloc));

@@ -98,7 +98,8 @@ pub fn race<G: Gate + Sync, R: Threads + Wait + Sync>(
     ensures legal { IfOk result (λ outcome. IsOutcome store.now.base runs.items outcome) }
     // Proved (stores, race-gate-opened): If all runs of a race are answered, the gate can let in each of their
     //   statements.
-    ensures opened { OnOk result (All (λ run. LetsIn (G.may_answer gate.now) (known_of run.pass).number (length run.lines.items)) runs.items) }
+    ensures opened { OnOk result (All (λ run. LetsIn (G.may_answer gate.now) (known_of run.pass).number
+        (length run.lines.items)) runs.items) }
     // Proved (stores, race-fault-cause): A fault `GateShut` or `Full` of a race names one statement of a run.
     //   Those before it were answered, and a history explains their answers.
     // Proved (stores, race-fault-there): At `GateShut` the gate can stop the named session at the named line.

@@ -90,7 +90,8 @@ impl Store {
         ensures store { IfErr result (λ kept. (kept.0.base ≡ self.base)
             × (identity_of kept.0.log ≡ identity_of self.log)) }
         // Proved (stores, renew-no-memory)
-        ensures passes { IfErr result (λ kept. AllZip (λ old new. (log_of new ≡ log_of old) × (known_of new ≡ known_of old)) passes.items kept.1.items) }
+        ensures passes { IfErr result (λ kept. AllZip
+            (λ old new. (log_of new ≡ log_of old) × (known_of new ≡ known_of old)) passes.items kept.1.items) }
     {
         let mut last = passes.take_last();
         match self.anew(alloc, &mut last) {

@@ -30,7 +30,7 @@ pub trait Task {
     fn number(&self) -> SessionNo
         ensures { result ≡ number_of self.now };
 
-    /// Does the part.
+    /// Does this session's part of a race, on the thread that it was given.
     ///
     /// Errors: the reason for which it stops. May wait.
     fn work<R: Wait>(self, rt: &R) -> Result<Self::Gain, RaceFault>

@@ -2,8 +2,8 @@
 use std::alloc::Global;
 use std::test::Fail;
 use xa_judge::{
-    Act, Event, Move, Progress, Request, Seen, SharedRequest, SharedSeen, Verdict, follows, judge,
-    judge_telling,
+    Act, Event, Move, Progress, Request, Seen, SharedRequest, SharedSeen, SoFar, Verdict, follows,
+    judge, judge_telling,
 };
 use xa_server::Server;
 use xa_xid::{Bytes, Key, NoMemory, SessionNo, Statement};
@@ -90,9 +90,9 @@ struct Counted {
 }
 
 impl Progress for Counted {
-    fn judged(&mut self, _done: u64, all: u64, _configurations: u64) {
+    fn judged(&mut self, so_far: SoFar) {
         self.times = self.times.saturating_add(1);
-        self.all = all;
+        self.all = so_far.all();
     }
 }
 

@@ -229,7 +229,10 @@ impl<'a, S: Speak> Meddled<'a, S> {
 }
 
 impl<'a, S: Speak> Speak for Meddled<'a, S> {
-    ghost view = { λ session. S.view session.inner };
+    ghost use Rattle.std.specs.Prelude.{None, true};
+
+    // it has no limit of its own, and may be out of memory at any time
+    ghost view = { λ session. record (S.view session.inner) { left = None; starved = true } };
 
     ghost own_part = { λ session. S.own_part session.inner };
 

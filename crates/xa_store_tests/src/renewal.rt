@@ -25,7 +25,8 @@ fn leaving<'s>(
     requires belongs { All (λ session. log_of session.pass ≡ identity_of store.now.log) sessions.items }
     ensures gathered { IfOk result (λ ended. AreGathered (identity_of store.now.log) ended.1.items) }
     ensures some { IfErr result (λ kept. 0 < length kept.items) }
-    ensures belongs { IfErr result (λ kept. All (λ session. log_of session.pass ≡ identity_of store.now.log) kept.items) }
+    ensures belongs { IfErr result (λ kept. All (λ session. log_of session.pass ≡ identity_of store.now.log)
+        kept.items) }
 {
     match store.close(alloc, sessions) {
         Ok(ended) => Ok(ended),

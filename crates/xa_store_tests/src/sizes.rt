@@ -115,11 +115,13 @@ fn is_longest(reply: &Reply, byte: u8) -> bool {
 /// The row of the greatest byte is there, and a session leaves that was cut off after one call.
 fn goes_on<R: Abort + Wait>(rt: &R, session: Session<'_, Log>) {
     let mut session = Fused::new(session, 1);
+    assert!(rt; session.left() == 1);
     let Ok(answer) = session.attempt(&Statement::Get(row(rt, 255))) else {
         panic!(rt; "not answered")
     };
     assert!(rt; is_longest(&answer.reply, 255));
     let recover = Statement::Recover { convert: false };
+    assert!(rt; session.left() == 0);
     assert!(rt; session.attempt(&recover).err() == Some(Fault::NoMemory));
     let mut session = session.into_inner();
     assert!(rt; session.attempt(&recover).is_ok());

@@ -7,7 +7,7 @@ use Rattle.xa_words.specs.Words.{parts_of, text_word, text_words, words_of}
 use Rattle.xa_words.proofs.Texts.{word_at, past_the_end}
 use Rattle.xa_words.proofs.Spelling.{Pieces, pieces}
 
--- the words of an entry in their pieces
+-- the words of an entry are made of its session and the parts of its statement
 own_pieces : (entry : Entry) → Pieces (words_of entry) entry.session (parts_of entry.statement)
 unfolding words_of
 own_pieces entry = pieces (words_of entry) entry.session (parts_of entry.statement) refl
@@ -26,7 +26,7 @@ behind words text start index size piece is from below past =
     ∙ word_at text (index - start) near
     ∙ past_the_end text (8 * (index - start)) (omega (arith, is, past))
 
--- behind the first text
+-- a word past the end of the first text (words 5 to 12) is 0
 pub behind_first : (entry : Entry) (index size : ℕ) → size ≡ get_or (words_of entry) 2 0 → 5 ≤ index → index < 13
     → size ≤ 8 * (index - 5)
     → get_or (words_of entry) index 0 ≡ 0
@@ -34,7 +34,7 @@ behind_first entry index size is from below past =
     let p = own_pieces entry in
     behind (words_of entry) (parts_of entry.statement).first 5 index size p.first (is ∙ p.first_length) from below past
 
--- behind the second
+-- a word past the end of the second text (words 13 to 20) is 0
 pub behind_second : (entry : Entry) (index size : ℕ) → size ≡ get_or (words_of entry) 3 0 → 13 ≤ index → index < 21
     → size ≤ 8 * (index - 13)
     → get_or (words_of entry) index 0 ≡ 0

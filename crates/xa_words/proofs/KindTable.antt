@@ -8,10 +8,11 @@ use Rattle.xa_xid.specs.declared.statement.Statement.TheVariants.{Unsupported, G
 use Rattle.xa_words.specs.Entry.{IsText, IsXid, may_be_entry, KeepsLimits}
 use Rattle.xa_words.specs.Words.{Parts, of_xid, of_texts, parts_of, RowParts}
 
+-- the identifier that a statement's parts spell
 xid_of : Parts → Xid
 xid_of p = record { format_id = p.format_id; gtrid = record { items = p.first }; bqual = record { items = p.second } }
 
--- the statement of some parts
+-- the statement of a kind, a formatID and two texts
 statement_of : Parts → Statement
 statement_of p =
     cond (nat_eq p.kind 1) (Start (xid_of p))
@@ -24,6 +25,7 @@ statement_of p =
     (cond (nat_eq p.kind 8) (Put p.first (record { items = p.second }))
     (cond (nat_eq p.kind 9) (Del p.first) Disconnect))))))))
 
+-- a statement that may be an entry is that of its parts
 again : (st : Statement) → IsTrue (may_be_entry st) → statement_of (parts_of st) ≡ st
 unfolding statement_of xid_of
 again (Start xid) may = refl
@@ -44,6 +46,7 @@ pub one_statement : (left right : Statement) → IsTrue (may_be_entry left) → 
     → parts_of left ≡ parts_of right → left ≡ right
 one_statement left right l r same = sym (again left l) ∙ ap statement_of same ∙ again right r
 
+-- the empty text is a text
 empty : IsText []
 empty = record { fits = lit≤ tt; bytes = λ i. lit< tt }
 
@@ -57,7 +60,7 @@ pub record Within (p : Parts) : Type 0 where
   pub none : 6 < p.kind → p.format_id ≡ 0
   pub row : 6 < p.kind → RowParts p
 
--- a kind with an identifier
+-- the parts of a kind from 1 to 6, with an identifier within its limits, are within the limits
 xid_within : (kind : ℕ) (xid : Xid) → 0 < kind → kind ≤ 6 → IsXid xid → Within (of_xid kind xid)
 xid_within kind xid low high k =
     record {
@@ -70,7 +73,7 @@ xid_within kind xid low high k =
       row = λ h. absurd (omega arith);
     }
 
--- a kind with two texts
+-- the parts of a kind with two texts within their limits are within the limits
 texts_within : (kind : ℕ) (first second : List ℕ) → IsText first → IsText second → RowParts (of_texts kind first second)
     → Within (of_texts kind first second)
 texts_within kind first second one two row =
@@ -84,6 +87,7 @@ texts_within kind first second one two row =
       row = λ h. row;
     }
 
+-- the parts of a statement within the limits are within them
 pub within : (st : Statement) → IsTrue (may_be_entry st) → KeepsLimits st → Within (parts_of st)
 within (Start xid) may k = xid_within 1 xid (omega arith) (omega arith) k
 within (End xid) may k = xid_within 2 xid (omega arith) (omega arith) k

@@ -9,7 +9,7 @@ use Rattle.xa_words.specs.Words.{Parts, parts_of, text_words, lay_out, words_of}
 use Rattle.xa_words.proofs.Texts.{one_text, text_word-fits}
 use Rattle.xa_words.proofs.KindTable.{within, one_statement}
 
--- the words, one by one and text by text
+-- the words have the session, the kind, two lengths, the formatID and the two texts at their places
 pub record Pieces (words : List ℕ) (of : ℕ) (parts : Parts) : Type 0 where
   pub all : length words ≡ 21
   pub session : get_or words 0 0 ≡ of
@@ -20,6 +20,7 @@ pub record Pieces (words : List ℕ) (of : ℕ) (parts : Parts) : Type 0 where
   pub first : take 8 (drop 5 words) ≡ text_words parts.first
   pub second : take 8 (drop 13 words) ≡ text_words parts.second
 
+-- the words of a layout are the pieces that it was made of
 pub pieces : (words : List ℕ) (session : ℕ) (parts : Parts) → words ≡ lay_out session parts → Pieces words session parts
 pieces words session parts is = record {
   all = ap length is;
@@ -32,9 +33,11 @@ pieces words session parts is = record {
   second = ap (λ ws. take 8 (drop 13 ws)) is;
 }
 
+-- parts are equal if each of the four is
 parts_by : (p q : Parts) → p.kind ≡ q.kind → p.format_id ≡ q.format_id → p.first ≡ q.first → p.second ≡ q.second → p ≡ q
 parts_by p q k f a b i = record { kind = k i; format_id = f i; first = a i; second = b i }
 
+-- entries are equal if their sessions and statements are
 pub entry_by : (left right : Entry) → left.session ≡ right.session → left.statement ≡ right.statement → left ≡ right
 entry_by left right s st i = record { session = s i; statement = st i }
 
@@ -56,10 +59,12 @@ one_entry left right l r same =
     entry_by left right (ap (λ ws. get_or ws 0 0) same)
     (one_statement left.statement right.statement l.kind r.kind same_parts)
 
+-- an entry is 21 words
 pub length-words_of : (entry : Entry) → length (words_of entry) ≡ 21
 unfolding words_of
 length-words_of entry = refl
 
+-- each word of an entry is below 2^64
 pub words_of-fit : (entry : Entry) → IsEntry entry → All (λ word. word < 2 ^ 64) (words_of entry)
 unfolding words_of
 words_of-fit entry is =
@@ -126,6 +131,7 @@ words_of-fit entry is =
       ),
     )
 
+-- the words of an entry are the pieces of its statement's parts
 pub pieces_of : (words : List ℕ) (entry : Entry) → words ≡ words_of entry
     → Pieces words entry.session (parts_of entry.statement)
 unfolding words_of

@@ -10,7 +10,7 @@ use native.Mathlib.Decide.{dec_lt}
 use Rattle.xa_words.specs.Entry.{IsText}
 use Rattle.xa_words.specs.Words.{eight_bytes, text_word, text_words, byte_of}
 
--- what holds of the first eight numbers
+-- what holds of 0 to 7 holds of each number below 8
 below_eight : (P : ℕ → Type 0) → P 0 → P 1 → P 2 → P 3 → P 4 → P 5 → P 6 → P 7 → (n : ℕ) → n < 8 → P n
 below_eight P a b c d e f g h zero l = a
 below_eight P a b c d e f g h (suc zero) l = b
@@ -22,20 +22,23 @@ below_eight P a b c d e f g h (suc (suc (suc (suc (suc (suc zero)))))) l = g
 below_eight P a b c d e f g h (suc (suc (suc (suc (suc (suc (suc zero))))))) l = h
 below_eight P a b c d e f g h (suc (suc (suc (suc (suc (suc (suc (suc n)))))))) l = absurd (omega arith)
 
--- a word of a text among its eight
+-- each of a text's eight words is that of its eight bytes from there on
 pub word_at : (text : List ℕ) (index : ℕ) → index < 8 → get_or (text_words text) index 0 ≡ text_word text (8 * index)
 word_at text =
     below_eight (λ n. get_or (text_words text) n 0 ≡ text_word text (8 * n)) refl refl refl refl refl refl refl refl
 
+-- the bytes of a word are the text's eight bytes from its place on; past the end they are 0
 byte_at : (text : List ℕ) (place index : ℕ) → index < 8
     → get_or (eight_bytes text place) index 0 ≡ get_or text (place + index) 0
 byte_at text place =
     below_eight (λ n. get_or (eight_bytes text place) n 0 ≡ get_or text (place + n) 0)
     (ap (λ n. get_or text n 0) (omega arith)) refl refl refl refl refl refl refl
 
+-- each element is a byte, below 256
 Small : List ℕ → Type 0
 Small text = (i : ℕ) → get_or text i 0 < 256
 
+-- the eight elements of a word are bytes, if the text's are
 bytes_small : (text : List ℕ) → ((i : ℕ) → get_or text i 0 < 256) → (place index : ℕ)
     → get_or (eight_bytes text place) index 0 < 256
 bytes_small text small place zero = small place
@@ -48,6 +51,7 @@ bytes_small text small place (suc (suc (suc (suc (suc (suc zero)))))) = small (p
 bytes_small text small place (suc (suc (suc (suc (suc (suc (suc zero))))))) = small (place + 7)
 bytes_small text small place (suc (suc (suc (suc (suc (suc (suc (suc n)))))))) = lit< tt
 
+-- a word gives its eight bytes back, the first as the highest
 word_bytes : (text : List ℕ) → ((i : ℕ) → get_or text i 0 < 256) → (place : ℕ)
     → to_be_bytes w64 (text_word text place) ≡ eight_bytes text place
 unfolding text_word
@@ -114,7 +118,7 @@ one_word_more words text index size bytes place below =
     ∙ ap (λ n. get_or (to_be_bytes w64 (get_or words index 0)) n 0) r
     ∙ ap (λ n. get_or (to_be_bytes w64 (get_or words n 0)) (place % 8) 0) q)
 
--- bytes of the first words, and some of the next one's
+-- the bytes of the first words and some of the next one's are the bytes that the words spell
 pub some_bytes_more : (words text : List ℕ) (index count : ℕ) → length text ≡ 8 * index → count ≤ 8
     → ((place : ℕ) → place < length text → get_or text place 0 ≡ byte_of words place)
     → (place : ℕ) → place < 8 * index + count

@@ -22,11 +22,11 @@ pub record Parts : Type 0 where
   pub first : List ℕ
   pub second : List ℕ
 
--- a kind with an identifier
+-- the parts of a statement of this kind about a branch
 abbrev pub of_xid : ℕ → Xid → Parts
 of_xid kind xid = record { kind = kind; format_id = xid.format_id; first = xid.gtrid.items; second = xid.bqual.items }
 
--- a kind with two texts
+-- the parts of a statement of this kind about a row: its key, and the value of a PUT
 abbrev pub of_texts : ℕ → List ℕ → List ℕ → Parts
 of_texts kind first second = record { kind = kind; format_id = 0; first = first; second = second }
 
@@ -56,7 +56,7 @@ eight_bytes text place =
 unfoldable pub text_word : List ℕ → ℕ → ℕ
 text_word text place = from_be_bytes w64 (eight_bytes text place)
 
--- a text as eight numbers
+-- a text as eight numbers, of eight bytes each
 abbrev pub text_words : List ℕ → List ℕ
 text_words text =
     text_word text 0 ∷ text_word text 8 ∷ text_word text 16 ∷ text_word text 24

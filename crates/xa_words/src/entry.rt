@@ -45,6 +45,7 @@ impl Entry {
             Statement::Recover { .. } | Statement::Unsupported => None,
             _ => {
                 limits::of_statement(statement);
+                // The proof needs that the number is one of 1 to 16.
                 let _number = session.get();
                 Some(Entry {
                     session,
@@ -63,6 +64,7 @@ impl Entry {
         ensures { result ≡ record { session = session; statement = statement } }
     {
         limits::of_statement(&statement);
+        // The proof needs that the number is one of 1 to 16.
         let _number = session.get();
         Entry { session, statement }
     }

@@ -5,10 +5,10 @@ ghost use Rattle.xa_words.specs.Words.{parts_of, text_word, text_words, words_of
 
 use xa_xid::{Key, Statement, Xid};
 
-/// The number of words of an entry.
+/// The number of words of an entry: session, kind, two lengths, formatID, and two texts of 64 bytes, 8 in a word.
 pub const WORDS: usize = 21;
 
-/// The greatest length of a text, in bytes.
+/// The greatest length of a text, in bytes: what X/Open C193 allows a gtrid or bqual. Keys and values have the same.
 pub(crate) const MOST_BYTES: u64 = 64;
 
 /// The parts of a statement that the words hold: the number of its kind, its formatID and its two texts.
@@ -92,6 +92,7 @@ fn text_word(text: &[u8], place: usize) -> u64
     if text.len() <= place {
         return 0;
     }
+    // The last bytes of a text, with zeros behind them.
     if text.len() - place < 8 {
         return last_word(text, place);
     }
@@ -107,7 +108,7 @@ fn text_word(text: &[u8], place: usize) -> u64
     ])
 }
 
-/// Does the same for a text that may end within the eight bytes.
+/// Returns the eight bytes of a text from a place on, as one number, of a text that may end among them.
 fn last_word(text: &[u8], place: usize) -> u64
     requires { place < 64 }
     ensures { result ≡ text_word text.now place }
@@ -161,6 +162,7 @@ pub fn is_behind_text(words: &[u64; WORDS], index: usize) -> bool
     if index < 5 {
         return false;
     }
+    // Words 5 to 12 are the first text's, 13 to 20 the second's. Words 2 and 3 have their lengths.
     if index < 13 {
         words[2] <= 8 * (index as u64 - 5)
     } else {

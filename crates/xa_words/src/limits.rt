@@ -22,6 +22,7 @@ pub(crate) fn of_text(text: &Bytes)
 fn of_xid(xid: &Xid)
     ensures { IsXid xid.now }
 {
+    // The proof needs that the number is below 2^64, as a field of 64 bits is.
     let _format_id = xid.format_id;
     of_text(&xid.gtrid);
     of_text(&xid.bqual);

@@ -18,6 +18,7 @@ fn push_bytes(text: &mut Bytes, word: u64, count: usize)
     ensures { text.new.items ≡ text.old.items ++ take count (to_be_bytes w64 word) }
 {
     let bytes = word.to_be_bytes();
+    // It fits, as the second clause requires.
     text.try_extend_from_slice(&bytes[..count]).unwrap();
 }
 

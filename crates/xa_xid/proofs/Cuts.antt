@@ -7,36 +7,43 @@ use Rattle.std.proofs.Math.Seq.{take-suc}
 use Rattle.std.proofs.lemmas.List.{drop_all, take_all, append-nil}
 use Rattle.xa_xid.specs.Bytes.{front, behind}
 
+-- `front` has the bytes up to the first that doesn't pass, and `behind` has the rest: a byte that passes is in front
 pub front-passes : (p : ℕ → Bool) (byte : ℕ) (text : List ℕ) → p byte ≡ true
     → front p (byte ∷ text) ≡ byte ∷ front p text
 unfolding front
 front-passes p byte text e = rw e refl
 
+-- a byte that doesn't pass ends the front
 pub front-stops : (p : ℕ → Bool) (byte : ℕ) (text : List ℕ) → p byte ≡ false → front p (byte ∷ text) ≡ []
 unfolding front
 front-stops p byte text e = rw e refl
 
+-- a first byte that passes belongs to the front: the rest is that of the bytes after it
 pub behind-passes : (p : ℕ → Bool) (byte : ℕ) (text : List ℕ) → p byte ≡ true → behind p (byte ∷ text) ≡ behind p text
 unfolding behind
 behind-passes p byte text e = rw e refl
 
+-- from a byte that doesn't pass on, all bytes are behind
 pub behind-stops : (p : ℕ → Bool) (byte : ℕ) (text : List ℕ) → p byte ≡ false → behind p (byte ∷ text) ≡ byte ∷ text
 unfolding behind
 behind-stops p byte text e = rw e refl
 
+-- the front of an empty text is empty
 pub front-nil : (p : ℕ → Bool) → front p [] ≡ []
 unfolding front
 front-nil p = refl
 
+-- the rest of an empty text is empty
 pub behind-nil : (p : ℕ → Bool) → behind p [] ≡ []
 unfolding behind
 behind-nil p = refl
 
--- the bytes before a place pass
+-- all bytes before a place pass, so the text is cut at that place or later
 pub record Passed (p : ℕ → Bool) (text : List ℕ) (place : ℕ) : Type 0 where
   pub before : front p text ≡ take place text ++ front p (drop place text)
   pub left : behind p text ≡ behind p (drop place text)
 
+-- the loop's step: one byte more passes
 pub passed_more : (p : ℕ → Bool) (text : List ℕ) (place : ℕ) → place < length text → p (get_or text place 0) ≡ true
     → Passed p text place → Passed p text (place + 1)
 passed_more p text place within passes so_far = record {
@@ -47,6 +54,7 @@ passed_more p text place within passes so_far = record {
   left = so_far.left ∙ rw (drop-cons text place 0 within, behind-passes p _ _ passes, add-one) refl;
 }
 
+-- its end at a byte that doesn't: the text is cut there
 pub passed_stop : (p : ℕ → Bool) (text : List ℕ) (place : ℕ) → place < length text → p (get_or text place 0) ≡ false
     → Passed p text place → (front p text ≡ take place text) × (behind p text ≡ drop place text)
 passed_stop p text place within fails so_far = (
@@ -54,6 +62,7 @@ passed_stop p text place within fails so_far = (
   so_far.left ∙ rw (drop-cons text place 0 within) (behind-stops p _ _ fails),
 )
 
+-- if the loop comes to the end of a text, all of it has passed
 pub passed_all : (p : ℕ → Bool) (text : List ℕ) (place : ℕ) → length text ≤ place → Passed p text place
     → (front p text ≡ take (length text) text) × (behind p text ≡ drop (length text) text)
 passed_all p text place past so_far =

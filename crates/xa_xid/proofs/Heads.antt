@@ -22,16 +22,20 @@ spelled zero text = 0
 spelled (suc n) [] = 0
 spelled (suc n) (x ∷ xs) = x * weight n + spelled n xs
 
+-- each element is a byte, below 256
 abbrev pub Small : List ℕ → Type 0
 Small text = (i : ℕ) → get_or text i 0 < 256
 
+-- the elements after the first are bytes, if all are
 tail_small : (x : ℕ) (xs : List ℕ) → Small (x ∷ xs) → Small xs
 tail_small x xs small i = small (suc i)
 
+-- a power of 256 isn't 0
 has_weight : (n : ℕ) → 0 < weight n
 has_weight zero = omega arith
 has_weight (suc n) = omega (arith, has_weight n)
 
+-- the number that n bytes spell is below 256^n
 fits : (n : ℕ) (text : List ℕ) → Small text → spelled n text < weight n
 fits zero text small = omega arith
 fits (suc n) [] small = omega (arith, has_weight n)
@@ -50,10 +54,12 @@ split : (x y : ℕ) (A : Type 0) → (x < y → A) → (y < x → A) → (x ≡ 
 split x y A less more same =
     dite (dec_lt x y) less (λ not_less. dite (dec_lt y x) more (λ not_more. same (omega (arith, not_less, not_more))))
 
+-- texts with the same first byte compare as their rests do
 same_first : (x y : ℕ) (xs ys : List ℕ) → x ≡ y → slice_cmp nat_cmp (x ∷ xs) (y ∷ ys) ≡ slice_cmp nat_cmp xs ys
 same_first x y xs ys same =
     ap (λ order. ordering_then order (slice_cmp nat_cmp xs ys)) (sym (nat_cmp_is x y Equal same))
 
+-- if the first n bytes spell a smaller number, the text comes before
 lesser : (n : ℕ) (left right : List ℕ) → Small left → Small right → spelled n left < spelled n right
     → slice_cmp nat_cmp left right ≡ Less
 lesser zero left right l r h = absurd (omega (arith, h))
@@ -67,6 +73,7 @@ lesser (suc n) (x ∷ xs) (y ∷ ys) l r h =
     (λ same. same_first x y xs ys same
     ∙ lesser n xs ys (tail_small x xs l) (tail_small y ys r) (omega (arith, h, ap (λ z. z * weight n) same)))
 
+-- if the first n bytes of a text spell a greater number than those of another, the text comes behind
 greater : (n : ℕ) (left right : List ℕ) → Small left → Small right → spelled n right < spelled n left
     → slice_cmp nat_cmp left right ≡ Greater
 greater zero left right l r h = absurd (omega (arith, h))
@@ -88,6 +95,7 @@ raised order m n is =
     (λ more. is ∙ sym (nat_cmp_is m n Greater more) ∙ nat_cmp_is (suc m) (suc n) Greater (omega (arith, more)))
     (λ same. is ∙ sym (nat_cmp_is m n Equal same) ∙ nat_cmp_is (suc m) (suc n) Equal (ap suc same))
 
+-- if the same, and a text ends within them, the shorter text comes before
 level : (n : ℕ) (left right : List ℕ) → Small left → Small right → spelled n left ≡ spelled n right
     → (length left ≤ n) ⊎ (length right ≤ n)
     → slice_cmp nat_cmp left right ≡ nat_cmp (length left) (length right)
@@ -122,14 +130,17 @@ head_is (a ∷ b ∷ c ∷ d ∷ e ∷ f ∷ []) = omega arith
 head_is (a ∷ b ∷ c ∷ d ∷ e ∷ f ∷ g ∷ []) = omega arith
 head_is (a ∷ b ∷ c ∷ d ∷ e ∷ f ∷ g ∷ h ∷ rest) = omega arith
 
+-- if the first 8 bytes, compared as one number, are less, the text comes before
 pub head_less : (left right : List ℕ) → Small left → Small right → head_of left < head_of right
     → slice_cmp nat_cmp left right ≡ Less
 head_less left right l r h = lesser 8 left right l r (omega (arith, h, head_is left, head_is right))
 
+-- a text whose head, the number of its first 8 bytes, is greater comes behind
 pub head_greater : (left right : List ℕ) → Small left → Small right → head_of right < head_of left
     → slice_cmp nat_cmp left right ≡ Greater
 head_greater left right l r h = greater 8 left right l r (omega (arith, h, head_is left, head_is right))
 
+-- equal heads, of which one is a whole text: the lengths decide
 pub head_level : (left right : List ℕ) → Small left → Small right → head_of left ≡ head_of right
     → (length left ≤ 8) ⊎ (length right ≤ 8)
     → slice_cmp nat_cmp left right ≡ nat_cmp (length left) (length right)

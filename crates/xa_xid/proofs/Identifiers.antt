@@ -18,21 +18,24 @@ use Rattle.xa_xid.proofs.Spelling.{spelled_read}
 use Rattle.xa_xid.proofs.Texts.{kept-fits}
 use Rattle.xa_xid.proofs.Written.{format_found, bqual_found, gtrid_found}
 
--- literals of at most 64 bytes
+-- a literal that is read and has at most 64 bytes is spelled as a text
 pub read_text_spelled : (text : List ℕ) (found : Text) (rest : List ℕ) → literal_ahead text ≡ Ok (found, rest)
     → TextAt text found rest
 read_text_spelled text found rest e = let parts = read_spelled text found rest e in
     record { literal = parts.0; fits = parts.1 }
 
+-- a text that is spelled at a place is read there
 pub spelled_text_read : (text : List ℕ) (found : Text) (rest : List ℕ) → TextAt text found rest
     → literal_ahead text ≡ Ok (found, rest)
 spelled_text_read text found rest form =
     spelled_read text found.items rest form.literal ∙ ap (λ k. sized k rest) (kept-fits found.items form.fits)
 
+-- a reading has one result
 text_once : (reading : Reading Text) (found other : Text × List ℕ) → reading ≡ Ok found → reading ≡ Ok other
     → found ≡ other
 text_once reading found other e f = cc
 
+-- at most one text is spelled at a place
 pub one_text : (text : List ℕ) (found other : Text) (rest behind : List ℕ) → TextAt text found rest
     → TextAt text other behind
     → (found ≡ other) × (rest ≡ behind)
@@ -42,11 +45,12 @@ one_text text found other rest behind form again =
     (spelled_text_read text other behind again) in
     (ap (λ pair. pair.0) same, ap (λ pair. pair.1) same)
 
--- a comma next, or none
+-- a comma comes next and this stands behind it, or none comes next
 abbrev CommaFound : List ℕ → Option (List ℕ) → Type 0
 CommaFound text None = NoCommaAt text
 CommaFound text (Some rest) = CommaAt text rest
 
+-- looking for a comma finds one, or there is none
 comma_found : (text : List ℕ) → CommaFound text (comma_next text)
 comma_found [] = tt
 comma_found (byte ∷ text) =
@@ -55,9 +59,11 @@ comma_found (byte ∷ text) =
       | false ↦ λ e. e
     ] refl
 
+-- a comma that is there is found
 comma_read : (text rest : List ℕ) → CommaAt text rest → comma_next text ≡ Some rest
 comma_read text rest e = ap comma_next e
 
+-- where no comma stands, none is found
 no_comma_read : (text : List ℕ) → NoCommaAt text → comma_next text ≡ None
 no_comma_read [] s = refl
 no_comma_read (byte ∷ text) s = rw s refl
@@ -79,6 +85,7 @@ format_spelled text second third fourth fifth gtrid bqual first comma part last 
     faulty_format_id text second third fourth fifth gtrid bqual fault first comma part last
     (read_faulty_number (unblank fifth) fault e)
 
+-- from the end of an identifier to its beginning: after the bqual a formatID or nothing
 after_bqual_spelled : (text second third fourth : List ℕ) (gtrid bqual : Text) → TextAt (unblank text) gtrid second
     → CommaAt (unblank second) third
     → TextAt (unblank third) bqual fourth → (next : Option (List ℕ)) → CommaFound (unblank fourth) next
@@ -88,6 +95,7 @@ after_bqual_spelled text second third fourth gtrid bqual first comma part None n
 after_bqual_spelled text second third fourth gtrid bqual first comma part (Some fifth) last =
     format_spelled text second third fourth fifth gtrid bqual first comma part last (number_ahead (unblank fifth)) refl
 
+-- the part of an identifier from its bqual on: what is read is spelled, and each fault is told rightly
 bqual_spelled : (text second third : List ℕ) (gtrid : Text) → TextAt (unblank text) gtrid second
     → CommaAt (unblank second) third
     → (found : Reading Text) → literal_ahead (unblank third) ≡ found
@@ -99,6 +107,7 @@ bqual_spelled text second third gtrid first comma (Ok (bqual, fourth)) e =
 bqual_spelled text second third gtrid first comma (Err fault) e =
     faulty_bqual text second third gtrid fault first comma (read_faulty (unblank third) fault e)
 
+-- the part of an identifier behind its gtrid: what is read is spelled, and each fault is told rightly
 after_gtrid_spelled : (text second : List ℕ) (gtrid : Text) → TextAt (unblank text) gtrid second
     → (next : Option (List ℕ))
     → CommaFound (unblank second) next → XidSpelled text (after_gtrid gtrid second next)
@@ -106,6 +115,7 @@ after_gtrid_spelled text second gtrid first None none = gtrid_alone gtrid first 
 after_gtrid_spelled text second gtrid first (Some third) comma =
     bqual_spelled text second third gtrid first comma (literal_ahead (unblank third)) refl
 
+-- an identifier from its gtrid on: what is read is spelled, and each fault is told rightly
 gtrid_spelled : (text : List ℕ) (found : Reading Text) → literal_ahead (unblank text) ≡ found
     → XidSpelled text (gtrid_found (unblank text) found)
 gtrid_spelled text (Ok (gtrid, second)) e =
@@ -113,22 +123,24 @@ gtrid_spelled text (Ok (gtrid, second)) e =
     (comma_next (unblank second)) (comma_found (unblank second))
 gtrid_spelled text (Err fault) e = faulty_gtrid text fault (read_faulty (unblank text) fault e)
 
+-- what is read as an identifier is spelled as one, and each fault is told rightly
 xid_spelled : (text : List ℕ) → XidSpelled text (xid_ahead text)
 unfolding xid_ahead
 xid_spelled text = gtrid_spelled text (literal_ahead (unblank text)) refl
 
--- what is read is spelled
+-- an identifier that is read is spelled so by the grammar
 pub read_xid_spelled : (text : List ℕ) (xid : Xid) (rest : List ℕ) → xid_ahead text ≡ Ok (xid, rest)
     → XidAt text xid rest
 read_xid_spelled text xid rest e = rw e at (xid_spelled text)
 
--- from the spelling to the reading
+-- a gtrid that is spelled is read, and reading goes on behind it
 gtrid_read : (text second : List ℕ) (gtrid : Text) → TextAt (unblank text) gtrid second
     → xid_ahead text ≡ after_gtrid gtrid second (comma_next (unblank second))
 unfolding xid_ahead
 gtrid_read text second gtrid first =
     ap (gtrid_found (unblank text)) (spelled_text_read (unblank text) gtrid second first)
 
+-- a comma and a bqual that are spelled behind a gtrid are read
 bqual_read : (gtrid bqual : Text) (second third fourth : List ℕ) → CommaAt (unblank second) third
     → TextAt (unblank third) bqual fourth
     → after_gtrid gtrid second (comma_next (unblank second))
@@ -137,6 +149,7 @@ bqual_read gtrid bqual second third fourth comma part =
     ap (after_gtrid gtrid second) (comma_read (unblank second) third comma)
     ∙ ap (bqual_found gtrid (unblank third)) (spelled_text_read (unblank third) bqual fourth part)
 
+-- a comma and a formatID that are spelled are read
 format_read : (gtrid bqual : Text) (value : ℕ) (fourth fifth rest : List ℕ) → CommaAt (unblank fourth) fifth
     → NumberAt (unblank fifth) value rest
     → after_bqual gtrid bqual fourth (comma_next (unblank fourth)) ≡ Ok (xid_of gtrid bqual value, rest)
@@ -144,7 +157,7 @@ format_read gtrid bqual value fourth fifth rest last number =
     ap (after_bqual gtrid bqual fourth) (comma_read (unblank fourth) fifth last)
     ∙ ap (format_found gtrid bqual (unblank fifth)) (spelled_number_read (unblank fifth) value rest number)
 
--- what is spelled is read
+-- an identifier that the grammar spells is read
 pub spelled_xid_read : (text : List ℕ) (xid : Xid) (rest : List ℕ) → XidAt text xid rest
     → xid_ahead text ≡ Ok (xid, rest)
 spelled_xid_read _ _ _ (gtrid_alone gtrid {text} {rest} first none) =
@@ -157,10 +170,11 @@ spelled_xid_read _ _ _ (gtrid_bqual_format gtrid bqual value {text} {second} {th
     gtrid_read text second gtrid first ∙ bqual_read gtrid bqual second third fourth comma part
     ∙ format_read gtrid bqual value fourth fifth rest last number
 
+-- a reading has one result
 xid_once : (parse : Parse) (found other : Xid × List ℕ) → parse ≡ Ok found → parse ≡ Ok other → found ≡ other
 xid_once parse found other e f = cc
 
--- and nothing else is spelled there
+-- at most one identifier is spelled at a place
 pub one_xid : (text : List ℕ) (xid other : Xid) (rest behind : List ℕ) → XidAt text xid rest → XidAt text other behind
     → (xid ≡ other) × (rest ≡ behind)
 one_xid text xid other rest behind form again =
@@ -173,12 +187,13 @@ pub read_faulty_xid : (text : List ℕ) (fault : LiteralFault) (rest : List ℕ)
     → FaultyXid text fault rest
 read_faulty_xid text fault rest e = rw e at (xid_spelled text)
 
+-- a faulty gtrid is told as that fault
 gtrid_told : (text : List ℕ) (fault : LiteralFault) → FaultyLiteral (unblank text) fault
     → xid_ahead text ≡ Err (fault, unblank text)
 unfolding xid_ahead
 gtrid_told text fault row = ap (gtrid_found (unblank text)) (faulty_read (unblank text) fault row)
 
--- and a row of the table is told so
+-- each row of the table of faults is told as its fault, at its place
 pub faulty_xid_read : (text : List ℕ) (fault : LiteralFault) (rest : List ℕ) → FaultyXid text fault rest
     → xid_ahead text ≡ Err (fault, rest)
 faulty_xid_read _ _ _ (faulty_gtrid text fault row) = gtrid_told text fault row

@@ -13,9 +13,11 @@ use Rattle.xa_xid.specs.declared.literal_fault.LiteralFault.TheVariants.{NumberT
 pub record Reached (base : ℕ) (digits : List ℕ) (place value : ℕ) : Type 0 where
   pub same : digits_value base digits ≡ digits_value_after base value (drop place digits)
 
+-- before the first digit the value is 0
 pub reached_none : (base : ℕ) (digits : List ℕ) → Reached base digits 0 0
 reached_none base digits = record { same = refl }
 
+-- with one digit more, the value reached is the old one times the base, and the digit
 pub reached_more : (base : ℕ) (digits : List ℕ) (place value : ℕ) → place < length digits
     → Reached base digits place value
     → Reached base digits (place + 1) (value * base + digit_value (get_or digits place 0))
@@ -23,11 +25,13 @@ reached_more base digits place value within so_far = record {
   same = so_far.same ∙ rw (drop-cons digits place 0 within, add-one) refl;
 }
 
+-- once all digits are read, the value that was reached is that of all digits
 pub reached_all : (base : ℕ) (digits : List ℕ) (place value : ℕ) → length digits ≤ place
     → Reached base digits place value
     → value ≡ digits_value base digits
 reached_all base digits place value past so_far = sym (so_far.same ∙ rw (drop_all place digits past) refl)
 
+-- the value never gets less by digits that follow
 grows : (base value : ℕ) (digits : List ℕ) → 1 ≤ base → value ≤ digits_value_after base value digits
 grows base value [] positive = le_refl value
 grows base value (digit ∷ digits) positive =
@@ -43,10 +47,12 @@ pub reached_past : (base : ℕ) (digits : List ℕ) (place value limit : ℕ) �
 reached_past base digits place value limit positive past so_far =
     rw so_far.same (omega (arith, grows base value (drop place digits) positive))
 
+-- a value below 2^64 fits
 pub fitting_small : (value total : ℕ) → value < 2 ^ 64 → value ≡ total → Ok value ≡ fitting total
 unfolding fitting
 fitting_small value total small same = rw (← same, lt-ltb value (2 ^ 64) small) refl
 
+-- a value of 2^64 or more doesn't fit
 pub fitting_large : (total : ℕ) → 2 ^ 64 ≤ total → Err NumberTooLarge ≡ fitting total
 unfolding fitting
 fitting_large total large = rw (le-ltb total (2 ^ 64) large) refl

@@ -28,6 +28,7 @@ NumberSpelled text (Err OddHex) = ⊥
 NumberSpelled text (Err TooLong) = ⊥
 NumberSpelled text (Err NumberTooLarge) = (value : ℕ) × (rest : List ℕ) × NumeralAt text value rest × (2 ^ 64 ≤ value)
 
+-- a numeral whose value is below 2^64 is read as that number; a greater one is too large
 value_spelled : (text rest : List ℕ) (value : ℕ) → NumeralAt text value rest
     → (value < 2 ^ 64 → NumberAt text value rest)
     → NumberSpelled text (number_found rest (fitting value))
@@ -38,6 +39,7 @@ value_spelled text rest value numeral form =
     (λ small. form (ltb-true value (2 ^ 64) small))
     (λ large. (value, rest, numeral, omega (arith, ltb-false value (2 ^ 64) large)))
 
+-- digits behind `0x` that are read as hexadecimal are spelled so
 hex_spelled : (written rest : List ℕ) → StartsNo (belongs Word) rest
     → NumberSpelled (written ++ rest) (number_found rest (hex_number_of (hex_digits_of written)))
 hex_spelled [] rest s = tt
@@ -47,7 +49,8 @@ hex_spelled (a ∷ b ∷ digit ∷ digits) rest s =
     let all = digit ∷ digits in
     let text = a ∷ b ∷ digit ∷ digits ++ rest in
     let test = a == 48 && b == 120 && only (belongs Hexadecimal) all in
-    elim test as (λ t. test ≡ t → NumberSpelled text (number_found rest (hex_number_of (if t then Some all else None)))) [
+    elim test as (λ t. test ≡ t → NumberSpelled text
+    (number_found rest (hex_number_of (if t then Some all else None)))) [
       | true ↦ λ e.
           let outer = and_parts (a == 48 && b == 120) (only (belongs Hexadecimal) all) e in
           let inner = and_parts (a == 48) (b == 120) outer.0 in
@@ -60,6 +63,7 @@ hex_spelled (a ∷ b ∷ digit ∷ digits) rest s =
       | false ↦ λ e. tt
     ] refl
 
+-- decimal digits that are read are spelled so
 digits_spelled : (digit : ℕ) (digits rest : List ℕ) → StartsNo (belongs Word) rest
     → NumberSpelled (digit ∷ digits ++ rest) (number_found rest (number_in (digit ∷ digits)))
 digits_spelled digit digits rest s =
@@ -75,17 +79,19 @@ digits_spelled digit digits rest s =
       | false ↦ λ _. hex_spelled all rest s
     ] refl
 
+-- a run of letters and digits that is read as a number is spelled as one
 run_spelled : (written rest : List ℕ) → StartsNo (belongs Word) rest
     → NumberSpelled (written ++ rest) (number_found rest (number_in written))
 run_spelled [] rest s = tt
 run_spelled (digit ∷ digits) rest s = digits_spelled digit digits rest s
 
+-- what is read as a number is spelled as one, and each fault is told rightly
 number_spelled : (text : List ℕ) → NumberSpelled text (number_ahead text)
 number_spelled text =
     let form = run_spelled (run text) (after_run text) (behind_starts (belongs Word) text) in
     rw (number_at-found text) (rw (front-behind (belongs Word) text) at form)
 
--- what is read is spelled
+-- a number that is read is spelled so by the grammar
 pub read_number_spelled : (text : List ℕ) (value : ℕ) (rest : List ℕ) → number_ahead text ≡ Ok (value, rest)
     → NumberAt text value rest
 read_number_spelled text value rest e = rw e at (number_spelled text)
@@ -103,14 +109,17 @@ written_read written rest found word s e =
     ∙ ap (number_found (after_run (written ++ rest))) e
     ∙ ap (λ r. number_found r found) left
 
+-- a decimal digit is a byte of a word
 word_decimal : (byte : ℕ) → belongs Decimal byte ≡ true → belongs Word byte ≡ true
 unfolding belongs
 word_decimal byte is = grind (arith, nat_tests)
 
+-- decimal digits are bytes of a word
 words_decimal : (digits : List ℕ) → Passes (belongs Decimal) digits → Passes (belongs Word) digits
 words_decimal [] all = tt
 words_decimal (digit ∷ digits) all = (word_decimal digit all.0, words_decimal digits all.1)
 
+-- decimal digits are read as their value
 decimal_read : (digit : ℕ) (digits rest : List ℕ) → IsTrue (only (belongs Decimal) (digit ∷ digits))
     → StartsNo (belongs Word) rest
     → number_ahead (digit ∷ digits ++ rest) ≡ number_found rest (fitting (digits_value 10 (digit ∷ digits)))
@@ -125,6 +134,7 @@ prefixed_not_decimal : (digits : List ℕ) → only (belongs Decimal) (48 ∷ 12
 unfolding behind belongs
 prefixed_not_decimal digits = ne_eqb _ _ (λ e. omega arith)
 
+-- hexadecimal digits behind `0x` (the bytes 48 and 120) are read as their value
 hexadecimal_read : (digit : ℕ) (digits rest : List ℕ) → AreHex (digit ∷ digits) → StartsNo (belongs Word) rest
     → number_ahead (48 ∷ 120 ∷ digit ∷ digits ++ rest) ≡ number_found rest (fitting (digits_value 16 (digit ∷ digits)))
 unfolding belongs
@@ -140,6 +150,7 @@ hexadecimal_read digit digits rest all s =
     ∙ rw (ne_eqb (length written) 0 (λ e. omega arith)) refl in
     written_read written rest (fitting (digits_value 16 (digit ∷ digits))) word s (other ∙ ap hex_number_of hex)
 
+-- `0x` and digits at a place of a text are read as their value
 run_read : (text digits rest : List ℕ) → HexRunAt text digits rest
     → number_ahead text ≡ number_found rest (fitting (digits_value 16 digits))
 run_read _ _ _ (hex_run_at digit digits rest all s) = hexadecimal_read digit digits rest all s
@@ -162,17 +173,18 @@ number_numeral _ _ _ (hexadecimal_digits digit digits {value} {rest} all e small
       small,
     )
 
--- what is spelled is read
+-- a number that the grammar spells is read
 pub spelled_number_read : (text : List ℕ) (value : ℕ) (rest : List ℕ) → NumberAt text value rest
     → number_ahead text ≡ Ok (value, rest)
 spelled_number_read text value rest form =
     let parts = number_numeral text value rest form in
     numeral_read text value rest parts.0 ∙ ap (number_found rest) (sym (fitting_small value value parts.1 refl))
 
+-- a reading has one result
 number_once : (reading : Reading ℕ) (found other : ℕ × List ℕ) → reading ≡ Ok found → reading ≡ Ok other → found ≡ other
 number_once reading found other e f = cc
 
--- and nothing else is spelled there
+-- at most one number is spelled at a place
 pub one_number : (text : List ℕ) (value other : ℕ) (rest behind : List ℕ) → NumberAt text value rest
     → NumberAt text other behind
     → (value ≡ other) × (rest ≡ behind)
@@ -189,6 +201,7 @@ fitting_told rest value =
     cond_both (nat_lt value (2 ^ 64)) (Ok value) (Err NumberTooLarge)
     (λ found. number_found rest found ≡ Err NotALiteral → ⊥) (λ _ e. cc) (λ _ e. cc)
 
+-- a fault of reading is a row of the table of faults
 fault_row : (text : List ℕ) (fault : LiteralFault) → number_ahead text ≡ Err fault → NumberSpelled text (Err fault)
     → FaultyNumber text fault
 fault_row text NotALiteral e s =
@@ -198,11 +211,12 @@ fault_row text OddHex e s = absurd s
 fault_row text TooLong e s = absurd s
 fault_row text NumberTooLarge e s = too_large text s.0 s.1 s.2 s.3
 
+-- a fault of reading a number is a row of the table of faults
 pub read_faulty_number : (text : List ℕ) (fault : LiteralFault) → number_ahead text ≡ Err fault
     → FaultyNumber text fault
 read_faulty_number text fault e = fault_row text fault e (rw e at (number_spelled text))
 
--- and a row of the table is told as its fault
+-- if no numeral stands at a place, reading fails there as the table says
 none_told : (text : List ℕ) → ((value : ℕ) (rest : List ℕ) → NumeralAt text value rest → ⊥) → (found : Reading ℕ)
     → number_ahead text ≡ found
     → NumberSpelled text found → found ≡ Err NotALiteral
@@ -213,6 +227,7 @@ none_told text refused (Err OddHex) e s = absurd s
 none_told text refused (Err TooLong) e s = absurd s
 none_told text refused (Err NumberTooLarge) e s = absurd (refused s.0 s.1 s.2)
 
+-- each row of the table of faults is told as its fault
 pub faulty_number_read : (text : List ℕ) (fault : LiteralFault) → FaultyNumber text fault
     → number_ahead text ≡ Err fault
 faulty_number_read _ _ (no_number text refused) = none_told text refused (number_ahead text) refl (number_spelled text)

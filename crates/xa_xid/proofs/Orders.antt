@@ -10,21 +10,25 @@ use Rattle.std.proofs.lemmas.Map.Lookups.{CmpEqualImpliesEq, exact_unsigned, exa
 use Rattle.xa_xid.specs.declared.xid.Xid.{Xid}
 use Rattle.xa_xid.specs.Xid.{bytes_cmp, xid_cmp}
 
+-- texts are ordered byte by byte: any two compare, one way
 pub bytes_total : IsTotalOrder bytes_cmp
 bytes_total = nat_list_cmp_total
 
+-- only equal texts compare as equal
 pub exact_texts : CmpEqualImpliesEq bytes_cmp
 exact_texts = exact_bytes
 
+-- identifiers are ordered, by formatID, gtrid and bqual: any two compare, one way
 pub xids_total : IsTotalOrder xid_cmp
 xids_total =
     then_total (on_total (λ x. x.format_id) nat_cmp_total)
     (then_total (on_total (λ x. x.gtrid.items) bytes_total) (on_total (λ x. x.bqual.items) bytes_total))
 
--- the three parts of an identifier
+-- an identifier as its three parts: formatID, gtrid, bqual
 parts : Xid → ℕ × (List ℕ × List ℕ)
 parts x = (x.format_id, (x.gtrid.items, x.bqual.items))
 
+-- the identifier of its three parts
 whole : ℕ × (List ℕ × List ℕ) → Xid
 whole p = record { format_id = p.0; gtrid = record { items = p.1.0 }; bqual = record { items = p.1.1 } }
 
@@ -37,7 +41,7 @@ exact_xids a b h =
     (bytes_cmp x.1 y.1)) exact_unsigned
     (exact_pairs bytes_cmp bytes_cmp exact_bytes exact_bytes) (parts a) (parts b) h)
 
--- in such an order exactly the equal values tie
+-- in a total order in which only equal values tie, a tie is an equation
 pub ties_exactly : {K : Type 0} (R : K → K → Ordering) → IsTotalOrder R → CmpEqualImpliesEq R → (r : Ordering) (a b : K)
     → r ≡ R a b
     → (r ≡ Equal → a ≡ b) × (a ≡ b → r ≡ Equal)

@@ -10,52 +10,63 @@ use Rattle.xa_xid.specs.Xid.{Text}
 use Rattle.xa_xid.specs.declared.quoted.Mode.{Mode}
 use Rattle.xa_xid.specs.declared.quoted.Mode.TheVariants.{Plain, Escape, Quote}
 
+-- no byte put in front of what was read
 onto-nil : (found : Option (List ℕ × List ℕ)) → found ≡ onto [] found
 onto-nil None = refl
 onto-nil (Some (bytes, rest)) = refl
 
+-- bytes put in front in two steps, or in one
 onto-onto : (xs ys : List ℕ) (found : Option (List ℕ × List ℕ)) → onto xs (onto ys found) ≡ onto (xs ++ ys) found
 onto-onto xs ys None = refl
 onto-onto xs ys (Some (bytes, rest)) = ap (λ zs. Some (zs, rest)) (sym (append_assoc xs ys bytes))
 
+-- the machine of literals in quotes, byte by byte: a quote may end the text or stand for itself
 pub plain_quote : (quote byte : ℕ) (text : List ℕ) → byte ≡ quote
     → read_in_quotes quote Plain (byte ∷ text) ≡ read_in_quotes quote Quote text
 unfolding read_in_quotes
 plain_quote quote byte text e = rw (eq-eqb byte quote e) refl
 
+-- a backslash (92) escapes the next byte
 pub plain_backslash : (quote byte : ℕ) (text : List ℕ) → (byte ≡ quote → ⊥) → byte ≡ 92
     → read_in_quotes quote Plain (byte ∷ text) ≡ read_in_quotes quote Escape text
 unfolding read_in_quotes
 plain_backslash quote byte text other e = rw (ne_eqb byte quote other, eq-eqb byte 92 e) refl
 
+-- within the quotes, a byte that is neither the quote nor a backslash is itself
 pub plain_byte : (quote byte : ℕ) (text : List ℕ) → (byte ≡ quote → ⊥) → (byte ≡ 92 → ⊥)
     → read_in_quotes quote Plain (byte ∷ text) ≡ onto (byte ∷ []) (read_in_quotes quote Plain text)
 unfolding read_in_quotes
 plain_byte quote byte text other none = rw (ne_eqb byte quote other, ne_eqb byte 92 none) refl
 
+-- an escaped byte is what `escaped` says
 pub escape_letter : (quote byte : ℕ) (text : List ℕ) → read_in_quotes quote Escape (byte ∷ text)
     ≡ onto (escaped byte) (read_in_quotes quote Plain text)
 unfolding read_in_quotes
 escape_letter quote byte text = refl
 
+-- a second quote is one quote of the text
 pub quote_again : (quote byte : ℕ) (text : List ℕ) → byte ≡ quote
     → read_in_quotes quote Quote (byte ∷ text) ≡ onto (quote ∷ []) (read_in_quotes quote Plain text)
 unfolding read_in_quotes
 quote_again quote byte text e = rw (eq-eqb byte quote e) refl
 
+-- another byte behind a quote isn't of the text any more
 pub quote_closes : (quote byte : ℕ) (text : List ℕ) → (byte ≡ quote → ⊥)
     → read_in_quotes quote Quote (byte ∷ text) ≡ Some ([], byte ∷ text)
 unfolding read_in_quotes
 quote_closes quote byte text other = rw (ne_eqb byte quote other) refl
 
+-- a text that ends within the quotes isn't closed
 pub quoted-nil-plain : (quote : ℕ) → read_in_quotes quote Plain [] ≡ None
 unfolding read_in_quotes
 quoted-nil-plain quote = refl
 
+-- a text that ends at a backslash within the quotes isn't closed
 pub quoted-nil-escape : (quote : ℕ) → read_in_quotes quote Escape [] ≡ None
 unfolding read_in_quotes
 quoted-nil-escape quote = refl
 
+-- a text that ends at a quote is closed
 pub quoted-nil-quote : (quote : ℕ) → read_in_quotes quote Quote [] ≡ Some ([], [])
 unfolding read_in_quotes
 quoted-nil-quote quote = refl
@@ -66,10 +77,11 @@ pub record ReadTo (quote : ℕ) (text : List ℕ) (mode : Mode) (held : Option T
   pub held_is : held ≡ kept so_far
   pub same : read_in_quotes quote Plain text ≡ onto so_far (read_in_quotes quote mode (drop place text))
 
+-- before the first byte nothing was read
 pub read_none : (quote : ℕ) (text : List ℕ) (held : Option Text) → held ≡ kept [] → ReadTo quote text Plain held 0
 read_none quote text held e = record { so_far = []; held_is = e; same = onto-nil _ }
 
--- one byte that stands for nothing itself
+-- the loop over bytes: one that stands for nothing itself, as a backslash
 pub read_mark : (quote : ℕ) (text : List ℕ) (mode next : Mode) (held : Option Text) (place : ℕ) → place < length text
     → ((rest : List ℕ) → read_in_quotes quote mode (get_or text place 0 ∷ rest) ≡ read_in_quotes quote next rest)
     → ReadTo quote text mode held place → ReadTo quote text next held (place + 1)
@@ -79,7 +91,7 @@ read_mark quote text mode next held place within step so_far = record {
   same = so_far.same ∙ rw (drop-cons text place 0 within, step, add-one) refl;
 }
 
--- one byte with which the literal stands for more
+-- the loop over bytes: one for which the literal gets bytes
 pub read_more : (quote : ℕ) (text : List ℕ) (mode next : Mode) (old new : Option Text) (place : ℕ) (bytes : List ℕ)
     → place < length text
     → ((rest : List ℕ) → read_in_quotes quote mode (get_or text place 0 ∷ rest)
@@ -92,13 +104,14 @@ read_more quote text mode next old new place bytes within step grows so_far = re
   same = so_far.same ∙ rw (drop-cons text place 0 within, step, add-one) (onto-onto so_far.so_far bytes _);
 }
 
+-- the quote has ended the text: what was held is the literal, if it isn't too long
 closed : (quote : ℕ) (text rest : List ℕ) (mode : Mode) (held : Option Text) (place : ℕ)
     → read_in_quotes quote mode (drop place text) ≡ Some ([], rest)
     → ReadTo quote text mode held place → text_literal_of (read_in_quotes quote Plain text) ≡ sized held rest
 closed quote text rest mode held place e so_far =
     rw (so_far.same, e, append-nil so_far.so_far, ← so_far.held_is) refl
 
--- the byte before was the closing quote
+-- if a byte that is no quote follows a quote, that quote closed the text
 pub read_closed : (quote : ℕ) (text : List ℕ) (held : Option Text) (place : ℕ) → place < length text
     → (get_or text place 0 ≡ quote → ⊥)
     → ReadTo quote text Quote held place → text_literal_of (read_in_quotes quote Plain text)
@@ -107,23 +120,25 @@ read_closed quote text held place within other so_far =
     closed quote text (drop place text) Quote held place (rw (drop-cons text place 0 within)
     (quote_closes quote _ _ other)) so_far
 
--- the last byte was the closing quote
+-- if the text ends behind a quote, that quote closed it
 pub read_ended : (quote : ℕ) (text : List ℕ) (held : Option Text) (place : ℕ) → length text ≤ place
     → ReadTo quote text Quote held place → text_literal_of (read_in_quotes quote Plain text) ≡ sized held []
 read_ended quote text held place past so_far =
     closed quote text [] Quote held place (rw (drop_all place text past) (quoted-nil-quote quote)) so_far
 
+-- if what is left has no closing quote, the whole text has none
 unclosed : (quote : ℕ) (text : List ℕ) (mode : Mode) (held : Option Text) (place : ℕ)
     → read_in_quotes quote mode (drop place text) ≡ None
     → ReadTo quote text mode held place → read_in_quotes quote Plain text ≡ None
 unclosed quote text mode held place e so_far = so_far.same ∙ rw e refl
 
--- the text ended before a closing quote
+-- if the text ends before a closing quote, its quotes aren't closed
 pub read_plain_end : (quote : ℕ) (text : List ℕ) (held : Option Text) (place : ℕ) → length text ≤ place
     → ReadTo quote text Plain held place → read_in_quotes quote Plain text ≡ None
 read_plain_end quote text held place past so_far =
     unclosed quote text Plain held place (rw (drop_all place text past) (quoted-nil-plain quote)) so_far
 
+-- if the text ends at a backslash, its quotes aren't closed
 pub read_escape_end : (quote : ℕ) (text : List ℕ) (held : Option Text) (place : ℕ) → length text ≤ place
     → ReadTo quote text Escape held place → read_in_quotes quote Plain text ≡ None
 read_escape_end quote text held place past so_far =

@@ -16,6 +16,7 @@ use Rattle.xa_xid.specs.declared.literal_fault.LiteralFault.TheVariants.{NotALit
 use Rattle.xa_xid.specs.declared.quoted.Mode.{Mode}
 use Rattle.xa_xid.specs.declared.quoted.Mode.TheVariants.{Plain, Escape, Quote}
 
+-- skipping bytes makes no text longer
 pub behind-short : (p : ℕ → Bool) (text : List ℕ) → length (behind p text) ≤ length text
 unfolding behind
 behind-short p [] = le_refl 0
@@ -29,15 +30,18 @@ abbrev Short : ℕ → Option (List ℕ × List ℕ) → Type 0
 Short most None = Unit {0}
 Short most (Some found) = length found.1 ≤ most
 
+-- reading a byte more leaves no more bytes
 short-onto : (most : ℕ) (first : List ℕ) (found : Option (List ℕ × List ℕ)) → Short most found
     → Short (suc most) (onto first found)
 short-onto most first None short = tt
 short-onto most first (Some (bytes, rest)) short = omega arith
 
+-- what leaves at most so many bytes leaves at most one more
 short-more : (most : ℕ) (found : Option (List ℕ × List ℕ)) → Short most found → Short (suc most) found
 short-more most None short = tt
 short-more most (Some (bytes, rest)) short = omega arith
 
+-- what is left behind a literal in quotes is at most the text
 quoted-short : (quote : ℕ) (mode : Mode) (text : List ℕ) → Short (length text) (read_in_quotes quote mode text)
 unfolding read_in_quotes
 quoted-short quote Plain [] = tt
@@ -61,15 +65,18 @@ abbrev pub ShortReading : ℕ → Reading Text → Type 0
 ShortReading most (Ok found) = length found.1 ≤ most
 ShortReading most (Err fault) = Unit {0}
 
+-- a reading of a literal that may be too long leaves at most the rest
 short-sized : (most : ℕ) (text : Option Text) (rest : List ℕ) → length rest ≤ most → ShortReading most (sized text rest)
 short-sized most None rest short = tt
 short-sized most (Some text) rest short = short
 
+-- a reading of a literal in quotes leaves at most what its quotes leave
 short-text : (most : ℕ) (found : Option (List ℕ × List ℕ)) → Short most found
     → ShortReading most (text_literal_of found)
 short-text most None short = tt
 short-text most (Some (bytes, rest)) short = short-sized most (kept bytes) rest short
 
+-- a reading of hexadecimal digits leaves at most the rest
 short-decoded : (most : ℕ) (digits rest : List ℕ) → length rest ≤ most → ShortReading most (decoded digits rest)
 short-decoded most digits rest short =
     elim (decode_of digits) as (λ found. ShortReading most
@@ -78,11 +85,13 @@ short-decoded most digits rest short =
       | Err fault ↦ tt
     ]
 
+-- a reading that a test may refuse leaves at most what it leaves without the test
 short-guard : (most : ℕ) (test : Bool) (fault : LiteralFault) (other : Reading Text) → ShortReading most other
     → ShortReading most (if test then Err fault else other)
 short-guard most true fault other short = tt
 short-guard most false fault other short = short
 
+-- a reading of hexadecimal digits in quotes leaves at most the rest
 short-hex : (most : ℕ) (digits rest : List ℕ) → length rest ≤ most → ShortReading most (hex_in_quotes_of digits rest)
 short-hex most digits [] short = tt
 short-hex most digits (byte ∷ rest) short =
@@ -94,10 +103,12 @@ short-hex most digits (byte ∷ rest) short =
     (short-guard most (nat_lt 128 (length digits)) TooLong (decoded digits rest)
     (short-decoded most digits rest shorter)))
 
+-- without its first two bytes a text is shorter
 length-drop-2 : (byte : ℕ) (text : List ℕ) → length (drop 2 (byte ∷ text)) ≤ length text
 length-drop-2 byte [] = le_refl 0
 length-drop-2 byte (next ∷ text) = omega arith
 
+-- less is left behind a literal than the text had
 pub literal-short : (byte : ℕ) (text : List ℕ) → (opens_text (byte ∷ text) || opens_hex (byte ∷ text)) ≡ true
     → ShortReading (length text) (literal_ahead (byte ∷ text))
 unfolding literal_ahead

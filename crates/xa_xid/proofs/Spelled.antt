@@ -38,17 +38,21 @@ abbrev SpelledAs : List ℕ → Reading Text → Type 0
 SpelledAs text (Ok found) = LiteralAt text found.0.items found.1 × (length found.0.items ≤ 64)
 SpelledAs text (Err fault) = FaultyLiteral text fault
 
+-- None is never Some
 none_is_some : {A : Type 0} (value : A) → None ≡ Some value → ⊥
 none_is_some value e = cc
 
+-- an Err isn't an Ok
 err_is_ok : (fault : FromHexError) (bytes : List ℕ) (found : Result (List ℕ) FromHexError) → found ≡ Err fault
     → found ≡ Ok bytes → ⊥
 err_is_ok fault bytes found e f = cc
 
+-- a test whose negation holds fails
 not_true : (b : Bool) → not b ≡ true → b ≡ false
 not_true true e = sym e
 not_true false e = refl
 
+-- a literal in quotes that is read is spelled so; if it is too long, that is its fault
 quoted_spelled : (quote : ℕ) (text bytes rest : List ℕ) → IsTrue (is_quote quote) → QuotedAt quote text bytes rest
     → SpelledAs (quote ∷ text) (sized (kept bytes) rest)
 quoted_spelled quote text bytes rest is q =
@@ -57,6 +61,7 @@ quoted_spelled quote text bytes rest is q =
       | inr fits ↦ rw (kept-fits bytes fits) (text_literal quote is q, fits)
     ]
 
+-- what is read as a literal in quotes is spelled so; unclosed quotes and too many bytes are its faults
 text_spelled : (quote : ℕ) (text : List ℕ) (found : Option (List ℕ × List ℕ)) → IsTrue (is_quote quote)
     → read_in_quotes quote Plain text ≡ found
     → Spelled quote text found → SpelledAs (quote ∷ text) (text_literal_of found)
@@ -65,12 +70,14 @@ text_spelled quote text None is e s =
     (sym e ∙ quoted_found quote text bytes rest is q))
 text_spelled quote text (Some (bytes, rest)) is e s = quoted_spelled quote text bytes rest is s
 
+-- a reading is spelled if, where a test refuses it, the fault is one of the table's
 unless_fault : (text : List ℕ) (test : Bool) (fault : LiteralFault) (other : Reading Text)
     → (test ≡ true → FaultyLiteral text fault)
     → (test ≡ false → SpelledAs text other) → SpelledAs text (if test then Err fault else other)
 unless_fault text true fault other row each = row refl
 unless_fault text false fault other row each = each refl
 
+-- if digits are decoded to the bytes of a literal that stands there, what is made of decoding is spelled
 decoded_spelled : (text digits rest : List ℕ) (found : Result (List ℕ) FromHexError) → decode_of digits ≡ found
     → (bytes : List ℕ) × (decode_of digits ≡ Ok bytes)
     → ((bytes : List ℕ) → decode_of digits ≡ Ok bytes → LiteralAt text bytes rest × (length bytes ≤ 64))
@@ -79,31 +86,35 @@ decoded_spelled text digits rest (Ok bytes) e decodes each = each bytes e
 decoded_spelled text digits rest (Err fault) e decodes each =
     absurd (err_is_ok fault decodes.0 (decode_of digits) e decodes.1)
 
--- an even number of digits decodes
+-- a hexadecimal digit by its kind of byte is one for the decoder
 hex_is_hex : (byte : ℕ) → belongs Hexadecimal byte ≡ true → is_hex_digit byte ≡ true
 unfolding belongs
 hex_is_hex byte is = grind (arith, nat_tests)
 
+-- digits by the byte's kind are digits for the decoder
 all_hex : (digits : List ℕ) → Passes (belongs Hexadecimal) digits → AllPass is_hex_digit digits
 all_hex [] all = All-nil (λ digit. is_hex_digit digit ≡ true)
 all_hex (digit ∷ digits) all =
     All-cons (λ digit. is_hex_digit digit ≡ true) digit digits (hex_is_hex digit all.0) (all_hex digits all.1)
 
+-- an even number of hexadecimal digits can be decoded
 digits_decode : (digits : List ℕ) → length digits % 2 ≡ 0 → Passes (belongs Hexadecimal) digits
     → (bytes : List ℕ) × (decode_of digits ≡ Ok bytes)
 digits_decode digits even all = decode_of-digits digits even (all_hex digits all)
 
+-- the digit 0 (48) is a hexadecimal digit
 zero_is_hex : belongs Hexadecimal 48 ≡ true
 unfolding belongs
 zero_is_hex = refl
 
+-- an odd number of digits is decoded with a 0 in front, and an even one as it is
 evened_decode : (digits : List ℕ) (odd : Bool) → (length digits % 2 == 1) ≡ odd → Passes (belongs Hexadecimal) digits
     → (bytes : List ℕ) × (decode_of (if odd then 48 ∷ digits else digits) ≡ Ok bytes)
 evened_decode digits true e all =
     digits_decode (48 ∷ digits) (omega (arith, eqb-true (length digits % 2) 1 e)) (zero_is_hex, all)
 evened_decode digits false e all = digits_decode digits (omega (arith, eqb-false (length digits % 2) 1 e)) all
 
--- digits behind X'
+-- what is read as hexadecimal digits in quotes is spelled so
 hex_quoted_spelled : (letter : ℕ) (digits rest : List ℕ) → IsTrue (is_x letter) → Passes (belongs Hexadecimal) digits
     → StartsNo (belongs Hexadecimal) rest
     → SpelledAs (letter ∷ 39 ∷ digits ++ rest) (hex_in_quotes_of digits rest)
@@ -130,10 +141,12 @@ hex_quoted_spelled letter digits (byte ∷ rest) is all stops =
     let form : LiteralAt (letter ∷ 39 ∷ digits ++ 39 ∷ rest) bytes rest = hex_in_quotes letter digits is e hex in
     (rw same form, omega (arith, ltb-false 128 (length digits) short, twice))))))
 
+-- an `x` and a quote (39) open hexadecimal digits in quotes
 opens_parts : (letter second : ℕ) → (is_x letter && second == 39) ≡ true → IsTrue (is_x letter) × (second ≡ 39)
 opens_parts letter second e = let parts = and_parts (is_x letter) (second == 39) e in
     (parts.0, eqb-true second 39 parts.1)
 
+-- what is read of hexadecimal digits in quotes is spelled by the grammar
 hex_opened_spelled : (text : List ℕ) → opens_hex text ≡ true
     → SpelledAs text (hex_in_quotes_of (front (belongs Hexadecimal) (drop 2 text))
     (behind (belongs Hexadecimal) (drop 2 text)))
@@ -146,7 +159,7 @@ hex_opened_spelled (letter ∷ second ∷ text) e =
     (behind_starts hex text) in
     rw parts.1 (rw (front-behind hex text) at spelled)
 
--- a run
+-- what is read as `0x` and digits is spelled so, for a run that stands in front
 run_spelled : (written rest : List ℕ) → StartsNo (belongs Word) rest
     → (hex_digits_of written ≡ None → FaultyLiteral (written ++ rest) NotALiteral)
     → SpelledAs (written ++ rest) (hex_run_of (hex_digits_of written) rest)
@@ -185,11 +198,13 @@ run_found : (text digits rest : List ℕ) → HexRunAt text digits rest → hex_
 run_found _ _ _ (hex_run_at digit digits rest hex s) =
     (hex_run_cut digit digits rest (only_passes (belongs Hexadecimal) (digit ∷ digits) hex) s).0
 
+-- a run that isn't `0x` with digits is no literal
 no_run : (text : List ℕ) → opens_text text ≡ false → opens_hex text ≡ false → hex_digits_of (run text) ≡ None
     → FaultyLiteral text NotALiteral
 no_run text no_text no_hex e =
     no_form text no_text no_hex (λ digits rest form. none_is_some digits (sym e ∙ run_found text digits rest form))
 
+-- what is read as `0x` and digits is spelled so
 run_read_spelled : (text : List ℕ) → opens_text text ≡ false → opens_hex text ≡ false
     → SpelledAs text (hex_run_of (hex_digits_of (run text)) (after_run text))
 run_read_spelled text no_text no_hex =
@@ -200,12 +215,14 @@ run_read_spelled text no_text no_hex =
     subst (λ t. SpelledAs t read) whole (run_spelled (run text) (after_run text)
     (behind_starts (belongs Word) text) none)
 
+-- what is read behind an opening quote is spelled so
 text_opened_spelled : (text : List ℕ) (quote : ℕ) → opens_text text ≡ true → quote ≡ slice_index text 0
     → SpelledAs text (text_literal_of (read_in_quotes (slice_index text 0) Plain (drop 1 text)))
 text_opened_spelled [] quote e is = absurd (true≢false (sym e))
 text_opened_spelled (first ∷ text) quote e is =
     text_spelled first text (read_in_quotes first Plain text) e refl (read_quoted first Plain text)
 
+-- what is read as a literal is spelled as one, and each fault is told rightly
 literal_spelled : (text : List ℕ) → SpelledAs text (literal_ahead text)
 unfolding literal_ahead
 literal_spelled text =
@@ -223,11 +240,11 @@ pub read_spelled : (text : List ℕ) (found : Text) (rest : List ℕ) → litera
     → LiteralAt text found.items rest × (length found.items ≤ 64)
 read_spelled text found rest e = rw e at (literal_spelled text)
 
--- and each fault is a row of the table
+-- each fault of reading a literal is a row of the table of faults
 pub read_faulty : (text : List ℕ) (fault : LiteralFault) → literal_ahead text ≡ Err fault → FaultyLiteral text fault
 read_faulty text fault e = rw e at (literal_spelled text)
 
--- a text that holds no run of `0x` and digits
+-- a text that holds no run of `0x` and digits isn't read as one
 run_none : (written rest : List ℕ) → StartsNo (belongs Word) rest
     → ((digits behind : List ℕ) → HexRunAt (written ++ rest) digits behind → ⊥)
     → hex_digits_of written ≡ None
@@ -246,17 +263,20 @@ run_none (a ∷ b ∷ digit ∷ digits) rest s refused =
       | false ↦ λ e. refl
     ] refl
 
+-- a run that isn't `0x` with digits is told as no literal
 no_run_read : (text : List ℕ) → opens_text text ≡ false → opens_hex text ≡ false → hex_digits_of (run text) ≡ None
     → literal_ahead text ≡ Err NotALiteral
 unfolding literal_ahead
 no_run_read text no_text no_hex e = rw (no_text, no_hex, e) refl
 
+-- quotes that aren't closed are told as that fault
 unclosed_read : (quote : ℕ) (text : List ℕ) (found : Option (List ℕ × List ℕ))
     → ((bytes rest : List ℕ) → QuotedAt quote text bytes rest → ⊥)
     → Spelled quote text found → text_literal_of found ≡ Err Unclosed
 unclosed_read quote text None refused s = refl
 unclosed_read quote text (Some (bytes, rest)) refused s = absurd (refused bytes rest s)
 
+-- more than 128 digits, which are more than 64 bytes
 long_run_read : (text digits rest : List ℕ) → HexRunAt text digits rest → 128 < length digits
     → literal_ahead text ≡ Err TooLong
 long_run_read _ _ _ (hex_run_at digit digits rest hex s) long =

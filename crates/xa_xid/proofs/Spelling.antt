@@ -21,12 +21,13 @@ use Rattle.xa_xid.proofs.Reading.{quoted-nil-quote}
 use Rattle.xa_xid.proofs.Texts.{kept-fits, kept-past}
 use Rattle.xa_xid.proofs.Written.{Passes, front-append, behind-append, decoded_found}
 
--- from the spelling to the reading of a text literal
+-- a quote that no other quote follows ends the text
 ends_read : (quote : ℕ) (rest : List ℕ) → StartsNo (λ byte. byte == quote) rest
     → read_in_quotes quote Quote rest ≡ Some ([], rest)
 ends_read quote [] last = quoted-nil-quote quote
 ends_read quote (byte ∷ rest) last = quote_closes quote byte rest (eqb-false byte quote last)
 
+-- what is spelled between quotes is read so, up to a byte that isn't the quote
 spelled_quoted : (quote : ℕ) (written bytes rest : List ℕ) → (quote ≡ 92 → ⊥) → StartsNo (λ byte. byte == quote) rest
     → Quoted quote written bytes
     → read_in_quotes quote Plain (written ++ rest) ≡ Some (bytes, rest)
@@ -43,16 +44,18 @@ spelled_quoted quote _ _ rest other last (plain byte {written} {bytes} differs u
     plain_byte quote byte (written ++ rest) differs unescaped
     ∙ ap (onto (byte ∷ [])) (spelled_quoted quote written bytes rest other last form)
 
--- and back: what stands before the text in each mode
+-- in each mode of the machine, the text with what was read before it put back
 abbrev pub before : ℕ → Mode → List ℕ → List ℕ
 before quote Plain text = text
 before quote Escape text = 92 ∷ text
 before quote Quote text = quote ∷ text
 
+-- what was read between quotes is spelled there, or the quotes aren't closed
 abbrev pub Spelled : ℕ → List ℕ → Option (List ℕ × List ℕ) → Type 0
 Spelled quote text None = Unit {0}
 Spelled quote text (Some found) = QuotedAt quote text found.0 found.1
 
+-- a plain byte more in front is spelled so
 more_plain : (quote byte : ℕ) (text : List ℕ) (found : Option (List ℕ × List ℕ)) → (byte ≡ quote → ⊥) → (byte ≡ 92 → ⊥)
     → Spelled quote text found
     → Spelled quote (byte ∷ text) (onto (byte ∷ []) found)
@@ -64,6 +67,7 @@ more_plain quote byte text (Some (bytes, rest)) differs unescaped s = record {
   last = s.last;
 }
 
+-- an escaped byte more in front is spelled so
 more_escaped : (quote letter : ℕ) (text : List ℕ) (found : Option (List ℕ × List ℕ)) → Spelled quote text found
     → Spelled quote (92 ∷ letter ∷ text) (onto (escaped letter) found)
 more_escaped quote letter text None s = tt
@@ -74,6 +78,7 @@ more_escaped quote letter text (Some (bytes, rest)) s = record {
   last = s.last;
 }
 
+-- a doubled quote more in front is spelled so
 more_doubled : (quote : ℕ) (text : List ℕ) (found : Option (List ℕ × List ℕ)) → Spelled quote text found
     → Spelled quote (quote ∷ quote ∷ text) (onto (quote ∷ []) found)
 more_doubled quote text None s = tt
@@ -84,6 +89,7 @@ more_doubled quote text (Some (bytes, rest)) s = record {
   last = s.last;
 }
 
+-- what the machine reads between quotes, from any mode on, is spelled there
 pub read_quoted : (quote : ℕ) (mode : Mode) (text : List ℕ)
     → Spelled quote (before quote mode text) (read_in_quotes quote mode text)
 unfolding read_in_quotes
@@ -110,13 +116,14 @@ read_quoted quote Quote (byte ∷ text) =
     (read_quoted quote Plain text)))
     (λ differs. record { written = quote ∷ []; form = close; cut = refl; last = differs })
 
--- bytes that pass
+-- the bytes in front all pass
 pub front_passes : (p : ℕ → Bool) (text : List ℕ) → Passes p (front p text)
 unfolding front
 front_passes p [] = tt
 front_passes p (byte ∷ text) =
     cond_both (p byte) (byte ∷ front p text) [] (Passes p) (λ e. (e, front_passes p text)) (λ _. tt)
 
+-- front and rest make the text
 pub front-behind : (p : ℕ → Bool) (text : List ℕ) → front p text ++ behind p text ≡ text
 front-behind p [] = rw (front-nil p, behind-nil p) refl
 front-behind p (byte ∷ text) =
@@ -126,10 +133,12 @@ front-behind p (byte ∷ text) =
       | false ↦ λ e. rw (front-stops p byte text e, behind-stops p byte text e) refl
     ] refl
 
+-- bytes that all pass pass the test for all
 pub passes_only : (p : ℕ → Bool) (text : List ℕ) → Passes p text → IsTrue (only p text)
 passes_only p [] all = rw (behind-nil p) refl
 passes_only p (byte ∷ text) all = rw (behind-passes p byte text all.0) (passes_only p text all.1)
 
+-- bytes that pass the test for all, all pass
 pub only_passes : (p : ℕ → Bool) (text : List ℕ) → IsTrue (only p text) → Passes p text
 only_passes p [] e = tt
 only_passes p (byte ∷ text) e =
@@ -138,6 +147,7 @@ only_passes p (byte ∷ text) e =
       | false ↦ λ is. absurd (omega (arith, eqb-true _ _ (rw (behind-stops p byte text is) at e)))
     ] refl
 
+-- the rest begins with no byte that passes
 pub behind_starts : (p : ℕ → Bool) (text : List ℕ) → StartsNo p (behind p text)
 unfolding behind
 behind_starts p [] = tt
@@ -149,6 +159,7 @@ pub long_digits : (digits bytes : List ℕ) → decode_of digits ≡ Ok bytes
     → (length digits % 2 ≡ 0) × (length digits ≡ 2 * length bytes)
 long_digits digits bytes e = let ok = decode_of-ok digits bytes e in (ok.0, ok.2)
 
+-- a quote is no backslash
 quote_other : (quote : ℕ) → IsTrue (is_quote quote) → quote ≡ 92 → ⊥
 quote_other quote is e =
     elim (or_cases (quote == 39) (quote == 34) is) as (λ _. ⊥) [
@@ -156,6 +167,7 @@ quote_other quote is e =
       | inr b ↦ omega (arith, eqb-true quote 34 b, e)
     ]
 
+-- the letter is `X` (88) or `x` (120)
 x_cases : (letter : ℕ) → IsTrue (is_x letter) → letter ≡ 88 ⊎ letter ≡ 120
 x_cases letter is =
     elim (or_cases (letter == 88) (letter == 120) is) as (λ _. letter ≡ 88 ⊎ letter ≡ 120) [
@@ -172,6 +184,7 @@ digits_sized digits bytes rest e true past fits = ap (λ k. sized k rest) (sym (
 digits_sized digits bytes rest e false past fits =
     ap (decoded_found rest) e ∙ ap (λ k. sized k rest) (sym (kept-fits bytes (fits refl)))
 
+-- hexadecimal digits closed by a quote (39) are the decoded bytes
 quoted_sized : (digits bytes rest : List ℕ) → decode_of digits ≡ Ok bytes
     → hex_in_quotes_of digits (39 ∷ rest) ≡ sized (kept bytes) rest
 quoted_sized digits bytes rest e =
@@ -201,24 +214,26 @@ run_sized digits bytes rest e =
     (λ long. omega (arith, ltb-true 128 (length digits) long, twice, low))
     (λ short. omega (arith, ltb-false 128 (length digits) short, twice, high))
 
--- from the spelling to the reading
+-- a text that begins with a quote is read as a literal in quotes
 pub opened_at : (quote : ℕ) (text : List ℕ) → IsTrue (is_quote quote)
     → literal_ahead (quote ∷ text) ≡ text_literal_of (read_in_quotes quote Plain text)
 unfolding literal_ahead
 opened_at quote text is = rw is refl
 
+-- what is spelled between quotes at a place is found there
 pub quoted_found : (quote : ℕ) (text bytes rest : List ℕ) → IsTrue (is_quote quote) → QuotedAt quote text bytes rest
     → read_in_quotes quote Plain text ≡ Some (bytes, rest)
 quoted_found quote text bytes rest is q =
     ap (read_in_quotes quote Plain) q.cut ∙ spelled_quoted quote q.written bytes rest
     (quote_other quote is) q.last q.form
 
+-- a literal that is spelled in quotes is read
 pub text_read : (quote : ℕ) (text bytes rest : List ℕ) → IsTrue (is_quote quote) → QuotedAt quote text bytes rest
     → literal_ahead (quote ∷ text) ≡ sized (kept bytes) rest
 text_read quote text bytes rest is q =
     opened_at quote text is ∙ ap text_literal_of (quoted_found quote text bytes rest is q)
 
--- digits behind an X and a quote
+-- a text that begins with X or x and a quote is read as hexadecimal digits in quotes
 hex_opened_at : (letter : ℕ) (text : List ℕ) → letter ≡ 88 ⊎ letter ≡ 120
     → literal_ahead (letter ∷ 39 ∷ text) ≡ hex_in_quotes_of (front (belongs Hexadecimal) text)
     (behind (belongs Hexadecimal) text)
@@ -230,6 +245,7 @@ hex_opened_at letter text which =
       | inr small ↦ rw small refl
     ]
 
+-- an `x`, a quote and digits are read as hexadecimal in quotes
 pub hex_quoted_at : (letter : ℕ) (digits rest : List ℕ) → IsTrue (is_x letter) → Passes (belongs Hexadecimal) digits
     → StartsNo (belongs Hexadecimal) rest
     → literal_ahead (letter ∷ 39 ∷ digits ++ rest) ≡ hex_in_quotes_of digits rest
@@ -241,25 +257,29 @@ hex_quoted_at letter digits rest is all stops =
     ∙ ap (λ d. hex_in_quotes_of d (behind hex (digits ++ rest))) cut
     ∙ ap (hex_in_quotes_of digits) left
 
+-- a quote (39) is no hexadecimal digit
 pub quote_no_hex : (rest : List ℕ) → StartsNo (belongs Hexadecimal) (39 ∷ rest)
 unfolding belongs
 quote_no_hex rest = refl
 
+-- hexadecimal digits in quotes are read as the decoded bytes
 hex_quoted_read : (letter : ℕ) (digits bytes rest : List ℕ) → IsTrue (is_x letter) → decode_of digits ≡ Ok bytes
     → Passes (belongs Hexadecimal) digits
     → literal_ahead (letter ∷ 39 ∷ digits ++ 39 ∷ rest) ≡ sized (kept bytes) rest
 hex_quoted_read letter digits bytes rest is e all =
     hex_quoted_at letter digits (39 ∷ rest) is all (quote_no_hex rest) ∙ quoted_sized digits bytes rest e
 
+-- a hexadecimal digit is a byte of a word
 word_hex : (byte : ℕ) → belongs Hexadecimal byte ≡ true → belongs Word byte ≡ true
 unfolding belongs
 word_hex byte is = grind (arith, nat_tests)
 
+-- hexadecimal digits are bytes of a word
 pub words_hex : (digits : List ℕ) → Passes (belongs Hexadecimal) digits → Passes (belongs Word) digits
 words_hex [] all = tt
 words_hex (digit ∷ digits) all = (word_hex digit all.0, words_hex digits all.1)
 
--- a run of `0x` and digits, whole
+-- `0x` and digits that no byte of a word follows are cut off as one run with these digits
 pub hex_run_cut : (digit : ℕ) (digits rest : List ℕ) → Passes (belongs Hexadecimal) (digit ∷ digits)
     → StartsNo (belongs Word) rest
     → (hex_digits_of (run (48 ∷ 120 ∷ digit ∷ digits ++ rest)) ≡ Some (digit ∷ digits))
@@ -275,6 +295,7 @@ hex_run_cut digit digits rest all s =
       behind-append (belongs Word) written rest word s,
     )
 
+-- `0x` and digits (the bytes 48 and 120) are read as such, if no byte of a word follows
 pub literal_at-run : (digit : ℕ) (digits rest : List ℕ) → Passes (belongs Hexadecimal) (digit ∷ digits)
     → StartsNo (belongs Word) rest
     → literal_ahead (48 ∷ 120 ∷ digit ∷ digits ++ rest) ≡ hex_run_of (Some (digit ∷ digits)) rest
@@ -284,6 +305,7 @@ literal_at-run digit digits rest all s =
     let cut = hex_run_cut digit digits rest all s in
     ap (λ d. hex_run_of d (after_run text)) cut.0 ∙ ap (hex_run_of (Some (digit ∷ digits))) cut.1
 
+-- `0x` and digits are read as the decoded bytes
 hex_run_read : (digit : ℕ) (digits bytes rest : List ℕ) → decode_of (evened (digit ∷ digits)) ≡ Ok bytes
     → Passes (belongs Hexadecimal) (digit ∷ digits)
     → StartsNo (belongs Word) rest → literal_ahead (48 ∷ 120 ∷ digit ∷ digits ++ rest) ≡ sized (kept bytes) rest

@@ -25,15 +25,17 @@ use Rattle.xa_xid.specs.declared.xid.Xid.{Xid}
 use Rattle.xa_xid.proofs.Cuts.{front-passes, front-stops, front-nil, behind-passes, behind-stops, behind-nil}
 use Rattle.xa_xid.proofs.Numbers.{fitting_small}
 
--- all pass
+-- each byte passes the test
 abbrev pub Passes : (ℕ → Bool) → List ℕ → Type 0
 Passes p [] = Unit {0}
 Passes p (byte ∷ text) = (p byte ≡ true) × Passes p text
 
+-- nothing is in front of a text that begins with no byte that passes
 front-starts : (p : ℕ → Bool) (rest : List ℕ) → StartsNo p rest → front p rest ≡ []
 front-starts p [] s = front-nil p
 front-starts p (byte ∷ rest) s = front-stops p byte rest s
 
+-- all of a text that begins with no byte that passes is behind
 behind-starts : (p : ℕ → Bool) (rest : List ℕ) → StartsNo p rest → behind p rest ≡ rest
 behind-starts p [] s = behind-nil p
 behind-starts p (byte ∷ rest) s = behind-stops p byte rest s
@@ -44,27 +46,32 @@ front-append p [] rest all s = front-starts p rest s
 front-append p (byte ∷ text) rest all s =
     front-passes p byte (text ++ rest) all.0 ∙ ap (λ t. byte ∷ t) (front-append p text rest all.1 s)
 
+-- bytes that pass are skipped up to a text that begins with none
 pub behind-append : (p : ℕ → Bool) (text rest : List ℕ) → Passes p text → StartsNo p rest
     → behind p (text ++ rest) ≡ rest
 behind-append p [] rest all s = behind-starts p rest s
 behind-append p (byte ∷ text) rest all s = behind-passes p byte (text ++ rest) all.0 ∙ behind-append p text rest all.1 s
 
+-- if all bytes of a text pass, nothing is left behind them
 only_passes : (p : ℕ → Bool) (text : List ℕ) → Passes p text → behind p text ≡ []
 only_passes p [] all = behind-nil p
 only_passes p (byte ∷ text) all = behind-passes p byte text all.0 ∙ only_passes p text all.1
 
--- the sixteen digits
+-- each of the 16 digits is a byte of a word
 digit_is_word : (i : ℕ) → i < 16 → belongs Word (get_or lower_digits i 0) ≡ true
 unfolding belongs
 digit_is_word i small = agree_below_at (λ n. belongs Word (get_or lower_digits n 0)) (λ _. true) 16 i refl small
 
+-- each of the 16 digits is hexadecimal
 digit_is_hex : (i : ℕ) → i < 16 → belongs Hexadecimal (get_or lower_digits i 0) ≡ true
 unfolding belongs
 digit_is_hex i small = agree_below_at (λ n. belongs Hexadecimal (get_or lower_digits n 0)) (λ _. true) 16 i refl small
 
+-- if a list consists of bytes, so does the list without its first
 bytes_tail : (byte : ℕ) (bytes : List ℕ) → IsBytes (byte ∷ bytes) → IsBytes bytes
 bytes_tail byte bytes all i = all (suc i)
 
+-- what holds of the 16 digits holds of an encoded text
 digits_pass : (p : ℕ → Bool) → ((i : ℕ) → i < 16 → p (get_or lower_digits i 0) ≡ true) → (bytes : List ℕ)
     → IsBytes bytes → Passes p (encode_lower bytes)
 unfolding encode_with
@@ -75,19 +82,22 @@ digits_pass p each (byte ∷ bytes) all =
     let low : byte % 16 < 16 = omega arith in
     (each (byte / 16) high, (each (byte % 16) low, digits_pass p each bytes (bytes_tail byte bytes all)))
 
--- a run of `0x` and digits that aren't none
+-- the digits of a run of `0x` and one or more digits are read back
 hex_digits_back : (digit : ℕ) (digits : List ℕ) → behind (belongs Hexadecimal) (digit ∷ digits) ≡ []
     → hex_digits_of (48 ∷ 120 ∷ digit ∷ digits) ≡ Some (digit ∷ digits)
 hex_digits_back digit digits e = rw e refl
 
+-- each byte is two digits
 even_digits : (bytes : List ℕ) → length (encode_lower bytes) % 2 ≡ 0
 even_digits bytes = let twice : length (encode_lower bytes) ≡ 2 * length bytes =
     length-encode_with lower_digits bytes in omega arith
 
+-- what reading makes of decoded digits: the bytes, or a fault
 abbrev pub decoded_found : List ℕ → Result (List ℕ) FromHexError → Reading Text
 decoded_found rest (Ok bytes) = Ok (record { items = bytes }, rest)
 decoded_found rest (Err fault) = Err NotALiteral
 
+-- the digits of up to 64 bytes are read as these bytes
 hex_run_back : (bytes rest : List ℕ) → IsBytes bytes → length bytes ≤ 64
     → hex_run_of (Some (encode_lower bytes)) rest ≡ Ok (record { items = bytes }, rest)
 hex_run_back bytes rest all fits =
@@ -99,7 +109,7 @@ hex_run_back bytes rest all fits =
     let even : evened digits ≡ digits = rw odd refl in
     short ∙ ap (λ d. decoded d rest) even ∙ ap (decoded_found rest) (decode_of-encode_lower bytes all)
 
--- a part that isn't empty
+-- a part that isn't empty, written as `0x` and digits, is read back
 filled_back : (byte : ℕ) (bytes rest : List ℕ) → IsBytes (byte ∷ bytes) → length (byte ∷ bytes) ≤ 64
     → StartsNo (belongs Word) rest
     → literal_ahead (48 ∷ 120 ∷ encode_lower (byte ∷ bytes) ++ rest) ≡ Ok (record { items = byte ∷ bytes }, rest)
@@ -120,20 +130,22 @@ filled_back byte bytes rest all fits s =
     ∙ ap (λ r. hex_run_of (Some digits) r) left
     ∙ hex_run_back (byte ∷ bytes) rest all fits
 
--- an empty part
+-- an empty part, written X'', is read back
 empty_back : (rest : List ℕ) → literal_ahead (88 ∷ 39 ∷ 39 ∷ rest) ≡ Ok (record { items = [] }, rest)
 unfolding literal_ahead front behind belongs decode_pairs
 empty_back rest = refl
 
+-- a gtrid, bqual, key or value in canonical form is read back
 pub part_back : (bytes rest : List ℕ) → IsBytes bytes → length bytes ≤ 64 → StartsNo (belongs Word) rest
     → literal_ahead (part_text bytes ++ rest) ≡ Ok (record { items = bytes }, rest)
 part_back [] rest all fits s = empty_back rest
 part_back (byte ∷ bytes) rest all fits s = filled_back byte bytes rest all fits s
 
--- decimal digits
+-- a byte whose value as a digit is below 10 is one from 48 to 57
 pub decimal_byte : (byte : ℕ) → digit_value byte < 10 → (48 ≤ byte) × (byte ≤ 57)
 decimal_byte byte small = digit_from_value byte small
 
+-- no byte from 48 (`0`) on is a blank
 digit_not_blank : (byte : ℕ) → 48 ≤ byte → belongs Blank byte ≡ false
 unfolding belongs
 digit_not_blank byte low =
@@ -145,20 +157,24 @@ digit_not_blank byte low =
       ne_eqb byte 13 (λ e. omega arith),
     ) refl
 
+-- a digit (48 to 57) is a byte of a word
 word_digit : (byte : ℕ) → 48 ≤ byte → byte ≤ 57 → belongs Word byte ≡ true
 unfolding belongs
 word_digit byte low high = grind (arith, nat_tests)
 
+-- decimal digits are bytes of a word
 digits_word : (digits : List ℕ) → AllDigits 10 digits → Passes (belongs Word) digits
 digits_word [] all = tt
 digits_word (digit ∷ digits) all =
     let range = decimal_byte digit all.0 in (word_digit digit range.0 range.1, digits_word digits all.1)
 
+-- the digits of a decimal numeral are decimal digits
 digits_decimal : (digits : List ℕ) → AllDigits 10 digits → Passes (belongs Decimal) digits
 unfolding belongs
 digits_decimal [] all = tt
 digits_decimal (digit ∷ digits) all = (lt-ltb (digit_value digit) 10 all.0, digits_decimal digits all.1)
 
+-- the decimal digits of a number below 2^64 are read as it
 number_in_back : (n : ℕ) → n < 2 ^ 64 → (digits : List ℕ) → IsNumeral 10 digits → digits_value 10 digits ≡ n
     → number_in digits ≡ Ok n
 number_in_back n small [] is e = absurd (omega (arith, is.0))
@@ -168,14 +184,17 @@ number_in_back n small (digit ∷ digits) is e =
     let some : (length (digit ∷ digits) == 0) ≡ false = ne_eqb _ _ (λ e. omega (arith, is.0, e)) in
     rw (some, decimal) (sym (fitting_small n (digits_value 10 (digit ∷ digits)) small (sym e)))
 
+-- what reading makes of a run: the number and the rest, or a fault
 abbrev pub number_found : List ℕ → Result ℕ LiteralFault → Reading ℕ
 number_found rest (Ok value) = Ok (value, rest)
 number_found rest (Err fault) = Err fault
 
+-- reading a number is reading the run of word bytes in front as a number
 pub number_at-found : (text : List ℕ) → number_ahead text ≡ number_found (after_run text) (number_in (run text))
 unfolding number_ahead
 number_at-found text = refl
 
+-- a number in decimal digits is read back
 pub number_back : (n : ℕ) (rest : List ℕ) → n < 2 ^ 64 → StartsNo (belongs Word) rest
     → number_ahead (decimal n ++ rest) ≡ Ok (n, rest)
 number_back n rest small s =
@@ -195,41 +214,48 @@ unfolding behind belongs
 part_unblank [] rest = refl
 part_unblank (byte ∷ bytes) rest = refl
 
+-- digits don't begin with a blank
 first_unblank : (digits rest : List ℕ) → IsNumeral 10 digits → unblank (digits ++ rest) ≡ digits ++ rest
 first_unblank [] rest is = absurd (omega (arith, is.0))
 first_unblank (digit ∷ digits) rest is =
     behind-stops (belongs Blank) digit (digits ++ rest) (digit_not_blank digit (decimal_byte digit is.1.0).0)
 
+-- a number in decimal digits begins with no blank
 pub number_unblank : (n : ℕ) (rest : List ℕ) → n < 2 ^ 64 → unblank (decimal n ++ rest) ≡ decimal n ++ rest
 number_unblank n rest small = first_unblank (decimal n) rest (decimal_is_IsNumeral n small).0
 
+-- a comma (44) is no blank
 comma_unblank : (rest : List ℕ) → unblank (44 ∷ rest) ≡ 44 ∷ rest
 unfolding behind belongs
 comma_unblank rest = refl
 
+-- a comma (44) is no word byte
 pub comma_no_word : (rest : List ℕ) → StartsNo (belongs Word) (44 ∷ rest)
 unfolding belongs
 comma_no_word rest = refl
 
--- what follows the parts that were found
+-- an identifier, once its formatID was looked for behind gtrid and bqual
 abbrev pub format_found : Text → Text → List ℕ → Reading ℕ → Parse
 format_found gtrid bqual text (Ok found) = Ok (xid_of gtrid bqual found.0, found.1)
 format_found gtrid bqual text (Err fault) = Err (fault, text)
 
+-- what reading an identifier makes of its bqual, found or faulty
 abbrev pub bqual_found : Text → List ℕ → Reading Text → Parse
 bqual_found gtrid text (Ok found) = after_bqual gtrid found.0 found.1 (comma_next (unblank found.1))
 bqual_found gtrid text (Err fault) = Err (fault, text)
 
+-- what reading an identifier makes of its gtrid, found or faulty
 abbrev pub gtrid_found : List ℕ → Reading Text → Parse
 gtrid_found text (Ok found) = after_gtrid found.0 found.1 (comma_next (unblank found.1))
 gtrid_found text (Err fault) = Err (fault, text)
 
--- a part, a comma and more
+-- a formatID behind gtrid and bqual is read back
 third_back : (gtrid bqual : Text) (n : ℕ) (text rest : List ℕ) → unblank text ≡ text → number_ahead text ≡ Ok (n, rest)
     → format_id_next gtrid bqual (unblank text) ≡ Ok (xid_of gtrid bqual n, rest)
 third_back gtrid bqual n text rest blank e =
     ap (format_id_next gtrid bqual) blank ∙ ap (format_found gtrid bqual text) e
 
+-- the bqual and the comma behind it are read back
 second_back : (gtrid : Text) (bqual text next : List ℕ) (answer : Parse) → text ≡ part_text bqual ++ (44 ∷ next)
     → IsBytes bqual → length bqual ≤ 64
     → format_id_next gtrid (record { items = bqual }) (unblank next) ≡ answer → bqual_next gtrid (unblank text) ≡ answer
@@ -240,6 +266,7 @@ second_back gtrid bqual text next answer e all fits more =
     ap (bqual_next gtrid) blank ∙ ap (bqual_found gtrid text) part
     ∙ ap (λ t. after_bqual gtrid (record { items = bqual }) (44 ∷ next) (comma_next t)) (comma_unblank next) ∙ more
 
+-- the gtrid and the comma behind it are read back
 first_back : (gtrid text next : List ℕ) (answer : Parse) → text ≡ part_text gtrid ++ (44 ∷ next) → IsBytes gtrid
     → length gtrid ≤ 64
     → bqual_next (record { items = gtrid }) (unblank next) ≡ answer → gtrid_next (unblank text) ≡ answer
@@ -250,7 +277,7 @@ first_back gtrid text next answer e all fits more =
     ap gtrid_next blank ∙ ap (gtrid_found text) part
     ∙ ap (λ t. after_gtrid (record { items = gtrid }) (44 ∷ next) (comma_next t)) (comma_unblank next) ∙ more
 
--- the text of an identifier and more, part by part
+-- the text of an identifier with more behind it, written out part by part
 pub xid_text-append : (xid : Xid) (rest : List ℕ) → xid_text xid ++ rest
     ≡ part_text xid.gtrid.items ++ (44 ∷ (part_text xid.bqual.items ++ (44 ∷ (decimal xid.format_id ++ rest))))
 xid_text-append xid rest =
@@ -278,6 +305,6 @@ pub part_word : (byte : ℕ) (bytes : List ℕ) → IsBytes (byte ∷ bytes)
 unfolding belongs
 part_word byte bytes all = (refl, (refl, digits_pass (belongs Word) digit_is_word (byte ∷ bytes) all))
 
--- and so are those of a number
+-- the decimal digits of a number are bytes of a word
 pub decimal_word : (n : ℕ) → n < 2 ^ 64 → Passes (belongs Word) (decimal n)
 decimal_word n small = digits_word (decimal n) (decimal_is_IsNumeral n small).0.1

@@ -27,21 +27,21 @@ belongs Word byte = is_word byte
 belongs Decimal byte = is_digit byte 10
 belongs Hexadecimal byte = is_digit byte 16
 
--- the longest beginning of bytes that pass
+-- the longest beginning of a text whose bytes all pass p
 unfoldable pub front : (ℕ → Bool) → List ℕ → List ℕ
 front p [] = []
 front p (byte ∷ text) = if p byte then byte ∷ front p text else []
 
--- the rest of the text after them
+-- the rest of a text from its first byte on that doesn't pass p
 unfoldable pub behind : (ℕ → Bool) → List ℕ → List ℕ
 behind p [] = []
 behind p (byte ∷ text) = if p byte then behind p text else byte ∷ text
 
--- all pass
+-- whether all bytes of a text pass p
 abbrev pub only : (ℕ → Bool) → List ℕ → Bool
 only p text = length (behind p text) == 0
 
--- from the first byte on that isn't a blank
+-- the text from the first byte on that isn't a blank
 abbrev pub unblank : List ℕ → List ℕ
 unblank text = behind (belongs Blank) text
 
@@ -49,11 +49,11 @@ unblank text = behind (belongs Blank) text
 abbrev pub run : List ℕ → List ℕ
 run text = front (belongs Word) text
 
--- the rest of the text after them
+-- the rest of the text behind its first run of word bytes
 abbrev pub after_run : List ℕ → List ℕ
 after_run text = behind (belongs Word) text
 
--- the text doesn't begin with a byte that passes
+-- the text doesn't begin with a byte that passes p
 abbrev pub StartsNo : (ℕ → Bool) → List ℕ → Type 0
 StartsNo p [] = Unit {0}
 StartsNo p (byte ∷ text) = p byte ≡ false

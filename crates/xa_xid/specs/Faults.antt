@@ -28,7 +28,7 @@ number_of_literal_fault OddHex = 3
 number_of_literal_fault TooLong = 4
 number_of_literal_fault NumberTooLarge = 5
 
--- only hexadecimal digits, maybe none
+-- the text has only hexadecimal digits, maybe none
 abbrev pub AreHex : List ℕ → Type 0
 AreHex digits = IsTrue (only (belongs Hexadecimal) digits)
 

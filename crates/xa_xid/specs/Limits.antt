@@ -3,10 +3,10 @@
 --     text_digits      hexadecimal digits of so many bytes
 use Rattle.std.specs.Prelude.{ℕ}
 
--- of gtrid and bqual X/Open C193's length, of keys and values our own rule
+-- how many bytes a text has at most: of gtrid and bqual X/Open C193's length, of keys and values our own rule
 abbrev pub text_bytes : ℕ
 text_bytes = 64
 
--- two digits spell a byte
+-- how many hexadecimal digits spell a text at most: two for each byte
 abbrev pub text_digits : ℕ
 text_digits = 128

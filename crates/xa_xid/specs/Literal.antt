@@ -22,11 +22,11 @@ use Rattle.xa_xid.specs.declared.literal_fault.LiteralFault.TheVariants.{NotALit
 abbrev pub Reading : Type 0 → Type 0
 Reading Value = Result (Value × List ℕ) LiteralFault
 
--- ' and "
+-- whether the byte opens a text in quotes: ' or "
 abbrev pub is_quote : ℕ → Bool
 is_quote byte = byte == 39 || byte == 34
 
--- X and x
+-- whether the byte opens hexadecimal digits in quotes: X or x
 abbrev pub is_x : ℕ → Bool
 is_x byte = byte == 88 || byte == 120
 
@@ -67,7 +67,7 @@ pub record Between {Value : Type 0} (Spelled : List ℕ → Value → List ℕ �
   pub within : next ≤ length text
   pub spelled : Spelled (drop at text) value (drop next text)
 
--- at most `text_bytes` bytes
+-- the text of these bytes, if they are at most `text_bytes`
 unfoldable pub kept : List ℕ → Option Text
 kept bytes = if nat_le (length bytes) text_bytes then Some (record { items = bytes }) else None
 
@@ -102,7 +102,7 @@ hex_digits_of (zero_digit ∷ letter ∷ digit ∷ digits) =
     (digit ∷ digits) else None
 hex_digits_of _ = None
 
--- such a run as a literal, and the text after it
+-- a run of hexadecimal digits behind `0x`, if it is one, as a literal; and the text after it
 abbrev pub hex_run_of : Option (List ℕ) → List ℕ → Reading Text
 hex_run_of None rest = Err NotALiteral
 hex_run_of (Some digits) rest = if nat_lt text_digits (length digits) then Err TooLong else decoded (evened digits) rest

@@ -24,7 +24,7 @@ pub data NumberAt : List ℕ → ℕ → List ℕ → Type 0 where
       → digits_value 16 (digit ∷ digits) ≡ value → value < 2 ^ 64 → StartsNo (belongs Word) rest
       → NumberAt (48 ∷ 120 ∷ digit ∷ digits ++ rest) value rest
 
--- at most 2^64-1, leading zeros in any count (own rule)
+-- the number, if it is at most 2^64-1, with any count of leading zeros (own rule)
 unfoldable pub fitting : ℕ → Result ℕ LiteralFault
 fitting value = if nat_lt value (2 ^ 64) then Ok value else Err NumberTooLarge
 

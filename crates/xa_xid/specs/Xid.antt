@@ -16,11 +16,11 @@ use Rattle.xa_xid.specs.declared.xid.Xid.{Xid}
 abbrev pub Text : Type 0
 Text = ArrayVec ℕ
 
--- by the first byte that differs; if one begins the other, the shorter is first (own rule)
+-- the order of texts: by the first byte that differs; if one begins the other, the shorter is first (own rule)
 abbrev pub bytes_cmp : List ℕ → List ℕ → Ordering
 bytes_cmp = slice_cmp nat_cmp
 
--- by formatID, then gtrid, then bqual (own rule)
+-- the order of identifiers: by formatID, then gtrid, then bqual (own rule)
 abbrev pub xid_cmp : Xid → Xid → Ordering
 xid_cmp a b =
     ordering_then (nat_cmp a.format_id b.format_id)

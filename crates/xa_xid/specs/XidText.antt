@@ -63,7 +63,7 @@ format_id_next gtrid bqual text = elim (number_ahead text) [
   | Err fault ↦ Err (fault, text)
 ]
 
--- after the bqual: its formatID if a comma comes next, else 1
+-- reading goes on behind the bqual: a formatID if a comma comes next, else it is 1
 abbrev pub after_bqual : Text → Text → List ℕ → Option (List ℕ) → Parse
 after_bqual gtrid bqual rest None = Ok (xid_of gtrid bqual 1, rest)
 after_bqual gtrid bqual rest (Some text) = format_id_next gtrid bqual (unblank text)
@@ -75,12 +75,12 @@ bqual_next gtrid text = elim (literal_ahead text) [
   | Err fault ↦ Err (fault, text)
 ]
 
--- after the gtrid: its bqual if a comma comes next, else none
+-- reading goes on behind the gtrid: a bqual if a comma comes next, else it is empty
 abbrev pub after_gtrid : Text → List ℕ → Option (List ℕ) → Parse
 after_gtrid gtrid rest None = Ok (xid_of gtrid no_text 1, rest)
 after_gtrid gtrid rest (Some text) = bqual_next gtrid (unblank text)
 
--- the gtrid, and what follows
+-- reading an identifier: its gtrid, and what follows
 abbrev pub gtrid_next : List ℕ → Parse
 gtrid_next text = elim (literal_ahead text) [
   | Ok found ↦ after_gtrid found.0 found.1 (comma_next (unblank found.1))

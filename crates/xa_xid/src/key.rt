@@ -68,6 +68,7 @@ fn order_behind(left: &[u8], right: &[u8]) -> Ordering
 {
     are_bytes(left);
     are_bytes(right);
+    // The heads are equal, so a text that ends within its head is the other's beginning, or the other way round.
     if left.len() <= 8 {
         return left.len().cmp(&right.len());
     }

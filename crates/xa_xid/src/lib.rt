@@ -53,6 +53,7 @@ pub fn copy_of(text: &Bytes) -> Bytes
     ensures { result ≡ text.now }
 {
     let mut copy = Bytes::new();
+    // Both have room for the same number of bytes.
     copy.try_extend_from_slice(text.as_slice()).unwrap();
     copy
 }

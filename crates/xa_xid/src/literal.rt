@@ -144,6 +144,7 @@ fn even_digits(digits: &[u8]) -> ArrayVec<u8, 128>
     if digits.len() % 2 == 1 {
         even.push(b'0');
     }
+    // At most 128 digits, or an odd number of them and one more: they fit.
     let _ = even.try_extend_from_slice(digits);
     even
 }

@@ -25,7 +25,7 @@ struct Kept {
 }
 
 impl Kept {
-    /// No bytes yet.
+    /// A literal of which no byte was kept yet.
     fn new() -> Kept
         ensures { result.bytes ≡ kept [] }
     {

@@ -186,6 +186,7 @@ fn small_digits(bytes: &[u8]) -> ArrayVec<u8, 128>
 {
     let mut digits = ArrayVec::from([0; 128]);
     digits.truncate(2 * bytes.len());
+    // It fails only if the lengths don't fit, and they do.
     let _ = hex::encode_to_slice(bytes, digits.as_mut_slice());
     digits
 }

@@ -89,7 +89,7 @@ impl<R: LogWords> LogTable<R> {
             .compare_exchange::<Exchanged<R, M>>(seat, word, old, new)
     }
 
-    /// Does the same, and names the entry that is announced, for the proof only.
+    /// Compares and exchanges a word, and names the entry that is announced by it, for the proof only.
     ///
     /// Takes no memory. Doesn't wait.
     pub fn compare_exchange_with<M: LogTransition<R>>(
@@ -105,7 +105,8 @@ impl<R: LogWords> LogTable<R> {
         requires word { word < self.now.inner.shared.table_id.words }
         requires allowed { Allows (R.holds self.now.inner.shared.key) self.now.inner.shared.table_id.slots seat.old.id
             (seated (pass_view seat.old)) word
-            (λ n. either (n == old) new n) (Tells (M.then (Exchange word old new (some said.now)) (pass_view seat.old))) }
+            (λ n. either (n == old) new n) (Tells (M.then (Exchange word old new (some said.now))
+            (pass_view seat.old))) }
         ensures table { seat.new.table_id ≡ seat.old.table_id }
         ensures held { seat.new.me ≡ seated (pass_view seat.new) }
         ensures told { M.then (Exchange word old new (some said.now)) (pass_view seat.old) result (pass_view seat.new) }

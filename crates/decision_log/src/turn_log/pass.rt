@@ -17,6 +17,8 @@ pub struct TurnPass {
     pub(super) number: SessionNo,
     /// How many entries it has seen.
     pub(super) front: u64,
+    // The seat holds one pass: this one.
     ghost held: { seat.me ≡ seated (pass_view_of seat.me.0) },
+    // That pass has this number, and has seen `front` entries.
     ghost state: { IsPass number front (pass_view_of seat.me.0) },
 }

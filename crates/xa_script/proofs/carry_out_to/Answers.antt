@@ -9,7 +9,8 @@ returns g c = record {
   faulty = c.ok.result;
   own =
       subst (λ reader. HasDone g.W.Write.contents c.args.job c.args.manner.now.json c.args.base.now
-      c.args.allowances.now (g.I.Read.remaining reader) (writer_contents g.W.Write.contents c.args.output.now) c.carry_out_job-done.new.output
+      c.args.allowances.now (g.I.Read.remaining reader) (writer_contents g.W.Write.contents c.args.output.now)
+      c.carry_out_job-done.new.output
       c.carry_out_job-done.result) c.new-watch.ensures.reader c.carry_out_job-done.ensures;
   ends = c.looked_at.ensures;
 }

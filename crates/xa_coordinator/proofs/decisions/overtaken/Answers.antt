@@ -15,6 +15,10 @@ returns-in-Closed-Some-clause-some c =
     c.loop-place-test.true c.in-Closed-Some.first
     c.in-Closed-Some.is-1 c.in-Closed-Some.is-0
 
+pub returns-in-Closed-Some-clause-first : goal.returns-in-Closed-Some-clause-first
+returns-in-Closed-Some-clause-first c = λ other it.
+    c.loop-place.invariant.least c.in-Closed-Some.first other c.in-Closed-Some.is-1 it.undecided
+
 pub loop-place-preserved : goal.loop-place-preserved
 loop-place-preserved c = elim c.match-decision.branch [
   | in-Closed-None w ↦ subst (Walked c.args.list.now (c.loop-place.place + 1)) (sym w.undecided-is)

@@ -16,22 +16,22 @@ returns-clause-association g c =
     listed_still false c.execute.result _ _ (g.met.S.Speak.lawful c.execute.new.self) c.execute.ensures.stays
     (g.met.S.Speak.own_part _)
     (g.met.S.Speak.own_part c.execute.new.self)
-    c.execute.ensures.answered c.execute.ensures.fails c.execute.ensures.lasts
+    c.execute.ensures.answered c.execute.ensures.fails c.execute.ensures.lasts c.execute.ensures.takes
 
 pub returns-clause-listed : goal.returns-clause-listed
 returns-clause-listed g c = listed_as false _ c.in-Recovered.xids _ _ c.in_ok-place.ensures.stays
-    c.in_ok-place.ensures.answered c.in-Recovered.is
+    c.in_ok-place.ensures.answered c.in_ok-place.ensures.takes c.in-Recovered.is
 
 pub returns-in_err-place-clause-association : goal.returns-in_err-place-clause-association
 returns-in_err-place-clause-association g c =
     listed_still false c.execute.result _ _ (g.met.S.Speak.lawful c.execute.new.self) c.execute.ensures.stays
     (g.met.S.Speak.own_part _)
     (g.met.S.Speak.own_part c.execute.new.self)
-    c.execute.ensures.answered c.execute.ensures.fails c.execute.ensures.lasts
+    c.execute.ensures.answered c.execute.ensures.fails c.execute.ensures.lasts c.execute.ensures.takes
 
 pub returns-in_err-place-clause-undone : goal.returns-in_err-place-clause-undone
 returns-in_err-place-clause-undone g c =
     let p = err_from_is_err_and c.from_residual.result c.from_residual.ensures.1 in
     rw (p.1, p.2)
     (is_undone (Recover false) (Session c.in_err-place.field-0.0) _ _ c.in_err-place.ensures.stays
-    (c.in_err-place.ensures.fails, c.in_err-place.ensures.lasts))
+    (c.in_err-place.ensures.fails, c.in_err-place.ensures.lasts, c.in_err-place.ensures.takes))

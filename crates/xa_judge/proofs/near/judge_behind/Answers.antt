@@ -1,6 +1,7 @@
 use Rattle.std.proofs.Common.{Option, IfSome, subst, rules}
 use Rattle.xa_server.specs.State.{State}
 use Rattle.xa_judge.specs.Near.{named_in, AreNear, IsLoadedTo}
+use Rattle.xa_judge.specs.Told.{no_pass}
 use Rattle.xa_judge.proofs.near.judge_behind.Goals as goal
 
 pub judge_later-requires-clause-near : goal.judge_later-requires-clause-near
@@ -10,3 +11,9 @@ judge_later-requires-clause-near g c =
     × IsLoadedTo c.args.base.now c.split_at.result.0.now full × AreNear (named_in keys) full near))
     c.in-Some.is c.in_ok-found.ensures in
     (keys, found.0, found.1, found.2, c.all_named.ensures (search rules))
+
+pub returns-in-None-clause-told : goal.returns-in-None-clause-told
+returns-in-None-clause-told g c = no_pass
+
+pub returns-then-not-all_named-clause-told : goal.returns-then-not-all_named-clause-told
+returns-then-not-all_named-clause-told g c = no_pass

@@ -19,7 +19,8 @@ loop-try-preserved g c = record {
   within = omega (arith, c.in_ok-count.ensures.bound, length-take {A = ℕ}, length-drop {A = ℕ});
   appended = Appends-more _ _ _ c.args.text.now c.loop-try.written c.in_ok-count.count c.loop-try.invariant.appended
       c.in_ok-count.ensures.taken;
-  calls = tried_next g.W.PieceWriter.takes g.W.PieceWriter.interrupts c.loop-try._try c.args.writer.now c.loop-try.writer
+  calls = tried_next g.W.PieceWriter.takes g.W.PieceWriter.interrupts c.loop-try._try c.args.writer.now
+      c.loop-try.writer
       c.give_once.new.writer c.args.text.now c.loop-try.written c.in_ok-count.count c.loop-try.invariant.calls
       c.in_ok-count.ensures.tried;
 }

@@ -17,6 +17,14 @@ pair_of store base own other =
 pub returns-clause-pair : goal.returns-clause-pair
 returns-clause-pair c =
     let made = c.new-kept.ensures in
+    let pair =
+    subst (λ (s : LastingStore). IsPair (own_view s) (other_alone s)) (sym c.new-store.ensures.store)
+    (pair_of c.new-kept.result (made.base ∙ c.new-server.ensures) made.own made.other) in
     subst (λ (s : CountedStore). IsPair (own_of s) (other_of s)) (sym c.new.ensures.inner)
-    (subst (λ (s : LastingStore). IsPair (own_view s) (other_alone s)) (sym c.new-store.ensures.store)
-    (pair_of c.new-kept.result (made.base ∙ c.new-server.ensures) made.own made.other))
+    (record {
+      log = pair.log;
+      first_base = pair.first_base;
+      second_base = pair.second_base;
+      first_known = pair.first_known;
+      second_known = pair.second_known;
+    })

@@ -16,7 +16,6 @@ loop-alloc-preserved c =
     let made = c.fresh_session.ensures in
     let items = c.in_ok-push.ensures.items in
     let pair : Fused CountedStore → Type 0 = λ (s : Fused CountedStore). IsPair (own_of s.inner) (other_of s.inner) in
-    let given : Fused CountedStore → Type 0 = λ (s : Fused CountedStore). s.inner.given ≡ 0 in
     let fed : Fused CountedStore → Type 0 = λ (s : Fused CountedStore). s.inner.starved ≡ false in
     let passes : List (Fused CountedStore) → Type 0 = λ list. (store : ℕ) → store < length list
     → Passes store (2 ^ 64 - 1) list in
@@ -26,8 +25,6 @@ loop-alloc-preserved c =
       pairs = subst (λ (list : List (Fused CountedStore)). All pair list) (sym items)
           (All-push pair sessions session so_far.pairs made.pair);
       passes = subst passes (sym items) (passes_more (2 ^ 64 - 1) sessions session so_far.passes made.left);
-      given = subst (λ (list : List (Fused CountedStore)). All given list) (sym items)
-          (All-push given sessions session so_far.given made.given);
       starved = subst (λ (list : List (Fused CountedStore)). All fed list) (sym items)
           (All-push fed sessions session so_far.starved made.starved);
     }

@@ -10,7 +10,6 @@ invariant-loop-alloc l = record {
   nobody : vec_len l.nobody ≡ vec_len l.sessions;
   pairs : All (λ session. IsPair (own_of session.inner) (other_of session.inner)) l.sessions.items;
   passes : (store : ℕ) → store < length l.sessions.items → Passes store (2 ^ 64 - 1) l.sessions.items;
-  given : All (λ session. session.inner.given ≡ 0) l.sessions.items;
   starved : All (λ session. session.inner.starved ≡ false) l.sessions.items;
 }
 

@@ -16,7 +16,8 @@ loop-one-preserved-then-place-from-2 c =
     let turn : (length yielded < length c.args.added.items) × (one ≡ get_or c.args.added.items (length yielded) one) =
     YieldsList-turn (YieldsList-from_vec {s = c.into_iter-one-iterator.result} c.args.added.items from.0
     (from.1 ∙ c.args.added.ok.0)) yielded
-    c.loop-one.one-iterator c.loop-one.yielded_by c.next.result c.next.new.self one c.in-Some.is c.next.ensures.steps in (
+    c.loop-one.one-iterator c.loop-one.yielded_by c.next.result c.next.new.self one c.in-Some.is c.next.ensures.steps
+    in (
       length-set c.loop-one.places.items (one.place - c.args.from) (Some one.entry) ∙ c.loop-one.invariant.0,
       λ list limit only all.
           let within : IsWithin list limit c.args.from one =

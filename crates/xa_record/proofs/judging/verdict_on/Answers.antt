@@ -10,4 +10,4 @@ returns g c =
     judged_always c.report_of.result base told c.args.asked events
     (λ allowances are. judged_so c.report_of.result base allowances told c.args.asked events c.in_ok-verdict.verdict
     c.requires.bare are
-    c.are_written_calls.ensures c.in_ok-verdict.ensures c.report_of.ensures)
+    c.are_written_calls.ensures c.in_ok-verdict.ensures.verdict c.report_of.ensures)

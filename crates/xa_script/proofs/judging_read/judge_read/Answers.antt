@@ -11,7 +11,7 @@ returns-clause-judged g c =
     let verdict = subst (λ (text : List ℕ). IfOk c.judge_within.result
     (λ status. AppendsVerdict c.args.base.now c.args.allowances.now c.args.asked status (Some text)
     (g.W.Write.contents c.args.writer.now) (g.W.Write.contents c.judge_within.new.writer)))
-    c.as_slice-rest.ensures.value c.judge_within.ensures.judged in
+    c.as_slice-record.ensures.value c.judge_within.ensures.judged in
     judged_whole c.args.base.now c.args.allowances.now c.args.asked c.judge_within.result record_read.items _ _ _ _
     c.in_ok-record_read.ensures.all c.in_ok-record_read.ensures.end verdict
 
@@ -21,6 +21,6 @@ returns-clause-fault g c =
     let left = subst (λ (text : List ℕ). IfErr c.judge_within.result
     (λ fault. AfterJudgeFaultFrom c.args.base.now c.args.allowances.now c.args.asked fault (Some text)
     (g.W.Write.contents c.args.writer.now) (g.W.Write.contents c.judge_within.new.writer)))
-    c.as_slice-rest.ensures.value c.judge_within.ensures.fault in
+    c.as_slice-record.ensures.value c.judge_within.ensures.fault in
     faulted_whole c.args.base.now c.args.allowances.now c.args.asked c.judge_within.result record_read.items _ _ _ _
     c.in_ok-record_read.ensures.all c.in_ok-record_read.ensures.end left

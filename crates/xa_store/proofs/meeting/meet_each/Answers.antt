@@ -35,7 +35,8 @@ loop-index-preserved g c =
     let met = c.index_mut.result.now in
     let here = c.index_mut.ensures.value in
     let below : c.loop-index.index < length c.loop-index.others.items =
-    omega (arith, c.loop-index-test.true, c.loop-index.others.ok.0, c.args.others.now.ok.0, c.loop-index.invariant.4) in (
+    omega (arith, c.loop-index-test.true, c.loop-index.others.ok.0, c.args.others.now.ok.0, c.loop-index.invariant.4)
+    in (
       next_round (λ session. g.L.DecisionLog.known session.pass)
           (λ old new. (new.base.now ≡ old.base.now) × (g.L.DecisionLog.belongs_to new.pass
           ≡ g.L.DecisionLog.belongs_to old.pass)

@@ -18,7 +18,8 @@ loop-index-preserved c =
           λ entry is.
           let there : slice_get (pass_view_of c.loop-index.seat.me.0).known.seen c.args.place ≡ Some entry =
           ap (λ h. slice_get h.known.seen c.args.place) inv.same ∙ is in
-          let told = c.load_word.ensures.read c.args.place c.loop-index.index entry refl c.loop-index-test.true there in (
+          let told = c.load_word.ensures.read c.args.place c.loop-index.index entry refl c.loop-index-test.true there
+          in (
             (λ p. told.0),
             one_more c.loop-index.words (words_of entry) c.loop-index.index c.load_word.result
                 (omega (arith, inv.sized, c.loop-index-test.true)) told.1

@@ -35,7 +35,7 @@ invariant_of-self g c =
           (active_still c.args.statement.now c.execute.result xid (view old) (view new)
           (g.met.S.Speak.lawful new) c.execute.ensures.stays
           (g.met.S.Speak.own_part old) (g.met.S.Speak.own_part new) association c.requires.row
-          c.execute.ensures.answered c.execute.ensures.fails c.execute.ensures.lasts);
+          c.execute.ensures.answered c.execute.ensures.fails c.execute.ensures.lasts c.execute.ensures.takes);
     }
 
 pub returns-clause-frame : goal.returns-clause-frame
@@ -63,6 +63,7 @@ returns-clause-replied g c =
           active_there c.args.statement.now c.in_ok-answer.answer xid (view old) (view new)
           (g.met.S.Speak.lawful new) c.in_ok-answer.ensures.stays
           (g.met.S.Speak.own_part old) (g.met.S.Speak.own_part new) association c.in_ok-answer.ensures.answered;
+      takes = c.in_ok-answer.ensures.takes;
     })
 
 pub returns-in_err-answer-clause-frame : goal.returns-in_err-answer-clause-frame
@@ -77,4 +78,4 @@ returns-in_err-answer-clause-undone g c =
     c.index_mut.result.now c.execute.new.self
     c.index_mut.ensures.value
     (is_undone c.args.statement.now (Session c.in_err-answer.field-0.0) _ _ c.in_err-answer.ensures.stays
-    (c.in_err-answer.ensures.fails, c.in_err-answer.ensures.lasts)))
+    (c.in_err-answer.ensures.fails, c.in_err-answer.ensures.lasts, c.in_err-answer.ensures.takes)))

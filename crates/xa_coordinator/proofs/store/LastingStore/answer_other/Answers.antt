@@ -1,6 +1,5 @@
-use Rattle.std.proofs.Common.{◌≡◌, ℕ, List, [], ◌∷◌, refl, ap, subst, map, arith}
+use Rattle.std.proofs.Common.{◌≡◌, ℕ, [], ◌∷◌, refl, ap, subst, map, arith}
 use Rattle.std.specs.Prelude.{IfOk}
-use Rattle.xa_server.specs.State.{State}
 use Rattle.xa_coordinator.specs.Watched.{Serves}
 use Rattle.xa_coordinator.proofs.Served.{after_serving, other_knows, served}
 use Rattle.xa_coordinator.proofs.store.LastingStore.answer_other.Goals as goal
@@ -47,6 +46,8 @@ returns-in-Ok-clause-answered c =
             (other_knows 2 c.args.statement.now c.in-Ok.answer store.first.value store.server c.serve.new.server history
             history' store.other
             c.serve.new.watch serves 1 store.own apart store.own_seen);
+        left = refl;
+        starved = λ same. same;
       };
       answered = served 2 c.args.statement.now c.in-Ok.answer store.first.value store.server c.serve.new.server history
           history' store.other

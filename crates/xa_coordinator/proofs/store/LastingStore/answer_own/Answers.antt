@@ -1,6 +1,5 @@
-use Rattle.std.proofs.Common.{◌≡◌, ℕ, List, [], ◌∷◌, refl, ap, subst, map, arith}
+use Rattle.std.proofs.Common.{◌≡◌, ℕ, [], ◌∷◌, refl, ap, subst, map, arith}
 use Rattle.std.specs.Prelude.{IfOk}
-use Rattle.xa_server.specs.State.{State}
 use Rattle.xa_coordinator.specs.Watched.{Serves}
 use Rattle.xa_coordinator.proofs.Served.{after_serving, other_knows, served}
 use Rattle.xa_coordinator.proofs.store.LastingStore.answer_own.Goals as goal
@@ -47,6 +46,8 @@ returns-in-Ok-clause-answered c =
             (other_knows 1 c.args.statement.now c.in-Ok.answer store.first.value store.server c.serve.new.server history
             history' store.own
             c.serve.new.watch serves 2 store.other apart store.other_seen);
+        left = refl;
+        starved = λ same. same;
       };
       answered = served 1 c.args.statement.now c.in-Ok.answer store.first.value store.server c.serve.new.server history
           history' store.own

@@ -1,0 +1,112 @@
+-- What is told of how far a judge is.
+use Rattle.std.proofs.Common.{◌≡◌, ℕ, ◌+◌, List, ◌++◌, length, refl, ap, sym, ◌∙◌, subst, zero-add}
+use Rattle.std.proofs.lemmas.List.{length-append}
+use Rattle.std.proofs.Common.{Option, Some, None, Result, Ok, Err, IfOk, IfSome, MatchOption}
+use Rattle.xa_server.specs.State.{State}
+use Rattle.xa_judge.specs.declared.event.Event.{Event}
+use Rattle.xa_judge.specs.declared.so_far.SoFar.{SoFar}
+use Rattle.xa_judge.specs.declared.verdict.Verdict.{Verdict}
+use Rattle.xa_judge.specs.Told.{IsReport, AreReports, no_report, one_more, IsSize, ArePasses, no_pass, one_pass}
+use Rattle.xa_judge.specs.Told.{IsToldUpTo, IsSizeOfKept, seen_for}
+
+module _ {S : Type 0} {gives : S → SoFar → S → Type 0} where
+  -- what fits may be less
+  pub less_fits : {fits less : ℕ → ℕ → Type 0} {first all : ℕ} {old : S} {count : ℕ} {new : S}
+      → ((place size : ℕ) → fits place size → less place size)
+      → AreReports gives fits first all old count new → AreReports gives less first all old count new
+  less_fits weaker no_report = no_report
+  less_fits weaker (one_more count mid size new before fit report) =
+      one_more count mid size new (less_fits weaker before) (weaker count size fit) report
+
+  pub sizes_of : {base : State} {events : List Event} {first all : ℕ} {old : S} {count : ℕ} {new : S}
+      → AreReports gives (IsSizeOfKept base events) first all old count new
+      → AreReports gives IsSize first all old count new
+  sizes_of reports = less_fits (λ place size kept. kept.is_size) reports
+
+  -- one pass
+  pub pass_of : {first all : ℕ} {old : S} {count : ℕ} {new : S} → AreReports gives IsSize first all old count new
+      → ArePasses gives all old new
+  pass_of {first} {all} {old} {count} {new} reports = one_pass old first count new no_pass reports
+
+  pub told_of : {first all seen : ℕ} {old : S} {count : ℕ} {new : S}
+      → AreReports gives IsSize first all old count new → first + count ≡ seen → IsToldUpTo gives all seen old new
+  told_of {first} {old = old} {count} reports up_to =
+      record { mid = old; passes = no_pass; first = first; count = count; last = reports; up_to = up_to }
+
+  -- passes after others
+  pub passes_on : {all : ℕ} {old mid new : S} → ArePasses gives all old mid → ArePasses gives all mid new
+      → ArePasses gives all old new
+  passes_on passes no_pass = passes
+  passes_on passes (one_pass mid first count new more reports) =
+      one_pass mid first count new (passes_on passes more) reports
+
+  pub passes_of : {all seen : ℕ} {old new : S} → IsToldUpTo gives all seen old new → ArePasses gives all old new
+  passes_of {new = new} told = one_pass told.mid told.first told.count new told.passes told.last
+
+  pub told_on : {all seen : ℕ} {old mid new : S} → ArePasses gives all old mid → IsToldUpTo gives all seen mid new
+      → IsToldUpTo gives all seen old new
+  told_on passes told = record {
+    mid = told.mid;
+    passes = passes_on passes told.passes;
+    first = told.first;
+    count = told.count;
+    last = told.last;
+    up_to = told.up_to;
+  }
+
+  -- one report more, of a list that has this length
+  pub report_more : {fits : ℕ → ℕ → Type 0} {first all count : ℕ} {old mid : S} {size : ℕ} {new : S}
+      → AreReports gives fits first all old count mid → fits count size
+      → IsReport gives (first + count) all size mid new → AreReports gives fits first all old (count + 1) new
+  report_more {count = count} {mid = mid} {size = size} {new = new} before fit report =
+      one_more count mid size new before fit report
+
+  -- a verdict that was found, if any
+  pub told_found : (events : List Event) {all : ℕ} {old new : S} (found : Option Verdict)
+      → IfSome found (λ verdict. seen_for events verdict ≡ length events)
+      → IsToldUpTo gives all (length events) old new
+      → MatchOption found (ArePasses gives all old new)
+      (λ verdict. IsToldUpTo gives all (seen_for events verdict) old new)
+  told_found events None legal told = passes_of told
+  told_found events {all} {old} {new} (Some verdict) legal told =
+      subst (λ n. IsToldUpTo gives all n old new) (sym legal) told
+
+  pub found_on : {E : Type 0} (events : List Event) {all : ℕ} {old mid : S} (new : S)
+      (result : Result (Option Verdict) E) → ArePasses gives all old mid
+      → IfOk result (λ found. MatchOption found (ArePasses gives all mid new)
+      (λ verdict. IsToldUpTo gives all (seen_for events verdict) mid new))
+      → IfOk result (λ found. MatchOption found (ArePasses gives all old new)
+      (λ verdict. IsToldUpTo gives all (seen_for events verdict) old new))
+  found_on events new (Ok None) passes more = passes_on passes more
+  found_on events new (Ok (Some verdict)) passes more = told_on passes more
+  found_on events new (Err e) passes more = tt
+
+  -- a pass over all events leads to a verdict
+  pub whole_told : {base : State} {events : List Event} {all seen : ℕ} {old new : S}
+      → AreReports gives (IsSizeOfKept base events) 0 (0 + all) old seen new → IsToldUpTo gives all seen old new
+  whole_told {base} {events} {all} {seen} {old} {new} reports =
+      subst (λ n. IsToldUpTo gives n seen old new) (zero-add all) (told_of (sizes_of reports) (zero-add seen))
+
+  pub verdict_on : {E : Type 0} (base : State) (events : List Event) {all : ℕ} {old mid : S} (new : S)
+      (result : Result Verdict E) → ArePasses gives all old mid
+      → IfOk result (λ verdict. AreReports gives (IsSizeOfKept base events) 0 (0 + all) mid (seen_for events verdict) new)
+      → IfOk result (λ verdict. IsToldUpTo gives all (seen_for events verdict) old new)
+  verdict_on base events new (Ok verdict) passes more = told_on passes (whole_told more)
+  verdict_on base events new (Err e) passes more = tt
+
+  -- a pass over the events that come after others
+  pub later_told : {base : State} (events first later : List Event) {old : S} {count : ℕ} {new : S}
+      → events ≡ first ++ later
+      → AreReports gives (IsSizeOfKept base later) (length first) (length first + length later) old count new
+      → IsToldUpTo gives (length events) (length first + count) old new
+  later_told {base} events first later {old} {count} {new} parts reports =
+      subst (λ n. IsToldUpTo gives n (length first + count) old new)
+      (sym (ap length parts ∙ length-append first later)) (told_of (sizes_of reports) refl)
+
+  pub later_whole : {base : State} (events first later : List Event) {old : S} {new : S}
+      → events ≡ first ++ later
+      → AreReports gives (IsSizeOfKept base later) (length first) (length first + length later) old (length later) new
+      → IsToldUpTo gives (length events) (length events) old new
+  later_whole events first later {old} {new} parts reports =
+      subst (λ n. IsToldUpTo gives (length events) n old new)
+      (sym (ap length parts ∙ length-append first later)) (later_told events first later parts reports)

@@ -1,0 +1,67 @@
+-- What was seen at a place, and its call.
+use Rattle.std.proofs.Common.{◌≡◌, ◌∙◌, ℕ, ◌+◌, ◌<◌, ◌≤◌, Bool, true, false, Option, Some, None, List, [], ◌∷◌, length}
+use Rattle.std.proofs.Common.{map, take, drop, get_or, slice_get, refl, ap, sym, arith}
+use Rattle.std.specs.Prelude.{if◌then◌else◌, IfOk}
+use Rattle.std.proofs.Common.{Result, Ok, Err}
+use Rattle.std.proofs.lemmas.List.{drop_all, take-map}
+use Rattle.xa_record.specs.declared.line_event.NumberedEvent.{NumberedEvent as NumberedRead}
+use Rattle.xa_record.specs.Exchanges.{Exchange, is_call_by, last_call, exchange_with, exchange_after, exchange_at}
+use Rattle.xa_record.specs.Kept.{numbered_kept, exchange_kept}
+use Rattle.xa_record.specs.declared.exchange.Exchange.{Exchange as ExchangeMade}
+use Rattle.xa_record.specs.Reading.{NumberedEvent, session_of}
+use Rattle.xa_record.proofs.Effects.{dropped}
+use Rattle.xa_record.proofs.Places.{slice_get-kept}
+
+-- the next one is a call of the session
+pub call_found : (session : ℕ) (found : Option NumberedEvent) (numbered : List NumberedRead) (index : ℕ)
+    (one : NumberedRead) → index < length numbered → one ≡ get_or numbered index one
+    → is_call_by session (numbered_kept one).told ≡ true
+    → last_call session found (map numbered_kept (drop index numbered))
+    ≡ last_call session (Some (numbered_kept one)) (map numbered_kept (drop (index + 1) numbered))
+unfolding last_call
+call_found session found numbered index one within at calls =
+    ap (λ (l : List NumberedRead). last_call session found (map numbered_kept l)) (dropped numbered index one within at)
+    ∙ ap (λ (b : Bool). last_call session (if b then Some (numbered_kept one) else found)
+    (map numbered_kept (drop (index + 1) numbered))) calls
+
+-- the next one isn't
+pub call_other : (session : ℕ) (found : Option NumberedEvent) (numbered : List NumberedRead) (index : ℕ)
+    (one : NumberedRead) → index < length numbered → one ≡ get_or numbered index one
+    → is_call_by session (numbered_kept one).told ≡ false
+    → last_call session found (map numbered_kept (drop index numbered))
+    ≡ last_call session found (map numbered_kept (drop (index + 1) numbered))
+unfolding last_call
+call_other session found numbered index one within at calls =
+    ap (λ (l : List NumberedRead). last_call session found (map numbered_kept l)) (dropped numbered index one within at)
+    ∙ ap (λ (b : Bool). last_call session (if b then Some (numbered_kept one) else found)
+    (map numbered_kept (drop (index + 1) numbered))) calls
+
+-- none is left
+pub call_last : (session : ℕ) (whole found : Option NumberedEvent) (numbered : List NumberedRead) (index : ℕ)
+    → length numbered ≤ index
+    → whole ≡ last_call session found (map numbered_kept (drop index numbered)) → whole ≡ found
+unfolding last_call
+call_last session whole found numbered index past is =
+    is ∙ ap (λ (l : List NumberedRead). last_call session found (map numbered_kept l)) (drop_all index numbered past)
+
+-- what was seen there, by what stands there in the list as the program keeps it
+pub exchange_there : (made : Exchange) (numbered : List NumberedRead) (place : ℕ) (one : NumberedRead)
+    (call : Option NumberedEvent) → place < length numbered → one ≡ get_or numbered place one
+    → last_call (session_of (numbered_kept one).told) None (map numbered_kept (take place numbered)) ≡ call
+    → made ≡ exchange_with (numbered_kept one).told call
+    → made ≡ exchange_at (map numbered_kept numbered) place
+exchange_there made numbered place one call within at found is =
+    is ∙ ap (exchange_with (numbered_kept one).told) (sym found)
+    ∙ ap (λ (l : List NumberedEvent). exchange_with (numbered_kept one).told
+    (last_call (session_of (numbered_kept one).told) None l)) (sym (take-map numbered_kept place numbered))
+    ∙ ap (exchange_after (take place (map numbered_kept numbered))) (sym (slice_get-kept numbered place one within at))
+
+-- the same of what was made, if memory was had for it
+pub shown_there : {E : Type 0} (result : Result ExchangeMade E) (numbered : List NumberedRead) (place : ℕ)
+    (one : NumberedRead) (call : Option NumberedEvent) → place < length numbered → one ≡ get_or numbered place one
+    → last_call (session_of (numbered_kept one).told) None (map numbered_kept (take place numbered)) ≡ call
+    → IfOk result (λ made. exchange_kept made ≡ exchange_with (numbered_kept one).told call)
+    → IfOk result (λ made. exchange_kept made ≡ exchange_at (map numbered_kept numbered) place)
+shown_there (Ok made) numbered place one call within at found is =
+    exchange_there (exchange_kept made) numbered place one call within at found is
+shown_there (Err fault) numbered place one call within at found is = is

@@ -1,0 +1,12 @@
+//! What was seen at an ILLEGAL line, and its call.
+
+/// What was seen at a line, and the call that returned there.
+#[derive(Drop)]
+pub struct Exchange {
+    /// What was seen, as a line of a record in canonical form.
+    pub seen: Vec<u8>,
+    /// The number of the call's line.
+    pub line: u64,
+    /// The call, as a line of a record in canonical form.
+    pub call: Vec<u8>,
+}
