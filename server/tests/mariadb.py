@@ -16,17 +16,31 @@ def free_port():
         return one.getsockname()[1]
 
 
+TRIES = 3
+
+
+def made(folder, user):
+    """Makes a server's tables. No name of a machine is looked up for them, and what a busy machine refused once is
+    tried again; where all tries fail, what the last one said is told."""
+    for number in range(TRIES):
+        data = Path(folder) / f"data{number}"
+        ran = subprocess.run(["mariadb-install-db", "--no-defaults", "--force", user, f"--datadir={data}",
+                              "--auth-root-authentication-method=normal", "--skip-test-db"],
+                             stdin=subprocess.DEVNULL, stdout=subprocess.PIPE, stderr=subprocess.STDOUT)
+        if ran.returncode == 0:
+            return data
+    raise RuntimeError(f"mariadb-install-db ended with {ran.returncode}:\n{ran.stdout.decode(errors='replace')}")
+
+
 @contextlib.contextmanager
 def mariadb():
     """Starts a server, with the account root, which has no password; gives its port."""
     with tempfile.TemporaryDirectory() as folder:
         user = f"--user={getpass.getuser()}"
-        subprocess.run(["mariadb-install-db", "--no-defaults", user, f"--datadir={folder}/data",
-                        "--auth-root-authentication-method=normal", "--skip-test-db"], check=True,
-                       stdout=subprocess.DEVNULL, stderr=subprocess.DEVNULL)
+        data = made(folder, user)
         port = free_port()
         with open(Path(folder) / "log", "wb") as log:
-            process = subprocess.Popen(["mariadbd", "--no-defaults", user, f"--datadir={folder}/data",
+            process = subprocess.Popen(["mariadbd", "--no-defaults", user, f"--datadir={data}",
                                         f"--socket={folder}/socket", f"--pid-file={folder}/pid", f"--port={port}",
                                         "--bind-address=127.0.0.1"], stdout=log, stderr=log)
         try:
