@@ -8,7 +8,7 @@ use Rattle.chain_log.specs.Cells.{name_at}
 use Rattle.chain_log.proofs.Names.{one_cell, name_low}
 use Rattle.chain_log.specs.Places.{most, rows_of, word_count, cell_at, cell_of}
 
--- how many rows a ring of so many more entries has
+-- a ring that can have so many entries more than `most` has so many rows
 pub rows_most : (rows : ℕ) → rows_of (most + rows) ≡ rows
 unfolding rows_of
 rows_most rows = omega arith

@@ -85,7 +85,7 @@ on_more wrote now deeds deed is sum on = record {
   total = list_any-append is_write on.life (deed ∷ []) ∙ ap (λ b. b || (is_write deed || false)) on.total ∙ sum;
 }
 
--- a deed more after a life that was rolled back, which begins and ends none
+-- where writes are dropped, they still are after one more deed that neither begins a life nor ends one
 drops_more : (deeds : List Deed) (deed : Deed) → is_within deed ≡ true → DropsWrites deeds
     → DropsWrites (deeds ++ deed ∷ [])
 drops_more deeds deed is drops = record {

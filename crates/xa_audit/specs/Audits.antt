@@ -25,7 +25,8 @@ use Rattle.xa_audit.specs.Written.{text_in}
 abbrev pub history_bytes : ℕ
 history_bytes = 16777216
 
--- two for each byte, so that a reader that gives little at a time still comes to an end
+-- a reader that gives one byte at a time needs one read for each and one more; twice as many are ample, and a bound has
+-- reading end
 abbrev pub history_reads : ℕ
 history_reads = 33554432
 

@@ -17,8 +17,8 @@ use xa_lines::{PieceReader, PieceWriter, ScriptFault, read_within, write_whole};
 /// The greatest length of a history, in bytes: 16 MiB.
 const HISTORY_BYTES: usize = 16_777_216;
 
-/// The greatest number of reads for a history: two for each byte, so that a reader that gives little at a time still
-/// comes to an end.
+/// The greatest number of reads for a history. A reader that gives one byte at a time needs one for each byte and one
+/// more; twice as many are ample, and with a bound the loop that reads ends.
 const HISTORY_READS: u64 = 33_554_432;
 
 /// Reads the history of the next store to its end, and takes it.

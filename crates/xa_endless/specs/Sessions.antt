@@ -21,7 +21,8 @@ use Rattle.xa_endless.specs.Stays.{Stays}
 use Rattle.xa_endless.specs.declared.fault.EndlessFault.TheVariants.{NoMemory as WantsMemory, Behind as IsBehind}
 use Rattle.xa_endless.specs.declared.session.EndlessSession.{EndlessSession}
 
--- its history begins with the store's first entry, and no other session is in it
+-- its history begins with the store's first entry. It has no turn, no other session is in it, the statements that it
+-- takes aren't limited, and memory may be refused for any of them
 abbrev pub view_of : EndlessSession → SessionView
 view_of session =
     record {

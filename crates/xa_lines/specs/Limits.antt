@@ -7,6 +7,7 @@ use Rattle.std.specs.Prelude.{ℕ}
 abbrev pub script_bytes : ℕ
 script_bytes = 1048576
 
--- two for each byte, so that a reader that gives little at a time still comes to an end
+-- a reader that gives one byte at a time needs one read for each and one more; twice as many are ample, and a bound has
+-- reading end
 abbrev pub script_reads : ℕ
 script_reads = 2097152

@@ -15,8 +15,8 @@ use std::alloc::Global;
 /// The greatest length of a script, in bytes.
 const SCRIPT_BYTES: usize = 1_048_576;
 
-/// The greatest number of reads that a script takes: two for each byte, so that a reader that gives little at a
-/// time still comes to an end.
+/// The greatest number of reads that a script takes. A reader that gives one byte at a time needs one for each byte and
+/// one more; twice as many are ample, and with a bound the loop that reads ends.
 const SCRIPT_READS: u64 = 2_097_152;
 
 /// Returns the greatest length of a script, in bytes, and the greatest number of reads that it may take.

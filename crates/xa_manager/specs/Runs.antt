@@ -1,4 +1,4 @@
--- A transaction manager over unbounded stores that count, and calls that it carries out one after another.
+-- A transaction manager over unbounded stores that note when memory was refused, and calls that it carries out one after another.
 --     Managing         such a manager, as contracts see it
 --     IsAnswered       a call was refused or carried out
 --     CarriesOut       calls were answered, one after another
@@ -27,7 +27,7 @@ use Rattle.xa_manager.specs.Carried.{WholeManager}
 use Rattle.xa_manager.specs.declared.counted_store.CountedStore.{CountedStore}
 use Rattle.xa_manager.specs.Counted.{own_of, other_of}
 
--- a manager whose sessions are stores that count; the other stores that it has get no statement
+-- a manager whose sessions are stores that note when memory was refused; the other stores that it has get no statement
 abbrev pub Managing : Type 0
 Managing = WholeManager (Fused CountedStore) LastingStore
 

@@ -1,4 +1,4 @@
-//! A manager over stores that count.
+//! A manager over stores that note when memory was refused.
 ghost use Rattle.std.specs.Prelude.{◌≡◌, ◌≤◌, ◌<◌, ◌-◌, ◌^◌, ℕ, false, All, length, map, vec_len, IfOk};
 ghost use Rattle.xa_manager.specs.Limits.{Passes};
 ghost use Rattle.xa_manager.specs.Managed.{whole_of};

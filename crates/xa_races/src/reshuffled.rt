@@ -51,10 +51,10 @@ impl ReshuffledGate {
 impl Gate for ReshuffledGate {
     ghost may_answer = { λ _ _ _ opened. IsTrue opened };
 
-    fn announce(&self, runs: u64) {
+    fn announce(&self, speakers: u64) {
         // Each race begins with the next seed, so it is shuffled otherwise.
         let _before = self.seed.fetch_add(1, Ordering::SeqCst);
-        self.together.announce(runs);
+        self.together.announce(speakers);
     }
 
     fn enter(&self, session: SessionNo, line: u64) -> bool {

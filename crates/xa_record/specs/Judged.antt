@@ -35,7 +35,8 @@ use Rattle.xa_record.specs.Forms.{text_in}
 abbrev pub record_bytes : ℕ
 record_bytes = 16777216
 
--- two for each byte, so that a reader that gives little at a time still comes to an end
+-- a reader that gives one byte at a time needs one read for each and one more; twice as many are ample, and a bound has
+-- reading end
 abbrev pub record_reads : ℕ
 record_reads = 33554432
 

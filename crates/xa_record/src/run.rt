@@ -19,8 +19,8 @@ use xa_server::Server;
 /// The greatest length of a record, in bytes: 16 MiB. What is kept of a record takes many times its length.
 const RECORD_BYTES: usize = 16_777_216;
 
-/// The greatest number of reads for a record: two for each byte, so that a reader that gives little at a time
-/// still ends.
+/// The greatest number of reads for a record. A reader that gives one byte at a time needs one for each byte and one
+/// more; twice as many are ample, and with a bound the loop that reads ends.
 const RECORD_READS: u64 = 33_554_432;
 
 /// Writes the text, and returns how judging ended.

@@ -213,7 +213,7 @@ fn stops_in(found: &ArgMatches<'_>) -> Option<Job>
     }
 }
 
-/// The judging that was found.
+/// The job to judge, with its limit and its flags as they were found; none if the limit isn't one.
 fn judge_in(found: &ArgMatches<'_>) -> Option<Job>
     ensures some { IfSome result
         (IsJudgeOf (one_text (found_of found.now) (codes "limit")) (one_text (found_of found.now) (codes "explain"))

@@ -18,7 +18,7 @@ use xa_server::Server;
 /// The greatest length of a record, in bytes.
 const RECORD_BYTES: usize = 16_777_216;
 
-/// The greatest number of reads for a record: two for each byte.
+/// The greatest number of reads for a record, which are ample for a reader that gives one byte at a time.
 const RECORD_READS: u64 = 33_554_432;
 
 /// Says on the standard error in which form a record is, if its lines aren't read as its writer meant them.

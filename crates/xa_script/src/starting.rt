@@ -17,7 +17,7 @@ use xa_xid::NoMemory;
 /// The greatest length of a state, in bytes: 16 MiB, as of a record.
 const STATE_BYTES: usize = 16_777_216;
 
-/// The greatest number of reads for a state: two for each byte.
+/// The greatest number of reads for a state, which are ample for a reader that gives one byte at a time.
 const STATE_READS: u64 = 33_554_432;
 
 /// Returns a server in the state that a text lists. If a line of it is faulty, the standard error names it, and

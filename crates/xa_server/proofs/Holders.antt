@@ -52,7 +52,7 @@ none_of (Some x) e = absurd (true≢false e)
 pub zero_or_one : (n : ℕ) → n ≡ 0 → n ≡ 1 → ⊥
 zero_or_one n zero one = omega (arith, zero, one)
 
--- two tests that hold together are equal
+-- two tests, each of which is true where the other is, are equal
 pub same_truth : (a b : Bool) → (a ≡ true → b ≡ true) → (b ≡ true → a ≡ true) → a ≡ b
 same_truth true b to from = sym (to refl)
 same_truth false true to from = from refl

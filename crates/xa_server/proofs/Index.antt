@@ -122,7 +122,8 @@ numbers_apart : (m n : ℕ) → (m ≡ n) ⊎ (m ≢ n)
 numbers_apart m n = elim (eqb m n) as (λ b. eqb m n ≡ b
     → (m ≡ n) ⊎ (m ≢ n)) [ true ↦ λ e. inl (grind arith) | false ↦ λ e. inr (λ is. grind arith) ] refl
 
--- a session and the branch that is its own, before one change and after it
+-- a session's place in one change of the branch `xid`, which it may own: before, nobody else owned that branch and the
+-- session owned no other; afterwards it owns what its association names, and nothing else
 pub record IsSeat (opened : List Association) (old : BranchMap) (session : ℕ) (xid : Xid) (found : Option BranchRecord)
     (association : Association) : Type 0 where
   pub within : session < length opened

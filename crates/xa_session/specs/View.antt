@@ -15,7 +15,9 @@ use Rattle.xa_session.specs.declared.answer.Answer.{Answer}
 use Rattle.xa_session.specs.declared.fault.Fault.{Fault}
 use Rattle.xa_session.specs.declared.fault.Fault.TheVariants.{NoMemory}
 
--- a session, as contracts see it; none is left if the statements that it takes aren't limited
+-- a session, as contracts see it: its log, and whether sessions of that have turns; the state in which its history
+-- begins; what it knows, and what other sessions of the same value know; how many more statements it takes, or none if
+-- they aren't limited; and whether memory may have been refused for a statement
 pub record SessionView : Type 0 where
   pub identity : LogIdentity
   pub turns : Bool

@@ -12,7 +12,7 @@ pub trait Gate {
 
     /// Is given the number of runs that have a statement, before the first run starts. The default does
     /// nothing.
-    fn announce(&self, _runs: u64) {}
+    fn announce(&self, _speakers: u64) {}
 
     /// Whether `session` may give its statement at `line`, counted from 0. `false` stops the run there.
     ///

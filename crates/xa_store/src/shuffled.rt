@@ -49,8 +49,8 @@ impl ShuffledGate {
 impl Gate for ShuffledGate {
     ghost may_answer = { λ _ _ _ opened. IsTrue opened };
 
-    fn announce(&self, runs: u64) {
-        self.together.announce(runs);
+    fn announce(&self, speakers: u64) {
+        self.together.announce(speakers);
     }
 
     fn enter(&self, session: SessionNo, line: u64) -> bool {

@@ -51,9 +51,9 @@ impl TogetherGate {
 impl Gate for TogetherGate {
     ghost may_answer = { λ _ _ _ opened. IsTrue opened };
 
-    fn announce(&self, runs: u64) {
+    fn announce(&self, speakers: u64) {
         self.arrived.store(0, Ordering::SeqCst);
-        self.awaited.store(runs, Ordering::SeqCst);
+        self.awaited.store(speakers, Ordering::SeqCst);
     }
 
     fn enter(&self, _session: SessionNo, line: u64) -> bool {
