@@ -7,8 +7,8 @@ use Rattle.std.specs.Prelude.{◌≡◌, ◌≤◌, ◌+◌, ℕ, List, length, 
 use Rattle.decision_log.specs.Known.{LogIdentity, newcomer}
 use Rattle.decision_log.specs.Opens.{IsCount}
 use Rattle.chain_log.specs.declared.ring_fault.RingFault.{RingFault}
-use Rattle.chain_log.specs.declared.ring_fault.RingFault.TheVariants.{RowsOutOfRange, SessionsOutOfRange, SparesOutOfRange}
-use Rattle.chain_log.specs.declared.ring_fault.RingFault.TheVariants.{NoMemory}
+use Rattle.chain_log.specs.declared.ring_fault.RingFault.TheVariants.{RowsOutOfRange, SessionsOutOfRange}
+use Rattle.chain_log.specs.declared.ring_fault.RingFault.TheVariants.{SparesOutOfRange, NoMemory}
 use Rattle.chain_log.specs.declared.ring.RingLog.{RingLog}
 use Rattle.chain_log.specs.declared.ring_pass.RingPass.{RingPass}
 use Rattle.chain_log.specs.declared.spare.RingSpare.{RingSpare}

@@ -89,7 +89,8 @@ module _ {S : Type 0} {gives : S → SoFar → S → Type 0} where
 
   pub verdict_on : {E : Type 0} (base : State) (events : List Event) {all : ℕ} {old mid : S} (new : S)
       (result : Result Verdict E) → ArePasses gives all old mid
-      → IfOk result (λ verdict. AreReports gives (IsSizeOfKept base events) 0 (0 + all) mid (seen_for events verdict) new)
+      → IfOk result
+      (λ verdict. AreReports gives (IsSizeOfKept base events) 0 (0 + all) mid (seen_for events verdict) new)
       → IfOk result (λ verdict. IsToldUpTo gives all (seen_for events verdict) old new)
   verdict_on base events new (Ok verdict) passes more = told_on passes (whole_told more)
   verdict_on base events new (Err e) passes more = tt

@@ -1,6 +1,6 @@
 -- What stands behind an answer is what is to stand there.
-use Rattle.std.proofs.Common.{◌≡◌, ◌≢◌, ◌⊎◌, ◌++◌, ◌∙◌, ℕ, Bool, ◌||◌, ◌&&◌, List, [], true, false, not, subst, Result, Ok}
-use Rattle.std.proofs.Common.{Err, refl, ap, sym, append-nil, inl, inr, codes, decimal}
+use Rattle.std.proofs.Common.{◌≡◌, ◌≢◌, ◌⊎◌, ◌++◌, ◌∙◌, ℕ, Bool, ◌||◌, ◌&&◌, List, [], true, false, not, subst}
+use Rattle.std.proofs.Common.{Result, Ok, Err, refl, ap, sym, append-nil, inl, inr, codes, decimal}
 use Rattle.std.specs.Prelude.{IfOk, OnOk, OnErr, MatchResult}
 use Rattle.xa_xid.specs.declared.statement.Statement.{Statement}
 use Rattle.xa_xid.specs.declared.statement.Statement.TheVariants.{Start, End, Prepare, Commit, Rollback, Recover}

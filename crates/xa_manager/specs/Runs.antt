@@ -1,5 +1,5 @@
--- A transaction manager over unbounded stores that note when memory was refused, and calls that it carries out one after
--- another.
+-- A transaction manager over unbounded stores that note when memory was refused, and calls that it carries out one
+-- after another.
 --     Managing         such a manager, as contracts see it
 --     IsAnswered       a call was refused or carried out
 --     CarriesOut       calls were answered, one after another

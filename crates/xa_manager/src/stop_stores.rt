@@ -31,7 +31,8 @@ fn open_each(
 ) -> Result<(Vec<Fused<CountedStore>>, Vec<LastingStore>), NoMemory>
     ensures count { IfOk result (λ opened. vec_len opened.0 ≡ count) }
     ensures nobody { IfOk result (λ opened. vec_len opened.1 ≡ count) }
-    ensures pairs { IfOk result (λ opened. All (λ session. IsPair (own_of session.inner) (other_of session.inner)) opened.0.items) }
+    ensures pairs { IfOk result
+        (λ opened. All (λ session. IsPair (own_of session.inner) (other_of session.inner)) opened.0.items) }
     ensures passes { IfOk result (λ opened. (store : ℕ) → store < length opened.0.items
         → Passes store (2 ^ 64 - 1) opened.0.items) }
     ensures starved { IfOk result (λ opened. All (λ session. session.inner.starved ≡ false) opened.0.items) }

@@ -7,8 +7,8 @@
 --     trimmed          a text without the blanks at its end
 --     reading_of_line  what a line says
 --     is_bad           it isn't written as a line of a record is
-use Rattle.std.specs.Prelude.{ℕ, nat_lt, Bool, true, false, ◌||◌, bytes_eq, if◌then◌else◌, Option, Some, None, Ok, Err, List, []}
-use Rattle.std.specs.Prelude.{◌∷◌, codes, reverse}
+use Rattle.std.specs.Prelude.{ℕ, nat_lt, Bool, true, false, ◌||◌, bytes_eq, if◌then◌else◌, Option, Some, None}
+use Rattle.std.specs.Prelude.{Ok, Err, List, [], ◌∷◌, codes, reverse}
 use Rattle.xa_xid.specs.Bytes.{unblank}
 use Rattle.xa_xid.specs.Literal.{Reading, literal_ahead}
 use Rattle.xa_xid.specs.Xid.{Text}

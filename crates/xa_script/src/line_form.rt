@@ -3,9 +3,10 @@ ghost use Rattle.std.specs.Prelude.{◌≡◌, ◌≤◌, MatchOption, true, fal
 ghost use Rattle.std.specs.List.{starts_with};
 ghost use Rattle.xa_statement.specs.Reading.{read_of};
 ghost use Rattle.xa_lines.specs.Script.{line_of};
-ghost use Rattle.xa_script.specs.TextLines.{behind_first as after_first, first_number as number_first, could_be as is_answer};
-ghost use Rattle.xa_script.specs.TextLines.{was_seen, is_called, is_of_job, rows_in_verdict};
-ghost use Rattle.xa_script.specs.TextLines.{has_form, is_given, is_own, rows_of as rows_said, past_number as after_number};
+ghost use Rattle.xa_script.specs.TextLines.{behind_first as after_first, first_number as number_first};
+ghost use Rattle.xa_script.specs.TextLines.{could_be as is_answer, was_seen, is_called, is_of_job, rows_in_verdict};
+ghost use Rattle.xa_script.specs.TextLines.{has_form, is_given, is_own, rows_of as rows_said};
+ghost use Rattle.xa_script.specs.TextLines.{past_number as after_number};
 ghost use Rattle.xa_script.specs.TextLines.{rows_after, keeps_line, is_whole_row as is_row_whole};
 
 use xa_lines::{ScriptLine, is_comment, number_in, read_line, split_word};
@@ -180,8 +181,8 @@ impl LineForm {
     ///
     /// The line is without its line feed. Takes no memory. Doesn't wait.
     pub fn rows_behind(self, line: &[u8]) -> u64
-        // Proved (scripts, text-rows): With `--text` the next lines are taken for rows only if a reply says so, and for as
-        //   many as it says.
+        // Proved (scripts, text-rows): With `--text` the next lines are taken for rows only if a reply says so, and
+        //   for as many as it says.
         ensures { result ≡ rows_after self line.now }
     {
         match self {

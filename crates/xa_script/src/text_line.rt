@@ -137,7 +137,8 @@ impl TextLine {
 /// Own rule: docs/COMMANDS.md#options-of-every-job.
 pub fn text_line(line: &[u8]) -> Option<Room>
     // Proved (scripts, text-lines): With `--text` each literal of printable bytes in a line becomes a text in
-    //   quotes, and all else stays. Only if the line has more than 512 bytes, before or after that, it isn't written so.
+    //   quotes, and all else stays. Only if the line has more than 512 bytes, before or after that, it isn't
+    //   written so.
     ensures some { IfSome result (λ text. text.items ≡ with_texts line.now) }
     // Proved (scripts, text-lines)
     ensures none { IfNone result (IsTooLong line.now ⊎ IsTooLong (with_texts line.now)) }

@@ -61,7 +61,10 @@ returns-in-Impossible-clause-told g c =
     record {
       known = c.loop-place.known.items;
       length_is = ap length shown;
-      is_size = record { some = omega (arith, ap length shown, is.some); one = λ first. ap length shown ∙ is.one first };
+      is_size = record {
+        some = omega (arith, ap length shown, is.some);
+        one = λ first. ap length shown ∙ is.one first;
+      };
       trunk = c.loop-place.trunk.items;
       reach = is.reach;
       complete = is.complete;
@@ -78,7 +81,10 @@ returns-in-TooMany-clause-told g c =
     record {
       known = c.loop-place.known.items;
       length_is = ap length shown;
-      is_size = record { some = omega (arith, ap length shown, is.some); one = λ first. ap length shown ∙ is.one first };
+      is_size = record {
+        some = omega (arith, ap length shown, is.some);
+        one = λ first. ap length shown ∙ is.one first;
+      };
       trunk = c.loop-place.trunk.items;
       reach = is.reach;
       complete = is.complete;
@@ -105,7 +111,10 @@ loop-place-preserved g c =
     record {
       known = known;
       length_is = ap length shown;
-      is_size = record { some = omega (arith, ap length shown, is.some); one = λ first. ap length shown ∙ is.one first };
+      is_size = record {
+        some = omega (arith, ap length shown, is.some);
+        one = λ first. ap length shown ∙ is.one first;
+      };
       trunk = trunk;
       reach = is.reach;
       complete = is.complete;
