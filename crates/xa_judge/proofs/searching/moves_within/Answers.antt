@@ -7,7 +7,7 @@ use Rattle.xa_judge.proofs.searching.moves_within.Goals as goal
 pub loop-place-init : goal.loop-place-init
 loop-place-init g c =
     let one : length c.in_ok-beam.beam.known.items ≡ 1 =
-        rw c.in_ok-beam.ensures (ap length c.in_ok-opening.ensures.1) in
+    rw c.in_ok-beam.ensures (ap length c.in_ok-opening.ensures.1) in
     record { some = omega (arith, one); one = λ first. one; told = no_report }
 
 pub returns-then-left-eq0 : goal.returns-then-left-eq0
