@@ -14,3 +14,8 @@ pub mod NearRuns
 pub mod Loaded
 pub mod NearVerdicts
 pub mod Told
+pub mod KeyStates
+pub mod KeyClients
+pub mod KeyRuns
+pub mod KeyVerdicts
+pub mod KeyParts

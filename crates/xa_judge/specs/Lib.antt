@@ -10,3 +10,4 @@ pub mod Following
 pub mod Path
 pub mod Near
 pub mod Told
+pub mod Keys

@@ -4,13 +4,14 @@ ghost use Rattle.xa_judge.specs.Told.{AreReports, ArePasses, IsToldUpTo, IsSizeO
 ghost use Rattle.xa_judge.specs.Verdicts.{IsVerdict};
 
 use crate::advance::{Advance, see_event};
+use crate::by_keys::judge_by_keys;
 use crate::event::Event;
 use crate::fingerprint_index::FingerprintIndex;
 use crate::following::follows;
 use crate::known::opening;
 use crate::loading::count_alone;
 use crate::near::judge_behind;
-use crate::progress::{Progress, Silent, tell};
+use crate::progress::{Progress, Silent, tell, tell_first};
 use crate::searching::moves_through;
 use crate::trunk::{path_of, share};
 use crate::verdict::Verdict;
@@ -20,6 +21,10 @@ use xa_xid::NoMemory;
 
 /// How many configurations are kept at first: most records need no more, and one that does is known soon.
 const NARROW: usize = 8;
+
+/// How many configurations are kept of a part of a record before one order is looked for: enough for what some
+/// sessions that always call do with one row.
+const MIDDLE: usize = 255;
 
 /// From this number of events before calls overlap, one order is looked for first: the search needs only the
 /// rows that later calls name.
@@ -60,8 +65,34 @@ pub fn judge_in_breadth<P: Progress>(
     Ok(Verdict::Legal(path_of(trunk, known.as_slice())?))
 }
 
-/// The verdict with at most `NARROW` configurations, if these are enough.
-fn judge_narrow<P: Progress>(
+/// Returns the verdict with at most `width` configurations, if these are enough, and `limit` too.
+///
+/// May return `NoMemory`.
+pub fn judge_kept<P: Progress>(
+    alloc: Global,
+    base: &Server,
+    events: &[Event],
+    width: usize,
+    limit: usize,
+    progress: &mut P,
+) -> Result<Option<Verdict>, NoMemory>
+    ensures verdict { IfOk result (λ found. IfSome found (IsVerdict base.now events.now limit)) }
+    ensures told { IfOk result (λ found. MatchOption found
+        (ArePasses P.judged_gives (length events.now) progress.old progress.new)
+        (λ verdict. IsToldUpTo P.judged_gives (length events.now) (seen_for events.now verdict) progress.old
+        progress.new)) }
+{
+    match judge_in_breadth(alloc, base, 0, events, width.min(limit), progress)? {
+        Verdict::Legal(moves) => Ok(Some(Verdict::Legal(moves))),
+        Verdict::Illegal(place, answers) => Ok(Some(Verdict::Illegal(place, answers))),
+        Verdict::Undecided(_) => Ok(None),
+    }
+}
+
+/// Returns the verdict with at most `NARROW` configurations, if these are enough.
+///
+/// May return `NoMemory`.
+pub fn judge_narrow<P: Progress>(
     alloc: Global,
     base: &Server,
     events: &[Event],
@@ -74,11 +105,7 @@ fn judge_narrow<P: Progress>(
         (λ verdict. IsToldUpTo P.judged_gives (length events.now) (seen_for events.now verdict) progress.old
         progress.new)) }
 {
-    match judge_in_breadth(alloc, base, 0, events, NARROW.min(limit), progress)? {
-        Verdict::Legal(moves) => Ok(Some(Verdict::Legal(moves))),
-        Verdict::Illegal(place, answers) => Ok(Some(Verdict::Illegal(place, answers))),
-        Verdict::Undecided(_) => Ok(None),
-    }
+    judge_kept(alloc, base, events, NARROW, limit, progress)
 }
 
 /// The verdict LEGAL, if a search for one order finds moves that lead through all of the events.
@@ -107,6 +134,95 @@ fn judge_by_search<P: Progress>(
     }
 }
 
+/// Returns the verdict on one part of a record, if one is found with no more than `limit` configurations.
+///
+/// May return `NoMemory`.
+pub fn judge_part(
+    alloc: Global,
+    base: &Server,
+    events: &[Event],
+    limit: usize,
+) -> Result<Option<Verdict>, NoMemory>
+    ensures { IfOk result (λ found. IfSome found (IsVerdict base.now events.now limit)) }
+{
+    // All configurations refute a part that nothing explains. A search for one order would go on to its end first.
+    match judge_kept(alloc, base, events, MIDDLE, limit, &mut Silent)? {
+        Some(verdict) => Ok(Some(verdict)),
+        None => match judge_by_search(alloc, base, events, limit, &mut Silent)? {
+            Some(verdict) => Ok(Some(verdict)),
+            None => judge_kept(alloc, base, events, limit, limit, &mut Silent),
+        },
+    }
+}
+
+/// The verdict, if it is found by judging free statements row by row.
+fn judge_apart<P: Progress>(
+    alloc: Global,
+    base: &Server,
+    events: &[Event],
+    limit: usize,
+    progress: &mut P,
+) -> Result<Option<Verdict>, NoMemory>
+    ensures verdict { IfOk result (λ found. IfSome found (IsVerdict base.now events.now limit)) }
+    ensures told { IfOk result (λ found. MatchOption found
+        (ArePasses P.judged_gives (length events.now) progress.old progress.new)
+        (λ verdict. IsToldUpTo P.judged_gives (length events.now) (seen_for events.now verdict) progress.old
+        progress.new)) }
+{
+    match judge_by_keys(alloc, base, events, limit)? {
+        None => Ok(None),
+        Some(Verdict::Legal(moves)) => {
+            tell_first(progress, events, events.len());
+            Ok(Some(Verdict::Legal(moves)))
+        }
+        Some(Verdict::Illegal(place, answers)) => {
+            tell_first(progress, events, place + 1);
+            Ok(Some(Verdict::Illegal(place, answers)))
+        }
+        Some(Verdict::Undecided(_)) => Ok(None),
+    }
+}
+
+/// The verdict, if a search for one order is enough; else, if it is found row by row.
+fn judge_order_first<P: Progress>(
+    alloc: Global,
+    base: &Server,
+    events: &[Event],
+    limit: usize,
+    progress: &mut P,
+) -> Result<Option<Verdict>, NoMemory>
+    ensures verdict { IfOk result (λ found. IfSome found (IsVerdict base.now events.now limit)) }
+    ensures told { IfOk result (λ found. MatchOption found
+        (ArePasses P.judged_gives (length events.now) progress.old progress.new)
+        (λ verdict. IsToldUpTo P.judged_gives (length events.now) (seen_for events.now verdict) progress.old
+        progress.new)) }
+{
+    match judge_by_search(alloc, base, events, limit, progress)? {
+        Some(verdict) => Ok(Some(verdict)),
+        None => judge_apart(alloc, base, events, limit, progress),
+    }
+}
+
+/// The verdict, if it is found row by row; else, if a search for one order is enough.
+fn judge_rows_first<P: Progress>(
+    alloc: Global,
+    base: &Server,
+    events: &[Event],
+    limit: usize,
+    progress: &mut P,
+) -> Result<Option<Verdict>, NoMemory>
+    ensures verdict { IfOk result (λ found. IfSome found (IsVerdict base.now events.now limit)) }
+    ensures told { IfOk result (λ found. MatchOption found
+        (ArePasses P.judged_gives (length events.now) progress.old progress.new)
+        (λ verdict. IsToldUpTo P.judged_gives (length events.now) (seen_for events.now verdict) progress.old
+        progress.new)) }
+{
+    match judge_apart(alloc, base, events, limit, progress)? {
+        Some(verdict) => Ok(Some(verdict)),
+        None => judge_by_search(alloc, base, events, limit, progress),
+    }
+}
+
 /// The verdict for a record with many events before calls overlap, if it is enough to look at the rows that
 /// later calls name.
 fn judge_long<P: Progress>(
@@ -122,7 +238,7 @@ fn judge_long<P: Progress>(
         (λ verdict. IsToldUpTo P.judged_gives (length events.now) (seen_for events.now verdict) progress.old
         progress.new)) }
 {
-    match judge_by_search(alloc, base, events, limit, progress)? {
+    match judge_order_first(alloc, base, events, limit, progress)? {
         Some(verdict) => Ok(Some(verdict)),
         None => judge_behind(alloc, base, events, limit, progress),
     }
@@ -151,7 +267,7 @@ fn judge_soon<P: Progress>(
     } else {
         match judge_narrow(alloc, base, events, limit, progress)? {
             Some(verdict) => Ok(Some(verdict)),
-            None => judge_by_search(alloc, base, events, limit, progress),
+            None => judge_rows_first(alloc, base, events, limit, progress),
         }
     }
 }
@@ -188,9 +304,9 @@ pub fn judge_telling<P: Progress>(
 /// Returns the verdict whether any order explains the events, beginning with a server in the state of `base`.
 ///
 /// If more than `limit` different configurations have to be kept before an event, the verdict is `Undecided`,
-/// unless one order was found. If eight aren't enough, or 512 or more events come before calls overlap, one
-/// order is looked for before all configurations are kept. Identifiers that a call returns have to be in
-/// ascending order.
+/// unless one order was found, or the verdict was found by judging statements outside of branches row by row.
+/// If eight aren't enough, or 512 or more events come before calls overlap, both are tried before all
+/// configurations are kept. Identifiers that a call returns have to be in ascending order.
 /// Errors: `NoMemory` if an allocation failed.
 /// Takes memory for the configurations: in a list of up to 255 each has a copy of the server's records, as
 /// long as 128 MiB hold these by an estimate; others share those of one server. Doesn't wait.

@@ -1,7 +1,7 @@
 //! Tells how far judging is.
-ghost use Rattle.std.specs.Prelude.{◌+◌, ◌^◌, ◌<◌, length};
+ghost use Rattle.std.specs.Prelude.{◌+◌, ◌^◌, ◌<◌, ◌≤◌, length};
 ghost use Rattle.xa_judge.specs.declared.so_far.SoFar.{SoFar};
-ghost use Rattle.xa_judge.specs.Told.{IsReport};
+ghost use Rattle.xa_judge.specs.Told.{IsReport, AreReports, IsSize};
 
 use crate::configuration::Configuration;
 use crate::event::Event;
@@ -17,7 +17,9 @@ pub trait Progress {
     ///
     /// It is called before each event that is judged. If some events are judged once more, it is called
     /// before each of them again. It isn't called for events before calls overlap if these are left out, nor
-    /// for events along which a found order is checked.
+    /// for events along which a found order is checked. While free statements are judged row by row it isn't
+    /// called either: once a verdict is found so, it is called for each event up to what decides, in turn, with
+    /// one configuration.
     fn judged(&mut self, so_far: SoFar)
         ensures { judged_gives self.old so_far self.new };
 }
@@ -48,4 +50,24 @@ pub fn tell<P: Progress>(
     let done = before + place;
     let all = before + events.len();
     progress.judged(SoFar::of(done as u64, all as u64, known.len() as u64));
+}
+
+/// Tells that so many events are judged of all, and so many configurations are kept.
+fn tell_numbers<P: Progress>(progress: &mut P, done: usize, all: usize, configurations: usize)
+    requires below { done < all }
+    requires some { 0 < configurations }
+    ensures { IsReport P.judged_gives done all configurations progress.old progress.new }
+{
+    progress.judged(SoFar::of(done as u64, all as u64, configurations as u64));
+}
+
+/// Tells of the first `count` events, one after another, with one configuration before each. That is for events
+/// that were judged in parts: a part doesn't tell how far the whole is.
+pub fn tell_first<P: Progress>(progress: &mut P, events: &[Event], count: usize)
+    requires within { count ≤ length events.now }
+    ensures { AreReports P.judged_gives IsSize 0 (length events.now) progress.old count progress.new }
+{
+    for place in 0..count {
+        tell_numbers(progress, place, events.len(), 1);
+    }
 }

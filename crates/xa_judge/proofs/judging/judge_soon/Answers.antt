@@ -8,5 +8,5 @@ returns-in-None-clause-told g c =
 
 pub returns-in-None-2-clause-told : goal.returns-in-None-2-clause-told
 returns-in-None-2-clause-told g c =
-    found_on c.args.events.now c.judge_by_search.new.progress c.judge_by_search.result
-    (rw c.in-None-2.is at c.in_ok-verdict-2.ensures.told) c.judge_by_search.ensures.told
+    found_on c.args.events.now c.judge_rows_first.new.progress c.judge_rows_first.result
+    (rw c.in-None-2.is at c.in_ok-verdict-2.ensures.told) c.judge_rows_first.ensures.told

@@ -1,0 +1,244 @@
+-- Lists that are cut, event by event.
+--     CutSoFar, cut_first, cut_more, cut_all      the parts of events, while they are found one after another
+--     picked_next, picked_end       the events of one part, while they are picked
+--     count_next, counted_all       how many there are, while they are counted
+use Rattle.std.proofs.Common.{◌≡◌, ◌≢◌, ◌⊎◌, ℕ, ◌+◌, ◌<◌, ◌≤◌, zero, suc, Bool, true, false, Some, List, [], ◌∷◌, ◌++◌}
+use Rattle.std.proofs.Common.{length, take, drop, get_or, set, refl, ap, sym, ◌∙◌, subst, inl, inr, arith}
+use Rattle.std.proofs.Common.{append_assoc, append-nil, min}
+use mathlib.Core.Bool.{beq}
+use Rattle.std.specs.Prelude.{slice_get}
+use Rattle.std.proofs.lemmas.Bool.{false≢true}
+use Rattle.std.proofs.lemmas.Option.{none-some, same_Some}
+use Rattle.std.proofs.lemmas.List.{at_drop_more}
+use Rattle.xa_judge.specs.declared.event.Event.{Event}
+use Rattle.xa_judge.specs.declared.turn.Turn.{Turn}
+use Rattle.xa_judge.proofs.Places.{get_within}
+use Rattle.xa_judge.specs.Keys.{FitsTurn, IsCut, first_turns, session_of, turn_after, picked, count_in}
+
+-- ---- the parts of events
+
+-- if the rest of the events is cut from these turns on, all are cut
+pub record CutSoFar (named : List ℕ → Bool) (free : ℕ → Bool) (turns : List Turn) (sides : List Bool)
+    (events : List Event) (place : ℕ) : Type 0 where
+  pub on : (more : List Bool) → IsCut named free turns more (drop place events)
+      → IsCut named free first_turns (sides ++ more) events
+
+pub cut_first : (named : List ℕ → Bool) (free : ℕ → Bool) (turns : List Turn) (events : List Event)
+    → turns ≡ first_turns
+    → CutSoFar named free turns [] events 0
+cut_first named free turns events is = record {
+  on = λ more cut. subst (λ t. IsCut named free t more events) is cut;
+}
+
+pub cut_more : (named : List ℕ → Bool) (free : ℕ → Bool) (turns : List Turn) (sides : List Bool) (events : List Event)
+    (place : ℕ) (event : Event) (turn : Turn) (side : Bool) → CutSoFar named free turns sides events place
+    → place < length events
+    → event ≡ get_or events place event
+    → slice_get turns (session_of event) ≡ Some turn
+    → FitsTurn named free turn event side
+    → CutSoFar named free (set turns (session_of event) (turn_after event side)) (sides ++ side ∷ []) events (place + 1)
+cut_more named free turns sides events place event turn side so_far within is at fits = record {
+  on = λ more cut.
+      let all : drop place events ≡ event ∷ drop (place + 1) events =
+      at_drop_more (λ l. l) events place event within ∙ ap (λ e. e ∷ drop (place + 1) events) (sym is) in
+      subst (λ l. IsCut named free first_turns l events) (sym (append_assoc sides (side ∷ []) more))
+      (so_far.on (side ∷ more) (subst (IsCut named free turns (side ∷ more)) (sym all) (turn, at, fits, cut)));
+}
+
+pub cut_all : (named : List ℕ → Bool) (free : ℕ → Bool) (turns : List Turn) (sides : List Bool) (events : List Event)
+    (place : ℕ) → CutSoFar named free turns sides events place
+    → length events ≤ place
+    → IsCut named free first_turns sides events
+cut_all named free turns sides events place so_far over =
+    subst (λ l. IsCut named free first_turns l events) (append-nil sides)
+    (so_far.on [] (subst (IsCut named free turns []) (sym (dropped events place over)) tt))
+  where
+    dropped : (l : List Event) (n : ℕ) → length l ≤ n → drop n l ≡ []
+    dropped [] zero le = refl
+    dropped [] (suc n) le = refl
+    dropped (x ∷ l) zero le = absurd (omega arith)
+    dropped (x ∷ l) (suc n) le = dropped l n (omega arith)
+
+-- ---- the events of one part
+
+-- what a test of two truth values says
+pub same_side : (left right : Bool) → beq left right ≡ true → left ≡ right
+same_side true true is = refl
+same_side true false is = absurd (false≢true is)
+same_side false true is = absurd (false≢true is)
+same_side false false is = refl
+
+pub other_side : (left right : Bool) → beq left right ≡ false → left ≢ right
+other_side true true is = absurd (false≢true (sym is))
+other_side true false is = λ e. false≢true (sym e)
+other_side false true is = λ e. false≢true e
+other_side false false is = absurd (false≢true (sym is))
+
+pub picked_in : (wanted side : Bool) (sides : List Bool) (event : Event) (events : List Event) → side ≡ wanted
+    → picked wanted (side ∷ sides) (event ∷ events) ≡ event ∷ picked wanted sides events
+picked_in true true sides event events is = refl
+picked_in true false sides event events is = absurd (false≢true is)
+picked_in false true sides event events is = absurd (false≢true (sym is))
+picked_in false false sides event events is = refl
+
+pub picked_out : (wanted side : Bool) (sides : List Bool) (event : Event) (events : List Event) → side ≢ wanted
+    → picked wanted (side ∷ sides) (event ∷ events) ≡ picked wanted sides events
+picked_out true true sides event events is = absurd (is refl)
+picked_out true false sides event events is = refl
+picked_out false true sides event events is = refl
+picked_out false false sides event events is = absurd (is refl)
+
+picked_none : (wanted : Bool) (sides : List Bool) → picked wanted sides [] ≡ []
+picked_none true [] = refl
+picked_none false [] = refl
+picked_none true (true ∷ sides) = refl
+picked_none true (false ∷ sides) = refl
+picked_none false (true ∷ sides) = refl
+picked_none false (false ∷ sides) = refl
+
+none_picked : (wanted : Bool) (events : List Event) → picked wanted [] events ≡ []
+none_picked true events = refl
+none_picked false events = refl
+
+-- past the end of either list no event is picked
+pub picked_end : (wanted : Bool) (place : ℕ) (sides : List Bool) (events : List Event)
+    → (length sides ≤ place) ⊎ (length events ≤ place)
+    → picked wanted (drop place sides) (drop place events) ≡ []
+picked_end wanted zero [] events over = none_picked wanted events
+picked_end wanted zero (side ∷ sides) [] over = picked_none wanted (side ∷ sides)
+picked_end wanted zero (side ∷ sides) (event ∷ events) (inl over) = absurd (omega arith)
+picked_end wanted zero (side ∷ sides) (event ∷ events) (inr over) = absurd (omega arith)
+picked_end wanted (suc place) [] events over = none_picked wanted (drop (suc place) events)
+picked_end wanted (suc place) (side ∷ sides) [] over = picked_none wanted (drop (suc place) (side ∷ sides))
+picked_end wanted (suc place) (side ∷ sides) (event ∷ events) (inl over) =
+    picked_end wanted place sides events (inl (omega arith))
+picked_end wanted (suc place) (side ∷ sides) (event ∷ events) (inr over) =
+    picked_end wanted place sides events (inr (omega arith))
+
+-- one step of picking
+pub picked_next : (wanted d : Bool) (place : ℕ) (sides : List Bool) (event : Event) (events part : List Event)
+    → place < length sides → place < length events
+    → event ≡ get_or events place event
+    → part ++ picked wanted (drop place sides) (drop place events) ≡ picked wanted sides events
+    → ((get_or sides place d ≡ wanted) → (part ++ event ∷ []) ++ picked wanted (drop (place + 1) sides) (drop (place + 1) events)
+    ≡ picked wanted sides events)
+    × ((get_or sides place d ≢ wanted) → part ++ picked wanted (drop (place + 1) sides) (drop (place + 1) events)
+    ≡ picked wanted sides events)
+picked_next wanted d place sides event events part in_sides in_events there so_far =
+    let side = get_or sides place d in
+    let tail = drop (place + 1) sides in
+    let later = drop (place + 1) events in
+    let one : drop place sides ≡ side ∷ tail =
+    at_drop_more (λ l. l) sides place d in_sides in
+    let other : drop place events ≡ event ∷ later =
+    at_drop_more (λ l. l) events place event in_events ∙ ap (λ e. e ∷ later) (sym there) in
+    let here : picked wanted (drop place sides) (drop place events) ≡ picked wanted (side ∷ tail) (event ∷ later) =
+    ap (λ l. picked wanted l (drop place events)) one ∙ ap (picked wanted (side ∷ tail)) other in (
+      λ e. append_assoc part (event ∷ []) (picked wanted tail later)
+          ∙ ap (λ l. part ++ l) (sym (here ∙ picked_in wanted side tail event later e)) ∙ so_far,
+      λ e. ap (λ l. part ++ l) (sym (here ∙ picked_out wanted side tail event later e)) ∙ so_far,
+    )
+
+-- ---- how many there are
+
+count_in_here : (wanted side : Bool) (place : ℕ) (sides : List Bool) → slice_get sides place ≡ Some side
+    → count_in wanted (take (suc place) sides)
+    ≡ count_in wanted (take place sides) + count_in wanted (side ∷ [])
+count_in_here wanted side place [] at = absurd (none-some side at)
+count_in_here true side zero (true ∷ sides) at = ap (λ s. count_in true (s ∷ [])) (same_Some true side at) ∙ omega arith
+count_in_here true side zero (false ∷ sides) at =
+    ap (λ s. count_in true (s ∷ [])) (same_Some false side at) ∙ omega arith
+count_in_here false side zero (true ∷ sides) at =
+    ap (λ s. count_in false (s ∷ [])) (same_Some true side at) ∙ omega arith
+count_in_here false side zero (false ∷ sides) at =
+    ap (λ s. count_in false (s ∷ [])) (same_Some false side at) ∙ omega arith
+count_in_here true side (suc place) (true ∷ sides) at =
+    ap suc (count_in_here true side place sides at) ∙ omega arith
+count_in_here true side (suc place) (false ∷ sides) at = count_in_here true side place sides at
+count_in_here false side (suc place) (true ∷ sides) at = count_in_here false side place sides at
+count_in_here false side (suc place) (false ∷ sides) at =
+    ap suc (count_in_here false side place sides at) ∙ omega arith
+
+one_in : (wanted side : Bool) → side ≡ wanted → count_in wanted (side ∷ []) ≡ 1
+one_in true true is = refl
+one_in true false is = absurd (false≢true is)
+one_in false true is = absurd (false≢true (sym is))
+one_in false false is = refl
+
+one_out : (wanted side : Bool) → side ≢ wanted → count_in wanted (side ∷ []) ≡ 0
+one_out true true is = absurd (is refl)
+one_out true false is = refl
+one_out false true is = refl
+one_out false false is = absurd (is refl)
+
+-- what is read at a place of the list stands there
+got : (xs : List Bool) (i : ℕ) (d : Bool) → i < length xs → slice_get xs i ≡ Some (get_or xs i d)
+got [] i d within = absurd (omega arith)
+got (x ∷ xs) zero d within = refl
+got (x ∷ xs) (suc i) d within = got xs i d (omega arith)
+
+-- one step of counting
+pub count_next : (wanted d : Bool) (place : ℕ) (sides : List Bool) → place < length sides
+    → (get_or sides place d ≡ wanted → count_in wanted (take (place + 1) sides)
+    ≡ count_in wanted (take place sides) + 1)
+    × (get_or sides place d ≢ wanted → count_in wanted (take (place + 1) sides)
+    ≡ count_in wanted (take place sides))
+count_next wanted d place sides within =
+    let side = get_or sides place d in
+    let more : place + 1 ≡ suc place = omega arith in
+    let step = ap (λ n. count_in wanted (take n sides)) more
+    ∙ count_in_here wanted side place sides (got sides place d within) in (
+      λ e. step ∙ ap (λ n. count_in wanted (take place sides) + n) (one_in wanted side e),
+      λ e. step ∙ ap (λ n. count_in wanted (take place sides) + n) (one_out wanted side e) ∙ omega arith,
+    )
+
+-- past the end of the list nothing more is counted
+pub counted_all : (wanted : Bool) (index place : ℕ) (sides : List Bool) → index ≤ place
+    → (place ≤ index) ⊎ (length sides ≤ index)
+    → count_in wanted (take index sides) ≡ count_in wanted (take place sides)
+counted_all wanted index place sides le over = ap (count_in wanted) (same index place sides le over)
+  where
+    same : (index place : ℕ) (sides : List Bool) → index ≤ place → (place ≤ index) ⊎ (length sides ≤ index)
+        → take index sides ≡ take place sides
+    same zero zero sides le over = refl
+    same zero (suc place) [] le over = refl
+    same zero (suc place) (side ∷ sides) le (inl over) = absurd (omega arith)
+    same zero (suc place) (side ∷ sides) le (inr over) = absurd (omega arith)
+    same (suc index) zero sides le over = absurd (omega arith)
+    same (suc index) (suc place) [] le over = refl
+    same (suc index) (suc place) (side ∷ sides) le (inl over) =
+        ap (λ l. side ∷ l) (same index place sides (omega arith) (inl (omega arith)))
+    same (suc index) (suc place) (side ∷ sides) le (inr over) =
+        ap (λ l. side ∷ l) (same index place sides (omega arith) (inr (omega arith)))
+
+-- one of two numbers is no more than a third, if the least of them isn't
+pub at_least_one : (m n place : ℕ) → min m n ≤ place → (m ≤ place) ⊎ (n ≤ place)
+at_least_one m n place le = elim (either m place) [
+  | inl few ↦ inl few
+  | inr more ↦ elim (either n place) [
+    | inl few ↦ inr few
+    | inr many ↦ absurd (omega arith)
+  ]
+]
+  where
+    either : (m n : ℕ) → (m ≤ n) ⊎ (n < m)
+    either zero n = inl (omega arith)
+    either (suc m) zero = inr (omega arith)
+    either (suc m) (suc n) = elim (either m n) [ inl le ↦ inl (omega arith) | inr lt ↦ inr (omega arith) ]
+
+-- what stands at a place is read there
+read_at : (xs : List Event) (i : ℕ) (x : Event) → slice_get xs i ≡ Some x → x ≡ get_or xs i x
+read_at [] i x found = refl
+read_at (y ∷ xs) zero x found = sym (same_Some y x found)
+read_at (y ∷ xs) (suc i) x found = read_at xs i x found
+
+-- one step of picking at which nothing is picked
+pub picked_past : (wanted d : Bool) (place : ℕ) (sides : List Bool) (events part : List Event)
+    → place < length sides → place < length events
+    → part ++ picked wanted (drop place sides) (drop place events) ≡ picked wanted sides events
+    → get_or sides place d ≢ wanted
+    → part ++ picked wanted (drop (place + 1) sides) (drop (place + 1) events) ≡ picked wanted sides events
+picked_past wanted d place sides events part in_sides in_events so_far out =
+    let there = get_within events place in_events in
+    (picked_next wanted d place sides there.0 events part in_sides in_events (read_at events place there.0 there.1)
+    so_far).1 out

@@ -1,0 +1,481 @@
+-- The states of a record's two parts, and of the whole record: what a request of one part does to them.
+--     free_of, unheld             so these sessions have nothing open, and nobody holds a chosen row
+--     apart_after, rows_after     a request of the other part leaves that so, and the values of the chosen rows
+--     AreJoined                   the state of the whole record, by those of its parts
+--     free_join, other_join       a request of one part is answered there as in the whole, and leaves them so
+--     none_apart, none_listed     a state without branches
+--     joined_first                before all events
+use Rattle.std.proofs.Common.{◌≡◌, ℕ, List, [], ◌∷◌, refl, ap, sym, ◌∙◌, subst, Bool, true, false, inl, inr}
+use Rattle.std.specs.Prelude.{Option, Some, None, cond, not, is_some, ◌&&◌, ◌||◌, map as map_list}
+use Rattle.std.specs.List.{list_any}
+use Rattle.std.specs.Option.{option_map, option_map_or, option_and_then}
+use Rattle.std.specs.Ordering.{eq_by_cmp}
+use Rattle.std.specs.FinMap as map
+use Rattle.std.specs.FinMap.{get-empty, get-insert, get-remove, get-entries}
+use mathlib.Core.Bool.{true≢false}
+use Rattle.xa_xid.specs.declared.xid.Xid.{Xid}
+use Rattle.xa_xid.specs.Xid.{Text, bytes_cmp, xid_cmp, same_xid}
+use Rattle.xa_xid.proofs.Orders.{bytes_total, exact_texts}
+use Rattle.xa_xid.specs.declared.statement.Statement.{Statement}
+use Rattle.xa_xid.specs.declared.statement.Statement.TheVariants.{Start, End, Prepare, Commit, Rollback, Recover}
+use Rattle.xa_xid.specs.declared.statement.Statement.TheVariants.{Unsupported, Get, Put, Del, Disconnect}
+use Rattle.xa_server.specs.declared.branch.Phase.TheVariants.{Idle as PhaseIdle, Prepared as PhasePrepared}
+use Rattle.xa_server.specs.declared.reply.Reply.TheVariants.{Ok as Accepted, Value}
+use Rattle.xa_server.specs.declared.xa_error.XaError.TheVariants.{RowLocked}
+use Rattle.xa_server.specs.declared.association.Association.{Association}
+use Rattle.xa_server.specs.declared.association.Association.TheVariants.{Free, Active, Idle}
+use Rattle.xa_server.specs.State.{Write, Branch, State, Shared, Exclusive, owner_at}
+use Rattle.xa_server.specs.State.{association_in, association_of, phase_at, committed_value}
+use Rattle.xa_server.specs.declared.overview.BranchEntry.{BranchEntry}
+use Rattle.xa_server.specs.Overview.{entry_of, branches_of}
+use Rattle.xa_server.specs.Locks.{is_another, holds, is_held_against}
+use Rattle.xa_server.specs.Replies.{refused_if, table, reply_to}
+use Rattle.xa_server.specs.Step.{started_by, with_branch, with_changed, with_write, with_writes, with_lock}
+use Rattle.xa_server.specs.Step.{with_own_write, without_branch, row_written, committed, unless_refused, effect}
+use Rattle.xa_server.specs.Step.{after}
+use Rattle.xa_server.proofs.Maps.{same_or_apart, get_inserted_apart, get_removed_apart}
+use Rattle.xa_server.proofs.Changes.{idle, detached, branch_after, effect-branch, outcome}
+use Rattle.xa_server.proofs.Others.{none_found}
+use Rattle.xa_server.proofs.Seen.{owned_is}
+use Rattle.xa_judge.specs.declared.request.Request.{Request}
+use Rattle.xa_judge.specs.declared.request.Request.TheVariants.{Statement as Given, Unread}
+use Rattle.xa_judge.specs.declared.answer.Answer.TheVariants.{Reply as Replied}
+use Rattle.xa_judge.specs.Explained.{answer_to, next_state}
+use Rattle.xa_judge.specs.Near.{AreNear, ReadsNamed}
+use Rattle.xa_judge.specs.Keys.{IsFreeRequest, IsOtherRequest, IsApartBranch, IsApartAt, IsApart, HasNoBranch}
+use Rattle.xa_judge.proofs.NearStates.{near_answer, near_next, near_put, near_del, near_refl}
+
+-- ---- what a request of the other part does to branches
+
+-- a key that is named isn't one that isn't
+unlike : (named : List ℕ → Bool) (key other : List ℕ) → named other ≡ false → named key ≡ true
+    → eq_by_cmp bytes_cmp key other ≡ false
+unlike named key other unnamed is = elim (same_or_apart bytes_total exact_texts key other) [
+  | inl e ↦ absurd (true≢false (sym is ∙ ap named e ∙ unnamed))
+  | inr apart ↦ apart
+]
+
+either_apart : (named : List ℕ → Bool) (free : ℕ → Bool) (b : Bool) (one other : Option Branch)
+    → IsApartAt named free one → IsApartAt named free other → IsApartAt named free (cond b one other)
+either_apart named free true one other is was = is
+either_apart named free false one other is was = was
+
+-- a branch that was apart and is changed
+changed_apart : (named : List ℕ → Bool) (free : ℕ → Bool) (change : Branch → Branch) (found : Option Branch)
+    → ((branch : Branch) → IsApartBranch named free branch → IsApartBranch named free (change branch))
+    → IsApartAt named free found → IsApartAt named free (option_map change found)
+changed_apart named free change None keeps was = tt
+changed_apart named free change (Some branch) keeps was = keeps branch was
+
+start_apart : (named : List ℕ → Bool) (free : ℕ → Bool) (session : ℕ) → free session ≡ false
+    → IsApartBranch named free (started_by session)
+start_apart named free session not_free = record {
+  owner = λ other is e. absurd (true≢false (sym is ∙ ap free (sym (same_owner session other e)) ∙ not_free));
+  writes = λ key is. get-empty bytes_cmp key;
+  locks = λ key is. get-empty bytes_cmp key;
+}
+  where
+    same_owner : (left right : ℕ) → Some left ≡ Some right → left ≡ right
+    same_owner left right e = cc
+
+lock_apart : (named : List ℕ → Bool) (free : ℕ → Bool) (key : List ℕ) (branch : Branch) → named key ≡ false
+    → IsApartBranch named free branch → IsApartBranch named free (with_lock key branch)
+lock_apart named free key branch unnamed was = record {
+  owner = was.owner;
+  writes = was.writes;
+  locks = λ other is. by (map.contains_key branch.locks key) other is;
+}
+  where
+    by : (b : Bool) (other : List ℕ) → named other ≡ true
+        → map.get (cond b branch.locks (map.insert branch.locks key Shared)) other ≡ None
+    by true other is = was.locks other is
+    by false other is = get_inserted_apart bytes_total exact_texts branch.locks key Shared other
+        (unlike named other key unnamed is) ∙ was.locks other is
+
+write_apart : (named : List ℕ → Bool) (free : ℕ → Bool) (key : List ℕ) (write : Write) (branch : Branch)
+    → named key ≡ false → IsApartBranch named free branch → IsApartBranch named free (with_own_write key write branch)
+write_apart named free key write branch unnamed was = record {
+  owner = was.owner;
+  writes = λ other is. get_inserted_apart bytes_total exact_texts branch.writes key write other
+      (unlike named other key unnamed is) ∙ was.writes other is;
+  locks = λ other is. get_inserted_apart bytes_total exact_texts branch.locks key Exclusive other
+      (unlike named other key unnamed is) ∙ was.locks other is;
+}
+
+detached_apart : (named : List ℕ → Bool) (free : ℕ → Bool) (branch : Branch) → IsApartBranch named free branch
+    → IsApartBranch named free (detached branch)
+unfolding detached
+detached_apart named free branch was = record {
+  owner = λ session is e. not_owned session e;
+  writes = was.writes;
+  locks = was.locks;
+}
+  where
+    not_owned : (session : ℕ) → ◌≡◌ {A = Option ℕ} None (Some session) → ⊥
+    not_owned session e = cc
+
+idle_apart : (named : List ℕ → Bool) (free : ℕ → Bool) (branch : Branch) → IsApartBranch named free branch
+    → IsApartBranch named free (idle branch)
+unfolding idle
+idle_apart named free branch was = record { owner = was.owner; writes = was.writes; locks = was.locks }
+
+branch_apart : (named : List ℕ → Bool) (free : ℕ → Bool) (session : ℕ) (association : Association)
+    (statement : Statement) (at : Xid) (found : Option Branch)
+    → IsOtherRequest named free session (Given statement)
+    → IsApartAt named free found → IsApartAt named free (branch_after session association statement at found)
+unfolding branch_after
+branch_apart named free session association (Start xid) at found other was =
+    either_apart named free (same_xid at xid) (Some (started_by session)) found
+    (start_apart named free session other) was
+branch_apart named free session association (End xid) at found other was =
+    either_apart named free (same_xid at xid) (option_map idle found) found
+    (changed_apart named free idle found (idle_apart named free) was) was
+branch_apart named free session association (Prepare xid) at found other was =
+    either_apart named free (same_xid at xid) (option_map detached found) found
+    (changed_apart named free detached found (detached_apart named free) was) was
+branch_apart named free session association (Commit xid one_phase) at found other was =
+    either_apart named free (same_xid at xid) None found tt was
+branch_apart named free session association (Rollback xid) at found other was =
+    either_apart named free (same_xid at xid) None found tt was
+branch_apart named free session association (Recover convert) at found other was = was
+branch_apart named free session association Unsupported at found other was = was
+branch_apart named free session Free (Get key) at found other was = was
+branch_apart named free session (Active own) (Get key) at found other was =
+    either_apart named free (same_xid at own) (option_map (with_lock key) found) found
+    (changed_apart named free (with_lock key) found (λ b. lock_apart named free key b other) was) was
+branch_apart named free session (Idle own) (Get key) at found other was = was
+branch_apart named free session Free (Put key value) at found other was = was
+branch_apart named free session (Active own) (Put key value) at found other was =
+    either_apart named free (same_xid at own) (option_map (with_own_write key (Some value)) found) found
+    (changed_apart named free (with_own_write key (Some value)) found
+    (λ b. write_apart named free key (Some value) b other) was) was
+branch_apart named free session (Idle own) (Put key value) at found other was = was
+branch_apart named free session Free (Del key) at found other was = was
+branch_apart named free session (Active own) (Del key) at found other was =
+    either_apart named free (same_xid at own) (option_map (with_own_write key None) found) found
+    (changed_apart named free (with_own_write key None) found
+    (λ b. write_apart named free key None b other) was) was
+branch_apart named free session (Idle own) (Del key) at found other was = was
+branch_apart named free session Free Disconnect at found other was = was
+branch_apart named free session (Active own) Disconnect at found other was =
+    either_apart named free (same_xid at own) None found tt was
+branch_apart named free session (Idle own) Disconnect at found other was =
+    either_apart named free (same_xid at own) None found tt was
+
+-- a statement of the other part leaves every branch so
+statement_apart : (named : List ℕ → Bool) (free : ℕ → Bool) (state : State) (session : ℕ) (statement : Statement)
+    → IsOtherRequest named free session (Given statement)
+    → IsApart named free state → IsApart named free (after state session statement)
+statement_apart named free state session statement other was = elim (outcome state session statement) [
+  | inl refused ↦ subst (IsApart named free) (sym refused.1) was
+  | inr done ↦ subst (IsApart named free) (sym done.1) (λ xid. subst (IsApartAt named free)
+      (sym (effect-branch state session (association_of state session) statement xid))
+      (branch_apart named free session (association_of state session) statement xid (map.get state.branches xid) other
+      (was xid)))
+]
+
+pub apart_after : (named : List ℕ → Bool) (free : ℕ → Bool) (state : State) (session : ℕ) (request : Request)
+    → IsOtherRequest named free session request
+    → IsApart named free state → IsApart named free (next_state state session request)
+apart_after named free state session Unread other was = was
+apart_after named free state session (Given statement) other was =
+    statement_apart named free state session statement other was
+
+-- ---- what follows for the sessions that never have a branch, and for the chosen rows
+
+-- such a session has nothing open
+pub free_of : (named : List ℕ → Bool) (free : ℕ → Bool) (state : State) (session : ℕ) → IsApart named free state
+    → free session ≡ true
+    → association_of state session ≡ Free
+unfolding association_of
+free_of named free state session are is =
+    ap (λ own. option_map_or (λ xid. association_in (phase_at state xid) xid) own Free)
+    (none_found state session (λ xid e. by (map.get state.branches xid) (are xid)
+    (owned_is (owner_at state xid) session e)))
+  where
+    not_owned : ◌≡◌ {A = Option ℕ} None (Some session) → ⊥
+    not_owned e = cc
+
+    by : (found : Option Branch) → IsApartAt named free found
+        → option_and_then (λ (b : Branch). b.owner) found ≡ Some session → ⊥
+    by None at e = not_owned e
+    by (Some branch) at e = at.owner session is e
+
+none_any : (p : Xid → Bool) (xs : List Xid) → ((x : Xid) → p x ≡ false) → list_any p xs ≡ false
+none_any p [] none = refl
+none_any p (x ∷ xs) none = ap (λ b. b || list_any p xs) (none x) ∙ none_any p xs none
+
+-- and nobody holds a chosen row
+pub unheld : (named : List ℕ → Bool) (free : ℕ → Bool) (state : State) (key : List ℕ) → IsApart named free state
+    → named key ≡ true
+    → is_held_against state Free key ≡ false
+unfolding is_held_against
+unheld named free state key are is =
+    none_any (λ xid. is_another Free xid && holds state xid key) (map.keys state.branches)
+    (λ xid. by (map.get state.branches xid) (are xid))
+  where
+    by : (found : Option Branch) → IsApartAt named free found
+        → is_some (option_and_then (λ (b : Branch). map.get b.locks key) found) ≡ false
+    by None at = refl
+    by (Some branch) at = ap is_some (at.locks key is)
+
+-- ---- what a request of the other part does to chosen rows
+
+-- writes of other rows
+unwritten : (key : List ℕ) (writes : List (List ℕ × Write)) (rows : map.FinMap bytes_cmp Text)
+    → map.find bytes_cmp key writes ≡ None
+    → map.get (with_writes writes rows) key ≡ map.get rows key
+unwritten key [] rows none = refl
+unwritten key (write ∷ writes) rows none =
+    by (unwritten key writes rows) (eq_by_cmp bytes_cmp key write.0) refl none
+  where
+    aside : (w : Write) (rest : map.FinMap bytes_cmp Text) → eq_by_cmp bytes_cmp key write.0 ≡ false
+        → map.get (with_write write.0 w rest) key ≡ map.get rest key
+    aside None rest apart = get_removed_apart bytes_total exact_texts rest write.0 key apart
+    aside (Some value) rest apart = get_inserted_apart bytes_total exact_texts rest write.0 value key apart
+
+    something : {P : Type 0} → Some write.1 ≡ None → P
+    something e = cc
+
+    by : (map.find bytes_cmp key writes ≡ None → map.get (with_writes writes rows) key ≡ map.get rows key) → (b : Bool)
+        → eq_by_cmp bytes_cmp key write.0 ≡ b
+        → cond b (Some write.1) (map.find bytes_cmp key writes) ≡ None
+        → map.get (with_write write.0 write.1 (with_writes writes rows)) key ≡ map.get rows key
+    by rest true is none = something none
+    by rest false is none = aside write.1 (with_writes writes rows) is ∙ rest none
+
+changed_rows : (state : State) (xid : Xid) (change : Branch → Branch)
+    → (with_changed state xid change).rows ≡ state.rows
+changed_rows state xid change = by (map.get state.branches xid)
+  where
+    by : (found : Option Branch)
+        → (option_map_or (λ branch. with_branch state xid (change branch)) found state).rows ≡ state.rows
+    by None = refl
+    by (Some branch) = refl
+
+committed_rows : (named : List ℕ → Bool) (free : ℕ → Bool) (state : State) (xid : Xid) (key : List ℕ)
+    → IsApart named free state → named key ≡ true
+    → committed_value (committed state xid) key ≡ committed_value state key
+unfolding committed
+committed_rows named free state xid key are is = by (map.get state.branches xid) (are xid)
+  where
+    by : (found : Option Branch) → IsApartAt named free found
+        → map.get (option_map_or (λ (branch : Branch). record (without_branch state xid)
+        { rows = with_writes (map.entries branch.writes) state.rows }) found state).rows key
+        ≡ map.get state.rows key
+    by None at = refl
+    by (Some branch) at = unwritten key (map.entries branch.writes) state.rows
+        (sym (get-entries branch.writes key) ∙ at.writes key is)
+
+written_rows : (named : List ℕ → Bool) (state : State) (association : Association) (other key : List ℕ)
+    (write : Write) → named other ≡ false → named key ≡ true
+    → committed_value (row_written state association other write) key ≡ committed_value state key
+written_rows named state Free other key None unnamed is =
+    get_removed_apart bytes_total exact_texts state.rows other key (unlike named key other unnamed is)
+written_rows named state Free other key (Some value) unnamed is =
+    get_inserted_apart bytes_total exact_texts state.rows other value key (unlike named key other unnamed is)
+written_rows named state (Active own) other key write unnamed is =
+    ap (λ rows. map.get rows key) (changed_rows state own (with_own_write other write))
+written_rows named state (Idle own) other key write unnamed is = refl
+
+effect_rows : (named : List ℕ → Bool) (free : ℕ → Bool) (state : State) (session : ℕ) (association : Association)
+    (statement : Statement) (key : List ℕ)
+    → IsOtherRequest named free session (Given statement)
+    → IsApart named free state → named key ≡ true
+    → committed_value (effect state session association statement) key ≡ committed_value state key
+unfolding effect
+effect_rows named free state session association (Start xid) key other are is = refl
+effect_rows named free state session association (End xid) key other are is =
+    ap (λ rows. map.get rows key) (changed_rows state xid (λ branch. record branch { phase = PhaseIdle }))
+effect_rows named free state session association (Prepare xid) key other are is =
+    ap (λ rows. map.get rows key) (changed_rows state xid (λ branch. record branch { phase = PhasePrepared; owner = None }))
+effect_rows named free state session association (Commit xid one_phase) key other are is =
+    committed_rows named free state xid key are is
+effect_rows named free state session association (Rollback xid) key other are is = refl
+effect_rows named free state session association (Recover convert) key other are is = refl
+effect_rows named free state session association Unsupported key other are is = refl
+effect_rows named free state session Free (Get row) key other are is = refl
+effect_rows named free state session (Active own) (Get row) key other are is =
+    ap (λ rows. map.get rows key) (changed_rows state own (with_lock row))
+effect_rows named free state session (Idle own) (Get row) key other are is = refl
+effect_rows named free state session association (Put row value) key other are is =
+    written_rows named state association row key (Some value) other is
+effect_rows named free state session association (Del row) key other are is =
+    written_rows named state association row key None other is
+effect_rows named free state session Free Disconnect key other are is = refl
+effect_rows named free state session (Active own) Disconnect key other are is = refl
+effect_rows named free state session (Idle own) Disconnect key other are is = refl
+
+-- a request of the other part leaves the values of the chosen rows
+pub rows_after : (named : List ℕ → Bool) (free : ℕ → Bool) (state : State) (session : ℕ) (request : Request)
+    (key : List ℕ) → IsOtherRequest named free session request
+    → IsApart named free state → named key ≡ true
+    → committed_value (next_state state session request) key ≡ committed_value state key
+rows_after named free state session Unread key other are is = refl
+rows_after named free state session (Given statement) key other are is = elim (outcome state session statement) [
+  | inl refused ↦ ap (λ s. committed_value s key) refused.1
+  | inr done ↦ ap (λ s. committed_value s key) done.1
+      ∙ effect_rows named free state session (association_of state session) statement key other are is
+]
+
+-- ---- what a request of the chosen part does
+
+-- a session that has nothing open reads the committed value
+free_get : (state : State) (session : ℕ) (key : List ℕ) → association_of state session ≡ Free
+    → (reply_to state session (Get key) ≡ Value (committed_value state key)) × (after state session (Get key) ≡ state)
+unfolding reply_to table effect after
+free_get state session key free = (
+  ap (λ a. table state a (Get key)) free,
+  ap (λ a. unless_refused (table state a (Get key)) state (effect state session a (Get key))) free,
+)
+
+-- and writes a row at once that nobody holds
+free_put : (state : State) (session : ℕ) (key : List ℕ) (value : Text) → association_of state session ≡ Free
+    → is_held_against state Free key ≡ false
+    → (reply_to state session (Put key value) ≡ Accepted)
+    × (after state session (Put key value) ≡ record state { rows = with_write key (Some value) state.rows })
+unfolding reply_to table effect after
+free_put state session key value free nobody = (
+  ap (λ a. table state a (Put key value)) free ∙ ap (λ b. refused_if b RowLocked Accepted) nobody,
+  ap (λ a. unless_refused (table state a (Put key value)) state (effect state session a (Put key value))) free
+      ∙ ap (λ b. unless_refused (refused_if b RowLocked Accepted) state
+      (record state { rows = with_write key (Some value) state.rows })) nobody,
+)
+
+free_del : (state : State) (session : ℕ) (key : List ℕ) → association_of state session ≡ Free
+    → is_held_against state Free key ≡ false
+    → (reply_to state session (Del key) ≡ Accepted)
+    × (after state session (Del key) ≡ record state { rows = with_write key None state.rows })
+unfolding reply_to table effect after
+free_del state session key free nobody = (
+  ap (λ a. table state a (Del key)) free ∙ ap (λ b. refused_if b RowLocked Accepted) nobody,
+  ap (λ a. unless_refused (table state a (Del key)) state (effect state session a (Del key))) free
+      ∙ ap (λ b. unless_refused (refused_if b RowLocked Accepted) state
+      (record state { rows = with_write key None state.rows })) nobody,
+)
+
+-- ---- the whole, by its parts
+
+-- a row that isn't chosen
+abbrev pub unnamed : (List ℕ → Bool) → List ℕ → Bool
+unnamed named key = not (named key)
+
+-- the whole has the branches and the other rows of the other part, and the chosen rows of the chosen part
+pub record AreJoined (named : List ℕ → Bool) (free : ℕ → Bool) (whole chosen rest : State) : Type 0 where
+  pub near : AreNear (unnamed named) whole rest
+  pub rows : (key : List ℕ) → named key ≡ true → committed_value whole key ≡ committed_value chosen key
+  pub apart : IsApart named free whole
+  pub chosen_apart : IsApart named free chosen
+
+-- one write of two lists of rows that agree at the chosen keys
+same_write : (named : List ℕ → Bool) (key : List ℕ) (write : Write) (left right : map.FinMap bytes_cmp Text)
+    → ((other : List ℕ) → named other ≡ true → map.get left other ≡ map.get right other)
+    → (other : List ℕ) → named other ≡ true
+    → map.get (with_write key write left) other ≡ map.get (with_write key write right) other
+same_write named key (Some value) left right agree other is =
+    get-insert bytes_total left key value other ∙ ap (cond (eq_by_cmp bytes_cmp other key) (Some value))
+    (agree other is)
+    ∙ sym (get-insert bytes_total right key value other)
+same_write named key None left right agree other is =
+    get-remove bytes_total left key other ∙ ap (cond (eq_by_cmp bytes_cmp other key) None) (agree other is)
+    ∙ sym (get-remove bytes_total right key other)
+
+-- the whole and the chosen part after the same write
+join_write : (named : List ℕ → Bool) (free : ℕ → Bool) (whole chosen rest new other_new : State) (key : List ℕ)
+    (write : Write) → AreJoined named free whole chosen rest
+    → new ≡ record whole { rows = with_write key write whole.rows }
+    → other_new ≡ record chosen { rows = with_write key write chosen.rows }
+    → AreNear (unnamed named) new rest
+    → AreJoined named free new other_new rest
+join_write named free whole chosen rest new other_new key write joined is was near = record {
+  near = near;
+  rows = λ other named_so. ap (λ (s : State). committed_value s other) is
+      ∙ same_write named key write whole.rows chosen.rows joined.rows other named_so
+      ∙ sym (ap (λ (s : State). committed_value s other) was);
+  apart = subst (IsApart named free) (sym is) joined.apart;
+  chosen_apart = subst (IsApart named free) (sym was) joined.chosen_apart;
+}
+
+-- a request of the chosen part is answered there as in the whole, and leaves the states so
+pub free_join : (named : List ℕ → Bool) (free : ℕ → Bool) (whole chosen rest : State) (session : ℕ) (request : Request)
+    → AreJoined named free whole chosen rest
+    → IsFreeRequest named free session request
+    → (answer_to whole session request ≡ answer_to chosen session request)
+    × AreJoined named free (next_state whole session request) (next_state chosen session request) rest
+free_join named free whole chosen rest session (Given (Get key)) joined is =
+    let one = free_get whole session key (free_of named free whole session joined.apart is.0) in
+    let other = free_get chosen session key (free_of named free chosen session joined.chosen_apart is.0) in (
+      ap Replied (one.0 ∙ ap Value (joined.rows key is.1) ∙ sym other.0),
+      subst (λ s. AreJoined named free s (after chosen session (Get key)) rest) (sym one.1)
+          (subst (λ s. AreJoined named free whole s rest) (sym other.1) joined),
+    )
+free_join named free whole chosen rest session (Given (Put key value)) joined is =
+    let nothing = free_of named free whole session joined.apart is.0 in
+    let one = free_put whole session key value nothing (unheld named free whole key joined.apart is.1) in
+    let other = free_put chosen session key value (free_of named free chosen session joined.chosen_apart is.0)
+    (unheld named free chosen key joined.chosen_apart is.1) in (
+      ap Replied (one.0 ∙ sym other.0),
+      join_write named free whole chosen rest _ _ key (Some value) joined one.1 other.1
+          (near_put (unnamed named) whole rest session key value joined.near nothing (ap not is.1)),
+    )
+free_join named free whole chosen rest session (Given (Del key)) joined is =
+    let nothing = free_of named free whole session joined.apart is.0 in
+    let one = free_del whole session key nothing (unheld named free whole key joined.apart is.1) in
+    let other = free_del chosen session key (free_of named free chosen session joined.chosen_apart is.0)
+    (unheld named free chosen key joined.chosen_apart is.1) in (
+      ap Replied (one.0 ∙ sym other.0),
+      join_write named free whole chosen rest _ _ key None joined one.1 other.1
+          (near_del (unnamed named) whole rest session key joined.near nothing (ap not is.1)),
+    )
+free_join named free whole chosen rest session request joined is = absurd is
+
+-- a request of the other part reads no chosen row
+reads_others : (named : List ℕ → Bool) (free : ℕ → Bool) (session : ℕ) (request : Request)
+    → IsOtherRequest named free session request
+    → ReadsNamed (unnamed named) request
+reads_others named free session (Given (Get key)) other = ap not other
+reads_others named free session request other = tt
+
+-- and so it is with a request of the other part
+pub other_join : (named : List ℕ → Bool) (free : ℕ → Bool) (whole chosen rest : State) (session : ℕ)
+    (request : Request)
+    → AreJoined named free whole chosen rest
+    → IsOtherRequest named free session request
+    → (answer_to whole session request ≡ answer_to rest session request)
+    × AreJoined named free (next_state whole session request) chosen (next_state rest session request)
+other_join named free whole chosen rest session request joined other = (
+  near_answer (unnamed named) whole rest session request joined.near (reads_others named free session request other),
+  record {
+    near = near_next (unnamed named) whole rest session request joined.near;
+    rows = λ key is. rows_after named free whole session request key other joined.apart is ∙ joined.rows key is;
+    apart = apart_after named free whole session request other joined.apart;
+    chosen_apart = joined.chosen_apart;
+  },
+)
+
+-- where there is no branch, that is so of every branch
+pub none_apart : (named : List ℕ → Bool) (free : ℕ → Bool) (state : State) → HasNoBranch state
+    → IsApart named free state
+none_apart named free state none xid = subst (IsApartAt named free) (sym (none xid)) tt
+
+-- a state whose branches are an empty list has none
+pub none_listed : (state : State) → branches_of state ≡ [] → HasNoBranch state
+unfolding branches_of
+none_listed state none xid = get-entries state.branches xid ∙ by (map.entries state.branches) none
+  where
+    some : {P : Type 0} (entry : Xid × Branch) (rest : List BranchEntry) → entry_of entry ∷ rest ≡ [] → P
+    some entry rest e = cc
+
+    by : (entries : List (Xid × Branch)) → map_list entry_of entries ≡ [] → map.find xid_cmp xid entries ≡ None
+    by [] e = refl
+    by (entry ∷ entries) e = some entry (map_list entry_of entries) e
+
+-- before all events
+pub joined_first : (named : List ℕ → Bool) (free : ℕ → Bool) (base : State) → IsApart named free base
+    → AreJoined named free base base base
+joined_first named free base are = record {
+  near = near_refl (unnamed named) base;
+  rows = λ key is. refl;
+  apart = are;
+  chosen_apart = are;
+}

@@ -1,0 +1,445 @@
+-- Verdicts on a record, by those on its parts.
+--     parts_first                  before all events
+--     cut_take, cut_at             the first events are cut likewise;  and each event fits where it stands
+--     picked_take, picked_at       the events of a part among the first ones;  and the event at a place
+--     whole_explained, parts_explained      what is explained in both parts is explained, and the other way round
+--     refuted_part                 what is refuted in a part is refuted, if the other part is explained up to there
+--     answers_part                 and the answers are the same
+--     explained_take               what is explained is explained up to each of its events
+--     illegal_part                 the verdict on a record by that on one part
+use Rattle.std.proofs.Common.{◌≡◌, ℕ, ◌+◌, ◌<◌, ◌≤◌, zero, suc, Bool, true, false, Some}
+use Rattle.std.proofs.Common.{List, [], ◌∷◌, Vec, Global}
+use Rattle.std.proofs.Common.{length, take, refl, ap, sym, ◌∙◌, subst, arith, replicate}
+use Rattle.std.specs.Prelude.{slice_get, not}
+use Rattle.std.proofs.Common.{slice_index_or}
+use Rattle.std.proofs.lemmas.Option.{none-some, same_Some}
+use Rattle.std.proofs.lemmas.Bool.{false≢true}
+use Rattle.xa_server.specs.State.{State}
+use Rattle.xa_judge.specs.declared.answer.Answer.{Answer}
+use Rattle.xa_judge.specs.declared.event.Seen.{Seen}
+use Rattle.xa_judge.specs.declared.event.Event.{Event}
+use Rattle.xa_judge.specs.declared.event.Event.TheVariants.{Return}
+use Rattle.xa_judge.specs.declared.client_state.ClientState.TheVariants.{Idle}
+use Rattle.xa_judge.specs.declared.moves.Move.{Move}
+use Rattle.xa_judge.specs.declared.moves.Move.TheVariants.{Event as Seeing, Effect}
+use Rattle.xa_judge.specs.declared.verdict.Verdict.{Verdict}
+use Rattle.xa_judge.specs.declared.verdict.Verdict.TheVariants.{Legal as LegalBy, Illegal as IllegalAt}
+use Rattle.xa_judge.specs.declared.turn.Turn.{Turn}
+use Rattle.xa_judge.specs.declared.turn.Turn.TheVariants.{Nobody}
+use Rattle.xa_judge.specs.Explained.{Config, opening_config, LeadsThrough, Explained}
+use Rattle.xa_judge.specs.Keys.{FitsTurn, first_turns, IsCut, turns_after, picked, count_in, session_of, IsApart}
+use Rattle.xa_judge.specs.Keys.{HasNoBranch}
+use Rattle.xa_judge.specs.Verdicts.{IsRefuted, CouldBe, AreAllAnswers, IsVerdict}
+use Rattle.xa_judge.proofs.Places.{get_within}
+use Rattle.xa_judge.proofs.KeyStates.{joined_first, none_apart}
+use Rattle.xa_judge.proofs.KeyClients.{AreClients, AreParts, turns_past, same_chosen, same_rest}
+use Rattle.xa_judge.proofs.KeyRuns.{clients_at, in_parts, whole_of}
+
+-- ---- before all events
+
+clients_first : (named : List ℕ → Bool) (free : ℕ → Bool) (count session at : ℕ)
+    → AreClients named free session (slice_get (replicate count Nobody) at) (slice_get (replicate count Idle) at)
+    (slice_get (replicate count Idle) at) (slice_get (replicate count Idle) at)
+clients_first named free zero session at = (refl, refl, refl)
+clients_first named free (suc count) session zero = (refl, refl, refl)
+clients_first named free (suc count) session (suc at) = clients_first named free count session at
+
+pub parts_first : (named : List ℕ → Bool) (free : ℕ → Bool) (base : State) → IsApart named free base
+    → AreParts named free first_turns (opening_config base) (opening_config base) (opening_config base)
+unfolding opening_config first_turns
+parts_first named free base apart = record {
+  states = joined_first named free base apart;
+  clients = λ session. clients_first named free 17 session session;
+}
+
+-- ---- places
+
+module _ {A : Type 0} where
+  -- what stands somewhere stands within the list
+  pub within_of : (xs : List A) (i : ℕ) (x : A) → slice_get xs i ≡ Some x → i < length xs
+  within_of [] i x at = absurd (none-some x at)
+  within_of (y ∷ xs) zero x at = omega arith
+  within_of (y ∷ xs) (suc i) x at = omega (arith, within_of xs i x at)
+
+-- the first events are cut likewise
+pub cut_take : (named : List ℕ → Bool) (free : ℕ → Bool) (turns : List Turn) (count : ℕ) (sides : List Bool)
+    (events : List Event) → IsCut named free turns sides events
+    → IsCut named free turns (take count sides) (take count events)
+cut_take named free turns zero sides events cut = tt
+cut_take named free turns (suc count) [] [] cut = tt
+cut_take named free turns (suc count) [] (event ∷ events) cut = absurd cut
+cut_take named free turns (suc count) (side ∷ sides) [] cut = absurd cut
+cut_take named free turns (suc count) (side ∷ sides) (event ∷ events) cut =
+    (cut.0, cut.1, cut.2, cut_take named free (turns_past turns side event) count sides events cut.3)
+
+-- an event fits where it stands
+pub cut_at : (named : List ℕ → Bool) (free : ℕ → Bool) (turns : List Turn) (place : ℕ) (sides : List Bool)
+    (events : List Event) (side : Bool) (event : Event) → IsCut named free turns sides events
+    → slice_get sides place ≡ Some side → slice_get events place ≡ Some event
+    → (turn : Turn) × (slice_get (turns_after turns (take place sides) (take place events)) (session_of event)
+    ≡ Some turn) × FitsTurn named free turn event side
+cut_at named free turns place [] [] side event cut at there = absurd (none-some side at)
+cut_at named free turns place [] (first ∷ events) side event cut at there = absurd cut
+cut_at named free turns place (one ∷ sides) [] side event cut at there = absurd cut
+cut_at named free turns zero (one ∷ sides) (first ∷ events) side event cut at there =
+    let P : Event → Type 0 = λ e. (turn : Turn) × (slice_get turns (session_of e) ≡ Some turn)
+    × FitsTurn named free turn e side in
+    subst P (same_Some first event there) (
+      cut.0,
+      cut.1,
+      subst (λ s. FitsTurn named free cut.0 first s) (same_Some one side at) cut.2,
+    )
+cut_at named free turns (suc place) (one ∷ sides) (first ∷ events) side event cut at there =
+    cut_at named free (turns_past turns one first) place sides events side event cut.3 at there
+
+-- the events of a part among the first ones are the first ones of the part
+pub picked_take : (wanted : Bool) (count : ℕ) (sides : List Bool) (events : List Event)
+    → picked wanted (take count sides) (take count events)
+    ≡ take (count_in wanted (take count sides)) (picked wanted sides events)
+picked_take true zero sides events = refl
+picked_take false zero sides events = refl
+picked_take true (suc count) [] [] = refl
+picked_take false (suc count) [] [] = refl
+picked_take true (suc count) [] (event ∷ events) = refl
+picked_take false (suc count) [] (event ∷ events) = refl
+picked_take true (suc count) (true ∷ sides) [] = refl
+picked_take true (suc count) (false ∷ sides) [] = by (count_in true (take count sides))
+  where
+    by : (k : ℕ) → ◌≡◌ {A = List Event} [] (take k [])
+    by zero = refl
+    by (suc k) = refl
+picked_take false (suc count) (true ∷ sides) [] = by (count_in false (take count sides))
+  where
+    by : (k : ℕ) → ◌≡◌ {A = List Event} [] (take k [])
+    by zero = refl
+    by (suc k) = refl
+picked_take false (suc count) (false ∷ sides) [] = refl
+picked_take true (suc count) (true ∷ sides) (event ∷ events) =
+    ap (λ l. event ∷ l) (picked_take true count sides events)
+picked_take true (suc count) (false ∷ sides) (event ∷ events) = picked_take true count sides events
+picked_take false (suc count) (true ∷ sides) (event ∷ events) = picked_take false count sides events
+picked_take false (suc count) (false ∷ sides) (event ∷ events) =
+    ap (λ l. event ∷ l) (picked_take false count sides events)
+
+-- one more, if the event at the place is of this part
+pub count_more : (wanted : Bool) (place : ℕ) (sides : List Bool) → slice_get sides place ≡ Some wanted
+    → count_in wanted (take (suc place) sides) ≡ suc (count_in wanted (take place sides))
+count_more wanted place [] at = absurd (none-some wanted at)
+count_more true zero (true ∷ sides) at = refl
+count_more true zero (false ∷ sides) at = absurd (false≢true (same_Some false true at))
+count_more false zero (true ∷ sides) at = absurd (false≢true (sym (same_Some true false at)))
+count_more false zero (false ∷ sides) at = refl
+count_more true (suc place) (true ∷ sides) at = ap suc (count_more true place sides at)
+count_more true (suc place) (false ∷ sides) at = count_more true place sides at
+count_more false (suc place) (true ∷ sides) at = count_more false place sides at
+count_more false (suc place) (false ∷ sides) at = ap suc (count_more false place sides at)
+
+-- the event at a place of the record, and at its place in its part
+pub picked_at : (named : List ℕ → Bool) (free : ℕ → Bool) (turns : List Turn) (wanted : Bool) (place : ℕ)
+    (sides : List Bool) (events : List Event) → IsCut named free turns sides events
+    → slice_get sides place ≡ Some wanted
+    → slice_get (picked wanted sides events) (count_in wanted (take place sides)) ≡ slice_get events place
+picked_at named free turns wanted place [] events cut at = absurd (none-some wanted at)
+picked_at named free turns wanted place (side ∷ sides) [] cut at = absurd cut
+picked_at named free turns true zero (true ∷ sides) (event ∷ events) cut at = refl
+picked_at named free turns true zero (false ∷ sides) (event ∷ events) cut at =
+    absurd (false≢true (same_Some false true at))
+picked_at named free turns false zero (true ∷ sides) (event ∷ events) cut at =
+    absurd (false≢true (sym (same_Some true false at)))
+picked_at named free turns false zero (false ∷ sides) (event ∷ events) cut at = refl
+picked_at named free turns true (suc place) (true ∷ sides) (event ∷ events) cut at =
+    picked_at named free (turns_past turns true event) true place sides events cut.3 at
+picked_at named free turns true (suc place) (false ∷ sides) (event ∷ events) cut at =
+    picked_at named free (turns_past turns false event) true place sides events cut.3 at
+picked_at named free turns false (suc place) (true ∷ sides) (event ∷ events) cut at =
+    picked_at named free (turns_past turns true event) false place sides events cut.3 at
+picked_at named free turns false (suc place) (false ∷ sides) (event ∷ events) cut at =
+    picked_at named free (turns_past turns false event) false place sides events cut.3 at
+
+-- ---- explained
+
+-- what is explained in both parts is explained
+pub whole_explained : (named : List ℕ → Bool) (free : ℕ → Bool) (base : State) (sides : List Bool)
+    (events : List Event) → IsApart named free base
+    → IsCut named free first_turns sides events
+    → Explained base (picked true sides events) → Explained base (picked false sides events)
+    → Explained base events
+whole_explained named free base sides events apart cut chosen rest =
+    let found = whole_of named free first_turns (opening_config base) (opening_config base) (opening_config base)
+    chosen.1 rest.1 sides events chosen.0 rest.0 cut (parts_first named free base apart) chosen.2 rest.2 in
+    (found.moves, found.end, found.runs)
+
+-- what is explained is explained in each part
+pub part_explained : (named : List ℕ → Bool) (free : ℕ → Bool) (base : State) (sides : List Bool)
+    (events : List Event) (wanted : Bool) → IsApart named free base
+    → IsCut named free first_turns sides events
+    → Explained base events → Explained base (picked wanted sides events)
+part_explained named free base sides events true apart cut explained =
+    let found = in_parts named free first_turns (opening_config base) (opening_config base) (opening_config base)
+    explained.1 sides events explained.0 cut (parts_first named free base apart) explained.2 in
+    (found.chosen_moves, found.chosen_end, found.chosen_runs)
+part_explained named free base sides events false apart cut explained =
+    let found = in_parts named free first_turns (opening_config base) (opening_config base) (opening_config base)
+    explained.1 sides events explained.0 cut (parts_first named free base apart) explained.2 in
+    (found.rest_moves, found.rest_end, found.rest_runs)
+
+both_explained : (named : List ℕ → Bool) (free : ℕ → Bool) (base : State) (sides : List Bool) (events : List Event)
+    (wanted : Bool) → IsApart named free base
+    → IsCut named free first_turns sides events
+    → Explained base (picked wanted sides events) → Explained base (picked (not wanted) sides events)
+    → Explained base events
+both_explained named free base sides events true apart cut part other =
+    whole_explained named free base sides events apart cut part other
+both_explained named free base sides events false apart cut part other =
+    whole_explained named free base sides events apart cut other part
+
+-- what is refuted in a part is refuted at its place in the record, if the other part is explained up to there
+pub refuted_part : (named : List ℕ → Bool) (free : ℕ → Bool) (base : State) (sides : List Bool) (events : List Event)
+    (wanted : Bool) (place : ℕ) → IsApart named free base
+    → IsCut named free first_turns sides events
+    → slice_get sides place ≡ Some wanted
+    → IsRefuted base (picked wanted sides events) (count_in wanted (take place sides))
+    → Explained base (picked (not wanted) (take place sides) (take place events))
+    → IsRefuted base events place
+refuted_part named free base sides events wanted place apart cut at is other =
+    let there = get_within (picked wanted sides events) (count_in wanted (take place sides)) is.within in
+    let more : place + 1 ≡ suc place = omega arith in
+    let count : count_in wanted (take (suc place) sides) ≡ count_in wanted (take place sides) + 1 =
+    count_more wanted place sides at ∙ omega arith in
+    record {
+      within = within_of events place there.0
+          (sym (picked_at named free first_turns wanted place sides events cut at) ∙ there.1);
+      before = both_explained named free base (take place sides) (take place events) wanted apart
+          (cut_take named free first_turns place sides events cut)
+          (subst (Explained base) (sym (picked_take wanted place sides events)) is.before) other;
+      refuted = λ explained. is.refuted (subst (λ n. Explained base (take n (picked wanted sides events))) count
+          (subst (Explained base) (picked_take wanted (suc place) sides events)
+          (part_explained named free base (take (suc place) sides) (take (suc place) events) wanted apart
+          (cut_take named free first_turns (suc place) sides events cut)
+          (subst (λ n. Explained base (take n events)) more explained))));
+      whole = λ explained. is.whole (part_explained named free base sides events wanted apart cut explained);
+    }
+
+-- ---- answers
+
+-- the configuration of one part
+abbrev pub part_of : Bool → Config → Config → Config
+part_of true chosen rest = chosen
+part_of false chosen rest = rest
+
+-- where a call of a part returns, the whole and this part have the same client
+same_client : (named : List ℕ → Bool) (free : ℕ → Bool) (turns : List Turn) (whole chosen rest : Config)
+    (session : ℕ) (seen : Seen) (turn : Turn) (wanted : Bool) → AreParts named free turns whole chosen rest
+    → slice_get turns session ≡ Some turn
+    → FitsTurn named free turn (Return session seen) wanted
+    → slice_get whole.clients session ≡ slice_get ((part_of wanted chosen rest).clients) session
+same_client named free turns whole chosen rest session seen turn true parts at fits =
+    let same = same_chosen named free session turn (Return session seen) _ _ _ fits
+    (clients_at named free turns whole chosen rest session (Some turn) parts at) in
+    same.1 ∙ sym same.2
+same_client named free turns whole chosen rest session seen turn false parts at fits =
+    let same = same_rest named free session turn _ _ _ fits
+    (clients_at named free turns whole chosen rest session (Some turn) parts at) in
+    same.2 ∙ sym same.4
+
+-- where an answer could be in a part, it could be in the record
+could_whole : (named : List ℕ → Bool) (free : ℕ → Bool) (base : State) (sides : List Bool) (events : List Event)
+    (wanted : Bool) (place : ℕ) (answer : Answer) → IsApart named free base
+    → IsCut named free first_turns sides events
+    → slice_get sides place ≡ Some wanted
+    → Explained base (picked (not wanted) (take place sides) (take place events))
+    → CouldBe base (picked wanted sides events) (count_in wanted (take place sides)) answer
+    → CouldBe base events place answer
+could_whole named free base sides events true place answer apart cut at other could =
+    let returns = sym (picked_at named free first_turns true place sides events cut at) ∙ could.returns in
+    let open_config = opening_config base in
+    let found = whole_of named free first_turns open_config open_config open_config could.after.config other.1
+    (take place sides) (take place events) could.after.reached.moves other.0
+    (cut_take named free first_turns place sides events cut) (parts_first named free base apart)
+    (subst (λ l. LeadsThrough open_config l could.after.reached.moves could.after.config)
+    (sym (picked_take true place sides events)) could.after.reached.runs) other.2 in
+    let turn = cut_at named free first_turns place sides events true (Return could.session could.seen) cut at returns in
+    record {
+      session = could.session;
+      seen = could.seen;
+      returns = returns;
+      after = record {
+        config = found.end;
+        reached = record { moves = found.moves; runs = found.runs };
+        answered = same_client named free _ found.end could.after.config other.1 could.session could.seen turn.0 true
+            found.parts turn.1 turn.2 ∙ could.after.answered;
+      };
+    }
+could_whole named free base sides events false place answer apart cut at other could =
+    let returns = sym (picked_at named free first_turns false place sides events cut at) ∙ could.returns in
+    let open_config = opening_config base in
+    let found = whole_of named free first_turns open_config open_config open_config other.1 could.after.config
+    (take place sides) (take place events) other.0 could.after.reached.moves
+    (cut_take named free first_turns place sides events cut) (parts_first named free base apart) other.2
+    (subst (λ l. LeadsThrough open_config l could.after.reached.moves could.after.config)
+    (sym (picked_take false place sides events)) could.after.reached.runs) in
+    let turn = cut_at named free first_turns place sides events false (Return could.session could.seen) cut at
+    returns in
+    record {
+      session = could.session;
+      seen = could.seen;
+      returns = returns;
+      after = record {
+        config = found.end;
+        reached = record { moves = found.moves; runs = found.runs };
+        answered = same_client named free _ found.end other.1 could.after.config could.session could.seen turn.0 false
+            found.parts turn.1 turn.2 ∙ could.after.answered;
+      };
+    }
+
+-- and where it could be in the record, it could be in the part
+could_part : (named : List ℕ → Bool) (free : ℕ → Bool) (base : State) (sides : List Bool) (events : List Event)
+    (wanted : Bool) (place : ℕ) (answer : Answer) → IsApart named free base
+    → IsCut named free first_turns sides events
+    → slice_get sides place ≡ Some wanted
+    → CouldBe base events place answer
+    → CouldBe base (picked wanted sides events) (count_in wanted (take place sides)) answer
+could_part named free base sides events true place answer apart cut at could =
+    let open_config = opening_config base in
+    let found = in_parts named free first_turns open_config open_config open_config could.after.config
+    (take place sides) (take place events) could.after.reached.moves
+    (cut_take named free first_turns place sides events cut) (parts_first named free base apart)
+    could.after.reached.runs in
+    let turn = cut_at named free first_turns place sides events true (Return could.session could.seen) cut at
+    could.returns in
+    record {
+      session = could.session;
+      seen = could.seen;
+      returns = picked_at named free first_turns true place sides events cut at ∙ could.returns;
+      after = record {
+        config = found.chosen_end;
+        reached = record {
+          moves = found.chosen_moves;
+          runs = subst (λ l. LeadsThrough open_config l found.chosen_moves found.chosen_end)
+              (picked_take true place sides events) found.chosen_runs;
+        };
+        answered = sym (same_client named free _ could.after.config found.chosen_end found.rest_end could.session
+            could.seen turn.0 true found.parts turn.1 turn.2) ∙ could.after.answered;
+      };
+    }
+could_part named free base sides events false place answer apart cut at could =
+    let open_config = opening_config base in
+    let found = in_parts named free first_turns open_config open_config open_config could.after.config
+    (take place sides) (take place events) could.after.reached.moves
+    (cut_take named free first_turns place sides events cut) (parts_first named free base apart)
+    could.after.reached.runs in
+    let turn = cut_at named free first_turns place sides events false (Return could.session could.seen) cut at
+    could.returns in
+    record {
+      session = could.session;
+      seen = could.seen;
+      returns = picked_at named free first_turns false place sides events cut at ∙ could.returns;
+      after = record {
+        config = found.rest_end;
+        reached = record {
+          moves = found.rest_moves;
+          runs = subst (λ l. LeadsThrough open_config l found.rest_moves found.rest_end)
+              (picked_take false place sides events) found.rest_runs;
+        };
+        answered = sym (same_client named free _ could.after.config found.chosen_end found.rest_end could.session
+            could.seen turn.0 false found.parts turn.1 turn.2) ∙ could.after.answered;
+      };
+    }
+
+-- the answers in the record are those in the part
+pub answers_part : (named : List ℕ → Bool) (free : ℕ → Bool) (base : State) (sides : List Bool) (events : List Event)
+    (wanted : Bool) (place : ℕ) (answers : List Answer) → IsApart named free base
+    → IsCut named free first_turns sides events
+    → slice_get sides place ≡ Some wanted
+    → Explained base (picked (not wanted) (take place sides) (take place events))
+    → AreAllAnswers base (picked wanted sides events) (count_in wanted (take place sides)) answers
+    → AreAllAnswers base events place answers
+answers_part named free base sides events wanted place answers apart cut at other are = record {
+  each = λ k answer below. could_whole named free base sides events wanted place (slice_index_or answers k answer)
+      apart cut at other (are.each k answer below);
+  all = λ answer could. are.all answer (could_part named free base sides events wanted place answer apart cut at
+      could);
+}
+
+-- ---- verdicts
+
+-- the moves up to where the first events were seen
+cut_short : (old new : Config) (events : List Event) (count : ℕ) (moves : List Move) → LeadsThrough old events moves new
+    → (fewer : List Move) × (end : Config) × LeadsThrough old (take count events) fewer end
+cut_short old new events count (Effect session act ∷ moves) runs =
+    let rest = cut_short runs.0 new events count moves runs.3 in
+    (Effect session act ∷ rest.0, rest.1, (runs.0, runs.1, runs.2, rest.2))
+cut_short old new [] count (Seeing ∷ moves) runs = absurd runs
+cut_short old new (event ∷ events) zero (Seeing ∷ moves) runs = ([], old, refl)
+cut_short old new (event ∷ events) (suc count) (Seeing ∷ moves) runs =
+    let rest = cut_short runs.0 new events count moves runs.2 in
+    (Seeing ∷ rest.0, rest.1, (runs.0, runs.1, rest.2))
+cut_short old new [] zero [] runs = ([], old, refl)
+cut_short old new [] (suc count) [] runs = ([], old, refl)
+cut_short old new (event ∷ events) count [] runs = absurd runs
+
+-- what is explained is explained up to each of its events
+pub explained_take : (base : State) (events : List Event) (count : ℕ) → Explained base events
+    → Explained base (take count events)
+explained_take base events count explained =
+    cut_short (opening_config base) explained.1 events count explained.0 explained.2
+
+-- the first of the first ones
+taken_twice : {A : Type 0} (few many : ℕ) (xs : List A) → few ≤ many → take few (take many xs) ≡ take few xs
+taken_twice zero many xs le = refl
+taken_twice (suc few) zero xs le = absurd (omega arith)
+taken_twice (suc few) (suc many) [] le = refl
+taken_twice (suc few) (suc many) (x ∷ xs) le = ap (λ l. x ∷ l) (taken_twice few many xs (omega arith))
+
+-- an illegal part makes the record illegal, if the other part is explained up to there
+pub illegal_part : (named : List ℕ → Bool) (free : ℕ → Bool) (base : State) (sides : List Bool) (events : List Event)
+    (wanted : Bool) (index place explained limit : ℕ) (answers : Vec Answer Global) → HasNoBranch base
+    → IsCut named free first_turns sides events
+    → slice_get sides place ≡ Some wanted
+    → count_in wanted (take place sides) ≡ index
+    → count_in (not wanted) (take place sides) ≤ explained
+    → IsVerdict base (picked wanted sides events) limit (IllegalAt index answers)
+    → Explained base (take explained (picked (not wanted) sides events))
+    → IsVerdict base events limit (IllegalAt place answers)
+illegal_part named free base sides events wanted index place explained limit answers none cut at count few is other =
+    let apart = none_apart named free base none in
+    let beside : Explained base (picked (not wanted) (take place sides) (take place events)) =
+    subst (Explained base) (sym (picked_take (not wanted) place sides events))
+    (subst (Explained base) (taken_twice (count_in (not wanted) (take place sides)) explained
+    (picked (not wanted) sides events) few)
+    (explained_take base (take explained (picked (not wanted) sides events)) (count_in (not wanted) (take place sides))
+    other)) in (
+      refuted_part named free base sides events wanted place apart cut at
+          (subst (IsRefuted base (picked wanted sides events)) (sym count) is.0) beside,
+      answers_part named free base sides events wanted place answers.items apart cut at beside
+          (subst (λ i. AreAllAnswers base (picked wanted sides events) i answers.items) (sym count) is.1),
+    )
+
+-- the events of a part are no more than the record's
+pub picked_few : (wanted : Bool) (sides : List Bool) (events : List Event)
+    → length (picked wanted sides events) ≤ length sides
+picked_few true [] events = omega arith
+picked_few false [] events = omega arith
+picked_few true (true ∷ sides) [] = omega arith
+picked_few true (false ∷ sides) [] = omega arith
+picked_few false (true ∷ sides) [] = omega arith
+picked_few false (false ∷ sides) [] = omega arith
+picked_few true (true ∷ sides) (event ∷ events) = omega (arith, picked_few true sides events)
+picked_few true (false ∷ sides) (event ∷ events) = omega (arith, picked_few true sides events)
+picked_few false (true ∷ sides) (event ∷ events) = omega (arith, picked_few false sides events)
+picked_few false (false ∷ sides) (event ∷ events) = omega (arith, picked_few false sides events)
+
+-- a part with this verdict is explained up to each of its events
+pub legal_before : (base : State) (events : List Event) (limit count : ℕ) (moves : Vec Move Global) (verdict : Verdict)
+    → IsVerdict base events limit verdict → verdict ≡ LegalBy moves
+    → Explained base (take count events)
+legal_before base events limit count moves verdict right is =
+    let told = subst (IsVerdict base events limit) is right in
+    explained_take base events count (moves.items, told.0, told.1)
+
+-- or up to where it is refuted
+pub illegal_before : (base : State) (events : List Event) (limit place : ℕ) (answers : Vec Answer Global)
+    (verdict : Verdict) → IsVerdict base events limit verdict → verdict ≡ IllegalAt place answers
+    → Explained base (take place events)
+illegal_before base events limit place answers verdict right is =
+    (subst (IsVerdict base events limit) is right).0.before

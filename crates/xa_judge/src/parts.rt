@@ -1,0 +1,275 @@
+//! Cuts a record in two: free statements on some rows, and the rest.
+//!
+//! A session that never has a branch reads and writes a row at once. If all calls that name a row are of such
+//! sessions, and no branch of the base holds it, nothing else depends on the row.
+ghost use Rattle.std.specs.Prelude.{◌≡◌, ◌≤◌, true, take, length, slice_get, IfOk, IfSome, option_copied};
+ghost use Rattle.xa_judge.specs.Keys.{free_in, is_chosen as is_chosen_turn, turn_after, FitsRow, FitsTurn};
+ghost use Rattle.xa_judge.specs.Keys.{first_turns, session_of as session_in, IsCut, picked, count_in};
+ghost use Rattle.xa_judge.specs.Near.{named_in};
+
+use crate::event::Event;
+use crate::moves::Move;
+use crate::request::Request;
+use crate::turn::Turn;
+use std::alloc::Global;
+use std::collections::BTreeSet;
+use xa_xid::{Key, NoMemory, SessionNo, Statement};
+
+/// Whether the session never has a branch.
+fn is_free(frees: &[bool], session: SessionNo) -> bool
+    ensures { result ≡ free_in frees.now session }
+{
+    match frees.get(session.get() as usize) {
+        Some(free) => *free,
+        None => false,
+    }
+}
+
+/// Whether the open call belongs to the chosen part.
+fn is_chosen(turn: Turn) -> bool
+    ensures { result ≡ is_chosen_turn turn }
+{
+    match turn {
+        Turn::Nobody => false,
+        Turn::Chosen => true,
+        Turn::Rest => false,
+    }
+}
+
+/// Whether the session has no open call.
+fn is_nobody(turn: Turn) -> bool
+    ensures { result ≡ true → turn ≡ Turn.Nobody }
+{
+    match turn {
+        Turn::Nobody => true,
+        Turn::Chosen => false,
+        Turn::Rest => false,
+    }
+}
+
+/// The part of a statement on a row, if it may stand in one.
+fn part_of_row(
+    keys: &BTreeSet<Key>,
+    frees: &[bool],
+    turn: Turn,
+    session: SessionNo,
+    key: &Key,
+) -> Option<bool>
+    ensures { IfSome result (λ side. FitsRow (named_in keys.now) (free_in frees.now) turn session key.now side) }
+{
+    if keys.contains(key) {
+        if is_nobody(turn) && is_free(frees, session) {
+            Some(true)
+        } else {
+            None
+        }
+    } else if is_chosen(turn) {
+        None
+    } else {
+        Some(false)
+    }
+}
+
+/// The part of a call, if it may stand in one.
+fn part_of_call(
+    keys: &BTreeSet<Key>,
+    frees: &[bool],
+    turn: Turn,
+    session: SessionNo,
+    request: &Request,
+) -> Option<bool>
+    ensures { IfSome result
+        (λ side. FitsTurn (named_in keys.now) (free_in frees.now) turn (Event.Call session request.now) side) }
+{
+    match request {
+        Request::Statement(Statement::Get(key)) => part_of_row(keys, frees, turn, session, key),
+        Request::Statement(Statement::Put(key, _)) => part_of_row(keys, frees, turn, session, key),
+        Request::Statement(Statement::Del(key)) => part_of_row(keys, frees, turn, session, key),
+        Request::Statement(Statement::Start(_)) => {
+            if is_free(frees, session) || is_chosen(turn) {
+                None
+            } else {
+                Some(false)
+            }
+        }
+        _ => { if is_chosen(turn) { None } else { Some(false) } }
+    }
+}
+
+/// The part of an event, if it may stand in one.
+fn part_of(keys: &BTreeSet<Key>, frees: &[bool], turn: Turn, event: &Event) -> Option<bool>
+    ensures { IfSome result (λ side. FitsTurn (named_in keys.now) (free_in frees.now) turn event.now side) }
+{
+    match event {
+        Event::Call(session, request) => {
+            part_of_call(keys, frees, turn, *session, request.request())
+        }
+        Event::Return(_, _) => Some(is_chosen(turn)),
+        Event::Lost(_) => { if is_chosen(turn) { None } else { Some(false) } }
+        Event::Unknown(_) => Some(is_chosen(turn)),
+    }
+}
+
+/// To which part the open call of the event's session belongs after it.
+fn turn_past(event: &Event, side: bool) -> Turn
+    ensures { result ≡ turn_after event.now side }
+{
+    match event {
+        Event::Call(_, _) => { if side { Turn::Chosen } else { Turn::Rest } }
+        Event::Return(_, _) => Turn::Nobody,
+        Event::Lost(_) => Turn::Rest,
+        Event::Unknown(_) => Turn::Nobody,
+    }
+}
+
+/// Whose event it is.
+fn session_of(event: &Event) -> SessionNo
+    ensures { result ≡ session_in event.now }
+{
+    match event {
+        Event::Call(session, _) => *session,
+        Event::Return(session, _) => *session,
+        Event::Lost(session) => *session,
+        Event::Unknown(session) => *session,
+    }
+}
+
+/// No session has an open call.
+#[tactic(auto, unfolding(crate::specs::Keys::first_turns))]
+fn nobody(alloc: Global) -> Result<Vec<Turn>, NoMemory>
+    ensures { IfOk result (λ turns. turns.items ≡ first_turns) }
+{
+    let mut turns = Vec::new(alloc);
+    for _ in 0..17usize {
+        turns.push(Turn::Nobody)?;
+    }
+    Ok(turns)
+}
+
+/// Returns the part of each event: `true` for statements on rows with these keys, by sessions that never have
+/// a branch. Or None, if the record can't be cut so.
+///
+/// May return `NoMemory`.
+pub fn sides_of(
+    alloc: Global,
+    keys: &BTreeSet<Key>,
+    frees: &[bool],
+    events: &[Event],
+) -> Result<Option<Vec<bool>>, NoMemory>
+    ensures { IfOk result (λ found. IfSome found
+        (λ sides. IsCut (named_in keys.now) (free_in frees.now) first_turns sides.items events.now)) }
+{
+    let mut turns = nobody(alloc)?;
+    let mut sides = Vec::new(alloc);
+    for event in events {
+        let place = session_of(event).get() as usize;
+        let Some(turn) = turns.get(place) else {
+            return Ok(None);
+        };
+        let Some(side) = part_of(keys, frees, *turn, event) else {
+            return Ok(None);
+        };
+        turns[place] = turn_past(event, side);
+        sides.push(side)?;
+    }
+    Ok(Some(sides))
+}
+
+/// One more owner of what the event has.
+fn copy_of(event: &Event) -> Result<Event, NoMemory>
+    ensures { IfOk result (λ copy. copy ≡ event.now) }
+{
+    match event {
+        Event::Call(session, request) => Ok(Event::Call(*session, request.try_clone()?)),
+        Event::Return(session, seen) => Ok(Event::Return(*session, seen.try_clone()?)),
+        Event::Lost(session) => Ok(Event::Lost(*session)),
+        Event::Unknown(session) => Ok(Event::Unknown(*session)),
+    }
+}
+
+/// Returns the events of one part.
+///
+/// May return `NoMemory`.
+pub fn pick(
+    alloc: Global,
+    wanted: bool,
+    sides: &[bool],
+    events: &[Event],
+) -> Result<Vec<Event>, NoMemory>
+    ensures { IfOk result (λ part. part.items ≡ picked wanted sides.now events.now) }
+{
+    let mut part = Vec::new(alloc);
+    for place in 0..sides.len().min(events.len()) {
+        if sides[place] == wanted {
+            part.push(copy_of(&events[place])?)?;
+        }
+    }
+    Ok(part)
+}
+
+/// Returns how many events of one part come before this place.
+pub fn count_before(sides: &[bool], wanted: bool, place: usize) -> usize
+    ensures count { result ≡ count_in wanted (take place sides.now) }
+    ensures few { result ≤ length sides.now }
+{
+    let mut count = 0;
+    for index in 0..place.min(sides.len()) {
+        if sides[index] == wanted {
+            count += 1;
+        }
+    }
+    count
+}
+
+/// Returns the place in the record of an event of one part, by its place there.
+pub fn place_in(sides: &[bool], wanted: bool, index: usize) -> Option<usize>
+    ensures at { IfSome result (λ place. slice_get sides.now place ≡ Some wanted) }
+    ensures count { IfSome result (λ place. count_in wanted (take place sides.now) ≡ index) }
+{
+    let mut count = 0;
+    for place in 0..sides.len() {
+        if sides[place] == wanted {
+            if count == index {
+                return Some(place);
+            }
+            count += 1;
+        }
+    }
+    None
+}
+
+/// The moves of one part up to its next event, and this; the rest of them stays.
+fn take_step(moves: &[Move], from: usize, all: &mut Vec<Move>) -> Result<usize, NoMemory> {
+    for place in from..moves.len() {
+        let by = moves[place];
+        all.push(by)?;
+        if by == Move::Event {
+            return Ok(place.saturating_add(1));
+        }
+    }
+    Ok(moves.len())
+}
+
+/// Returns moves through the record, by moves through its parts.
+///
+/// May return `NoMemory`.
+pub fn merge(
+    alloc: Global,
+    sides: &[bool],
+    chosen: &[Move],
+    rest: &[Move],
+) -> Result<Vec<Move>, NoMemory> {
+    let mut all = Vec::new(alloc);
+    let mut in_chosen = 0;
+    let mut in_rest = 0;
+    for side in sides {
+        if *side {
+            in_chosen = take_step(chosen, in_chosen, &mut all)?;
+        } else {
+            in_rest = take_step(rest, in_rest, &mut all)?;
+        }
+    }
+    let _chosen = take_step(chosen, in_chosen, &mut all)?;
+    let _rest = take_step(rest, in_rest, &mut all)?;
+    Ok(all)
+}
