@@ -4,6 +4,7 @@ pub mod Places
 pub mod CallTexts
 pub mod Effects
 pub mod Exchanged
+pub mod Chosen
 pub mod Texts
 pub mod JsonTexts
 pub mod NamedRows
@@ -31,4 +32,5 @@ pub mod TextsTold
 pub mod FaultyTexts
 pub mod StrictNotes
 pub mod LinesReported
+pub mod Unexplained
 pub mod RowsLeft

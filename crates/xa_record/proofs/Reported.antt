@@ -21,22 +21,23 @@ use Rattle.xa_record.specs.Reports.{Report, IsReportOf}
 use Rattle.xa_record.proofs.Replays.{bare_replayed}
 
 -- with at least one event the report is the judgement on the events
-reported_of : (base : State) (allowances : List Allowance) (numbered : List NumberedRead) (asked : Asked)
+reported_of : (base : State) (allowances : List Allowance) (lines : List (List ℕ))
+    (numbered : List NumberedRead) (asked : Asked)
     (report : Report) → (length numbered == 0) ≡ false
-    → IsJudgement base allowances (map numbered_kept numbered) asked report
-    → IsReportedOf base allowances (map numbered_kept numbered) asked report
-reported_of base allowances [] asked report some is = absurd (cc)
-reported_of base allowances (one ∷ numbered) asked report some is = is
+    → IsJudgement base allowances lines (map numbered_kept numbered) asked report
+    → IsReportedOf base allowances lines (map numbered_kept numbered) asked report
+reported_of base allowances lines [] asked report some is = absurd (cc)
+reported_of base allowances lines (one ∷ numbered) asked report some is = is
 
 -- a report on events that were judged is one on the lines that say them
 pub judged_so : {E : Type 0} (result : Result ReportMade E) (base : State) (allowances : List Allowance)
-    (numbered : List NumberedEvent) (asked : Asked)
+    (lines : List (List ℕ)) (numbered : List NumberedEvent) (asked : Asked)
     (events : List Event) (verdict : Verdict) → AreBare numbered → AreEvents allowances numbered events
     → All IsWrittenCall events
     → IsVerdict base events asked.limit verdict
-    → IfOk result (λ report. IsReportOf base asked numbered events verdict (report_kept report))
-    → IfOk result (λ report. IsJudgement base allowances numbered asked (report_kept report))
-judged_so (Ok report) base allowances numbered asked events verdict bare are written right told =
+    → IfOk result (λ report. IsReportOf base allowances lines asked numbered events verdict (report_kept report))
+    → IfOk result (λ report. IsJudgement base allowances lines numbered asked (report_kept report))
+judged_so (Ok report) base allowances lines numbered asked events verdict bare are written right told =
     record {
       events = events;
       verdict = verdict;
@@ -46,40 +47,20 @@ judged_so (Ok report) base allowances numbered asked events verdict bare are wri
           (recursion_from_All IsWrittenCall events written) right;
       is = told;
     }
-judged_so (Err fault) base allowances numbered asked events verdict bare are written right told = tt
-
--- if what is returned is right for each list of allowances that gives these events, its report is
-pub judged_always : {E : Type 0} (result : Result ReportMade E) (base : State) (told : List NumberedEvent)
-    (asked : Asked) (events : List Event)
-    → ((allowances : List Allowance) → AreEvents allowances told events
-    → IfOk result (λ report. IsJudgement base allowances told asked (report_kept report)))
-    → IfOk result (λ report. (allowances : List Allowance) → AreEvents allowances told events
-    → IsJudgement base allowances told asked (report_kept report))
-judged_always (Ok report) base told asked events judged = judged
-judged_always (Err fault) base told asked events judged = tt
-
--- a report that is right for each list of allowances that gives these events is right for this one
-pub judged_with : {E : Type 0} (result : Result ReportMade E) (base : State) (allowances : List Allowance)
-    (told : List NumberedEvent) (asked : Asked) (events : List Event)
-    → IfOk result (λ report. (allowances : List Allowance) → AreEvents allowances told events
-    → IsJudgement base allowances told asked (report_kept report))
-    → AreEvents allowances told events
-    → IfOk result (λ report. IsJudgement base allowances told asked (report_kept report))
-judged_with (Ok report) base allowances told asked events judged are = judged allowances are
-judged_with (Err fault) base allowances told asked events judged are = tt
+judged_so (Err fault) base allowances lines numbered asked events verdict bare are written right told = tt
 
 -- something happens in the record, and it was judged
 pub reported : {E : Type 0} (result : Result ReportMade E) (base : State) (allowances : List Allowance)
-    (faults : List ℕ) (numbered : List NumberedRead) (asked : Asked)
+    (lines : List (List ℕ)) (faults : List ℕ) (numbered : List NumberedRead) (asked : Asked)
     → faults ≡ [] → (length numbered == 0) ≡ false
-    → IfOk result (λ report. IsJudgement base allowances (map numbered_kept numbered) asked (report_kept report))
-    → IfOk result (λ report. IsReportedByNotes base allowances faults (map numbered_kept numbered) asked
+    → IfOk result (λ report. IsJudgement base allowances lines (map numbered_kept numbered) asked (report_kept report))
+    → IfOk result (λ report. IsReportedByNotes base allowances lines faults (map numbered_kept numbered) asked
     (report_kept report))
-reported (Ok report) base allowances faults numbered asked none some is =
-    subst (λ (f : List ℕ). IsReportedByNotes base allowances f (map numbered_kept numbered) asked (report_kept report))
-    (sym none)
-    (reported_of base allowances numbered asked (report_kept report) some is)
-reported (Err fault) base allowances faults numbered asked none some is = tt
+reported (Ok report) base allowances lines faults numbered asked none some is =
+    subst (λ (f : List ℕ). IsReportedByNotes base allowances lines f (map numbered_kept numbered) asked
+    (report_kept report)) (sym none)
+    (reported_of base allowances lines numbered asked (report_kept report) some is)
+reported (Err fault) base allowances lines faults numbered asked none some is = tt
 
 -- a text whose length tests as 0 is empty: no line was faulty
 pub no_fault : (faults : List ℕ) → (length faults == 0) ≡ true → faults ≡ []

@@ -27,6 +27,11 @@ exchange_text (Some exchange) =
     codes "SEEN " ++ exchange.seen ++ codes "\nCALL line " ++ decimal exchange.line ++ codes " " ++ exchange.call
     ++ codes "\n"
 
+-- the lines of a smaller record, after its heading
+abbrev pub smaller_text : Option (List ℕ) → List ℕ
+smaller_text None = []
+smaller_text (Some written) = codes "RECORD\n" ++ written
+
 -- a report as lines, which is the form without `--json`
 abbrev pub plain_text : Report → List ℕ
 plain_text (Faulty faults) = faults
@@ -34,7 +39,7 @@ plain_text Empty = codes "EMPTY\n"
 plain_text (Legal order) = codes "LEGAL\n" ++ order
 plain_text (Illegal line texts grounds) =
     line_text (codes "ILLEGAL") line ++ exchange_text grounds.exchange ++ answers_text texts
-    ++ reason_text grounds.reason
+    ++ reason_text grounds.reason ++ smaller_text grounds.smaller
 plain_text (Undecided line) = line_text (codes "UNDECIDED") line
 
 -- a text as a JSON string: each byte becomes the character with its number, so a byte from 128 on takes two
@@ -82,6 +87,11 @@ with_state state members = member (codes "state") (texts_value (lines_of state))
 abbrev pub with_faulty : List ℕ → Members → Members
 with_faulty faults members = member (codes "faulty") (texts_value (lines_of faults)) members
 
+-- the key of a smaller record, a string for each of its lines
+abbrev pub with_smaller : Option (List ℕ) → Members → Members
+with_smaller None members = members
+with_smaller (Some written) members = member (codes "record") (texts_value (lines_of written)) members
+
 -- the keys of an ILLEGAL verdict's reason, if there is one: an order before the line, and the store then
 abbrev pub with_reason : Option Reason → Members → Members
 with_reason None members = members
@@ -94,7 +104,7 @@ report_members Empty = with_verdict (codes "EMPTY") no_members
 report_members (Legal order) = with_verdict (codes "LEGAL") (with_order order no_members)
 report_members (Illegal line texts grounds) =
     with_verdict (codes "ILLEGAL") (with_line line (with_exchange grounds.exchange (with_could_be texts
-    (with_reason grounds.reason no_members))))
+    (with_reason grounds.reason (with_smaller grounds.smaller no_members)))))
 report_members (Undecided line) = with_verdict (codes "UNDECIDED") (with_line line no_members)
 
 -- a report as an object of JSON

@@ -42,24 +42,26 @@ record_reads = 33554432
 
 -- some verdict on the events that the lines say, beginning with a server in this state, is right; its order,
 -- run as a script from there, gives the answers of its moves; and this is the report of it
-pub record IsJudgement (base : State) (allowances : List Allowance) (numbered : List NumberedEvent) (asked : Asked)
-    (report : Report) : Type 0 where
+pub record IsJudgement (base : State) (allowances : List Allowance) (lines : List (List ℕ))
+    (numbered : List NumberedEvent) (asked : Asked) (report : Report) : Type 0 where
   pub events : List Event
   pub verdict : Verdict
   pub are : AreEvents allowances numbered events
   pub right : IsVerdict base events asked.limit verdict
   pub replayed : IsReplayed base numbered events verdict
-  pub is : IsReportOf base asked numbered events verdict report
+  pub is : IsReportOf base allowances lines asked numbered events verdict report
 
 -- lines without a fault are judged if something happens on them; else there is nothing to judge
-abbrev pub IsReportedOf : State → List Allowance → List NumberedEvent → Asked → Report → Type 0
-IsReportedOf base allowances [] asked report = report ≡ Empty
-IsReportedOf base allowances (one ∷ more) asked report = IsJudgement base allowances (one ∷ more) asked report
+abbrev pub IsReportedOf : State → List Allowance → List (List ℕ) → List NumberedEvent → Asked → Report → Type 0
+IsReportedOf base allowances lines [] asked report = report ≡ Empty
+IsReportedOf base allowances lines (one ∷ more) asked report =
+    IsJudgement base allowances lines (one ∷ more) asked report
 
 -- if a line is faulty, only the faulty lines are reported; else what the lines tell is judged
 abbrev pub IsReportedWith : State → List Allowance → List ℕ → List (List ℕ) → Asked → Report → Type 0
 IsReportedWith base allowances [] lines asked report =
-    (numbered : List NumberedEvent) × Tells lines numbered × IsReportedOf base allowances numbered asked report
+    (numbered : List NumberedEvent) × Tells lines numbered
+    × IsReportedOf base allowances lines numbered asked report
 IsReportedWith base allowances (byte ∷ faults) lines asked report = report ≡ Faulty (byte ∷ faults)
 
 -- what is reported of these lines
@@ -67,15 +69,17 @@ abbrev pub IsReported : State → List Allowance → List (List ℕ) → Asked �
 IsReported base allowances lines asked report = IsReportedWith base
     allowances (faulty_text asked.strict_calls lines) lines asked report
 
--- what is reported: the text of the faulty lines if there is one, else a report on the events
-abbrev pub IsReportedByNotes : State → List Allowance → List ℕ → List NumberedEvent → Asked → Report → Type 0
-IsReportedByNotes base allowances [] numbered asked report = IsReportedOf base allowances numbered asked report
-IsReportedByNotes base allowances (byte ∷ faults) numbered asked report = report ≡ Faulty (byte ∷ faults)
+-- what is reported: the text of the faulty lines if there is one, else a report on the events of the lines
+abbrev pub IsReportedByNotes : State → List Allowance → List (List ℕ) → List ℕ → List NumberedEvent → Asked → Report
+    → Type 0
+IsReportedByNotes base allowances lines [] numbered asked report =
+    IsReportedOf base allowances lines numbered asked report
+IsReportedByNotes base allowances lines (byte ∷ faults) numbered asked report = report ≡ Faulty (byte ∷ faults)
 
--- the report of what was read: of the faulty lines if there are any, else of the events
-abbrev pub IsReportedOfNotes : State → List Allowance → Notes → Asked → Report → Type 0
-IsReportedOfNotes base allowances notes asked report =
-    IsReportedByNotes base allowances notes.faults notes.told asked report
+-- the report of what was read of the lines: of the faulty ones if there are any, else of the events
+abbrev pub IsReportedOfNotes : State → List Allowance → List (List ℕ) → Notes → Asked → Report → Type 0
+IsReportedOfNotes base allowances lines notes asked report =
+    IsReportedByNotes base allowances lines notes.faults notes.told asked report
 
 -- how judging a record that begins in a state ends, and what is written
 pub record IsJudgedFrom (base : State) (written : List ℕ) (allowances : List Allowance) (asked : Asked)

@@ -116,6 +116,7 @@ grounds_kept grounds =
     record {
       exchange = option_map exchange_kept grounds.exchange;
       reason = option_map reason_kept grounds.reason;
+      smaller = option_map (λ text. text.items) grounds.smaller;
     }
 
 -- what is reported of a record

@@ -8,6 +8,7 @@ pub mod Events
 pub mod VerdictText
 pub mod Replaying
 pub mod Exchanges
+pub mod Shrinking
 pub mod Reports
 pub mod Forms
 pub mod Kept

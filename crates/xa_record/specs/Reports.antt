@@ -26,6 +26,7 @@ use Rattle.xa_judge.specs.declared.verdict.Verdict.TheVariants.{Legal as LegalBy
 use Rattle.xa_judge.specs.declared.verdict.Verdict.TheVariants.{Undecided as UndecidedAt}
 use Rattle.xa_judge.specs.Explained.{Config, opening_config, LeadsThrough}
 use Rattle.xa_judge.specs.Verdicts.{IsWide}
+use Rattle.xa_record.specs.declared.allowance.Allowance.{Allowance}
 use Rattle.xa_record.specs.declared.asked.Asked.{Asked}
 use Rattle.xa_record.specs.declared.outcome.Outcome.{Outcome}
 use Rattle.xa_record.specs.declared.outcome.Outcome.TheVariants.{Legal as IsLegal, Illegal as IsIllegal}
@@ -33,6 +34,7 @@ use Rattle.xa_record.specs.declared.outcome.Outcome.TheVariants.{Undecided as Is
 use Rattle.xa_record.specs.declared.outcome.Outcome.TheVariants.{Empty as IsEmpty}
 use Rattle.xa_record.specs.Reading.{NumberedEvent}
 use Rattle.xa_record.specs.Exchanges.{Exchange, exchange_sought}
+use Rattle.xa_record.specs.Shrinking.{IsSmallerSought}
 use Rattle.xa_record.specs.VerdictText.{order_text, no_calls, texts_of, line_number_at}
 
 -- an order that explains what is before a line, and the store after it, each as its lines
@@ -40,10 +42,12 @@ pub record Reason : Type 0 where
   pub order : List ℕ
   pub state : List ℕ
 
--- what is told beside the answers of an ILLEGAL verdict: what was seen and its call, and why, if they are asked for
+-- what is told beside the answers of an ILLEGAL verdict: what was seen and its call, why, and a smaller
+-- record, if they are asked for
 pub record Grounds : Type 0 where
   pub exchange : Option Exchange
   pub reason : Option Reason
+  pub smaller : Option (List ℕ)
 
 -- what is reported of a record
 pub data Report : Type 0 where
@@ -110,15 +114,19 @@ IsReasonSought true base numbered events limit reason = IsReasonFound base numbe
 IsReasonSought false base numbered events limit reason = reason ≡ None
 
 -- what is told beside the answers of an ILLEGAL verdict at this place
-pub record AreGrounds (base : State) (asked : Asked) (numbered : List NumberedEvent) (events : List Event) (place : ℕ)
-    (grounds : Grounds) : Type 0 where
+pub record AreGrounds (base : State) (allowances : List Allowance) (lines : List (List ℕ)) (asked : Asked)
+    (numbered : List NumberedEvent) (events : List Event) (place : ℕ) (grounds : Grounds) : Type 0 where
   pub exchange : grounds.exchange ≡ exchange_sought asked.explains numbered place
   pub reason : IsReasonSought asked.explains base (take place numbered) (take place events) asked.limit grounds.reason
+  pub smaller : IsSmallerSought asked.shrinks base allowances asked lines grounds.smaller
 
--- what is reported of a verdict on these events, which begin in a state
-abbrev pub IsReportOf : State → Asked → List NumberedEvent → List Event → Verdict → Report → Type 0
-IsReportOf base asked numbered events (LegalBy moves) report = report ≡ Legal (order_text no_calls numbered moves.items)
-IsReportOf base asked numbered events (IllegalAt place answers) report =
-    (grounds : Grounds) × AreGrounds base asked numbered events place grounds
+-- what is reported of a verdict on the events of these lines, which begin in a state
+abbrev pub IsReportOf : State → List Allowance → List (List ℕ) → Asked → List NumberedEvent → List Event → Verdict
+    → Report → Type 0
+IsReportOf base allowances lines asked numbered events (LegalBy moves) report =
+    report ≡ Legal (order_text no_calls numbered moves.items)
+IsReportOf base allowances lines asked numbered events (IllegalAt place answers) report =
+    (grounds : Grounds) × AreGrounds base allowances lines asked numbered events place grounds
     × (report ≡ Illegal (line_number_at numbered place) (texts_of answers.items) grounds)
-IsReportOf base asked numbered events (UndecidedAt place) report = report ≡ Undecided (line_number_at numbered place)
+IsReportOf base allowances lines asked numbered events (UndecidedAt place) report =
+    report ≡ Undecided (line_number_at numbered place)

@@ -14,6 +14,8 @@ pub struct Asked {
     /// Whether an ILLEGAL verdict also has an order that explains what is before its line, and the store
     /// after that order.
     pub explains: bool,
+    /// Whether an ILLEGAL verdict also has a smaller record that no order explains.
+    pub shrinks: bool,
     /// Whether a call whose text isn't a statement is a faulty line. Else it is answered with 1064.
     pub strict_calls: bool,
 }

@@ -68,9 +68,9 @@ fn calls(line_event: &LineEvent, session: SessionNo) -> bool
     }
 }
 
-/// The session's last call, if it has called.
+/// Returns the session's last call, if it has called.
 #[tactic(auto, using(crate::proofs::Exchanged::call_found, crate::proofs::Exchanged::call_other, crate::proofs::Exchanged::call_last))]
-fn last_call_in<'n, 'a>(
+pub fn last_call_in<'n, 'a>(
     numbered: &'n [NumberedEvent<'a>],
     session: SessionNo,
 ) -> Option<&'n NumberedEvent<'a>>

@@ -10,4 +10,6 @@ pub struct Grounds {
     pub exchange: Option<Exchange>,
     /// What explains what is before its line, if that was asked for.
     pub reason: Option<Reason>,
+    /// A smaller record that no order explains either, if one was asked for and found.
+    pub smaller: Option<Vec<u8>>,
 }

@@ -5,7 +5,7 @@ ghost use Rattle.json.specs.Json.{no_members};
 ghost use Rattle.json.specs.Token.{key, string, number};
 ghost use Rattle.json.specs.Tree.{json_tokens, members_tokens};
 ghost use Rattle.xa_lines.specs.Script.{lines_of};
-ghost use Rattle.xa_record.specs.Forms.{text_value, texts_value, with_could_be, with_exchange, with_reason};
+ghost use Rattle.xa_record.specs.Forms.{text_value, texts_value, with_could_be, with_exchange, with_reason, with_smaller};
 ghost use Rattle.xa_record.specs.Forms.{report_members, json_text as text_of_report};
 ghost use Rattle.xa_record.specs.Kept.{reason_kept, grounds_kept, report_kept};
 
@@ -138,23 +138,44 @@ fn write_text_of(
     write_text(alloc, writer, text)
 }
 
-/// Writes the keys of the order before a line and of the store after it, if these are given, and the end of
-/// the object.
+/// Writes the key of a smaller record, if one is given, and the end of the object.
+fn end_with_smaller(
+    alloc: Global,
+    writer: &mut Writer,
+    smaller: &Option<Vec<u8>>,
+) -> Result<(), NoMemory>
+    ensures tokens { OnOk result (writer.new.tokens ≡ writer.old.tokens
+        ++ members_tokens (with_smaller (option_map (λ written. written.items) smaller.now) no_members)) }
+    ensures before { writer.new.before ≡ writer.old.before }
+{
+    match smaller {
+        None => writer.end_object(),
+        Some(smaller) => {
+            write_lines_of(alloc, writer, "record", smaller.as_slice())?;
+            writer.end_object()
+        }
+    }
+}
+
+/// Writes the keys of the order before a line and of the store after it, and that of a smaller record, if these are
+/// given, and the end of the object.
 fn end_with_reason(
     alloc: Global,
     writer: &mut Writer,
     reason: &Option<Reason>,
+    smaller: &Option<Vec<u8>>,
 ) -> Result<(), NoMemory>
     ensures tokens { OnOk result (writer.new.tokens ≡ writer.old.tokens
-        ++ members_tokens (with_reason (option_map reason_kept reason.now) no_members)) }
+        ++ members_tokens (with_reason (option_map reason_kept reason.now)
+        (with_smaller (option_map (λ written. written.items) smaller.now) no_members))) }
     ensures before { writer.new.before ≡ writer.old.before }
 {
     match reason {
-        None => writer.end_object(),
+        None => end_with_smaller(alloc, writer, smaller),
         Some(reason) => {
             write_lines_of(alloc, writer, "order", reason.order.as_slice())?;
             write_lines_of(alloc, writer, "state", reason.state.as_slice())?;
-            writer.end_object()
+            end_with_smaller(alloc, writer, smaller)
         }
     }
 }
@@ -165,15 +186,16 @@ fn end_with_answers(
     alloc: Global,
     writer: &mut Writer,
     texts: &BTreeSet<Vec<u8>>,
-    reason: &Option<Reason>,
+    grounds: &Grounds,
 ) -> Result<(), NoMemory>
     ensures tokens { OnOk result (writer.new.tokens ≡ writer.old.tokens
         ++ members_tokens (with_could_be (map (λ text. text.items) texts.now.keys)
-        (with_reason (option_map reason_kept reason.now) no_members))) }
+        (with_reason (grounds_kept grounds.now).reason (with_smaller (grounds_kept grounds.now).smaller
+        no_members)))) }
     ensures before { writer.new.before ≡ writer.old.before }
 {
     write_could_be(alloc, writer, texts)?;
-    end_with_reason(alloc, writer, reason)
+    end_with_reason(alloc, writer, &grounds.reason, &grounds.smaller)
 }
 
 /// Writes the keys of what was seen, of its call, and of the number of the call's line.
@@ -200,14 +222,15 @@ fn end_with_grounds(
     ensures tokens { OnOk result (writer.new.tokens ≡ writer.old.tokens
         ++ members_tokens (with_exchange (grounds_kept grounds.now).exchange
         (with_could_be (map (λ text. text.items) texts.now.keys)
-        (with_reason (grounds_kept grounds.now).reason no_members)))) }
+        (with_reason (grounds_kept grounds.now).reason (with_smaller (grounds_kept grounds.now).smaller
+        no_members))))) }
     ensures before { writer.new.before ≡ writer.old.before }
 {
     match &grounds.exchange {
-        None => end_with_answers(alloc, writer, texts, &grounds.reason),
+        None => end_with_answers(alloc, writer, texts, grounds),
         Some(exchange) => {
             write_exchange(alloc, writer, exchange)?;
-            end_with_answers(alloc, writer, texts, &grounds.reason)
+            end_with_answers(alloc, writer, texts, grounds)
         }
     }
 }

@@ -1,5 +1,5 @@
 //! Judges the text of a record.
-ghost use Rattle.std.specs.Prelude.{◌≡◌, List, IfOk};
+ghost use Rattle.std.specs.Prelude.{◌≡◌, IfOk};
 ghost use Rattle.xa_lines.specs.Script.{lines_of};
 ghost use Rattle.xa_record.specs.Events.{AreCalls, AreEvents};
 ghost use Rattle.xa_record.specs.Forms.{text_in as text_of_report};
@@ -51,19 +51,22 @@ fn verdict_on<P: Progress>(
     alloc: Global,
     base: &Server,
     text: &[u8],
+    allowances: &[Allowance],
     events: &[Event],
     asked: Asked,
     progress: &mut P,
 ) -> Result<Report, NoMemory>
     requires calls { AreCalls (notes_of text.now).told events.now }
     requires bare { AreBare (notes_of text.now).told }
-    ensures { IfOk result (λ report. (allowances : List Allowance)
-        → AreEvents allowances (notes_of text.now).told events.now
-        → IsJudgement base.now allowances (notes_of text.now).told asked (report_kept report)) }
+    requires are { AreEvents allowances.now (notes_of text.now).told events.now }
+    ensures { IfOk result (λ report. IsJudgement base.now allowances.now (lines_of text.now) (notes_of text.now).told
+        asked (report_kept report)) }
 {
     are_written_calls(events);
     let verdict = judge_telling(alloc, base, events, asked.limit, progress)?;
-    report_of(alloc, base, asked, text, events, &verdict, progress)
+    report_of(
+        alloc, base, asked, allowances, text, events, &verdict, progress,
+    )
 }
 
 /// What is reported of the record of this text.
@@ -76,8 +79,8 @@ fn report_on<P: Progress>(
     progress: &mut P,
 ) -> Result<Report, NoMemory>
     ensures { IfOk result
-        (λ report. IsReportedOfNotes base.now allowances.now (notes_by asked.strict_calls text.now) asked
-        (report_kept report)) }
+        (λ report. IsReportedOfNotes base.now allowances.now (lines_of text.now)
+        (notes_by asked.strict_calls text.now) asked (report_kept report)) }
 {
     let notes = read_notes(alloc, asked.strict_calls, text)?;
     if !notes.faults.is_empty() {
@@ -87,7 +90,15 @@ fn report_on<P: Progress>(
         return Ok(Report::Empty);
     }
     let events = events_read(alloc, allowances, notes)?;
-    verdict_on(alloc, base, text, events.as_slice(), asked, progress)
+    verdict_on(
+        alloc,
+        base,
+        text,
+        allowances,
+        events.as_slice(),
+        asked,
+        progress,
+    )
 }
 
 /// What is reported of the lines of this text. The reader finds exactly the lines that are faulty.
@@ -121,7 +132,8 @@ fn text_in(alloc: Global, form: Form, report: &Report) -> Result<Vec<u8>, NoMemo
 /// `allowances` are known differences between the answers of the recorded server and the rules. If more than
 /// `asked.limit` different configurations have to be kept before an event, and no order is found, the end is
 /// `Undecided`. With `asked.explains` the part before an ILLEGAL line is judged once more; if that passes the
-/// limit, it isn't explained. If lines are faulty, or nothing happens, there is no verdict. With
+/// limit, it isn't explained. With `asked.shrinks` parts of an ILLEGAL record are judged, at most 1,000 times, and
+/// `progress` isn't told of that. If lines are faulty, or nothing happens, there is no verdict. With
 /// `asked.strict_calls` a call whose text isn't a statement is a faulty line. `progress` takes note of how far
 /// judging is.
 /// Errors: `NoMemory` if an allocation failed.
@@ -185,6 +197,7 @@ pub fn judge_text<P: Progress>(
     //   branch, and each row that a call before the place names, once, ascending.
     // Proved (records, illegal-unexplained): An ILLEGAL verdict that is to be explained lacks its order and
     //   store only if more configurations than allowed come before a place of what was seen before it.
+    // Proved (records, illegal-smaller)
     // Proved (records, order-replayed): The order that is written for a legal record, run as a script by a
     //   server that holds nothing, gives for each effect, in order, the answer that its session has there,
     //   along the moves by which the record is explained. `run` reads orders of up to 1,048,576 bytes.

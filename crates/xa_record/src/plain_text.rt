@@ -2,7 +2,7 @@
 ghost use Rattle.std.specs.Prelude.{◌≡◌, ◌++◌, OnOk, IfOk, map};
 ghost use Rattle.std.specs.Option.{option_map};
 ghost use Rattle.xa_record.specs.VerdictText.{answers_text, line_text};
-ghost use Rattle.xa_record.specs.Forms.{reason_text, exchange_text, plain_text as text_of_report};
+ghost use Rattle.xa_record.specs.Forms.{reason_text, exchange_text, smaller_text, plain_text as text_of_report};
 ghost use Rattle.xa_record.specs.Kept.{reason_kept, exchange_kept, report_kept};
 
 use crate::exchange::Exchange;
@@ -68,6 +68,20 @@ fn push_exchange(out: &mut Vec<u8>, exchange: &Option<Exchange>) -> Result<(), N
     }
 }
 
+/// Appends a smaller record, if one is given.
+fn push_smaller(out: &mut Vec<u8>, smaller: &Option<Vec<u8>>) -> Result<(), NoMemory>
+    ensures { OnOk result (out.new.items ≡ out.old.items
+        ++ smaller_text (option_map (λ written. written.items) smaller.now)) }
+{
+    match smaller {
+        None => Ok(()),
+        Some(smaller) => {
+            out.extend_from_slice(b"RECORD\n")?;
+            out.extend_from_slice(smaller.as_slice())
+        }
+    }
+}
+
 /// Appends a report as lines.
 fn push_report(out: &mut Vec<u8>, report: &Report) -> Result<(), NoMemory>
     ensures { OnOk result (out.new.items ≡ out.old.items ++ text_of_report (report_kept report.now)) }
@@ -83,7 +97,8 @@ fn push_report(out: &mut Vec<u8>, report: &Report) -> Result<(), NoMemory>
             push_line(out, b"ILLEGAL", *number)?;
             push_exchange(out, &grounds.exchange)?;
             push_texts(out, texts)?;
-            push_reason(out, &grounds.reason)
+            push_reason(out, &grounds.reason)?;
+            push_smaller(out, &grounds.smaller)
         }
         Report::Undecided(number) => push_line(out, b"UNDECIDED", *number),
     }

@@ -1,18 +1,21 @@
 //! Makes reports of verdicts.
 ghost use Rattle.std.specs.Prelude.{◌≡◌, IfOk, map};
 ghost use Rattle.xa_judge.specs.Verdicts.{IsVerdict, IsRefuted};
+ghost use Rattle.xa_lines.specs.Script.{lines_of};
 ghost use Rattle.xa_record.specs.Events.{AreCalls};
 ghost use Rattle.xa_record.specs.Kept.{report_kept, grounds_kept};
 ghost use Rattle.xa_record.specs.Reading.{notes_of};
 ghost use Rattle.xa_record.specs.Reports.{IsReportOf, AreGrounds};
 ghost use Rattle.xa_record.specs.VerdictText.{answer_text as text_of_answer, texts_of};
 
+use crate::allowance::Allowance;
 use crate::asked::Asked;
 use crate::exchanging::exchange_for;
 use crate::explaining::reason_for;
 use crate::grounds::Grounds;
 use crate::lines_again::{number_in, order_in};
 use crate::report::Report;
+use crate::shrinking::smaller_for;
 use std::alloc::Global;
 use std::collections::BTreeSet;
 use xa_judge::{Answer, Event, Progress, SharedAnswer, Verdict};
@@ -58,6 +61,7 @@ fn grounds_for<P: Progress>(
     alloc: Global,
     base: &Server,
     asked: Asked,
+    allowances: &[Allowance],
     text: &[u8],
     events: &[Event],
     place: usize,
@@ -66,11 +70,17 @@ fn grounds_for<P: Progress>(
     requires are { AreCalls (notes_of text.now).told events.now }
     requires refuted { IsRefuted base.now events.now place }
     ensures { IfOk result
-        (λ grounds. AreGrounds base.now asked (notes_of text.now).told events.now place (grounds_kept grounds)) }
+        (λ grounds. AreGrounds base.now allowances.now (lines_of text.now) asked (notes_of text.now).told events.now
+        place (grounds_kept grounds)) }
 {
     let exchange = exchange_for(alloc, asked.explains, text, events, place)?;
     let reason = reason_for(alloc, base, asked, text, events, place, progress)?;
-    Ok(Grounds { exchange, reason })
+    let smaller = smaller_for(alloc, base, asked, allowances, text, place)?;
+    Ok(Grounds {
+        exchange,
+        reason,
+        smaller,
+    })
 }
 
 /// Returns what is reported of a verdict on the record of this text, whose events these are, and which begins
@@ -81,6 +91,7 @@ pub fn report_of<P: Progress>(
     alloc: Global,
     base: &Server,
     asked: Asked,
+    allowances: &[Allowance],
     text: &[u8],
     events: &[Event],
     verdict: &Verdict,
@@ -89,7 +100,8 @@ pub fn report_of<P: Progress>(
     requires are { AreCalls (notes_of text.now).told events.now }
     requires right { IsVerdict base.now events.now asked.limit verdict.now }
     ensures { IfOk result
-        (λ report. IsReportOf base.now asked (notes_of text.now).told events.now verdict.now (report_kept report)) }
+        (λ report. IsReportOf base.now allowances.now (lines_of text.now) asked (notes_of text.now).told events.now
+        verdict.now (report_kept report)) }
 {
     match verdict {
         Verdict::Legal(moves) => {
@@ -98,7 +110,9 @@ pub fn report_of<P: Progress>(
         }
         Verdict::Illegal(place, answers) => {
             let texts = answer_texts(alloc, answers.as_slice())?;
-            let grounds = grounds_for(alloc, base, asked, text, events, *place, progress)?;
+            let grounds = grounds_for(
+                alloc, base, asked, allowances, text, events, *place, progress,
+            )?;
             let number = number_in(alloc, text, *place)?;
             Ok(Report::Illegal(number, texts, grounds))
         }

@@ -21,7 +21,7 @@ coordinates m found name Serve is named of = absurd of
 coordinates m found name Show is named of = absurd of
 coordinates m found name (Audit object) is named of = absurd of
 coordinates m found name (Race capacity schedule renews runs) is named of = absurd of
-coordinates m found name (Judge limit explain json strict) is named of = absurd of
+coordinates m found name (Judge limit explain json strict shrink) is named of = absurd of
 coordinates m found name (Explore limit) is named of = absurd of
 coordinates m found name (Stops stores capacity) is named of = absurd of
 coordinates m found name (Coordinate stores capacity fixed) is named of =
@@ -70,9 +70,9 @@ no_coordinates m found name is named none (Race capacity schedule renews runs) h
     let e : codes "coordinate" ≡ codes "race" = sym named
     ∙ (at_found m name (rows_of (found_of found)) (Race capacity schedule renews runs) is h).0 in
     absurd (omega (arith, ap length e))
-no_coordinates m found name is named none (Judge limit explain json strict) h =
+no_coordinates m found name is named none (Judge limit explain json strict shrink) h =
     let e : codes "coordinate" ≡ codes "judge" = sym named
-    ∙ (at_found m name (rows_of (found_of found)) (Judge limit explain json strict) is h).0 in
+    ∙ (at_found m name (rows_of (found_of found)) (Judge limit explain json strict shrink) is h).0 in
     absurd (omega (arith, ap length e))
 no_coordinates m found name is named none (Explore limit) h =
     let e : codes "coordinate" ≡ codes "explore" = sym named
@@ -107,7 +107,7 @@ stops m found name Show is named of = absurd of
 stops m found name (Audit object) is named of = absurd of
 stops m found name (Race capacity schedule renews runs) is named of = absurd of
 stops m found name (Coordinate stores capacity fixed) is named of = absurd of
-stops m found name (Judge limit explain json strict) is named of = absurd of
+stops m found name (Judge limit explain json strict shrink) is named of = absurd of
 stops m found name (Explore limit) is named of = absurd of
 stops m found name (Stops stores capacity) is named of =
     let P : Option (Text × List Row) → Type 0 = λ s. IsSomeAnd s (IsJob (Stops stores capacity)) in
@@ -154,9 +154,9 @@ no_stops m found name is named none (Coordinate stores capacity fixed) h =
     let e : codes "stops" ≡ codes "coordinate" = sym named
     ∙ (at_found m name (rows_of (found_of found)) (Coordinate stores capacity fixed) is h).0 in
     absurd (omega (arith, ap length e))
-no_stops m found name is named none (Judge limit explain json strict) h =
+no_stops m found name is named none (Judge limit explain json strict shrink) h =
     let e : codes "stops" ≡ codes "judge" = sym named ∙ (at_found m name (rows_of (found_of found))
-    (Judge limit explain json strict) is h).0 in
+    (Judge limit explain json strict shrink) is h).0 in
     absurd (omega (arith, same_byte 0 (codes "stops") (codes "judge") 115 106 e refl refl))
 no_stops m found name is named none (Explore limit) h =
     let e : codes "stops" ≡ codes "explore" = sym named ∙ (at_found m name (rows_of (found_of found))

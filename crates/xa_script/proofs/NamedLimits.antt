@@ -15,7 +15,8 @@ use Rattle.xa_script.proofs.NamedJobs.{at_found, same_byte}
 judges : (m found : ArgMatches) (name : Text) (job : Job) → subcommand_rows_of m ≡ Some (name, rows_of (found_of found))
     → name ≡ codes "judge"
     → IsJudgeOf (one_text (found_of found) (codes "limit")) (one_text (found_of found) (codes "explain"))
-    (one_text (found_of found) (codes "json")) (one_text (found_of found) (codes "strict-calls")) job
+    (one_text (found_of found) (codes "json")) (one_text (found_of found) (codes "strict-calls"))
+    (one_text (found_of found) (codes "shrink")) job
     → IsSomeAnd (subcommand_rows_of m) (IsJob job)
 judges m found name Run is named of = absurd of
 judges m found name Serve is named of = absurd of
@@ -25,30 +26,36 @@ judges m found name (Race capacity schedule renews runs) is named of = absurd of
 judges m found name (Coordinate stores capacity fixed) is named of = absurd of
 judges m found name (Explore limit) is named of = absurd of
 judges m found name (Stops stores capacity) is named of = absurd of
-judges m found name (Judge limit explain json strict) is named of =
-    let P : Option (Text × List Row) → Type 0 = λ s. IsSomeAnd s (IsJob (Judge limit explain json strict)) in
+judges m found name (Judge limit explain json strict shrink) is named of =
+    let P : Option (Text × List Row) → Type 0 = λ s. IsSomeAnd s (IsJob (Judge limit explain json strict shrink)) in
     let rows = rows_of (found_of found) in
     let at_limit : Option Text → Type 0 = λ t. IsJudgeOf t (one_text (found_of found) (codes "explain"))
     (one_text (found_of found) (codes "json")) (one_text (found_of found) (codes "strict-calls"))
-    (Judge limit explain json strict) in
+    (one_text (found_of found) (codes "shrink")) (Judge limit explain json strict shrink) in
     let by_limit = subst at_limit (one_text-rows (found_of found) (codes "limit")) of in
     let at_explain : Option Text → Type 0 = λ t. IsJudgeOf (one_of (codes "limit") rows) t
     (one_text (found_of found) (codes "json")) (one_text (found_of found) (codes "strict-calls"))
-    (Judge limit explain json strict) in
+    (one_text (found_of found) (codes "shrink")) (Judge limit explain json strict shrink) in
     let by_explain = subst at_explain (one_text-rows (found_of found) (codes "explain")) by_limit in
     let at_json : Option Text → Type 0 = λ t. IsJudgeOf (one_of (codes "limit") rows) (one_of (codes "explain") rows) t
-    (one_text (found_of found) (codes "strict-calls")) (Judge limit explain json strict) in
+    (one_text (found_of found) (codes "strict-calls")) (one_text (found_of found) (codes "shrink"))
+    (Judge limit explain json strict shrink) in
     let by_json = subst at_json (one_text-rows (found_of found) (codes "json")) by_explain in
     let at_strict : Option Text → Type 0 = λ t. IsJudgeOf (one_of (codes "limit") rows) (one_of (codes "explain") rows)
-    (one_of (codes "json") rows) t (Judge limit explain json strict) in
+    (one_of (codes "json") rows) t (one_text (found_of found) (codes "shrink"))
+    (Judge limit explain json strict shrink) in
     let by_strict = subst at_strict (one_text-rows (found_of found) (codes "strict-calls")) by_json in
-    subst P (sym is) (named, by_strict)
+    let at_shrink : Option Text → Type 0 = λ t. IsJudgeOf (one_of (codes "limit") rows) (one_of (codes "explain") rows)
+    (one_of (codes "json") rows) (one_of (codes "strict-calls") rows) t (Judge limit explain json strict shrink) in
+    let by_shrink = subst at_shrink (one_text-rows (found_of found) (codes "shrink")) by_strict in
+    subst P (sym is) (named, by_shrink)
 
 -- if the subcommand is `judge` and its options are read as this job, the matches are that job's
 pub judges_if : (m found : ArgMatches) (name : Text) (r : Option Job)
     → subcommand_rows_of m ≡ Some (name, rows_of (found_of found)) → name ≡ codes "judge"
     → IfSome r (IsJudgeOf (one_text (found_of found) (codes "limit")) (one_text (found_of found) (codes "explain"))
-    (one_text (found_of found) (codes "json")) (one_text (found_of found) (codes "strict-calls")))
+    (one_text (found_of found) (codes "json")) (one_text (found_of found) (codes "strict-calls"))
+    (one_text (found_of found) (codes "shrink")))
     → IfSome r (λ job. IsSomeAnd (subcommand_rows_of m) (IsJob job))
 judges_if m found name None is named of = tt
 judges_if m found name (Some job) is named of = judges m found name job is named of
@@ -87,10 +94,10 @@ no_judge m found name is named none (Stops stores capacity) h =
     let e : codes "judge" ≡ codes "stops" = sym named ∙ (at_found m name (rows_of (found_of found))
     (Stops stores capacity) is h).0 in
     absurd (omega (arith, same_byte 0 (codes "judge") (codes "stops") 106 115 e refl refl))
-no_judge m found name is named none (Judge limit explain json strict) h =
+no_judge m found name is named none (Judge limit explain json strict shrink) h =
     let Q : Option Text → Type 0 = λ t. IsSomeAnd t (IsLimitText limit) in
     none limit (subst Q (sym (one_text-rows (found_of found) (codes "limit")))
-    (at_found m name (rows_of (found_of found)) (Judge limit explain json strict) is h).1.0)
+    (at_found m name (rows_of (found_of found)) (Judge limit explain json strict shrink) is h).1.0)
 
 -- exploring with the limit that a value's text says
 explores : (m found : ArgMatches) (name : Text) (job : Job)
@@ -102,7 +109,7 @@ explores m found name Show is named of = absurd of
 explores m found name (Audit object) is named of = absurd of
 explores m found name (Race capacity schedule renews runs) is named of = absurd of
 explores m found name (Coordinate stores capacity fixed) is named of = absurd of
-explores m found name (Judge limit explain json strict) is named of = absurd of
+explores m found name (Judge limit explain json strict shrink) is named of = absurd of
 explores m found name (Stops stores capacity) is named of = absurd of
 explores m found name (Explore limit) is named of =
     let P : Option (Text × List Row) → Type 0 = λ s. IsSomeAnd s (IsJob (Explore limit)) in
@@ -145,9 +152,9 @@ no_explore m found name is named none (Coordinate stores capacity fixed) h =
     let e : codes "explore" ≡ codes "coordinate" = sym named
     ∙ (at_found m name (rows_of (found_of found)) (Coordinate stores capacity fixed) is h).0 in
     absurd (omega (arith, ap length e))
-no_explore m found name is named none (Judge limit explain json strict) h =
+no_explore m found name is named none (Judge limit explain json strict shrink) h =
     let e : codes "explore" ≡ codes "judge" = sym named ∙ (at_found m name (rows_of (found_of found))
-    (Judge limit explain json strict) is h).0 in
+    (Judge limit explain json strict shrink) is h).0 in
     absurd (omega (arith, ap length e))
 no_explore m found name is named none (Stops stores capacity) h =
     let e : codes "explore" ≡ codes "stops" = sym named ∙ (at_found m name (rows_of (found_of found))

@@ -22,7 +22,7 @@ races m found name Serve is named of = absurd of
 races m found name Show is named of = absurd of
 races m found name (Audit object) is named of = absurd of
 races m found name (Coordinate stores capacity fixed) is named of = absurd of
-races m found name (Judge limit explain json strict) is named of = absurd of
+races m found name (Judge limit explain json strict shrink) is named of = absurd of
 races m found name (Explore limit) is named of = absurd of
 races m found name (Stops stores capacity) is named of = absurd of
 races m found name (Race capacity schedule renews runs) is named of =
@@ -80,9 +80,9 @@ no_race m found name is named none (Coordinate stores capacity fixed) h =
     let e : codes "race" ≡ codes "coordinate" = sym named
     ∙ (at_found m name (rows_of (found_of found)) (Coordinate stores capacity fixed) is h).0 in
     absurd (omega (arith, ap length e))
-no_race m found name is named none (Judge limit explain json strict) h =
+no_race m found name is named none (Judge limit explain json strict shrink) h =
     let e : codes "race" ≡ codes "judge" = sym named ∙ (at_found m name (rows_of (found_of found))
-    (Judge limit explain json strict) is h).0 in
+    (Judge limit explain json strict shrink) is h).0 in
     absurd (omega (arith, ap length e))
 no_race m found name is named none (Explore limit) h =
     let e : codes "race" ≡ codes "explore" = sym named ∙ (at_found m name (rows_of (found_of found))

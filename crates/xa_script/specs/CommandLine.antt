@@ -121,15 +121,15 @@ record_rule =
     { value_names = 1; range = Some (record { start_inclusive = 1; end_inclusive = usize_max }) }
 
 -- `judge [RECORD..] [--limit N] [--explain] [--json] [--quiet] [--allow FILE] [--from FILE] [--tap]
--- [--strict-calls]`
+-- [--strict-calls] [--shrink]`
 abbrev pub judge_app : App
 judge_app =
-    with_rule (with_rule (with_rule
+    with_rule (with_rule (with_rule (with_rule
     (with_rule (with_rule
     (with_rule (with_rule (with_rule (with_rule (new_app (codes "judge")) record_rule) limit_rule)
     (flag_rule (codes "explain"))) (flag_rule (codes "json")))
     (flag_rule (codes "quiet"))) (named_file_rule (codes "allow"))) (named_file_rule (codes "from")))
-    (flag_rule (codes "tap"))) (flag_rule (codes "strict-calls"))
+    (flag_rule (codes "tap"))) (flag_rule (codes "strict-calls"))) (flag_rule (codes "shrink"))
 
 -- the subcommand `explore [--limit N] [--json]`
 abbrev pub explore_app : App
@@ -226,7 +226,7 @@ IsRaceOf capacity together shuffle renew runs (Race room schedule renews count) 
 IsRaceOf capacity together shuffle renew runs (Coordinate stores room fixed) = ⊥
 IsRaceOf capacity together shuffle renew runs Serve = ⊥
 IsRaceOf capacity together shuffle renew runs Show = ⊥
-IsRaceOf capacity together shuffle renew runs (Judge limit explain json strict) = ⊥
+IsRaceOf capacity together shuffle renew runs (Judge limit explain json strict shrink) = ⊥
 IsRaceOf capacity together shuffle renew runs (Explore limit) = ⊥
 IsRaceOf capacity together shuffle renew runs (Stops stores room) = ⊥
 IsRaceOf capacity together shuffle renew runs (Audit json) = ⊥
@@ -238,7 +238,7 @@ IsCoordinateOf stores capacity fixed Run = ⊥
 IsCoordinateOf stores capacity fixed Serve = ⊥
 IsCoordinateOf stores capacity fixed Show = ⊥
 IsCoordinateOf stores capacity fixed (Race room schedule renews count) = ⊥
-IsCoordinateOf stores capacity fixed (Judge limit explain json strict) = ⊥
+IsCoordinateOf stores capacity fixed (Judge limit explain json strict shrink) = ⊥
 IsCoordinateOf stores capacity fixed (Explore limit) = ⊥
 IsCoordinateOf stores capacity fixed (Stops count room) = ⊥
 IsCoordinateOf stores capacity fixed (Audit json) = ⊥
@@ -251,7 +251,7 @@ IsStopsOf stores capacity Run = ⊥
 IsStopsOf stores capacity Serve = ⊥
 IsStopsOf stores capacity Show = ⊥
 IsStopsOf stores capacity (Race room schedule renews count) = ⊥
-IsStopsOf stores capacity (Judge limit explain json strict) = ⊥
+IsStopsOf stores capacity (Judge limit explain json strict shrink) = ⊥
 IsStopsOf stores capacity (Explore limit) = ⊥
 IsStopsOf stores capacity (Audit json) = ⊥
 IsStopsOf stores capacity (Coordinate count room ends) = ⊥
@@ -259,19 +259,19 @@ IsStopsOf stores capacity (Stops count room) =
     IsSomeAnd stores (IsStoresText count) × IsSomeAnd capacity (IsCapacityText room)
 
 -- the job is to judge, with the limit that a value's text is, with reasons where a second says so, as an object of JSON
--- where a third does, and with calls tested where a fourth does
-abbrev pub IsJudgeOf : (limit explain json strict : Option Text) → Job → Type 0
-IsJudgeOf limit explain json strict Run = ⊥
-IsJudgeOf limit explain json strict Serve = ⊥
-IsJudgeOf limit explain json strict Show = ⊥
-IsJudgeOf limit explain json strict (Race room schedule renews count) = ⊥
-IsJudgeOf limit explain json strict (Coordinate count room fixed) = ⊥
-IsJudgeOf limit explain json strict (Judge kept explains writes tests) =
+-- where a third does, with calls tested where a fourth does, and with a smaller record where a fifth does
+abbrev pub IsJudgeOf : (limit explain json strict shrink : Option Text) → Job → Type 0
+IsJudgeOf limit explain json strict shrink Run = ⊥
+IsJudgeOf limit explain json strict shrink Serve = ⊥
+IsJudgeOf limit explain json strict shrink Show = ⊥
+IsJudgeOf limit explain json strict shrink (Race room schedule renews count) = ⊥
+IsJudgeOf limit explain json strict shrink (Coordinate count room fixed) = ⊥
+IsJudgeOf limit explain json strict shrink (Judge kept explains writes tests shrinks) =
     IsSomeAnd limit (IsLimitText kept) × IsFlagOf explain explains × IsFlagOf json writes
-    × IsFlagOf strict tests
-IsJudgeOf limit explain json strict (Explore kept) = ⊥
-IsJudgeOf limit explain json strict (Stops count room) = ⊥
-IsJudgeOf limit explain json strict (Audit object) = ⊥
+    × IsFlagOf strict tests × IsFlagOf shrink shrinks
+IsJudgeOf limit explain json strict shrink (Explore kept) = ⊥
+IsJudgeOf limit explain json strict shrink (Stops count room) = ⊥
+IsJudgeOf limit explain json strict shrink (Audit object) = ⊥
 
 -- the job is to explore, with the limit that a value's text is
 abbrev pub IsExploreOf : (limit : Option Text) → Job → Type 0
@@ -280,7 +280,7 @@ IsExploreOf limit Serve = ⊥
 IsExploreOf limit Show = ⊥
 IsExploreOf limit (Race room schedule renews count) = ⊥
 IsExploreOf limit (Coordinate count room fixed) = ⊥
-IsExploreOf limit (Judge kept explain json strict) = ⊥
+IsExploreOf limit (Judge kept explain json strict shrink) = ⊥
 IsExploreOf limit (Explore kept) = IsSomeAnd limit (IsLimitText kept)
 IsExploreOf limit (Stops count room) = ⊥
 IsExploreOf limit (Audit json) = ⊥
@@ -292,7 +292,7 @@ IsAuditOf json Serve = ⊥
 IsAuditOf json Show = ⊥
 IsAuditOf json (Race room schedule renews count) = ⊥
 IsAuditOf json (Coordinate count room fixed) = ⊥
-IsAuditOf json (Judge kept explain object strict) = ⊥
+IsAuditOf json (Judge kept explain object strict shrink) = ⊥
 IsAuditOf json (Explore kept) = ⊥
 IsAuditOf json (Stops count room) = ⊥
 IsAuditOf json (Audit writes) = IsFlagOf json writes
@@ -311,10 +311,11 @@ IsJob (Coordinate stores capacity fixed) found =
     (found.0 ≡ codes "coordinate")
     × IsCoordinateOf (one_of (codes "stores") found.1) (one_of (codes "capacity") found.1)
     (one_of (codes "fixed") found.1) (Coordinate stores capacity fixed)
-IsJob (Judge limit explain json strict) found =
+IsJob (Judge limit explain json strict shrink) found =
     (found.0 ≡ codes "judge")
     × IsJudgeOf (one_of (codes "limit") found.1) (one_of (codes "explain") found.1) (one_of (codes "json") found.1)
-    (one_of (codes "strict-calls") found.1) (Judge limit explain json strict)
+    (one_of (codes "strict-calls") found.1) (one_of (codes "shrink") found.1)
+    (Judge limit explain json strict shrink)
 IsJob (Explore limit) found = (found.0 ≡ codes "explore") × IsExploreOf (one_of (codes "limit") found.1) (Explore limit)
 IsJob (Stops stores capacity) found =
     (found.0 ≡ codes "stops") × IsStopsOf (one_of (codes "stores") found.1) (one_of (codes "capacity") found.1)
@@ -339,7 +340,7 @@ CanBeDone (Race capacity schedule renews runs) = IsCapacity capacity × IfSome r
 CanBeDone (Coordinate stores capacity fixed) = IsStoreCount stores × IsCapacity capacity
 CanBeDone Serve = Unit {0}
 CanBeDone Show = Unit {0}
-CanBeDone (Judge limit explain json strict) = IsLimit limit
+CanBeDone (Judge limit explain json strict shrink) = IsLimit limit
 CanBeDone (Explore limit) = IsLimit limit
 CanBeDone (Stops stores capacity) = IsStoreCount stores × IsCapacity capacity
 CanBeDone (Audit json) = Unit {0}
@@ -351,7 +352,7 @@ audit_asked (Race capacity schedule renews runs) = None
 audit_asked (Coordinate stores capacity fixed) = None
 audit_asked Serve = None
 audit_asked Show = None
-audit_asked (Judge limit explain json strict) = None
+audit_asked (Judge limit explain json strict shrink) = None
 audit_asked (Explore limit) = None
 audit_asked (Stops stores capacity) = None
 audit_asked (Audit json) = Some json

@@ -141,8 +141,8 @@ HasDone contents (Race capacity schedule renews runs) json base allowances input
 HasDone contents (Coordinate stores capacity fixed) json base allowances input old new done = HasConversed done
 HasDone contents Serve json base allowances input old new done = HasConversed done
 HasDone contents Show json base allowances input old new done = HasConversed done
-HasDone contents (Judge limit explain object strict) json base allowances input old new done =
-    IsFlushed contents (HasJudged base allowances (asked_of limit explain object strict) input old) new done
+HasDone contents (Judge limit explain object strict shrink) json base allowances input old new done =
+    IsFlushed contents (HasJudged base allowances (asked_of limit explain object strict shrink) input old) new done
 HasDone contents (Explore limit) json base allowances input old new done =
     IsFlushed contents (HasExplored json limit input old) new done
 HasDone contents (Stops stores capacity) json base allowances input old new done =

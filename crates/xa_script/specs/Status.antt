@@ -97,9 +97,9 @@ form_of true = Json
 form_of false = Plain
 
 -- what the options ask of judging
-abbrev pub asked_of : (limit : ℕ) → (explain json strict : Bool) → Asked
-asked_of limit explain json strict =
-    record { limit = limit; form = form_of json; explains = explain; strict_calls = strict }
+abbrev pub asked_of : (limit : ℕ) → (explain json strict shrink : Bool) → Asked
+asked_of limit explain json strict shrink =
+    record { limit = limit; form = form_of json; explains = explain; shrinks = shrink; strict_calls = strict }
 
 -- the text allows these, or a line of it is no allowance
 abbrev pub IsAllowedBy : Option (List Allowance) → List ℕ → Type 0

@@ -54,6 +54,8 @@ pub enum Job {
         json: bool,
         /// Whether a call that isn't a statement is a faulty line.
         strict_calls: bool,
+        /// Whether a smaller record comes with an ILLEGAL verdict.
+        shrink: bool,
     },
     /// Runs the script of the standard input in every order of its sessions.
     Explore {
@@ -217,7 +219,8 @@ fn stops_in(found: &ArgMatches<'_>) -> Option<Job>
 fn judge_in(found: &ArgMatches<'_>) -> Option<Job>
     ensures some { IfSome result
         (IsJudgeOf (one_text (found_of found.now) (codes "limit")) (one_text (found_of found.now) (codes "explain"))
-        (one_text (found_of found.now) (codes "json")) (one_text (found_of found.now) (codes "strict-calls"))) }
+        (one_text (found_of found.now) (codes "json")) (one_text (found_of found.now) (codes "strict-calls"))
+        (one_text (found_of found.now) (codes "shrink"))) }
     ensures none { result ≡ None → (limit : ℕ) → IsSomeAnd (one_text (found_of found.now) (codes "limit"))
         (IsLimitText limit) → ⊥ }
 {
@@ -227,6 +230,7 @@ fn judge_in(found: &ArgMatches<'_>) -> Option<Job>
             explain: flag_in(found, "explain"),
             json: flag_in(found, "json"),
             strict_calls: flag_in(found, "strict-calls"),
+            shrink: flag_in(found, "shrink"),
         }),
         None => None,
     }

@@ -42,10 +42,10 @@ fn status_of_outcome(outcome: Outcome) -> u8
 /// Returns what is asked of the judging.
 ///
 /// `limit` is in `[1, 1_000_000]`.
-pub fn asked(limit: u64, explains: bool, json: bool, strict_calls: bool) -> Asked
+pub fn asked(limit: u64, explains: bool, json: bool, strict_calls: bool, shrinks: bool) -> Asked
     requires { IsLimit limit }
-    // Proved (scripts, judging-as-asked): What is asked of judging has the limit, the form, the explanation and the
-    //   test of calls that were given.
+    // Proved (scripts, judging-as-asked): What is asked of judging has the limit, the form, the explanation, the
+    //   test of calls and the smaller record that were given.
     ensures limit { result.limit ≡ limit }
     // Proved (scripts, judging-as-asked)
     ensures form { result.form ≡ form_of json }
@@ -54,13 +54,16 @@ pub fn asked(limit: u64, explains: bool, json: bool, strict_calls: bool) -> Aske
     // Proved (scripts, judging-as-asked)
     ensures strict { result.strict_calls ≡ strict_calls }
     // Proved (scripts, judging-as-asked)
-    ensures all { result ≡ asked_of limit explains json strict_calls }
+    ensures shrinks { result.shrinks ≡ shrinks }
+    // Proved (scripts, judging-as-asked)
+    ensures all { result ≡ asked_of limit explains json strict_calls shrinks }
 {
     let form = if json { Form::Json } else { Form::Plain };
     Asked {
         limit: limit as usize,
         form,
         explains,
+        shrinks,
         strict_calls,
     }
 }

@@ -208,7 +208,8 @@ fn judging_in(job: Job) -> Option<Asked>
             explain,
             json,
             strict_calls,
-        } => Some(asked(limit, explain, json, strict_calls)),
+            shrink,
+        } => Some(asked(limit, explain, json, strict_calls, shrink)),
         Job::Run | Job::Race { .. } | Job::Coordinate { .. } | Job::Serve | Job::Show => None,
         Job::Explore { .. } | Job::Stops { .. } | Job::Audit { .. } => None,
     }
@@ -578,8 +579,9 @@ fn carry_out_job<
             explain,
             json,
             strict_calls,
+            shrink,
         } => {
-            let asked = asked(limit, explain, json, strict_calls);
+            let asked = asked(limit, explain, json, strict_calls, shrink);
             jobs::judge(rt, input, output, base, allowances, asked, manner.quiet)
         }
         Job::Explore { limit } => jobs::explore(rt, input, output, limit, json),

@@ -92,6 +92,7 @@ fn judge_command<'a>(alloc: Global) -> Result<Command<'a>, AllocError>
     let allow = "Accepts the error numbers that FILE allows in place of others";
     let from =
         "Begins with the store that FILE lists, as show prints one, instead of an empty store";
+    let shrink = "After ILLEGAL, prints a smaller record that no order explains either";
     let tap = "Lists the verdicts in the Test Anything Protocol, for prove and the like";
     plain_command(alloc, "judge", about, RECORDS)
         .arg(record_argument(alloc))?
@@ -102,7 +103,8 @@ fn judge_command<'a>(alloc: Global) -> Result<Command<'a>, AllocError>
         .arg(file_option(alloc, "allow", allow))?
         .arg(file_option(alloc, "from", from))?
         .arg(flag_option(alloc, "tap", tap))?
-        .arg(flag_option(alloc, "strict-calls", strict))
+        .arg(flag_option(alloc, "strict-calls", strict))?
+        .arg(flag_option(alloc, "shrink", shrink))
 }
 
 /// Returns the subcommand that explores a script.

@@ -15,6 +15,7 @@ const PLAIN: Asked = Asked {
     limit: 100,
     form: Form::Plain,
     explains: false,
+    shrinks: false,
     strict_calls: false,
 };
 

@@ -1,12 +1,13 @@
 use Rattle.std.proofs.Common.{◌≡◌, ◌==◌, false, [], IfOk, List, length, map, ap, sym, ◌∙◌, subst, arith}
 use Rattle.std.proofs.lemmas.Grind.{common_steps}
 use Rattle.xa_judge.specs.declared.event.Event.{Event}
+use Rattle.xa_lines.specs.Script.{lines_of}
 use Rattle.xa_record.specs.Events.{AreEvents, AreCalls}
 use Rattle.xa_record.specs.Judged.{IsJudgement, IsReportedOfNotes}
 use Rattle.xa_record.specs.Kept.{numbered_kept, report_kept}
 use Rattle.xa_record.specs.Reading.{NumberedEvent, Notes, notes_of}
 use Rattle.xa_record.proofs.BareTexts.{notes-bare}
-use Rattle.xa_record.proofs.Reported.{reported, judged_with, no_fault}
+use Rattle.xa_record.proofs.Reported.{reported, no_fault}
 use Rattle.xa_record.proofs.StrictNotes.{told-same, clean-too}
 use Rattle.xa_record.proofs.judging.report_on.Goals as goal
 
@@ -19,19 +20,23 @@ returns g c =
     ap (λ (n : Notes). n.told) same ∙ told-same c.args.asked.strict_calls c.args.text.now in
     let none : notes.faults.items ≡ [] = no_fault notes.faults.items (grind (arith, common_steps)) in
     let some : (length notes.numbered.items == 0) ≡ false = grind (arith, common_steps) in
-    let are : AreEvents c.args.allowances.now told c.as_slice.result.now =
-    subst (λ (l : List Event). AreEvents c.args.allowances.now told l) (sym c.as_slice.ensures.value)
-    (subst (λ (l : List NumberedEvent). AreEvents c.args.allowances.now l c.in_ok-events.events.items) told_is
-    c.in_ok-events.ensures.are) in
-    let judged = judged_with c.verdict_on.result c.args.base.now c.args.allowances.now told c.args.asked
-    c.as_slice.result.now c.verdict_on.ensures are in
+    let lines = lines_of c.args.text.now in
     subst (λ (n : Notes). IfOk c.verdict_on.result
-    (λ report. IsReportedOfNotes c.args.base.now c.args.allowances.now n c.args.asked (report_kept report))) same
-    (reported c.verdict_on.result c.args.base.now c.args.allowances.now notes.faults.items notes.numbered.items
+    (λ report. IsReportedOfNotes c.args.base.now c.args.allowances.now lines n c.args.asked (report_kept report))) same
+    (reported c.verdict_on.result c.args.base.now c.args.allowances.now lines notes.faults.items notes.numbered.items
     c.args.asked none some
     (subst (λ (l : List NumberedEvent). IfOk c.verdict_on.result
-    (λ report. IsJudgement c.args.base.now c.args.allowances.now l c.args.asked (report_kept report)))
-    (sym told_is) judged))
+    (λ report. IsJudgement c.args.base.now c.args.allowances.now lines l c.args.asked (report_kept report)))
+    (sym told_is) c.verdict_on.ensures))
+
+pub verdict_on-requires-clause-are : goal.verdict_on-requires-clause-are
+verdict_on-requires-clause-are g c =
+    let told_is =
+    ap (λ (n : Notes). n.told) c.in_ok-notes.ensures ∙ told-same c.args.asked.strict_calls c.args.text.now in
+    subst (λ (l : List Event). AreEvents c.args.allowances.now (notes_of c.args.text.now).told l)
+    (sym c.as_slice.ensures.value)
+    (subst (λ (l : List NumberedEvent). AreEvents c.args.allowances.now l c.in_ok-events.events.items) told_is
+    c.in_ok-events.ensures.are)
 
 pub verdict_on-requires-clause-calls : goal.verdict_on-requires-clause-calls
 verdict_on-requires-clause-calls g c =

@@ -1,13 +1,10 @@
+use Rattle.xa_lines.specs.Script.{lines_of}
 use Rattle.xa_record.specs.Reading.{notes_of}
-use Rattle.xa_record.proofs.Reported.{judged_so, judged_always}
+use Rattle.xa_record.proofs.Reported.{judged_so}
 use Rattle.xa_record.proofs.judging.verdict_on.Goals as goal
 
 pub returns : goal.returns
 returns g c =
-    let told = (notes_of c.args.text.now).told in
-    let events = c.args.events.now in
-    let base = c.args.base.now in
-    judged_always c.report_of.result base told c.args.asked events
-    (λ allowances are. judged_so c.report_of.result base allowances told c.args.asked events c.in_ok-verdict.verdict
-    c.requires.bare are
-    c.are_written_calls.ensures c.in_ok-verdict.ensures.verdict c.report_of.ensures)
+    judged_so c.report_of.result c.args.base.now c.args.allowances.now (lines_of c.args.text.now)
+    (notes_of c.args.text.now).told c.args.asked c.args.events.now c.in_ok-verdict.verdict c.requires.bare
+    c.requires.are c.are_written_calls.ensures c.in_ok-verdict.ensures.verdict c.report_of.ensures

@@ -1,0 +1,169 @@
+//! The parts of a record.
+
+use crate::line::{RecordLine, is_silent, read_record_line};
+use crate::line_event::{LineEvent, NumberedEvent};
+use crate::part::{Belongs, Part, Standing};
+use crate::sought::Sought;
+use std::alloc::Global;
+use xa_lines::split_line;
+use xa_xid::{NoMemory, SessionNo};
+
+/// The parts of a record, and where its lines belong.
+#[derive(Drop)]
+pub struct Parts {
+    /// Where each line belongs.
+    pub lines: Vec<Belongs>,
+    /// The parts, in the order in which they happen.
+    pub parts: Vec<Part>,
+    /// At each session's number, the part of its last call.
+    calls: [Option<usize>; 17],
+}
+
+impl Parts {
+    /// No part of a text. None of its lines belongs anywhere.
+    fn none(alloc: Global, text: &[u8]) -> Result<Parts, NoMemory> {
+        let mut lines = Vec::new(alloc);
+        let mut rest = text;
+        for _byte in text {
+            if !rest.is_empty() {
+                rest = split_line(rest).1;
+                lines.push(Belongs::Nowhere)?;
+            }
+        }
+        Ok(Parts {
+            lines,
+            parts: Vec::new(alloc),
+            calls: [None; 17],
+        })
+    }
+
+    /// Adds a part, and returns its number.
+    fn add(&mut self, session: SessionNo, writes: usize) -> Result<usize, NoMemory> {
+        let number = self.parts.len();
+        self.parts.push(Part {
+            session: session.get(),
+            writes,
+            standing: Standing::In,
+        })?;
+        Ok(number)
+    }
+
+    /// Puts a line into a part. Lines have numbers from 1.
+    fn put(&mut self, line: u64, belongs: Belongs) {
+        let index = line.saturating_sub(1) as usize;
+        if index < self.lines.len() {
+            self.lines[index] = belongs;
+        }
+    }
+
+    /// Puts the line of a return into the part of the session's last call.
+    fn put_return(&mut self, line: u64, session: SessionNo) {
+        if let Some(part) = self.calls[session.get() as usize] {
+            self.put(line, Belongs::Part(part));
+        }
+    }
+
+    /// Takes note of what happens next.
+    fn follow(&mut self, one: &NumberedEvent, sought: &Sought) -> Result<(), NoMemory> {
+        match &one.line_event {
+            LineEvent::Call(session, text) => {
+                let part = self.add(*session, sought.written_by(text))?;
+                self.calls[session.get() as usize] = Some(part);
+                self.put(one.number, Belongs::Part(part));
+            }
+            LineEvent::Return(session, _) => self.put_return(one.number, *session),
+            LineEvent::Unknown(session) => self.put_return(one.number, *session),
+            LineEvent::Lost(session) => {
+                let part = self.add(*session, 0)?;
+                self.put(one.number, Belongs::Part(part));
+            }
+        }
+        Ok(())
+    }
+
+    /// Changes whether a part is there.
+    pub fn set(&mut self, index: usize, standing: Standing) {
+        if index < self.parts.len() {
+            let part = self.parts[index];
+            self.parts[index] = Part {
+                session: part.session,
+                writes: part.writes,
+                standing,
+            };
+        }
+    }
+
+    /// Keeps the lines of a part in any case.
+    fn keep(&mut self, part: usize) {
+        for index in 0..self.lines.len() {
+            if index < self.lines.len() && self.lines[index] == Belongs::Part(part) {
+                self.lines[index] = Belongs::Illegal;
+            }
+        }
+        self.set(part, Standing::Out);
+    }
+
+    /// Keeps the session's last call with its return in any case.
+    fn keep_call(&mut self, session: SessionNo) {
+        if let Some(part) = self.calls[session.get() as usize] {
+            self.keep(part);
+        }
+    }
+
+    /// Puts each row to the return that it follows.
+    fn put_rows(&mut self, text: &[u8]) {
+        let mut rest = text;
+        let mut due: u64 = 0;
+        let mut belongs = Belongs::Nowhere;
+        for index in 0..self.lines.len() {
+            if rest.is_empty() || index >= self.lines.len() {
+                return;
+            }
+            let (line, lines) = split_line(rest);
+            rest = lines;
+            if due == 0 {
+                due = rows_behind(line);
+                belongs = self.lines[index];
+            } else if !is_silent(line) {
+                self.lines[index] = belongs;
+                due = due.saturating_sub(1);
+            }
+        }
+    }
+
+    /// Returns the parts of a text in which this happens, up to and including this place, which stays.
+    ///
+    /// May return `NoMemory`.
+    pub fn of(
+        alloc: Global,
+        text: &[u8],
+        numbered: &[NumberedEvent],
+        place: usize,
+    ) -> Result<Parts, NoMemory> {
+        let mut parts = Parts::none(alloc, text)?;
+        if place >= numbered.len() {
+            return Ok(parts);
+        }
+        let sought = Sought::at(alloc, numbered, place)?;
+        for one in &numbered[..place] {
+            parts.follow(one, &sought)?;
+        }
+        let last = &numbered[place];
+        parts.follow(last, &sought)?;
+        parts.keep_call(last.line_event.session());
+        parts.put_rows(text);
+        Ok(parts)
+    }
+}
+
+/// How many rows have to follow a line that isn't one of them.
+fn rows_behind(line: &[u8]) -> u64 {
+    match read_record_line(line) {
+        RecordLine::Rows(_, count) => count,
+        RecordLine::Nothing => 0,
+        RecordLine::Bad => 0,
+        RecordLine::Happens(_) => 0,
+        RecordLine::Value(_, _) => 0,
+        RecordLine::Closed(_) => 0,
+    }
+}

@@ -1,0 +1,156 @@
+//! Looks for a smaller record that no order explains either.
+ghost use Rattle.std.specs.Prelude.{◌≡◌, true, IfOk};
+ghost use Rattle.std.specs.Option.{option_map};
+ghost use Rattle.xa_lines.specs.Script.{lines_of};
+ghost use Rattle.xa_record.specs.Shrinking.{is_illegal, AreUnexplained, IsUnexplained, IsSmallerIfSome};
+ghost use Rattle.xa_record.specs.Shrinking.{IsSmallerSought};
+
+use crate::allowance::Allowance;
+use crate::asked::Asked;
+use crate::chosen_lines::chosen_text;
+use crate::cuts::Cuts;
+use crate::events::events_of;
+use crate::lines_again::numbered_in;
+use crate::reading::read_notes;
+use std::alloc::Global;
+use xa_judge::{Event, Verdict, judge};
+use xa_server::Server;
+use xa_xid::NoMemory;
+
+/// How often part of a record is judged at most, after what happens behind the ILLEGAL line was left out. To leave out
+/// all but ten of thousands of calls takes some hundreds of judgings, most of them of short records.
+const MOST_TRIES: u32 = 999;
+
+/// Tells whether a verdict says that no order explains this many events, and an order all but the last.
+fn is_at_last(verdict: &Verdict, count: usize) -> bool
+    ensures { result ≡ true → is_illegal verdict.now ≡ true }
+{
+    match verdict {
+        Verdict::Illegal(place, _) => count > 0 && *place == count - 1,
+        Verdict::Legal(_) => false,
+        Verdict::Undecided(_) => false,
+    }
+}
+
+/// Tells whether no order explains these events, and an order all but the last.
+fn is_refuted_at_last(
+    alloc: Global,
+    base: &Server,
+    limit: usize,
+    events: &[Event],
+) -> Result<bool, NoMemory>
+    ensures { IfOk result (λ refuted. refuted ≡ true → AreUnexplained base.now events.now limit) }
+{
+    let verdict = judge(alloc, base, events, limit)?;
+    Ok(is_at_last(&verdict, events.len()))
+}
+
+/// Tells whether no line of this text is faulty and no order explains what happens in it, but an order all but the last
+/// of that.
+fn is_unexplained(
+    alloc: Global,
+    base: &Server,
+    allowances: &[Allowance],
+    asked: Asked,
+    text: &[u8],
+) -> Result<bool, NoMemory>
+    ensures { IfOk result (λ refuted. refuted ≡ true → IsUnexplained base.now allowances.now asked text.now) }
+{
+    let notes = read_notes(alloc, asked.strict_calls, text)?;
+    if !notes.faults.is_empty() {
+        return Ok(false);
+    }
+    let events = events_of(alloc, allowances, notes.numbered.as_slice())?;
+    is_refuted_at_last(alloc, base, asked.limit, events.as_slice())
+}
+
+/// The record of these lines of a text, if no order explains it.
+fn smaller_by(
+    alloc: Global,
+    base: &Server,
+    allowances: &[Allowance],
+    asked: Asked,
+    text: &[u8],
+    keeps: &[bool],
+) -> Result<Option<Vec<u8>>, NoMemory>
+    ensures { IfOk result (λ found. IsSmallerIfSome base.now allowances.now asked (lines_of text.now)
+        (option_map (λ written. written.items) found)) }
+{
+    let chosen = chosen_text(alloc, text, keeps)?;
+    if is_unexplained(alloc, base, allowances, asked, chosen.as_slice())? {
+        Ok(Some(chosen))
+    } else {
+        Ok(None)
+    }
+}
+
+/// The smallest record that these cuts lead to, if the one without what happens behind the ILLEGAL line is one.
+fn smallest_by(
+    alloc: Global,
+    base: &Server,
+    allowances: &[Allowance],
+    asked: Asked,
+    text: &[u8],
+    cuts: &mut Cuts,
+) -> Result<Option<Vec<u8>>, NoMemory>
+    ensures { IfOk result (λ found. IsSmallerIfSome base.now allowances.now asked (lines_of text.now)
+        (option_map (λ written. written.items) found)) }
+{
+    let mut smallest = smaller_by(alloc, base, allowances, asked, text, cuts.keeps())?;
+    if smallest.is_none() {
+        return Ok(smallest);
+    }
+    for _try in 0..MOST_TRIES {
+        if !cuts.propose() {
+            return Ok(smallest);
+        }
+        let found = smaller_by(alloc, base, allowances, asked, text, cuts.keeps())?;
+        if found.is_some() {
+            smallest = found;
+            cuts.accept();
+        }
+    }
+    Ok(smallest)
+}
+
+/// The smallest record that is found of this text, in which no order explains what happens up to this place.
+fn smallest_of(
+    alloc: Global,
+    base: &Server,
+    allowances: &[Allowance],
+    asked: Asked,
+    text: &[u8],
+    place: usize,
+) -> Result<Option<Vec<u8>>, NoMemory>
+    ensures { IfOk result (λ found. IsSmallerIfSome base.now allowances.now asked (lines_of text.now)
+        (option_map (λ written. written.items) found)) }
+{
+    let numbered = numbered_in(alloc, text)?;
+    let mut cuts = Cuts::of(alloc, text, numbered.as_slice(), place)?;
+    smallest_by(alloc, base, allowances, asked, text, &mut cuts)
+}
+
+/// Returns a smaller record that no order explains either, if `asked` asks for one: calls of the record of this text
+/// are left out, and what is left is judged again.
+///
+/// No order explains what happens up to and including this place. Parts of the record are judged at most 1,000 times.
+/// May return `NoMemory`.
+pub fn smaller_for(
+    alloc: Global,
+    base: &Server,
+    asked: Asked,
+    allowances: &[Allowance],
+    text: &[u8],
+    place: usize,
+) -> Result<Option<Vec<u8>>, NoMemory>
+    // Proved (records, illegal-smaller): The smaller record that is written for an ILLEGAL verdict is made of some of
+    //   the record's lines, in their order, each without the blanks before it. None of its lines is faulty, and a
+    //   right verdict on what they tell is ILLEGAL. Without `--shrink` there is none.
+    ensures { IfOk result (λ found. IsSmallerSought asked.shrinks base.now allowances.now asked (lines_of text.now)
+        (option_map (λ written. written.items) found)) }
+{
+    if !asked.shrinks {
+        return Ok(None);
+    }
+    smallest_of(alloc, base, allowances, asked, text, place)
+}

@@ -1,0 +1,117 @@
+//! What an ILLEGAL line shows, and which calls write it.
+
+use crate::events::rows_in;
+use crate::exchanging::last_call_in;
+use crate::line_event::{LineEvent, NumberedEvent};
+use crate::shown::Shown;
+use std::alloc::Global;
+use xa_statement::read_statement;
+use xa_xid::{Bytes, Key, NoMemory, Statement, Xid, copy_of};
+
+/// What an ILLEGAL line shows that a call has to write.
+#[derive(Drop)]
+pub enum Sought {
+    /// Nothing.
+    Nothing,
+    /// The value of a row.
+    Value(Key, Bytes),
+    /// Prepared branches.
+    Rows(Vec<Xid>),
+}
+
+/// The row that a text reads, if it reads one.
+fn key_read(text: &[u8]) -> Option<Key> {
+    match read_statement(text) {
+        Ok(Statement::Get(key)) => Some(key),
+        _ => None,
+    }
+}
+
+/// The row that this calls for, if it calls for one.
+fn key_called(call: Option<&NumberedEvent>) -> Option<Key> {
+    match call {
+        Some(one) => match &one.line_event {
+            LineEvent::Call(_, text) => key_read(text),
+            LineEvent::Return(_, _) => None,
+            LineEvent::Unknown(_) => None,
+            LineEvent::Lost(_) => None,
+        },
+        None => None,
+    }
+}
+
+/// The number of the identifier among these, from 1, or 0 if it isn't there.
+fn number_among(xids: &[Xid], xid: &Xid) -> usize {
+    let mut number: usize = 0;
+    for one in xids {
+        number = number.saturating_add(1);
+        if one == xid {
+            return number;
+        }
+    }
+    0
+}
+
+impl Sought {
+    /// What a return of this call shows.
+    fn of_return(
+        alloc: Global,
+        call: Option<&NumberedEvent>,
+        shown: &Shown,
+    ) -> Result<Sought, NoMemory> {
+        match shown {
+            Shown::Value(value) => match key_called(call) {
+                Some(key) => Ok(Sought::Value(key, copy_of(value))),
+                None => Ok(Sought::Nothing),
+            },
+            Shown::Rows(rows) => Ok(Sought::Rows(rows_in(alloc, rows.as_slice())?)),
+            Shown::Ok => Ok(Sought::Nothing),
+            Shown::None => Ok(Sought::Nothing),
+            Shown::Error(_) => Ok(Sought::Nothing),
+        }
+    }
+
+    /// Returns what the return at this place shows.
+    ///
+    /// May return `NoMemory`.
+    pub fn at(alloc: Global, numbered: &[NumberedEvent], place: usize) -> Result<Sought, NoMemory> {
+        if place >= numbered.len() {
+            return Ok(Sought::Nothing);
+        }
+        match &numbered[place].line_event {
+            LineEvent::Return(session, shown) => {
+                let call = last_call_in(&numbered[..place], *session);
+                Sought::of_return(alloc, call, shown)
+            }
+            LineEvent::Call(_, _) => Ok(Sought::Nothing),
+            LineEvent::Unknown(_) => Ok(Sought::Nothing),
+            LineEvent::Lost(_) => Ok(Sought::Nothing),
+        }
+    }
+
+    /// Which of it a statement writes.
+    fn of_statement(&self, statement: &Statement) -> usize {
+        match self {
+            Sought::Nothing => 0,
+            Sought::Value(key, value) => match statement {
+                Statement::Put(other, written)
+                    if other.as_slice() == key.as_slice()
+                        && written.as_slice() == value.as_slice() => { 1 }
+                _ => 0,
+            },
+            Sought::Rows(xids) => match statement {
+                Statement::Prepare(xid) => number_among(xids.as_slice(), xid),
+                _ => 0,
+            },
+        }
+    }
+
+    /// Returns which of it a call of this text writes: 1 if it puts the value into the row, the number of the branch
+    /// that it prepares, and else 0.
+    pub fn written_by(&self, text: &[u8]) -> usize {
+        match read_statement(text) {
+            Ok(statement) => self.of_statement(&statement),
+            Err(_) => 0,
+        }
+    }
+}
