@@ -289,9 +289,9 @@ pub fn judge_telling<P: Progress>(
     // Proved (records, illegal-answers)
     // Proved (records, undecided)
     ensures verdict { IfOk result (IsVerdict base.now events.now limit) }
-    // Proved (records, progress): `progress` is told of each event before it is judged, and of nothing else: its
-    //   place, and how many events there are. Events are judged in passes, one event after another. The last
-    //   pass goes up to what decides.
+    // Proved (records, progress): `progress` is told of each event that is judged, in turn, and of nothing else: its
+    //   place, and how many events there are. It is told in passes, one event after another, and the last pass goes
+    //   up to what decides.
     ensures told { IfOk result (λ verdict. IsToldUpTo P.judged_gives (length events.now)
         (seen_for events.now verdict) progress.old progress.new) }
 {

@@ -164,7 +164,8 @@ pub fn judge_text_from<P: Progress>(
 /// The server holds nothing at first. `allowances` are known differences between its answers and the rules.
 /// If more than `asked.limit` different configurations have to be kept before an event, and no order is found,
 /// the end is `Undecided`. With `asked.explains` the part before an ILLEGAL line is judged once more; if that
-/// passes the limit, it isn't explained. If lines are faulty, or nothing happens, there is no verdict. With
+/// passes the limit, it isn't explained. With `asked.shrinks` parts of an ILLEGAL record are judged, at most 1,000
+/// times, and `progress` isn't told of that. If lines are faulty, or nothing happens, there is no verdict. With
 /// `asked.strict_calls` a call whose text isn't a statement is a faulty line. `progress` takes note of how far
 /// judging is.
 /// Errors: `NoMemory` if an allocation failed.

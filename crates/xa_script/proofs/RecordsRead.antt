@@ -1,5 +1,5 @@
 -- A record that was read whole, and judged.
-use Rattle.std.proofs.Common.{◌≡◌, ℕ, Option, Some, None, Result, Ok, Err, List, inl, inr}
+use Rattle.std.proofs.Common.{◌≡◌, ℕ, Option, Some, None, Result, Ok, Err, List, inl, inr, subst}
 use Rattle.std.specs.Prelude.{IfSome, IfOk, IfErr}
 use Rattle.std.specs.Io.KnownBytes.{Consumes, IsAtEnd}
 use Rattle.xa_lines.specs.declared.script_fault.ScriptFault.{ScriptFault}
@@ -13,6 +13,12 @@ use Rattle.xa_record.specs.Judged.{AppendsJudgedFrom, AppendsJudgedPrefix, After
 use Rattle.xa_script.specs.Status.{AppendsVerdict}
 use Rattle.xa_script.proofs.Allowed.{read_whole}
 use Rattle.xa_script.proofs.Audited.{kept_all}
+
+-- what a reader gave up to its end is all that another had, which had the same bytes
+pub all_read : (input first rest : Option (List ℕ)) (given : List ℕ) → first ≡ input → Consumes first rest given
+    → IsAtEnd rest → (left : Option (List ℕ)) × Consumes input left given × IsAtEnd left
+all_read input first rest given is read end =
+    (rest, subst (λ (from : Option (List ℕ)). Consumes from rest given) is read, end)
 
 -- a verdict on the bytes that were read up to the end is one on all that the reader had
 pub judged_whole : (base : State) (allowances : List Allowance) (asked : Asked) (result : Result ℕ ScriptFault)

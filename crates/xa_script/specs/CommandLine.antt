@@ -121,15 +121,16 @@ record_rule =
     { value_names = 1; range = Some (record { start_inclusive = 1; end_inclusive = usize_max }) }
 
 -- `judge [RECORD..] [--limit N] [--explain] [--json] [--quiet] [--allow FILE] [--from FILE] [--tap]
--- [--strict-calls] [--shrink]`
+-- [--strict-calls] [--shrink] [--follow]`
 abbrev pub judge_app : App
 judge_app =
-    with_rule (with_rule (with_rule (with_rule
+    with_rule (with_rule (with_rule (with_rule (with_rule
     (with_rule (with_rule
     (with_rule (with_rule (with_rule (with_rule (new_app (codes "judge")) record_rule) limit_rule)
     (flag_rule (codes "explain"))) (flag_rule (codes "json")))
     (flag_rule (codes "quiet"))) (named_file_rule (codes "allow"))) (named_file_rule (codes "from")))
-    (flag_rule (codes "tap"))) (flag_rule (codes "strict-calls"))) (flag_rule (codes "shrink"))
+    (flag_rule (codes "tap"))) (flag_rule (codes "strict-calls"))) (flag_rule (codes "shrink")))
+    (flag_rule (codes "follow"))
 
 -- the subcommand `explore [--limit N] [--json]`
 abbrev pub explore_app : App

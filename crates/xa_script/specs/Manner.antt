@@ -12,12 +12,12 @@ use Rattle.xa_script.specs.declared.manner.Manner.{Manner}
 use Rattle.xa_script.specs.declared.records.Records.{Records}
 
 -- each file is the value of its option, and each flag is as its option says
-abbrev pub IsManner : (file allow from verbose strict text quiet json : Option Text) → Manner → Type 0
-IsManner file allow from verbose strict text quiet json manner =
+abbrev pub IsManner : (file allow from verbose strict text quiet json follow : Option Text) → Manner → Type 0
+IsManner file allow from verbose strict text quiet json follow manner =
     (option_map (λ name. name.now) manner.file ≡ file) × (option_map (λ name. name.now) manner.allow ≡ allow)
     × (option_map (λ name. name.now) manner.from ≡ from) × IsFlagOf verbose manner.verbose
     × IsFlagOf strict manner.strict × IsFlagOf text manner.text × IsFlagOf quiet manner.quiet
-    × IsFlagOf json manner.json
+    × IsFlagOf json manner.json × IsFlagOf follow manner.follow
 
 -- the words give this manner, as `clap` matches them
 abbrev pub HasManner : List Text → Manner → Type 0
@@ -26,7 +26,7 @@ HasManner words manner =
     (λ found. IsManner (first_of (codes "file") found.1) (first_of (codes "allow") found.1)
     (first_of (codes "from") found.1) (one_of (codes "verbose") found.1) (one_of (codes "strict") found.1)
     (one_of (codes "text") found.1) (one_of (codes "quiet") found.1)
-    (one_of (codes "json") found.1) manner)
+    (one_of (codes "json") found.1) (one_of (codes "follow") found.1) manner)
 
 -- the names are all values of `HISTORY..`, in their order, as `clap` matches the words; none, for a job that has no
 -- such argument

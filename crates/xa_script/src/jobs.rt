@@ -167,15 +167,16 @@ pub fn judge<I: Read, W: Write + Drop, R: Clock + Eprint + Alloc<A = Global>>(
     base: &Server,
     allowances: &[Allowance],
     asked: Asked,
-    quiet: bool,
+    manner: &Manner<'_>,
 ) -> Result<u8, ScriptFault>
     requires { IsLimit asked.limit }
     ensures { IsFlushed W.contents (HasJudged base.now allowances.now asked (I.remaining input.old)
         (writer_contents W.contents output.old)) output.new result }
 {
-    let mut telling = Telling::new(rt, quiet);
+    let mut telling = Telling::new(rt, manner.quiet);
     let telling = &mut telling;
-    let done = judge_read(rt, base, input, output, allowances, asked, telling);
+    let follow = manner.follow;
+    let done = judge_read(rt, base, input, output, allowances, asked, follow, telling);
     flushed(output, done)
 }
 

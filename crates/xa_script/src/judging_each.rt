@@ -37,7 +37,10 @@ fn verdict_on<I: Read + Drop, R: Clock + Eprint + Alloc<A = Global>>(
     let mut telling = Telling::new(rt, quiet);
     let mut text = Vec::new(rt.alloc());
     let telling = &mut telling;
-    let done = in_memory(judge_read(rt, base, input, &mut text, allowances, asked, telling));
+    // Several records are files, which have come whole.
+    let done = in_memory(judge_read(
+        rt, base, input, &mut text, allowances, asked, false, telling,
+    ));
     // Of any other fault the file isn't the cause.
     if matches!(done, Err(ScriptFault::Read | ScriptFault::TooLong)) {
         input.tell_unread();

@@ -1,11 +1,12 @@
 //! Reads a record and judges it, and says so if its form isn't that of a record.
-ghost use Rattle.std.specs.Prelude.{IfOk, IfErr, OnOk};
+ghost use Rattle.std.specs.Prelude.{ℕ, Option, List, IfOk, IfErr};
 ghost use Rattle.std.specs.Io.KnownBytes.{Consumes, IsAtEnd};
 ghost use Rattle.xa_lines.specs.Transcript.{IsOfReading};
 ghost use Rattle.xa_record.specs.Judged.{AfterJudgeFaultFrom};
 ghost use Rattle.xa_script.specs.CommandLine.{IsLimit};
 ghost use Rattle.xa_script.specs.Status.{AppendsVerdict};
 
+use crate::following::Following;
 use crate::foreign::foreign_in;
 use crate::judging::judge_within;
 use std::alloc::Global;
@@ -28,22 +29,29 @@ fn tell_form<R: Eprint>(rt: &R, record: &[u8]) {
     }
 }
 
-/// Reads a record, and says in which form it is if that isn't a record's.
+/// Reads a record, and says in which form it is if that isn't a record's. If `follows`, its lines are judged as they
+/// come.
 fn record_in<I: Read, R: Eprint + Alloc<A = Global>>(
     rt: &R,
+    base: &Server,
     reader: &mut I,
+    allowances: &[Allowance],
+    asked: Asked,
+    follows: bool,
 ) -> Result<Vec<u8>, ScriptFault>
-    ensures all { IfOk result (λ text. Consumes (I.remaining reader.old) (I.remaining reader.new) text.items) }
-    ensures end { OnOk result (IsAtEnd (I.remaining reader.new)) }
+    ensures all { IfOk result (λ text. (rest : Option (List ℕ))
+        × Consumes (I.remaining reader.old) rest text.items × IsAtEnd rest) }
     ensures fault { IfErr result IsOfReading }
 {
-    let record = read_within(rt.alloc(), reader, RECORD_BYTES, RECORD_READS)?;
+    let mut following = Following::new(rt, reader, base, allowances, asked, follows);
+    let record = read_within(rt.alloc(), &mut following, RECORD_BYTES, RECORD_READS)?;
     tell_form(rt, record.as_slice());
     Ok(record)
 }
 
 /// Reads a record, judges it as `judge_within` does, and says on the standard error in which form it is, if that isn't
-/// a record's.
+/// a record's. If `follows`, its lines are judged as they come, too, and the standard error is told once they are
+/// ILLEGAL.
 ///
 /// The limit of `asked` is in `[1, 1_000_000]`.
 /// Errors: `Read`, `TooLong` and `NoMemory` of reading, then as `judge_within`. After `Write` a prefix of the text was
@@ -58,6 +66,7 @@ pub fn judge_read<I: Read, W: Write, R: Eprint + Alloc<A = Global>, P: Progress>
     writer: &mut W,
     allowances: &[Allowance],
     asked: Asked,
+    follows: bool,
     progress: &mut P,
 ) -> Result<u8, ScriptFault>
     requires { IsLimit asked.limit }
@@ -69,7 +78,7 @@ pub fn judge_read<I: Read, W: Write, R: Eprint + Alloc<A = Global>, P: Progress>
         (λ fault. AfterJudgeFaultFrom base.now allowances.now asked fault (I.remaining reader.old)
         (W.contents writer.old) (W.contents writer.new)) }
 {
-    let record_read = record_in(rt, reader)?;
+    let record_read = record_in(rt, base, reader, allowances, asked, follows)?;
     let record = record_read.as_slice();
     judge_within(
         rt.alloc(),

@@ -22,6 +22,7 @@ mod auditing;
 mod command;
 mod exploring;
 mod files;
+mod following;
 mod foreign;
 mod help;
 mod hint;
@@ -582,7 +583,7 @@ fn carry_out_job<
             shrink,
         } => {
             let asked = asked(limit, explain, json, strict_calls, shrink);
-            jobs::judge(rt, input, output, base, allowances, asked, manner.quiet)
+            jobs::judge(rt, input, output, base, allowances, asked, manner)
         }
         Job::Explore { limit } => jobs::explore(rt, input, output, limit, json),
         Job::Stops { stores, .. } => jobs::stops(rt, input, output, stores, json),

@@ -10,7 +10,7 @@ use clap::{ArgMatches, Command, Error};
 use std::alloc::Global;
 use std::convert::AsStr;
 
-/// How a job is done: the options of every job, and three of `judge`. `audit` has one of these too.
+/// How a job is done: the options of every job, and four of `judge`. `audit` has one of these too.
 #[derive(Clone, Copy, Debug, PartialEq, Eq)]
 pub struct Manner<'a> {
     /// The file that is read instead of the standard input.
@@ -29,6 +29,8 @@ pub struct Manner<'a> {
     pub quiet: bool,
     /// Whether the output is written as objects of JSON.
     pub json: bool,
+    /// Whether a record is judged while it comes.
+    pub follow: bool,
 }
 
 /// Returns whether an option without a value is given.
@@ -45,7 +47,7 @@ fn manner_in<'a>(found: &ArgMatches<'a>) -> Manner<'a>
         (first_value (found_of found.now) (codes "from"))
         (one_text (found_of found.now) (codes "verbose")) (one_text (found_of found.now) (codes "strict"))
         (one_text (found_of found.now) (codes "text")) (one_text (found_of found.now) (codes "quiet"))
-        (one_text (found_of found.now) (codes "json")) result }
+        (one_text (found_of found.now) (codes "json")) (one_text (found_of found.now) (codes "follow")) result }
 {
     Manner {
         file: found.get_str("file"),
@@ -56,6 +58,7 @@ fn manner_in<'a>(found: &ArgMatches<'a>) -> Manner<'a>
         text: flag_in(found, "text"),
         quiet: flag_in(found, "quiet"),
         json: flag_in(found, "json"),
+        follow: flag_in(found, "follow"),
     }
 }
 

@@ -94,6 +94,8 @@ fn judge_command<'a>(alloc: Global) -> Result<Command<'a>, AllocError>
         "Begins with the store that FILE lists, as show prints one, instead of an empty store";
     let shrink = "After ILLEGAL, prints a smaller record that no order explains either";
     let tap = "Lists the verdicts in the Test Anything Protocol, for prove and the like";
+    let follow =
+        "Judges a record while it comes, and says on the standard error once no order explains it";
     plain_command(alloc, "judge", about, RECORDS)
         .arg(record_argument(alloc))?
         .arg(limit_option(alloc, limit))?
@@ -104,7 +106,8 @@ fn judge_command<'a>(alloc: Global) -> Result<Command<'a>, AllocError>
         .arg(file_option(alloc, "from", from))?
         .arg(flag_option(alloc, "tap", tap))?
         .arg(flag_option(alloc, "strict-calls", strict))?
-        .arg(flag_option(alloc, "shrink", shrink))
+        .arg(flag_option(alloc, "shrink", shrink))?
+        .arg(flag_option(alloc, "follow", follow))
 }
 
 /// Returns the subcommand that explores a script.

@@ -13,7 +13,7 @@ returns-clause-judged g c =
     (g.W.Write.contents c.args.writer.now) (g.W.Write.contents c.judge_within.new.writer)))
     c.as_slice-record.ensures.value c.judge_within.ensures.judged in
     judged_whole c.args.base.now c.args.allowances.now c.args.asked c.judge_within.result record_read.items _ _ _ _
-    c.in_ok-record_read.ensures.all c.in_ok-record_read.ensures.end verdict
+    c.in_ok-record_read.ensures.all.1 c.in_ok-record_read.ensures.all.2 verdict
 
 pub returns-clause-fault : goal.returns-clause-fault
 returns-clause-fault g c =
@@ -23,4 +23,4 @@ returns-clause-fault g c =
     (g.W.Write.contents c.args.writer.now) (g.W.Write.contents c.judge_within.new.writer)))
     c.as_slice-record.ensures.value c.judge_within.ensures.fault in
     faulted_whole c.args.base.now c.args.allowances.now c.args.asked c.judge_within.result record_read.items _ _ _ _
-    c.in_ok-record_read.ensures.all c.in_ok-record_read.ensures.end left
+    c.in_ok-record_read.ensures.all.1 c.in_ok-record_read.ensures.all.2 left

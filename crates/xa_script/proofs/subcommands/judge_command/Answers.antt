@@ -23,9 +23,11 @@ returns-clause-app c =
     ∙ ap₂ with_rule seven c.flag_option-4.ensures.rule in
     let nine = c.in_ok-arg-9.ensures.shape c.flag_option-5.ensures.global
     ∙ ap₂ with_rule eight c.flag_option-5.ensures.rule in
-    IfOk-weaker c.arg-10.result _ _
-    (λ command added. added.shape c.flag_option-6.ensures.global ∙ ap₂ with_rule nine c.flag_option-6.ensures.rule)
-    c.arg-10.ensures
+    let ten = c.in_ok-arg-10.ensures.shape c.flag_option-6.ensures.global
+    ∙ ap₂ with_rule nine c.flag_option-6.ensures.rule in
+    IfOk-weaker c.arg-11.result _ _
+    (λ command added. added.shape c.flag_option-7.ensures.global ∙ ap₂ with_rule ten c.flag_option-7.ensures.rule)
+    c.arg-11.ensures
 
 -- a command is local still, if the option that it gets isn't global
 stays_local : {before after added : Bool} → after ≡ (before || added) → before ≡ false → added ≡ false → after ≡ false
@@ -42,5 +44,6 @@ returns-clause-local c =
     let seven = stays_local c.in_ok-arg-7.ensures.globals six c.file_option-2.ensures.global in
     let eight = stays_local c.in_ok-arg-8.ensures.globals seven c.flag_option-4.ensures.global in
     let nine = stays_local c.in_ok-arg-9.ensures.globals eight c.flag_option-5.ensures.global in
-    IfOk-weaker c.arg-10.result _ _
-    (λ command added. stays_local added.globals nine c.flag_option-6.ensures.global) c.arg-10.ensures
+    let ten = stays_local c.in_ok-arg-10.ensures.globals nine c.flag_option-6.ensures.global in
+    IfOk-weaker c.arg-11.result _ _
+    (λ command added. stays_local added.globals ten c.flag_option-7.ensures.global) c.arg-11.ensures

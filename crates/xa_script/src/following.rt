@@ -1,0 +1,165 @@
+//! Judges a record while it comes, for `--follow`.
+ghost use Rattle.std.specs.Prelude.{◌≡◌};
+ghost use Rattle.std.specs.Io.{ReadsAtMost};
+ghost use Rattle.std.specs.Io.KnownBytes.{ReadConsumes};
+
+use std::alloc::Global;
+use std::io;
+use std::io::Read;
+use xa_judge::Silent;
+use xa_lines::split_line;
+use xa_record::{Allowance, Asked, Form, Outcome, judge_text_from};
+use xa_server::Server;
+use xa_xid::NoMemory;
+
+/// A reader of a record. Whenever its writer pauses, the lines that have come are judged, and the standard error is told
+/// once no order explains them.
+#[derive(Drop)]
+pub struct Following<'r, I: Read, R> {
+    /// What is read.
+    inner: I,
+    /// The runtime whose standard error is written to.
+    rt: &'r R,
+    /// The server with which the record begins.
+    base: &'r Server,
+    /// The error numbers that stand for others.
+    allowances: &'r [Allowance],
+    /// What is asked of judging.
+    asked: Asked,
+    /// Whether lines are judged before the end.
+    follows: bool,
+    /// What has been read.
+    text: Vec<u8>,
+    /// How many bytes of it were judged.
+    judged: usize,
+}
+
+impl<'r, I: Read, R: Eprint + Alloc<A = Global>> Following<'r, I, R> {
+    /// Returns a reader that judges the lines of this one as they come if `follows`. The record begins with `base`.
+    ///
+    /// Takes no memory. Doesn't wait.
+    pub fn new(
+        rt: &'r R,
+        inner: I,
+        base: &'r Server,
+        allowances: &'r [Allowance],
+        asked: Asked,
+        follows: bool,
+    ) -> Following<'r, I, R>
+        ensures { I.remaining result.inner ≡ I.remaining inner }
+    {
+        Following {
+            inner,
+            rt,
+            base,
+            allowances,
+            // One line is told, which is the same whatever else the verdict is to hold.
+            asked: Asked {
+                form: Form::Plain,
+                explains: false,
+                shrinks: false,
+                ..asked
+            },
+            follows,
+            text: Vec::new(rt.alloc()),
+            judged: 0,
+        }
+    }
+
+    /// Returns how many bytes the lines have that have come whole.
+    fn count_whole(&self) -> usize {
+        let mut count = self.judged;
+        for at in self.judged..self.text.len() {
+            if self.text[at] == b'\n' {
+                count = at + 1;
+            }
+        }
+        count
+    }
+
+    /// Says on the standard error that the lines that have come are ILLEGAL, with the line that says where.
+    fn tell(&self, verdict: &[u8]) {
+        // A verdict is never empty.
+        if verdict.is_empty() {
+            return;
+        }
+        let (line, _) = split_line(verdict);
+        if let Ok(line) = str::from_utf8(line) {
+            let _ = eprintln!(self.rt; "xa_script: {line}, as far as the record has come");
+        }
+    }
+
+    /// Judges the first bytes of what was read, and says whether later lines are to be judged, too.
+    fn judge_front(&self, count: usize) -> Result<bool, NoMemory> {
+        let Some(front) = self.text.get(..count) else {
+            return Ok(false);
+        };
+        let alloc = self.rt.alloc();
+        let judged = judge_text_from(
+            alloc,
+            self.base,
+            front,
+            self.allowances,
+            self.asked,
+            &mut Silent,
+        )?;
+        match judged.outcome {
+            Outcome::Illegal => {
+                self.tell(judged.text.as_slice());
+                Ok(false)
+            }
+            // More lines can't be decided either.
+            Outcome::Undecided => Ok(false),
+            // A line may be faulty only until the rows that belong to it have come.
+            Outcome::Legal | Outcome::Faulty | Outcome::Empty => Ok(true),
+        }
+    }
+
+    /// Judges the lines that have come since the last time, if there are some.
+    fn judge_more(&mut self) -> Result<bool, NoMemory>
+        ensures { self.new.inner ≡ self.old.inner }
+    {
+        let count = self.count_whole();
+        if count <= self.judged {
+            return Ok(true);
+        }
+        self.judged = count;
+        self.judge_front(count)
+    }
+
+    /// Takes what was read. If the writer `pauses`, what has come is judged.
+    fn take(&mut self, bytes: &[u8], pauses: bool) -> Result<bool, NoMemory>
+        ensures { self.new.inner ≡ self.old.inner }
+    {
+        self.text.extend_from_slice(bytes)?;
+        if !pauses {
+            return Ok(true);
+        }
+        self.judge_more()
+    }
+
+    /// Follows what was read, as long as there is memory for it.
+    fn follow(&mut self, bytes: &[u8], pauses: bool)
+        ensures { self.new.inner ≡ self.old.inner }
+    {
+        // Without memory the record is judged at its end alone.
+        self.follows = self.take(bytes, pauses).unwrap_or(false);
+    }
+}
+
+impl<'r, I: Read, R: Eprint + Alloc<A = Global>> Read for Following<'r, I, R> {
+    ghost remaining = { λ following. I.remaining following.inner };
+
+    fn read(&mut self, buf: &mut [u8]) -> io::Result<usize>
+        ensures bound { ReadsAtMost result buf.new }
+        ensures bytes { ReadConsumes (I.remaining self.old.inner) (I.remaining self.new.inner) result buf.new }
+    {
+        let count = self.inner.read(buf)?;
+        // A reader that gives less than it might has no more for now.
+        let pauses = count < buf.len();
+        if self.follows {
+            self.follow(&buf[..count], pauses);
+        }
+        Ok(count)
+    }
+}
