@@ -108,9 +108,10 @@ class Witness(threading.Thread):
                         while asked < ASKED:
                             asked += 1
                             self.ask(client, self.any_statement())
+                        self.note(f"{self.number} ! LOST")
                     except (Closed, ConnectionError):
-                        pass
-                    self.note(f"{self.number} ! LOST")
+                        # The server has ended the session before its client could see it, and others may have gone on.
+                        self.note(f"{self.number} ! GONE")
         except Exception as fault:
             self.fault = fault
 
@@ -151,7 +152,7 @@ class Witnesses(Case):
         for witness in witnesses:
             witness.join()
         self.assertEqual([witness.fault for witness in witnesses], [None] * WITNESSES)
-        self.assertEqual(sum("LOST" in line for line in record), WITNESSES + 3)
+        self.assertEqual([sum(how in line for line in record) for how in ("! LOST", "! GONE")], [WITNESSES, 3])
         self.assertGreater(sum(line.endswith("< OK") for line in record), 100)
         self.assertEqual(verdict("\n".join(record).encode()), "LEGAL")
         self.assertEqual(server.verdicts(), ["LEGAL"])
