@@ -2,6 +2,7 @@
 --     free_of, unheld             so these sessions have nothing open, and nobody holds a chosen row
 --     apart_after, rows_after     a request of the other part leaves that so, and the values of the chosen rows
 --     AreJoined                   the state of the whole record, by those of its parts
+--     free_get, free_put, free_del      what a free session reads and writes
 --     free_join, other_join       a request of one part is answered there as in the whole, and leaves them so
 --     none_apart, none_listed     a state without branches
 --     joined_first                before all events
@@ -321,7 +322,7 @@ rows_after named free state session (Given statement) key other are is = elim (o
 -- ---- what a request of the chosen part does
 
 -- a session that has nothing open reads the committed value
-free_get : (state : State) (session : ℕ) (key : List ℕ) → association_of state session ≡ Free
+pub free_get : (state : State) (session : ℕ) (key : List ℕ) → association_of state session ≡ Free
     → (reply_to state session (Get key) ≡ Value (committed_value state key)) × (after state session (Get key) ≡ state)
 unfolding reply_to table effect after
 free_get state session key free = (
@@ -330,7 +331,7 @@ free_get state session key free = (
 )
 
 -- and writes a row at once that nobody holds
-free_put : (state : State) (session : ℕ) (key : List ℕ) (value : Text) → association_of state session ≡ Free
+pub free_put : (state : State) (session : ℕ) (key : List ℕ) (value : Text) → association_of state session ≡ Free
     → is_held_against state Free key ≡ false
     → (reply_to state session (Put key value) ≡ Accepted)
     × (after state session (Put key value) ≡ record state { rows = with_write key (Some value) state.rows })
@@ -342,7 +343,7 @@ free_put state session key value free nobody = (
       (record state { rows = with_write key (Some value) state.rows })) nobody,
 )
 
-free_del : (state : State) (session : ℕ) (key : List ℕ) → association_of state session ≡ Free
+pub free_del : (state : State) (session : ℕ) (key : List ℕ) → association_of state session ≡ Free
     → is_held_against state Free key ≡ false
     → (reply_to state session (Del key) ≡ Accepted)
     × (after state session (Del key) ≡ record state { rows = with_write key None state.rows })

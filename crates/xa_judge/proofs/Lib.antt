@@ -18,4 +18,8 @@ pub mod KeyStates
 pub mod KeyClients
 pub mod KeyRuns
 pub mod KeyVerdicts
+pub mod RowSteps
+pub mod RowLists
+pub mod RowAnswers
+pub mod RowVerdicts
 pub mod KeyParts

@@ -11,3 +11,4 @@ pub mod Path
 pub mod Near
 pub mod Told
 pub mod Keys
+pub mod Rows

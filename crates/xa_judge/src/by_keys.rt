@@ -8,9 +8,10 @@ ghost use Rattle.xa_judge.specs.Keys.{free_in, first_turns, HasNoBranch, IsCut, 
 ghost use Rattle.xa_judge.specs.Near.{named_in};
 ghost use Rattle.xa_judge.specs.Verdicts.{IsVerdict};
 
+use crate::by_row::judge_row;
 use crate::event::Event;
 use crate::following::follows;
-use crate::judging::{judge_narrow, judge_part};
+use crate::judging::{judge_few, judge_many, judge_narrow, judge_part};
 use crate::loading::key_called;
 use crate::moves::Move;
 use crate::parts::{count_before, merge, pick, place_in, sides_of};
@@ -231,6 +232,44 @@ fn together(
     }
 }
 
+/// What refutes the statements on the row with the only key, if that is found.
+fn refute_one(
+    alloc: Global,
+    base: &Server,
+    keys: &[Key],
+    events: &[Event],
+    limit: usize,
+) -> Result<Option<Verdict>, NoMemory>
+    requires { HasNoBranch base.now }
+    ensures { IfOk result (λ found. IfSome found (IsVerdict base.now events.now limit)) }
+{
+    match keys.first() {
+        None => Ok(None),
+        Some(key) => judge_row(alloc, base, key, events, limit),
+    }
+}
+
+/// The verdict on the statements on the row with the only key.
+fn judge_one(
+    alloc: Global,
+    base: &Server,
+    keys: &[Key],
+    events: &[Event],
+    limit: usize,
+) -> Result<Option<Verdict>, NoMemory>
+    requires { HasNoBranch base.now }
+    ensures { IfOk result (λ found. IfSome found (IsVerdict base.now events.now limit)) }
+{
+    if let Some(verdict) = judge_few(alloc, base, events, limit)? {
+        return Ok(Some(verdict));
+    }
+    // What refutes one row quickly comes before a search for one order, which would go on to its end.
+    match refute_one(alloc, base, keys, events, limit)? {
+        Some(verdict) => Ok(Some(verdict)),
+        None => judge_many(alloc, base, events, limit),
+    }
+}
+
 /// The verdict on the statements on these rows, row by row.
 fn judge_rows(
     alloc: Global,
@@ -244,7 +283,7 @@ fn judge_rows(
     ensures { IfOk result (λ found. IfSome found (IsVerdict base.now events.now limit)) }
 {
     if keys.len() < 2 {
-        return judge_part(alloc, base, events, limit);
+        return judge_one(alloc, base, keys, events, limit);
     }
     // Rows on which calls don't overlap need no cut, however many they are.
     if let Some(verdict) = judge_narrow(alloc, base, events, limit, &mut Silent)? {
@@ -300,7 +339,8 @@ pub fn judge_by_keys(
         return Ok(None);
     };
     if keys.len() < 2 && count_before(sides.as_slice(), false, sides.len()) == 0 {
-        return Ok(None);
+        // Nothing is cut off: there is only this row.
+        return refute_one(alloc, base, keys.as_slice(), events, limit);
     }
     let part = pick(alloc, true, sides.as_slice(), events)?;
     let all = keys.as_slice();

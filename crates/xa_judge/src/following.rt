@@ -84,8 +84,10 @@ impl Following {
     }
 }
 
-/// The configuration after the moves, if they lead through all of the events.
-fn followed(
+/// Returns the configuration after the moves, if they lead through all of the events.
+///
+/// May return `NoMemory`.
+pub fn followed(
     alloc: Global,
     base: &Server,
     events: &[Event],

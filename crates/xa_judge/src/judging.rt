@@ -134,6 +134,38 @@ fn judge_by_search<P: Progress>(
     }
 }
 
+/// Returns the verdict on one part of a record, if a few configurations are enough.
+///
+/// May return `NoMemory`.
+pub fn judge_few(
+    alloc: Global,
+    base: &Server,
+    events: &[Event],
+    limit: usize,
+) -> Result<Option<Verdict>, NoMemory>
+    ensures { IfOk result (λ found. IfSome found (IsVerdict base.now events.now limit)) }
+{
+    judge_kept(alloc, base, events, MIDDLE, limit, &mut Silent)
+}
+
+/// Returns the verdict on one part of a record for which a few configurations aren't enough, if one is found with no
+/// more than `limit`.
+///
+/// May return `NoMemory`.
+pub fn judge_many(
+    alloc: Global,
+    base: &Server,
+    events: &[Event],
+    limit: usize,
+) -> Result<Option<Verdict>, NoMemory>
+    ensures { IfOk result (λ found. IfSome found (IsVerdict base.now events.now limit)) }
+{
+    match judge_by_search(alloc, base, events, limit, &mut Silent)? {
+        Some(verdict) => Ok(Some(verdict)),
+        None => judge_kept(alloc, base, events, limit, limit, &mut Silent),
+    }
+}
+
 /// Returns the verdict on one part of a record, if one is found with no more than `limit` configurations.
 ///
 /// May return `NoMemory`.
@@ -146,12 +178,9 @@ pub fn judge_part(
     ensures { IfOk result (λ found. IfSome found (IsVerdict base.now events.now limit)) }
 {
     // All configurations refute a part that nothing explains. A search for one order would go on to its end first.
-    match judge_kept(alloc, base, events, MIDDLE, limit, &mut Silent)? {
+    match judge_few(alloc, base, events, limit)? {
         Some(verdict) => Ok(Some(verdict)),
-        None => match judge_by_search(alloc, base, events, limit, &mut Silent)? {
-            Some(verdict) => Ok(Some(verdict)),
-            None => judge_kept(alloc, base, events, limit, limit, &mut Silent),
-        },
+        None => judge_many(alloc, base, events, limit),
     }
 }
 

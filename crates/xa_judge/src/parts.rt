@@ -175,8 +175,10 @@ pub fn sides_of(
     Ok(Some(sides))
 }
 
-/// One more owner of what the event has.
-fn copy_of(event: &Event) -> Result<Event, NoMemory>
+/// Returns one more owner of what the event has.
+///
+/// May return `NoMemory`.
+pub fn copy_of(event: &Event) -> Result<Event, NoMemory>
     ensures { IfOk result (λ copy. copy ≡ event.now) }
 {
     match event {
