@@ -27,7 +27,8 @@ use Rattle.xa_judge.specs.declared.request.Request.TheVariants.{Statement as Giv
 use Rattle.xa_judge.specs.declared.answer.Answer.{Answer}
 use Rattle.xa_judge.specs.declared.answer.Answer.TheVariants.{Reply as Replied}
 use Rattle.xa_judge.specs.declared.client_state.ClientState.{ClientState}
-use Rattle.xa_judge.specs.declared.client_state.ClientState.TheVariants.{Idle as NotCalling, Called, Answered, Gone, Left}
+use Rattle.xa_judge.specs.declared.client_state.ClientState.TheVariants.{Idle as NotCalling, Called, Answered}
+use Rattle.xa_judge.specs.declared.client_state.ClientState.TheVariants.{Gone, Left}
 use Rattle.xa_judge.specs.declared.event.Seen.{Seen}
 use Rattle.xa_judge.specs.declared.event.Seen.TheVariants.{Ok as SeenOk, Value as SeenValue, Rows as SeenRows}
 use Rattle.xa_judge.specs.declared.event.Seen.TheVariants.{Error as SeenError}
@@ -40,7 +41,8 @@ use Rattle.xa_judge.specs.declared.row_client.RowClient.TheVariants.{Idle, Readi
 use Rattle.xa_judge.specs.declared.row_client.RowClient.TheVariants.{Told}
 use Rattle.xa_judge.specs.declared.wanted.Wanted.{Wanted}
 use Rattle.xa_judge.specs.declared.wanted.Wanted.TheVariants.{Asked, Any, Marked}
-use Rattle.xa_judge.specs.Explained.{Config, opening_config, with_client, effect_of, carried_out, disconnected, observed}
+use Rattle.xa_judge.specs.Explained.{Config, opening_config, with_client, effect_of, carried_out, disconnected}
+use Rattle.xa_judge.specs.Explained.{observed}
 use Rattle.xa_judge.specs.Explained.{called, returned, answered_unknown, answer_to, same_values, shows_answer}
 use Rattle.xa_judge.specs.Keys.{HasNoBranch}
 use Rattle.xa_judge.specs.Late.{has_unheard, unheard_so}
@@ -412,7 +414,8 @@ module _ (key : List ℕ) (values : List (Option Text)) where
   may_show (Reading mark) answer seen stands shows =
       by seen (subst (λ a. shows_answer seen a ≡ true) stands.is shows)
     where
-      by : (seen : Seen) → shows_answer seen (Replied (Value stands.value)) ≡ true → may_return (Reading mark) seen ≡ true
+      by : (seen : Seen) → shows_answer seen (Replied (Value stands.value)) ≡ true
+          → may_return (Reading mark) seen ≡ true
       by SeenOk shows = absurd (false≢true shows)
       by (SeenValue value) shows = ap not (ne_eqb (mark_of_value value) mark
           (λ e. stands.fits (sym (same_marks value stands.value shows) ∙ e)))
@@ -460,11 +463,14 @@ module _ (key : List ℕ) (values : List (Option Text)) where
 
   -- a call whose answer isn't known yet
   reading_stands : (value : ℕ) (wanted : Wanted) (request : Request) → request ≡ Given (Get key)
-      → StandsFor key values (reading value wanted) (Called request) × (Some (reading value wanted) ≢ Some (Reading value))
+      → StandsFor key values (reading value wanted) (Called request)
+      × (Some (reading value wanted) ≢ Some (Reading value))
   reading_stands value Asked request get = (get, λ e. asking_reading value e)
   reading_stands value Any request get = (get, λ e. heard_reading value e)
-  reading_stands value (Marked mark) request get =
-      (stands_heard value (Some (Reading mark)) (Some (Called request)) get, λ e. heard_unmet value (Some (Reading mark)) e)
+  reading_stands value (Marked mark) request get = (
+    stands_heard value (Some (Reading mark)) (Some (Called request)) get,
+    λ e. heard_unmet value (Some (Reading mark)) e,
+  )
 
   -- the session calls
   call_sees : (row : Row) (config : Config) (session : ℕ) (request : Request) (wanted : Wanted) (r : RowClient)

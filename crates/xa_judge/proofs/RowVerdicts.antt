@@ -21,7 +21,8 @@ use Rattle.xa_judge.specs.declared.event.Event.{Event}
 use Rattle.xa_judge.specs.declared.event.Event.TheVariants.{Return}
 use Rattle.xa_judge.specs.declared.moves.Move.{Move}
 use Rattle.xa_judge.specs.declared.moves.Move.TheVariants.{Event as Seeing, Effect}
-use Rattle.xa_judge.specs.Explained.{Config, with_client, opening_config, observed, returned, shows_answer, LeadsThrough}
+use Rattle.xa_judge.specs.Explained.{Config, with_client, opening_config, observed, returned, shows_answer}
+use Rattle.xa_judge.specs.Explained.{LeadsThrough}
 use Rattle.xa_judge.specs.Explained.{Explained}
 use Rattle.xa_judge.specs.Rows.{Row, RowContinues, ExtendsTo, AreRowsClosed, AreRowAnswers}
 use Rattle.xa_judge.specs.Verdicts.{IsRefuted, IsAnswerAfter, AreAllAnswers}
@@ -119,7 +120,12 @@ pub illegal_row : (base : State) (events : List Event) (place session : ℕ) (se
     → All (λ answer. shows_answer seen answer ≡ false) answers
     → IsRefuted base events place × AreAllAnswers base events place answers
 illegal_row base events place session seen answers within at some each all none = (
-  record { within = within; before = before; refuted = refuted; whole = λ e. refuted (explained_take base events (place + 1) e) },
+  record {
+    within = within;
+    before = before;
+    refuted = refuted;
+    whole = λ e. refuted (explained_take base events (place + 1) e);
+  },
   record {
     each = λ k d below. record { session = session; seen = seen; returns = at; after = each k d below };
     all = λ answer could.
@@ -142,7 +148,8 @@ illegal_row base events place session seen answers within at some each all none 
     refuted : Explained base (take (place + 1) events) → ⊥
     refuted explained =
         let last = last_answered base (take place events) session seen (subst (Explained base) upto explained) in
-        false≢true (sym (All-contains (λ a. shows_answer seen a ≡ false) answers last.0 none (all last.0 last.1)) ∙ last.2)
+        false≢true
+        (sym (All-contains (λ a. shows_answer seen a ≡ false) answers last.0 none (all last.0 last.1)) ∙ last.2)
 
 -- ---- loops over answers
 

@@ -2,7 +2,8 @@
 //!
 //! Such a row is a register. Few of its configurations have to be kept: what open `GET`s return is known from the
 //! record, and a `GET` changes nothing, so it is answered as soon as it can be.
-ghost use Rattle.std.specs.Prelude.{◌≡◌, ◌<◌, ℕ, List, [], true, false, Option, Some, slice_get, take, length, IfOk, IfSome};
+ghost use Rattle.std.specs.Prelude.{◌≡◌, ◌<◌, List, [], true, false, Option, Some, slice_get, length};
+ghost use Rattle.std.specs.Prelude.{IfOk, IfSome};
 ghost use Rattle.std.specs.List.{All, Contains};
 ghost use Rattle.xa_xid.specs.Xid.{Text};
 ghost use Rattle.xa_server.specs.State.{committed_value};

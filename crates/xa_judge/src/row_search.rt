@@ -1,9 +1,7 @@
 //! Lists of rows, where one row is judged that only free statements name.
-ghost use Rattle.std.specs.Prelude.{◌≡◌, ◌<◌, ◌∷◌, ◌++◌, [], ℕ, List, true, false, Some, slice_get, vec_len, length, take};
+ghost use Rattle.std.specs.Prelude.{◌≡◌, ◌<◌, ℕ, true, Some, slice_get, vec_len, length};
 ghost use Rattle.std.specs.Prelude.{IfOk, IfSome, OnOk};
 ghost use Rattle.std.specs.List.{Contains};
-ghost use Rattle.xa_xid.specs.Xid.{Text};
-ghost use Rattle.xa_server.specs.State.{committed_value};
 ghost use Rattle.xa_judge.specs.Explained.{IsSession};
 ghost use Rattle.xa_judge.specs.Rows.{Row as RowSeen, row_effect, row_seen, AddsRow, ExtendsTo, IsRowExpanded};
 ghost use Rattle.xa_judge.specs.Advances.{IsCallOf};

@@ -11,5 +11,6 @@ loop-answer-preserved c =
 
 pub returns : goal.returns
 returns c = λ e.
-    all_end (IsAnswerAfter c.args.base.now c.args.events.now c.args.session) c.args.answers.now c.loop-answer.answer-index
+    all_end (IsAnswerAfter c.args.base.now c.args.events.now c.args.session) c.args.answers.now
+    c.loop-answer.answer-index
     (omega (arith, c.loop-answer-test.false)) c.loop-answer.invariant

@@ -19,7 +19,8 @@ returns-else-not-branch c =
     let some : 0 < length answers = omega (arith, empty, c.in-Some.answers.ok.0) in
     let all : (answer : Answer) → IsAnswerAfter base (take c.args.place c.args.events.now) session answer
     → Contains answers answer =
-    λ answer after. subst (λ o. IfSome o (λ a. (other : Answer) → IsAnswerAfter base c.split_at.result.0.now session other
+    λ answer after. subst (λ o. IfSome o
+    (λ a. (other : Answer) → IsAnswerAfter base c.split_at.result.0.now session other
     → Contains a.items other)) c.in-Some.is c.in_ok-answers_after.ensures answer
     (subst (λ l. IsAnswerAfter base l session answer) (sym first) after) in
     illegal_row base c.args.events.now c.args.place session c.args.seen.now answers c.requires.within c.requires.returns

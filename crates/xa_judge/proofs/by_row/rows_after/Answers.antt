@@ -18,8 +18,8 @@ loop-place-preserved c = λ values more moves end are runs.
     let event = c.index-events-place.result in
     let leads : IsRowAdvance event known next =
     subst (λ o. IfSome o (λ list. IsRowAdvance event known list.items)) c.in-Some.is c.in_ok-see.ensures in
-    continues_more c.args.base.now c.args.key.now c.args.events.now values c.loop-place.place event known next more moves
-    end (omega (arith, c.loop-place-test.true)) c.index-events-place.is are
+    continues_more c.args.base.now c.args.key.now c.args.events.now values c.loop-place.place event known next more
+    moves end (omega (arith, c.loop-place-test.true)) c.index-events-place.is are
     (c.is_about_row.ensures (search (rules, tests)))
     leads
     (λ later all go. c.loop-place.invariant values later all end are go) runs

@@ -17,7 +17,8 @@ loop-event-preserved c =
       none = puts_keep event old new _ added c.loop-event.invariant.none;
       opening = puts_keep event old new _ added c.loop-event.invariant.opening;
       put = λ place session name value below at. elim (cases_lt place c.loop-event.event-index) [
-        | inl less ↦ puts_keep event old new (Some value) added (c.loop-event.invariant.put place session name value less at)
+        | inl less ↦
+            puts_keep event old new (Some value) added (c.loop-event.invariant.put place session name value less at)
         | inr over ↦
             let e : place ≡ c.loop-event.event-index = omega (arith, below, over) in
             let here = stands_at c.args.events.now c.loop-event.event-index event
