@@ -11,6 +11,8 @@ pub mod history;
 pub mod manager;
 pub mod records;
 pub mod script;
+#[cfg(test)]
+mod tests;
 
 pub use xa_coordinator::{
     BeginFault, Beside, Cause, Closed, Closing, Coordinator, Decision, Decisions, Ending,

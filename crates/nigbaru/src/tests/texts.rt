@@ -1,5 +1,5 @@
 //! The text of every fault, and its number if no other test has it. A refusal's and a state's are in
-//! `src/servers.rt`, with its codes.
+//! `servers`, with its codes.
 use decision_log::{AddFault, OpenFault};
 use std::alloc::Global;
 use std::fmt::Display;

@@ -1,5 +1,5 @@
 use Rattle.std.proofs.Common.{◌≡◌}
-use Rattle.xa_store_tests.proofs.sixteen.works.Given as goal
+use Rattle.nigbaru.proofs.tests.sixteen.works.Given as goal
 
 abbrev pub invariant-loop-number : goal.invariant-loop-number
 invariant-loop-number g l =

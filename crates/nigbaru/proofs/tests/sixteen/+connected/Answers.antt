@@ -2,7 +2,7 @@ use Rattle.std.proofs.Common.{◌≡◌, ap, sym, subst, ◌∙◌, Some}
 use Rattle.std.specs.List.{All}
 use Rattle.std.proofs.lemmas.List.Elements.{All-pop, All-push}
 use Rattle.xa_store.specs.Passes.{identity_of, log_of}
-use Rattle.xa_store_tests.proofs.sixteen.+connected.Goals as goal
+use Rattle.nigbaru.proofs.tests.sixteen.+connected.Goals as goal
 
 pub returns : goal.returns
 returns g t c =

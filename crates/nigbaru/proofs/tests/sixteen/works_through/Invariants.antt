@@ -1,5 +1,5 @@
 use Rattle.std.proofs.Common.{◌≡◌}
-use Rattle.xa_store_tests.proofs.sixteen.works_through.Given as goal
+use Rattle.nigbaru.proofs.tests.sixteen.works_through.Given as goal
 
 abbrev pub invariant-loop-statement : goal.invariant-loop-statement
 invariant-loop-statement g l =

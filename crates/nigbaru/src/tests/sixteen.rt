@@ -3,7 +3,7 @@ ghost use Rattle.std.specs.Prelude.{◌≡◌, ◌++◌, ◌∷◌, [], length, 
 ghost use Rattle.std.specs.List.{All};
 ghost use Rattle.xa_store.specs.Passes.{identity_of, log_of};
 
-use crate::replay::{Account, Told, explains};
+use super::replay::{Account, Told, explains};
 use decision_log::DecisionLog;
 use std::alloc::Global;
 use std::process::Abort;
