@@ -22,4 +22,10 @@ pub mod RowSteps
 pub mod RowLists
 pub mod RowAnswers
 pub mod RowVerdicts
+pub mod ForeseenSteps
+pub mod ForeseenEvents
+pub mod ForeseenLists
+pub mod ForeseenReturns
+pub mod ForeseenGrowth
+pub mod ForeseenAdvances
 pub mod KeyParts

@@ -1,11 +1,13 @@
 -- Loops over configurations.
-use Rattle.std.proofs.Common.{◌≡◌, ◌≢◌, ◌⊎◌, ℕ, ◌+◌, ◌<◌, Option, Some, None, List, [], ◌∷◌, ◌++◌, length, get_or, refl}
+use Rattle.std.proofs.Common.{◌≡◌, ◌≢◌, ◌⊎◌, ℕ, ◌+◌, ◌<◌, ◌≤◌, take, Option, Some, None, List, [], ◌∷◌, ◌++◌, length}
+use Rattle.std.proofs.Common.{get_or, refl}
 use Rattle.std.proofs.Common.{ap, sym, ◌∙◌, subst, inl, inr, arith}
 use Rattle.std.specs.Prelude.{slice_get, IfSome}
 use Rattle.std.specs.Option.{option_map}
 use Rattle.std.specs.List.{All, Contains}
 use Rattle.std.proofs.lemmas.Option.{same_Some, none-some, slice_get_read}
 use Rattle.std.proofs.lemmas.Bool.{cases_lt}
+use Rattle.std.proofs.lemmas.List.{take_more, take_all}
 use Rattle.std.proofs.lemmas.List.Elements.{All-push, All-pop, Contains-append_left, Contains-push, Contains-push_cases}
 use Rattle.xa_server.specs.State.{State}
 use Rattle.xa_judge.specs.declared.answer.Answer.{Answer}
@@ -263,3 +265,24 @@ others_more old now new place number returning one first second at before here s
           (λ e. apart (e ∙ ap Some (sym same)))
           (ap (λ n. effect_of (config_of one) n act) (sym same) ∙ leads)
     ]
+
+-- ---- elements that are taken up one after another
+
+module _ {X : Type 0} where
+  -- those before the place and the one there are in the list
+  pub contained_more : (xs : List X) (i : ℕ) (x : X) (old new : List X) → i < length xs → x ≡ get_or xs i x
+      → ((other : X) → Contains old other → Contains new other) → Contains new x
+      → ((other : X) → Contains (take i xs) other → Contains old other)
+      → (other : X) → Contains (take (i + 1) xs) other → Contains new other
+  contained_more xs i x old new within at keeps here before other has =
+      elim (Contains-push_cases (take i xs) x other
+      (subst (λ l. Contains l other) (take_more xs i x within ∙ ap (λ y. take i xs ++ y ∷ []) (sym at)) has)) [
+        | inl there ↦ keeps other (before other there)
+        | inr same ↦ subst (λ y. Contains new y) same here
+      ]
+
+  pub contained_end : (xs : List X) (i : ℕ) (list : List X) → length xs ≤ i
+      → ((other : X) → Contains (take i xs) other → Contains list other)
+      → (other : X) → Contains xs other → Contains list other
+  contained_end xs i list over before other has =
+      before other (subst (λ l. Contains l other) (sym (take_all i xs over)) has)

@@ -191,7 +191,7 @@ pub record Saw (old : Config) (event : Event) (new : Config) : Type 0 where
       → observed other event ≡ Some (with_client other (session_in event) next)
 
 -- what a call changes: its own client alone
-saw_call : (o : Option ClientState) (old new : Config) (session : ℕ) (request : Request)
+pub saw_call : (o : Option ClientState) (old new : Config) (session : ℕ) (request : Request)
     → slice_get old.clients session ≡ o
     → called o old session request ≡ Some new → Saw old (Call session request) new
 unfolding observed called
@@ -225,8 +225,8 @@ saw_call (Some Left) old new session request found is =
     }
 
 -- what a return changes: its own client alone, which had an answer
-saw_return : (o : Option ClientState) (old new : Config) (session : ℕ) (seen : Seen) → slice_get old.clients session ≡ o
-    → returned o old session seen ≡ Some new
+pub saw_return : (o : Option ClientState) (old new : Config) (session : ℕ) (seen : Seen)
+    → slice_get old.clients session ≡ o → returned o old session seen ≡ Some new
     → Saw old (Return session seen) new × (answered_so o ≡ true)
 unfolding observed returned
 saw_return None old new session seen found is = absurd (none-some new is)
@@ -248,7 +248,7 @@ saw_return (Some (Gone request)) old new session seen found is = absurd (none-so
 saw_return (Some Left) old new session seen found is = absurd (none-some new is)
 
 -- what a loss changes: the lost client alone
-saw_lost : (o : Option ClientState) (old new : Config) (session : ℕ) → slice_get old.clients session ≡ o
+pub saw_lost : (o : Option ClientState) (old new : Config) (session : ℕ) → slice_get old.clients session ≡ o
     → lost o old session ≡ Some new
     → Saw old (Lost session) new
 unfolding observed lost

@@ -12,3 +12,4 @@ pub mod Near
 pub mod Told
 pub mod Keys
 pub mod Rows
+pub mod Foreseen

@@ -86,9 +86,9 @@ fn closed_seen(
     Ok(next)
 }
 
-/// Whether in none of these configurations the session's client is gone with a call that may still take
+/// Tells whether in none of these configurations the session's client is gone with a call that may still take
 /// effect.
-fn none_unheard(known: &[Configuration], session: SessionNo) -> bool
+pub fn none_unheard(known: &[Configuration], session: SessionNo) -> bool
     ensures none { result ≡ true → (one : Config) → Has known.now one → has_unheard one session ≡ false }
     ensures some { result ≡ false → IsAnyUnheard (Has known.now) session }
 {

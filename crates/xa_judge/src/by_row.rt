@@ -8,30 +8,22 @@ ghost use Rattle.std.specs.List.{All, Contains};
 ghost use Rattle.xa_xid.specs.Xid.{Text};
 ghost use Rattle.xa_server.specs.State.{committed_value};
 ghost use Rattle.xa_judge.specs.declared.answer.Answer.{Answer as AnswerSeen};
-ghost use Rattle.xa_judge.specs.declared.client_state.ClientState.TheVariants.{Answered};
 ghost use Rattle.xa_judge.specs.declared.moves.Move.{Move as Moved};
-ghost use Rattle.xa_judge.specs.Explained.{Config, opening_config, LeadsThrough, shows_answer};
-ghost use Rattle.xa_judge.specs.Found.{config_of};
+ghost use Rattle.xa_judge.specs.Explained.{Config, opening_config, LeadsThrough};
 ghost use Rattle.xa_judge.specs.Keys.{HasNoBranch};
 ghost use Rattle.xa_judge.specs.Rows.{mark_of_value as mark_of, AreValues, IsAboutRow, NamesRow, RowContinues};
 ghost use Rattle.xa_judge.specs.Verdicts.{IsAnswerAfter, IsVerdict};
 
 use crate::answer::Answer;
-use crate::client_state::ClientState;
-use crate::configuration::Configuration;
 use crate::event::{Event, Seen};
 use crate::fingerprints::mark_of_value;
-use crate::following::followed;
-use crate::moves::Move;
-use crate::parts::copy_of as copy_of_event;
-use crate::progress::Silent;
+use crate::hints::{last_call, session_of};
+use crate::refuting::refuted;
 use crate::request::Request;
 use crate::row::Row;
 use crate::row_answers::{answers_on, copy_of_value, values_of};
 use crate::row_search::{close, see};
-use crate::searching::moves_through;
 use crate::shared_answer::SharedAnswer;
-use crate::shared_seen::SharedSeen;
 use crate::verdict::Verdict;
 use crate::wanted::Wanted;
 use std::alloc::Global;
@@ -77,16 +69,6 @@ fn is_about_row(key: &Key, event: &Event) -> bool
         Event::Return(_, _) => true,
         Event::Lost(_) => false,
         Event::Unknown(_) => true,
-    }
-}
-
-/// Whose event it is.
-fn session_of(event: &Event) -> SessionNo {
-    match event {
-        Event::Call(session, _) => *session,
-        Event::Return(session, _) => *session,
-        Event::Lost(session) => *session,
-        Event::Unknown(session) => *session,
     }
 }
 
@@ -176,19 +158,6 @@ fn value_on(base: &Server, key: &Key) -> Result<Option<Option<Bytes>>, NoMemory>
     Ok(value_in(&answer))
 }
 
-/// The place of the session's last call.
-fn last_call(events: &[Event], session: SessionNo) -> usize {
-    let mut last = events.len();
-    for place in 0..events.len() {
-        if let Some(Event::Call(other, _)) = events.get(place)
-            && *other == session
-        {
-            last = place;
-        }
-    }
-    last
-}
-
 /// All answers that the session can have after the events, if the row has this value before them.
 fn answers_after(
     alloc: Global,
@@ -224,116 +193,6 @@ fn answers_after(
     }
 }
 
-/// Whether the session has this answer.
-fn has_answer(one: &Configuration, session: SessionNo, answer: &SharedAnswer) -> bool
-    ensures { result ≡ true → slice_get one.now.clients.items session ≡ Some (Answered answer.now) }
-{
-    match one.client(session) {
-        None => false,
-        Some(ClientState::Idle) => false,
-        Some(ClientState::Called(_)) => false,
-        Some(ClientState::Answered(other)) => other.is_same(answer),
-        Some(ClientState::Gone(_)) => false,
-        Some(ClientState::Left) => false,
-    }
-}
-
-/// What a return shows of the answer to a call for a row.
-fn seen_of(answer: &Answer) -> Option<Seen> {
-    match answer {
-        Answer::Reply(Reply::Ok) => Some(Seen::Ok),
-        Answer::Reply(Reply::Value(value)) => Some(Seen::Value(copy_of_value(value))),
-        _ => None,
-    }
-}
-
-/// Moves up to the last event.
-fn up_to_last(alloc: Global, moves: &[Move]) -> Result<Vec<Move>, NoMemory> {
-    let mut last = 0;
-    for place in 0..moves.len() {
-        if moves[place] == Move::Event {
-            last = place;
-        }
-    }
-    let mut first = Vec::new(alloc);
-    for place in 0..last.min(moves.len()) {
-        let by = moves[place];
-        first.push(by)?;
-    }
-    Ok(first)
-}
-
-/// Moves that may lead through the events, and then give the session this answer, if the search finds some.
-fn moves_to(
-    alloc: Global,
-    base: &Server,
-    events: &[Event],
-    session: SessionNo,
-    answer: &SharedAnswer,
-) -> Result<Option<Vec<Move>>, NoMemory> {
-    let Some(seen) = seen_of(&answer.answer(alloc)?) else {
-        return Ok(None);
-    };
-    let mut more = Vec::new(alloc);
-    for event in events {
-        more.push(copy_of_event(event)?)?;
-    }
-    more.push(Event::Return(session, SharedSeen::of(alloc, seen)?))?;
-    match moves_through(alloc, base, more.as_slice(), &mut Silent)? {
-        None => Ok(None),
-        Some(moves) => Ok(Some(up_to_last(alloc, moves.as_slice())?)),
-    }
-}
-
-/// Whether an order of the events is found that gives the session this answer.
-fn is_given(
-    alloc: Global,
-    base: &Server,
-    events: &[Event],
-    session: SessionNo,
-    answer: &SharedAnswer,
-) -> Result<bool, NoMemory>
-    ensures { IfOk result (λ given. given ≡ true → IsAnswerAfter base.now events.now session answer.now) }
-{
-    match moves_to(alloc, base, events, session, answer)? {
-        None => Ok(false),
-        Some(moves) => match followed(alloc, base, events, moves.as_slice())? {
-            None => Ok(false),
-            Some(one) => Ok(has_answer(&one, session, answer)),
-        },
-    }
-}
-
-/// Whether such an order is found for each of the answers.
-fn are_given(
-    alloc: Global,
-    base: &Server,
-    events: &[Event],
-    session: SessionNo,
-    answers: &[SharedAnswer],
-) -> Result<bool, NoMemory>
-    ensures { IfOk result (λ given. given ≡ true → All (IsAnswerAfter base.now events.now session) answers.now) }
-{
-    for answer in answers {
-        if !is_given(alloc, base, events, session, answer)? {
-            return Ok(false);
-        }
-    }
-    Ok(true)
-}
-
-/// Whether the return shows none of the answers.
-fn shows_none(seen: &Seen, answers: &[SharedAnswer]) -> bool
-    ensures { result ≡ true → All (λ answer. shows_answer seen.now answer ≡ false) answers.now }
-{
-    for answer in answers {
-        if seen.shows_kept(answer.kept()) {
-            return false;
-        }
-    }
-    true
-}
-
 /// The verdict ILLEGAL at a return to the session, if that is found.
 fn illegal_at(
     alloc: Global,
@@ -355,15 +214,9 @@ fn illegal_at(
     let (first, _) = events.split_at(place);
     match answers_after(alloc, base, value, key, first, session, limit)? {
         None => Ok(None),
-        Some(answers) => {
-            if answers.is_empty() || !shows_none(seen, answers.as_slice()) {
-                return Ok(None);
-            }
-            if !are_given(alloc, base, first, session, answers.as_slice())? {
-                return Ok(None);
-            }
-            Ok(Some(Verdict::Illegal(place, answers)))
-        }
+        Some(answers) => refuted(
+            alloc, base, events, place, first, session, seen, answers, None, limit,
+        ),
     }
 }
 

@@ -38,6 +38,8 @@ pub struct FingerprintIndex {
     rows: BTreeMap<u64, u64>,
     /// How often rows were forgotten.
     forgotten: u64,
+    /// How often a configuration was looked up.
+    lookups: u64,
     /// What servers have in addition to rows.
     branches: BranchRecords,
     /// The lists that configurations share which have seen the same events.
@@ -67,6 +69,7 @@ impl FingerprintIndex {
             written: Vec::new(alloc),
             rows: BTreeMap::new(alloc),
             forgotten: 0,
+            lookups: 0,
             branches: BranchRecords::new(alloc),
             lists: SharedLists::new(alloc),
             alloc,
@@ -187,9 +190,22 @@ impl FingerprintIndex {
     /// May return `NoMemory`.
     pub fn last_of(&mut self, one: &Configuration) -> Result<Option<usize>, NoMemory> {
         let fingerprint = self.mark_of(one)?;
+        self.lookups = self.lookups.saturating_add(1);
         // If the configuration is added next, `note` takes its fingerprint from here: to make it again takes long.
         self.sought = Some(fingerprint);
         Ok(self.last.get(&fingerprint).copied())
+    }
+
+    /// Returns how often a configuration was looked up.
+    pub fn lookups(&self) -> u64 {
+        self.lookups
+    }
+
+    /// Returns how often a configuration was looked up, and counts from nought again.
+    pub fn forget_lookups(&mut self) -> u64 {
+        let lookups = self.lookups;
+        self.lookups = 0;
+        lookups
     }
 
     /// Returns the place before this one that has the same fingerprint, if one has.

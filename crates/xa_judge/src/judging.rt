@@ -8,6 +8,7 @@ use crate::by_keys::judge_by_keys;
 use crate::event::Event;
 use crate::fingerprint_index::FingerprintIndex;
 use crate::following::follows;
+use crate::foreseen::judge_ahead;
 use crate::known::opening;
 use crate::loading::count_alone;
 use crate::near::judge_behind;
@@ -22,9 +23,9 @@ use xa_xid::NoMemory;
 /// How many configurations are kept at first: most records need no more, and one that does is known soon.
 const NARROW: usize = 8;
 
-/// How many configurations are kept of a part of a record before one order is looked for: enough for what some
-/// sessions that always call do with one row.
-const MIDDLE: usize = 255;
+/// How many configurations are kept of a record before it is tried to keep fewer: up to so many each has a server of
+/// its own, so they are quick to look at.
+const WIDE: usize = 255;
 
 /// From this number of events before calls overlap, one order is looked for first: the search needs only the
 /// rows that later calls name.
@@ -108,8 +109,10 @@ pub fn judge_narrow<P: Progress>(
     judge_kept(alloc, base, events, NARROW, limit, progress)
 }
 
-/// The verdict LEGAL, if a search for one order finds moves that lead through all of the events.
-fn judge_by_search<P: Progress>(
+/// Returns the verdict LEGAL, if a search for one order finds moves that lead through all of the events.
+///
+/// May return `NoMemory`.
+pub fn judge_by_search<P: Progress>(
     alloc: Global,
     base: &Server,
     events: &[Event],
@@ -134,53 +137,34 @@ fn judge_by_search<P: Progress>(
     }
 }
 
-/// Returns the verdict on one part of a record, if a few configurations are enough.
-///
-/// May return `NoMemory`.
-pub fn judge_few(
-    alloc: Global,
+/// The verdict, if it is one that says whether an order explains the events. It was found without telling how far
+/// judging was, so that is told here.
+fn tell_verdict<P: Progress>(
     base: &Server,
     events: &[Event],
+    found: Option<Verdict>,
     limit: usize,
-) -> Result<Option<Verdict>, NoMemory>
-    ensures { IfOk result (λ found. IfSome found (IsVerdict base.now events.now limit)) }
+    progress: &mut P,
+) -> Option<Verdict>
+    requires verdict { IfSome found (IsVerdict base.now events.now limit) }
+    ensures verdict { IfSome result (IsVerdict base.now events.now limit) }
+    ensures told { MatchOption result
+        (ArePasses P.judged_gives (length events.now) progress.old progress.new)
+        (λ verdict. IsToldUpTo P.judged_gives (length events.now) (seen_for events.now verdict) progress.old
+        progress.new) }
 {
-    judge_kept(alloc, base, events, MIDDLE, limit, &mut Silent)
-}
-
-/// Returns the verdict on one part of a record for which a few configurations aren't enough, if one is found with no
-/// more than `limit`.
-///
-/// May return `NoMemory`.
-pub fn judge_many(
-    alloc: Global,
-    base: &Server,
-    events: &[Event],
-    limit: usize,
-) -> Result<Option<Verdict>, NoMemory>
-    ensures { IfOk result (λ found. IfSome found (IsVerdict base.now events.now limit)) }
-{
-    match judge_by_search(alloc, base, events, limit, &mut Silent)? {
-        Some(verdict) => Ok(Some(verdict)),
-        None => judge_kept(alloc, base, events, limit, limit, &mut Silent),
-    }
-}
-
-/// Returns the verdict on one part of a record, if one is found with no more than `limit` configurations.
-///
-/// May return `NoMemory`.
-pub fn judge_part(
-    alloc: Global,
-    base: &Server,
-    events: &[Event],
-    limit: usize,
-) -> Result<Option<Verdict>, NoMemory>
-    ensures { IfOk result (λ found. IfSome found (IsVerdict base.now events.now limit)) }
-{
-    // All configurations refute a part that nothing explains. A search for one order would go on to its end first.
-    match judge_few(alloc, base, events, limit)? {
-        Some(verdict) => Ok(Some(verdict)),
-        None => judge_many(alloc, base, events, limit),
+    let (_base, _limit) = (base, limit);
+    match found {
+        None => None,
+        Some(Verdict::Legal(moves)) => {
+            tell_first(progress, events, events.len());
+            Some(Verdict::Legal(moves))
+        }
+        Some(Verdict::Illegal(place, answers)) => {
+            tell_first(progress, events, place + 1);
+            Some(Verdict::Illegal(place, answers))
+        }
+        Some(Verdict::Undecided(_)) => None,
     }
 }
 
@@ -198,18 +182,26 @@ fn judge_apart<P: Progress>(
         (λ verdict. IsToldUpTo P.judged_gives (length events.now) (seen_for events.now verdict) progress.old
         progress.new)) }
 {
-    match judge_by_keys(alloc, base, events, limit)? {
-        None => Ok(None),
-        Some(Verdict::Legal(moves)) => {
-            tell_first(progress, events, events.len());
-            Ok(Some(Verdict::Legal(moves)))
-        }
-        Some(Verdict::Illegal(place, answers)) => {
-            tell_first(progress, events, place + 1);
-            Ok(Some(Verdict::Illegal(place, answers)))
-        }
-        Some(Verdict::Undecided(_)) => Ok(None),
-    }
+    let found = judge_by_keys(alloc, base, events, limit)?;
+    Ok(tell_verdict(base, events, found, limit, progress))
+}
+
+/// The verdict, if it is found by configurations that are kept where later returns are known.
+fn judge_foreseen<P: Progress>(
+    alloc: Global,
+    base: &Server,
+    events: &[Event],
+    limit: usize,
+    progress: &mut P,
+) -> Result<Option<Verdict>, NoMemory>
+    ensures verdict { IfOk result (λ found. IfSome found (IsVerdict base.now events.now limit)) }
+    ensures told { IfOk result (λ found. MatchOption found
+        (ArePasses P.judged_gives (length events.now) progress.old progress.new)
+        (λ verdict. IsToldUpTo P.judged_gives (length events.now) (seen_for events.now verdict) progress.old
+        progress.new)) }
+{
+    let found = judge_ahead(alloc, base, events, limit)?;
+    Ok(tell_verdict(base, events, found, limit, progress))
 }
 
 /// The verdict, if a search for one order is enough; else, if it is found row by row.
@@ -274,7 +266,7 @@ fn judge_long<P: Progress>(
 }
 
 /// The verdict, if few configurations or a search for one order are enough.
-fn judge_soon<P: Progress>(
+fn judge_early<P: Progress>(
     alloc: Global,
     base: &Server,
     events: &[Event],
@@ -298,6 +290,46 @@ fn judge_soon<P: Progress>(
             Some(verdict) => Ok(Some(verdict)),
             None => judge_rows_first(alloc, base, events, limit, progress),
         }
+    }
+}
+
+/// The verdict, if it is found with more configurations; else, if by those that later returns allow.
+fn judge_wide<P: Progress>(
+    alloc: Global,
+    base: &Server,
+    events: &[Event],
+    limit: usize,
+    progress: &mut P,
+) -> Result<Option<Verdict>, NoMemory>
+    ensures verdict { IfOk result (λ found. IfSome found (IsVerdict base.now events.now limit)) }
+    ensures told { IfOk result (λ found. MatchOption found
+        (ArePasses P.judged_gives (length events.now) progress.old progress.new)
+        (λ verdict. IsToldUpTo P.judged_gives (length events.now) (seen_for events.now verdict) progress.old
+        progress.new)) }
+{
+    match judge_kept(alloc, base, events, WIDE, limit, progress)? {
+        Some(verdict) => Ok(Some(verdict)),
+        None => judge_foreseen(alloc, base, events, limit, progress),
+    }
+}
+
+/// The verdict, if it is found before all configurations are kept.
+fn judge_soon<P: Progress>(
+    alloc: Global,
+    base: &Server,
+    events: &[Event],
+    limit: usize,
+    progress: &mut P,
+) -> Result<Option<Verdict>, NoMemory>
+    ensures verdict { IfOk result (λ found. IfSome found (IsVerdict base.now events.now limit)) }
+    ensures told { IfOk result (λ found. MatchOption found
+        (ArePasses P.judged_gives (length events.now) progress.old progress.new)
+        (λ verdict. IsToldUpTo P.judged_gives (length events.now) (seen_for events.now verdict) progress.old
+        progress.new)) }
+{
+    match judge_early(alloc, base, events, limit, progress)? {
+        Some(verdict) => Ok(Some(verdict)),
+        None => judge_wide(alloc, base, events, limit, progress),
     }
 }
 
@@ -333,12 +365,14 @@ pub fn judge_telling<P: Progress>(
 /// Returns the verdict whether any order explains the events, beginning with a server in the state of `base`.
 ///
 /// If more than `limit` different configurations have to be kept before an event, the verdict is `Undecided`,
-/// unless one order was found, or the verdict was found by judging statements outside of branches row by row.
-/// If eight aren't enough, or 512 or more events come before calls overlap, both are tried before all
-/// configurations are kept. Identifiers that a call returns have to be in ascending order.
+/// unless one order was found, or the verdict was found by judging statements outside of branches row by row,
+/// or by configurations that later returns allow. If eight aren't enough, or 512 or more events come before
+/// calls overlap, the first two are tried; if 255 aren't enough either, the third, before all configurations
+/// are kept. Identifiers that a call returns have to be in ascending order.
 /// Errors: `NoMemory` if an allocation failed.
 /// Takes memory for the configurations: in a list of up to 255 each has a copy of the server's records, as
-/// long as 128 MiB hold these by an estimate; others share those of one server. Doesn't wait.
+/// long as 128 MiB hold these by an estimate; others share those of one server. Those that later returns allow
+/// have a copy each, as long as 384 MiB hold these by an estimate. Doesn't wait.
 /// Own rule: docs/HISTORIES.md#verdicts.
 pub fn judge(
     alloc: Global,

@@ -17,9 +17,9 @@ pub trait Progress {
     ///
     /// It is called before each event that is judged. If some events are judged once more, it is called
     /// before each of them again. It isn't called for events before calls overlap if these are left out, nor
-    /// for events along which a found order is checked. While free statements are judged row by row it isn't
-    /// called either: once a verdict is found so, it is called for each event up to what decides, in turn, with
-    /// one configuration.
+    /// for events along which a found order is checked. While free statements are judged row by row, or
+    /// configurations are kept that later returns allow, it isn't called either: once a verdict is found so, it
+    /// is called for each event up to what decides, in turn, with one configuration.
     fn judged(&mut self, so_far: SoFar)
         ensures { judged_gives self.old so_far self.new };
 }

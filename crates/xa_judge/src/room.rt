@@ -19,3 +19,17 @@ pub fn has_room(count: usize, records: usize) -> bool {
     let each = records.saturating_mul(RECORD).saturating_add(SERVER);
     count.saturating_mul(each) <= BYTES
 }
+
+/// How many bytes configurations with a server of their own each may take: with the rest, judging stays below 512 MiB.
+const APART: usize = 402_653_184;
+
+/// What such a configuration takes in addition to its records, in bytes. With 16 sessions, four rows and three branches
+/// one was measured to take 6 KB in all.
+const APART_EACH: usize = 4_096;
+
+/// Tells whether memory holds `count` configurations with a server of its own each, which has this many records of rows
+/// and branches.
+pub fn holds(count: usize, records: usize) -> bool {
+    let each = records.saturating_mul(RECORD).saturating_add(APART_EACH);
+    count.saturating_mul(each) <= APART
+}

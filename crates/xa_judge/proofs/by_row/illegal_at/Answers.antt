@@ -1,33 +1,12 @@
-use Rattle.std.proofs.Common.{◌≡◌, ◌≢◌, ◌<◌, false, take, length, vec_len, sym, ◌∙◌, subst, arith, rules, tests}
+use Rattle.std.proofs.Common.{subst}
 use Rattle.std.specs.Prelude.{IfSome}
-use Rattle.std.specs.List.{All, Contains}
-use Rattle.std.proofs.lemmas.Bool.{eqb-false}
+use Rattle.std.specs.List.{Contains}
 use Rattle.xa_judge.specs.declared.answer.Answer.{Answer}
-use Rattle.xa_judge.specs.Explained.{shows_answer}
 use Rattle.xa_judge.specs.Verdicts.{IsAnswerAfter}
-use Rattle.xa_judge.proofs.RowVerdicts.{illegal_row}
 use Rattle.xa_judge.proofs.by_row.illegal_at.Goals as goal
 
-pub returns-else-not-branch : goal.returns-else-not-branch
-returns-else-not-branch c =
-    let base = c.args.base.now in
-    let session = c.args.session in
-    let answers = c.in-Some.answers.items in
-    let first = c.split_at.ensures.front in
-    let empty : vec_len c.in-Some.answers ≢ 0 =
-    eqb-false (vec_len c.in-Some.answers) 0 (sym c.is_empty.ensures ∙ c.if-is_empty.false) in
-    let some : 0 < length answers = omega (arith, empty, c.in-Some.answers.ok.0) in
-    let all : (answer : Answer) → IsAnswerAfter base (take c.args.place c.args.events.now) session answer
-    → Contains answers answer =
-    λ answer after. subst (λ o. IfSome o
-    (λ a. (other : Answer) → IsAnswerAfter base c.split_at.result.0.now session other
-    → Contains a.items other)) c.in-Some.is c.in_ok-answers_after.ensures answer
-    (subst (λ l. IsAnswerAfter base l session answer) (sym first) after) in
-    illegal_row base c.args.events.now c.args.place session c.args.seen.now answers c.requires.within c.requires.returns
-    some
-    (subst (λ l. All (IsAnswerAfter base l session) answers) first
-    (subst (λ l. All (IsAnswerAfter base c.split_at.result.0.now session) l) c.as_slice-in-Some.ensures.value
-    (c.in_ok-are_given-in-Some.ensures (search (rules, tests)))))
-    all
-    (subst (λ l. All (λ answer. shows_answer c.args.seen.now answer ≡ false) l) c.as_slice.ensures.value
-    (c.shows_none.ensures (search (rules, tests))))
+pub refuted-requires-clause-all : goal.refuted-requires-clause-all
+refuted-requires-clause-all c =
+    subst (λ o. IfSome o (λ a. (other : Answer)
+    → IsAnswerAfter c.args.base.now c.split_at.result.0.now c.args.session other
+    → Contains a.items other)) c.in-Some.is c.in_ok-answers_after.ensures

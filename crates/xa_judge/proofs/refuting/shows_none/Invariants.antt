@@ -1,7 +1,7 @@
 use Rattle.std.proofs.Common.{◌≡◌, false, take}
 use Rattle.std.specs.List.{All}
 use Rattle.xa_judge.specs.Explained.{shows_answer}
-use Rattle.xa_judge.proofs.by_row.shows_none.Given as goal
+use Rattle.xa_judge.proofs.refuting.shows_none.Given as goal
 
 -- those before the place
 abbrev pub invariant-loop-answer : goal.invariant-loop-answer

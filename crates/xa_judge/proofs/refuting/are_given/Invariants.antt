@@ -1,7 +1,7 @@
 use Rattle.std.proofs.Common.{take}
 use Rattle.std.specs.List.{All}
 use Rattle.xa_judge.specs.Verdicts.{IsAnswerAfter}
-use Rattle.xa_judge.proofs.by_row.are_given.Given as goal
+use Rattle.xa_judge.proofs.refuting.are_given.Given as goal
 
 -- those before the place
 abbrev pub invariant-loop-answer : goal.invariant-loop-answer

@@ -2,7 +2,7 @@ use Rattle.std.proofs.Common.{subst}
 use Rattle.std.specs.Prelude.{IfSome}
 use Rattle.xa_judge.specs.Explained.{opening_config, LeadsThrough}
 use Rattle.xa_judge.specs.Found.{config_of}
-use Rattle.xa_judge.proofs.by_row.is_given.Goals as goal
+use Rattle.xa_judge.proofs.refuting.is_given.Goals as goal
 
 pub returns : goal.returns
 returns c = λ e.

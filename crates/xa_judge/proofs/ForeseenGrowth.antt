@@ -1,0 +1,182 @@
+-- Lists of configurations, as they grow.
+--     extends_none, extends_more, still_at, still_has      a list has more at its end
+--     adds_one           a configuration is added
+--     next_added         what an act leads to is added
+use Rattle.std.proofs.Common.{◌≡◌, ◌⊎◌, ℕ, false, Option, Some, None, List, [], ◌∷◌, ◌++◌, ap, sym, ◌∙◌, subst, inl}
+use Rattle.std.proofs.Common.{inr}
+use Rattle.std.proofs.Common.{◌+◌, ◌<◌, length, arith, append_assoc, append-nil}
+use Rattle.std.proofs.lemmas.Bool.{cases_lt}
+use Rattle.std.specs.Prelude.{slice_get}
+use Rattle.std.specs.Option.{option_map}
+use Rattle.std.proofs.lemmas.Option.{none-some, same_Some}
+use Rattle.xa_judge.specs.declared.configuration.Configuration.{Configuration}
+use Rattle.xa_judge.specs.declared.moves.Act.{Act}
+use Rattle.xa_judge.specs.declared.moves.Act.TheVariants.{Statement, Disconnect}
+use Rattle.xa_judge.specs.Explained.{Config, effect_of, observed, IsSession}
+use Rattle.xa_judge.specs.declared.event.Event.{Event}
+use Rattle.xa_judge.specs.Found.{config_of, Has, AddsUnlessThere}
+use Rattle.xa_judge.specs.Late.{is_over}
+use Rattle.xa_judge.specs.Foreseen.{Hint, ReplacesFor, ExtendsBy, HasNextFor, IsAllowed, IsExpandedFor, AreClosedFor}
+use Rattle.xa_judge.specs.Foreseen.{IsClosedFor}
+use Rattle.xa_judge.specs.Foreseen.{HasSeenFor}
+use Rattle.xa_judge.proofs.Loops.{has_last}
+use Rattle.xa_judge.proofs.Places.{get_front, get_within, mapped_place}
+use Rattle.xa_judge.proofs.Growth.{has_more, has_added}
+
+pub extends_none : (list : List Configuration) → ExtendsBy list list
+extends_none list = ([], sym (append-nil list))
+
+pub extends_more : (old mid new : List Configuration) → ExtendsBy old mid → ExtendsBy mid new → ExtendsBy old new
+extends_more old mid new first then =
+    (first.0 ++ then.0, then.1 ∙ ap (λ l. l ++ then.0) first.1 ∙ append_assoc old first.0 then.0)
+
+pub still_at : (old new : List Configuration) (place : ℕ) (one : Configuration) → ExtendsBy old new
+    → slice_get old place ≡ Some one → slice_get new place ≡ Some one
+still_at old new place one grows at =
+    subst (λ l. slice_get l place ≡ Some one) (sym grows.1) (get_front old grows.0 place one at)
+
+pub still_has : (old new : List Configuration) (one : Config) → ExtendsBy old new → Has old one → Has new one
+still_has old new one grows has = subst (λ l. Has l one) (sym grows.1) (has_more old grows.0 one has)
+
+pub adds_one : (old new : List Configuration) (one : Configuration) → AddsUnlessThere old one new → ExtendsBy old new
+adds_one old new one (inl there) = ([], there.1 ∙ sym (append-nil old))
+adds_one old new one (inr more) = (one ∷ [], more)
+
+-- what an act leads to is added
+pub next_added : (hints : List Hint) (old list : List Configuration) (place : ℕ) (here next added : Configuration)
+    (found : Option Configuration) (session : ℕ) (act : Act)
+    → slice_get old place ≡ Some here
+    → option_map config_of found ≡ effect_of (config_of here) session act → found ≡ Some next
+    → ReplacesFor hints (config_of next) (config_of added) → AddsUnlessThere old added list
+    → (one : Configuration) (new : Config) → slice_get old place ≡ Some one
+    → effect_of (config_of one) session act ≡ Some new
+    → (other : Config) × Has list other × ReplacesFor hints new other
+next_added hints old list place here next added found session act at is some replaces adds one new there leads =
+    let same : here ≡ one = same_Some here one (sym at ∙ there) in
+    let made : config_of next ≡ new =
+    same_Some (config_of next) new (sym (ap (option_map config_of) some) ∙ is
+    ∙ ap (λ o. effect_of (config_of o) session act) same ∙ leads) in (
+      config_of added,
+      has_added old list added adds,
+      subst (λ c. ReplacesFor hints c (config_of added)) made replaces,
+    )
+
+-- the session's two acts
+pub both_added : (hints : List Hint) (old mid new : List Configuration) (place session : ℕ)
+    → ExtendsBy old mid → ExtendsBy mid new
+    → ((one : Configuration) (next : Config) → slice_get old place ≡ Some one
+    → effect_of (config_of one) session Statement ≡ Some next
+    → (other : Config) × Has mid other × ReplacesFor hints next other)
+    → ((one : Configuration) (next : Config) → slice_get mid place ≡ Some one
+    → effect_of (config_of one) session Disconnect ≡ Some next
+    → (other : Config) × Has new other × ReplacesFor hints next other)
+    → (one : Configuration) → slice_get old place ≡ Some one → HasNextFor hints (config_of one) session new
+both_added hints old mid new place session first then has after one at Statement next leads allowed =
+    let other = has one next at leads in (other.0, still_has mid new other.0 then other.1, other.2)
+both_added hints old mid new place session first then has after one at Disconnect next leads allowed =
+    after one next (still_at old mid place one first at) leads
+
+-- the next session
+pub expanded_more : (hints : List Hint) (number : ℕ) (one : Config) (mid new : List Configuration)
+    → ExtendsBy mid new → IsExpandedFor hints number one mid
+    → (IsSession number → HasNextFor hints one number new)
+    → IsExpandedFor hints (number + 1) one new
+expanded_more hints number one mid new grows before here = λ session below is. elim (cases_lt session number) [
+  | inl less ↦ λ act next leads allowed.
+      let other = before session less is act next leads allowed in
+      (other.0, still_has mid new other.0 grows other.1, other.2)
+  | inr over ↦
+      let e : number ≡ session = omega (arith, below, over) in
+      subst (λ n. HasNextFor hints one n new) e (here (subst IsSession (sym e) is))
+]
+
+expanded_still : (hints : List Hint) (count : ℕ) (one : Config) (old new : List Configuration)
+    → ExtendsBy old new → IsExpandedFor hints count one old → IsExpandedFor hints count one new
+expanded_still hints count one old new grows is = λ session below its act next leads allowed.
+    let other = is session below its act next leads allowed in
+    (other.0, still_has old new other.0 grows other.1, other.2)
+
+-- the next place
+pub closed_more : (hints : List Hint) (returning : Option ℕ) (place : ℕ) (old new : List Configuration)
+    → place < length old → ExtendsBy old new → AreClosedFor hints returning place old
+    → ((one : Configuration) → slice_get old place ≡ Some one → is_over returning (config_of one) ≡ false
+    → IsExpandedFor hints 17 (config_of one) new)
+    → AreClosedFor hints returning (place + 1) new
+closed_more hints returning place old new within grows before here = λ at one below there unanswered.
+    elim (cases_lt at place) [
+      | inl less ↦
+          let was = get_within old at (omega (arith, less, within)) in
+          let same : was.0 ≡ one =
+          same_Some was.0 one (sym (still_at old new at was.0 grows was.1) ∙ there) in
+          subst (λ r. IsExpandedFor hints 17 (config_of r) new) same
+          (expanded_still hints 17 (config_of was.0) old new grows (before at was.0 less was.1
+          (subst (λ r. is_over returning (config_of r) ≡ false) (sym same) unanswered)))
+      | inr over ↦
+          let e : at ≡ place = omega (arith, below, over) in
+          let was = get_within old place within in
+          let same : was.0 ≡ one =
+          same_Some was.0 one (sym (still_at old new place was.0 grows was.1)
+          ∙ subst (λ n. slice_get new n ≡ Some one) e there) in
+          subst (λ r. IsExpandedFor hints 17 (config_of r) new) same (here was.0 was.1
+          (subst (λ r. is_over returning (config_of r) ≡ false) (sym same) unanswered))
+    ]
+
+-- such a list is closed
+pub closed_all : (hints : List Hint) (returning : Option ℕ) (list : List Configuration)
+    → AreClosedFor hints returning (length list) list → IsClosedFor hints returning (Has list)
+closed_all hints returning list closed = λ kept new session act there unanswered is leads allowed.
+    let at = mapped_place config_of list kept there in
+    let next = closed at.0 at.1 at.2 at.3 (subst (λ c. is_over returning c ≡ false) (sym at.4) unanswered) session
+    (omega (arith, is.1)) is in
+    next act new (ap (λ c. effect_of c session act) at.4 ∙ leads)
+    (subst (λ c. IsAllowed hints c session) (sym at.4) allowed)
+
+-- what an event leads to is added
+pub seen_added : (hints : List Hint) (old list : List Configuration) (one next added : Configuration)
+    (found : Option Configuration) (event : Event)
+    → option_map config_of found ≡ observed (config_of one) event → found ≡ Some next
+    → ReplacesFor hints (config_of next) (config_of added) → AddsUnlessThere old added list
+    → (new : Config) → observed (config_of one) event ≡ Some new
+    → (other : Config) × Has list other × ReplacesFor hints new other
+seen_added hints old list one next added found event is some replaces adds new leads =
+    let made : config_of next ≡ new =
+    same_Some (config_of next) new (sym (ap (option_map config_of) some) ∙ is ∙ leads) in (
+      config_of added,
+      has_added old list added adds,
+      subst (λ c. ReplacesFor hints c (config_of added)) made replaces,
+    )
+
+-- nothing is added, since the event can't be seen
+pub unseen : (found : Option Configuration) (config new : Config) (event : Event) {P : Type 0}
+    → option_map config_of found ≡ observed config event → found ≡ None → observed config event ≡ Some new → P
+unseen found config new event is none leads =
+    absurd (none-some new (sym (ap (option_map config_of) none) ∙ is ∙ leads))
+
+-- in a loop over a list: each configuration is still to come, or what the event leads to from it is there
+abbrev pub SeesBothFor : List Hint → Event → List Configuration → List Configuration → List Configuration → Type 0
+SeesBothFor hints event first rest list = (one next : Config) → Has first one → observed one event ≡ Some next
+    → Has rest one ⊎ ((other : Config) × Has list other × ReplacesFor hints next other)
+
+pub sees_more : (hints : List Hint) (event : Event) (first known rest list new : List Configuration)
+    (one : Configuration) → known ≡ rest ++ one ∷ [] → ExtendsBy list new
+    → ((next : Config) → observed (config_of one) event ≡ Some next
+    → (other : Config) × Has new other × ReplacesFor hints next other)
+    → SeesBothFor hints event first known list → SeesBothFor hints event first rest new
+sees_more hints event first known rest list new one parts grows here has = λ c next was at. elim (has c next was at) [
+  | inl there ↦ elim (has_last rest known one c parts there) [
+    | inl still ↦ inl still
+    | inr same ↦ inr (here next (ap (λ d. observed d event) same ∙ at))
+  ]
+  | inr done ↦ inr (done.0, still_has list new done.0 grows done.1, done.2)
+]
+
+-- at its end nothing is to come
+pub sees_end : (hints : List Hint) (event : Event) (first rest list : List Configuration) → rest ≡ []
+    → SeesBothFor hints event first rest list → HasSeenFor hints event (Has first) (Has list)
+sees_end hints event first rest list none has = λ kept next there sees. elim (has kept next there sees) [
+  | inl still ↦ absurd (empty (subst (λ l. Has l kept) none still))
+  | inr done ↦ done
+]
+  where
+    empty : {c : Config} → Has [] c → ⊥
+    empty h = omega (arith, h.1)

@@ -1,0 +1,167 @@
+-- Lists of what is kept where later returns are known.
+--     left_past             an order that can't go on past a return, past an event
+--     goes_closed           past an event, from a closed list
+--     goes_called           past a call or a loss, from any list
+use Rattle.std.proofs.Common.{◌≡◌, ℕ, true, false, Option, Some, None, List, [], ◌∷◌, set, map, zero, suc, refl, ap}
+use Rattle.std.proofs.Common.{sym, ◌∙◌, inl}
+use Rattle.std.proofs.Common.{inr}
+use Rattle.std.specs.Option.{option_map, unwrap_or}
+use Rattle.std.specs.Prelude.{slice_get}
+use Rattle.std.proofs.lemmas.Bool.{false≢true}
+use Rattle.std.proofs.lemmas.Option.{none-some, slice_get-map}
+use Rattle.xa_judge.specs.declared.client_state.ClientState.{ClientState}
+use Rattle.xa_judge.specs.declared.event.Seen.{Seen}
+use Rattle.xa_judge.specs.declared.event.Event.{Event}
+use Rattle.xa_judge.specs.declared.event.Event.TheVariants.{Return}
+use Rattle.xa_judge.specs.declared.moves.Move.{Move}
+use Rattle.xa_judge.specs.declared.moves.Move.TheVariants.{Event as Seeing, Effect}
+use Rattle.xa_judge.specs.Explained.{Config, LeadsThrough, observed}
+use Rattle.xa_judge.specs.Late.{has_unheard, unheard_so}
+use Rattle.xa_judge.specs.Foreseen.{Hint, no_hint, fact_of, is_past, hint_of, IsAlikeAt, AreAlike, IsDead, IsFollowed}
+use Rattle.xa_judge.specs.Foreseen.{IsLeft, GoesOn}
+use Rattle.xa_judge.specs.Foreseen.{IsClosedFor, HasSeenFor, FitsHints, hint_in, hints_of, seen_in}
+use Rattle.xa_judge.proofs.Waits.{later, session_in, CanWait}
+use Rattle.xa_judge.proofs.ForeseenSteps.{alike_acts}
+use Rattle.xa_judge.proofs.ForeseenEvents.{alike_sees, dead_acts, dead_sees}
+
+-- an order that can't go on past a return, past an event
+pub left_past : (hints : List Hint) (hint : Hint) (event : Event) (run end : Config) (more : List Event)
+    (moves : List Move) → IsDead hints run → FitsHints hints event → LeadsThrough run (event ∷ more) moves end
+    → IsLeft (set hints (session_in event) hint) more end
+left_past hints hint event run end more (Effect session act ∷ moves) dead fits runs =
+    left_past hints hint event runs.0 end more moves (dead_acts hints run runs.0 session act dead runs.2) fits runs.3
+left_past hints hint event run end more (Seeing ∷ moves) dead fits runs = record {
+  run = runs.0;
+  dead = dead_sees hints hint run runs.0 event dead fits runs.1;
+  moves = moves;
+  runs = runs.2;
+}
+left_past hints hint event run end more [] dead fits runs = absurd runs
+
+-- the event itself
+pub seen_from : (hints : List Hint) (hint : Hint) (event : Event) (old new : Config → Type 0)
+    (kept run next end : Config) (more : List Event) (moves : List Move) → old kept → AreAlike hints run kept
+    → FitsHints hints event → HasSeenFor (set hints (session_in event) hint) event old new
+    → observed run event ≡ Some next → LeadsThrough next more moves end
+    → IsFollowed (set hints (session_in event) hint) new more end
+seen_from hints hint event old new kept run next end more moves there alike fits seen sees runs =
+    let both = alike_sees hints hint run kept next event alike fits sees in
+    let other = seen kept both.0 there both.1 in
+    record {
+      kept = other.0;
+      there = other.1;
+      run = next;
+      alike = other.2 next both.2;
+      moves = moves;
+      runs = runs;
+    }
+
+-- past an event, from a closed list
+pub goes_closed : (hints : List Hint) (hint : Hint) (event : Event) (old new : Config → Type 0)
+    (kept run end : Config) (more : List Event) (moves : List Move) → IsClosedFor hints None old → old kept
+    → AreAlike hints run kept → FitsHints hints event
+    → HasSeenFor (set hints (session_in event) hint) event old new
+    → LeadsThrough run (event ∷ more) moves end
+    → GoesOn (set hints (session_in event) hint) new more end
+goes_closed hints hint event old new kept run end more (Effect session act ∷ moves) closed there alike fits seen runs =
+    elim (alike_acts hints run kept runs.0 session act alike runs.2) [
+      | inl same ↦ goes_closed hints hint event old new kept runs.0 end more moves closed there same fits seen runs.3
+      | inr (inl follows) ↦
+          let other = closed kept follows.0 session act there refl runs.1 follows.1 follows.2 in
+          goes_closed hints hint event old new other.0 runs.0 end more moves closed other.1
+          (other.2 runs.0 follows.3) fits seen runs.3
+      | inr (inr dead) ↦ inr (left_past hints hint event runs.0 end more moves dead fits runs.3)
+    ]
+goes_closed hints hint event old new kept run end more (Seeing ∷ moves) closed there alike fits seen runs =
+    inl (seen_from hints hint event old new kept run runs.0 end more moves there alike fits seen runs.1 runs.2)
+goes_closed hints hint event old new kept run end more [] closed there alike fits seen runs = absurd runs
+
+-- whose client isn't gone with an open call in what is kept, isn't so on the way
+pub unheard_alike : (hint : Hint) (run kept : Config) (session : ℕ)
+    → IsAlikeAt hint run.state session (slice_get run.clients session) (slice_get kept.clients session)
+    → has_unheard kept session ≡ false → has_unheard run session ≡ false
+unheard_alike hint run kept session (inl same) is = ap unheard_so same ∙ is
+unheard_alike hint run kept session (inr (inr behind)) is = ap unheard_so behind.run
+unheard_alike hint run kept session (inr (inl ahead)) is = elim ahead.way [
+  | inl asked ↦ ap unheard_so asked.1
+  | inr given ↦ ap unheard_so given.1
+]
+
+-- past a call, from any list: no act has to come before it
+pub goes_called : (hints : List Hint) (hint : Hint) (event : Event) (old new : Config → Type 0)
+    (kept run end : Config) (more : List Event) (moves : List Move) → old kept
+    → AreAlike hints run kept → FitsHints hints event
+    → HasSeenFor (set hints (session_in event) hint) event old new
+    → CanWait run event
+    → LeadsThrough run (event ∷ more) moves end
+    → GoesOn (set hints (session_in event) hint) new more end
+goes_called hints hint event old new kept run end more moves there alike fits seen waits runs =
+    let first = later run end event more moves waits runs in
+    inl (seen_from hints hint event old new kept run first.first end more first.moves there alike fits seen first.sees
+    first.runs)
+
+-- if nothing is known of any open call, a session's answer is that of what is kept
+pub answer_kept : (hints : List Hint) (run kept : Config) (session : ℕ) (c : Option ClientState)
+    → AreAlike hints run kept → hint_of hints session ≡ None → (fact_of hints session).never ≡ false
+    → slice_get run.clients session ≡ c → slice_get kept.clients session ≡ c
+answer_kept hints run kept session c alike none heard at = by (alike.clients session)
+  where
+    by : IsAlikeAt (fact_of hints session) run.state session (slice_get run.clients session)
+        (slice_get kept.clients session) → slice_get kept.clients session ≡ c
+    by (inl same) = sym same ∙ at
+    by (inr (inl ahead)) = absurd (none-some ahead.seen (sym none ∙ ahead.hinted))
+    by (inr (inr behind)) = absurd (false≢true (sym heard ∙ behind.never))
+
+-- ---- places of returns
+
+-- one place more is known
+set_mapped : {A B : Type 0} (f : A → B) (xs : List A) (i : ℕ) (a : A) → map f (set xs i a) ≡ set (map f xs) i (f a)
+set_mapped f [] i a = refl
+set_mapped f (x ∷ xs) zero a = refl
+set_mapped f (x ∷ xs) (suc i) a = ap (λ l. f x ∷ l) (set_mapped f xs i a)
+
+pub hints_set : (events : List Event) (places : List (Option ℕ)) (session : ℕ) (place : Option ℕ)
+    → hints_of events (set places session place) ≡ set (hints_of events places) session (hint_in events place)
+hints_set events places session place = set_mapped (hint_in events) places session place
+
+-- the return at the place that is known
+pub hint_here : (events : List Event) (places : List (Option ℕ)) (place session : ℕ) (seen : Seen)
+    → slice_get places session ≡ Some (Some place) → slice_get events place ≡ Some (Return session seen)
+    → hint_of (hints_of events places) session ≡ Some seen
+hint_here events places place session seen known at =
+    ap (λ o. (unwrap_or o no_hint).seen)
+    (slice_get-map (hint_in events) places session ∙ ap (option_map (hint_in events)) known) ∙ ap seen_in at
+
+-- a session with no place, or one with one at which no call returns
+pub unknown_at : (events : List Event) (places : List (Option ℕ)) (session : ℕ)
+    → ((o : Option ℕ) → slice_get places session ≡ Some o → (hint_in events o).seen ≡ None)
+    → hint_of (hints_of events places) session ≡ None
+unknown_at events places session none =
+    ap (λ o. (unwrap_or o no_hint).seen) (slice_get-map (hint_in events) places session)
+    ∙ by (slice_get places session) refl
+  where
+    by : (o : Option (Option ℕ)) → slice_get places session ≡ o
+        → (unwrap_or (option_map (hint_in events) o) no_hint).seen ≡ None
+    by None at = refl
+    by (Some place) at = none place at
+
+-- of a session with no place nothing is known
+pub heard_at : (events : List Event) (places : List (Option ℕ)) (session : ℕ)
+    → ((o : Option ℕ) → slice_get places session ≡ Some o → o ≡ None)
+    → (fact_of (hints_of events places) session).never ≡ false
+heard_at events places session none =
+    ap (λ o. (unwrap_or o no_hint).never) (slice_get-map (hint_in events) places session)
+    ∙ by (slice_get places session) refl
+  where
+    by : (o : Option (Option ℕ)) → slice_get places session ≡ o
+        → (unwrap_or (option_map (hint_in events) o) no_hint).never ≡ false
+    by None at = refl
+    by (Some place) at = ap (λ p. (hint_in events p).never) (none place at)
+
+-- a call whose place is after all events isn't heard of any more
+pub never_at : (events : List Event) (places : List (Option ℕ)) (session place : ℕ)
+    → slice_get places session ≡ Some (Some place) → slice_get events place ≡ None
+    → (fact_of (hints_of events places) session).never ≡ true
+never_at events places session place known past =
+    ap (λ o. (unwrap_or o no_hint).never)
+    (slice_get-map (hint_in events) places session ∙ ap (option_map (hint_in events)) known) ∙ ap is_past past

@@ -1,0 +1,248 @@
+-- Configurations that are kept where later returns are known.
+-- A call whose return is known is followed only with an answer that the return shows. If its answer fits and it will
+-- never change the state while it does, it takes effect at once.
+-- Every rule here is the project's own: crates/xa_judge/README.md.
+--     Hint, fact_of        what is known of an open call
+--     hint_of              what the session's open call returns, if that is known
+--     IsQuiet, IsQuietFor  the request changes nothing, now and whenever the return shows its answer
+--     IsAheadAt, IsBehindAt, IsAlikeAt   how far a session is, on the way of an order, and in what is kept
+--     AreAlike             this is kept of a configuration
+--     IsDead               a call was answered otherwise than it returns
+use Rattle.std.specs.Prelude.{◌≡◌, ◌⊎◌, ◌||◌, ℕ, Bool, true, false, Option, Some, None, List, ◌<◌, ◌∷◌, ◌++◌}
+use Rattle.std.specs.Prelude.{slice_get, map}
+use Rattle.std.specs.Option.{unwrap_or}
+use Rattle.xa_xid.specs.declared.statement.Statement.TheVariants.{Get, Recover, Disconnect}
+use Rattle.xa_server.specs.declared.association.Association.{Association}
+use Rattle.xa_server.specs.declared.association.Association.TheVariants.{Free}
+use Rattle.xa_server.specs.Step.{is_refused}
+use Rattle.xa_server.specs.State.{State, association_of}
+use Rattle.xa_server.specs.Locks.{LockLaw}
+use Rattle.xa_judge.specs.declared.request.Request.{Request}
+use Rattle.xa_judge.specs.declared.request.Request.TheVariants.{Statement as Given}
+use Rattle.xa_judge.specs.declared.answer.Answer.{Answer}
+use Rattle.xa_judge.specs.declared.answer.Answer.TheVariants.{Reply as Replied, Unread as NotRead}
+use Rattle.xa_judge.specs.declared.client_state.ClientState.{ClientState}
+use Rattle.xa_judge.specs.declared.client_state.ClientState.TheVariants.{Called, Answered}
+use Rattle.xa_judge.specs.declared.event.Seen.{Seen}
+use Rattle.xa_judge.specs.declared.event.Seen.TheVariants.{Error as SeenError}
+use Rattle.xa_judge.specs.declared.configuration.Configuration.{Configuration}
+use Rattle.xa_judge.specs.Found.{config_of, Has}
+use Rattle.xa_judge.specs.Late.{has_unheard, is_over}
+use Rattle.xa_judge.specs.Explained.{Config, shows_answer, answer_to, effect_of, observed, LeadsThrough, IsSession}
+use Rattle.xa_judge.specs.declared.event.Event.{Event}
+use Rattle.xa_judge.specs.declared.event.Event.TheVariants.{Call, Return, Lost, Unknown}
+use Rattle.xa_judge.specs.declared.moves.Act.{Act}
+use Rattle.xa_judge.specs.declared.moves.Move.{Move}
+
+-- what is known of an open call: what it returns; or that it isn't heard of any more
+pub record Hint : Type 0 where
+  pub seen : Option Seen
+  pub never : Bool
+
+abbrev pub no_hint : Hint
+no_hint = record { seen = None; never = false }
+
+-- what is known of the session's open call
+abbrev pub fact_of : List Hint → ℕ → Hint
+fact_of hints session = unwrap_or (slice_get hints session) no_hint
+
+-- what it returns, if that is known
+abbrev pub hint_of : List Hint → ℕ → Option Seen
+hint_of hints session = (fact_of hints session).seen
+
+-- the request changes nothing: it lists branches, or reads or leaves outside of a branch
+abbrev pub IsQuiet : State → ℕ → Request → Type 0
+IsQuiet state session (Given (Recover convert)) = Unit {0}
+IsQuiet state session (Given (Get key)) = association_of state session ≡ Free
+IsQuiet state session (Given Disconnect) = association_of state session ≡ Free
+IsQuiet state session request = ⊥
+
+-- so it is whenever the return shows its answer: it may also be refused
+abbrev pub IsQuietFor : State → ℕ → Request → Seen → Type 0
+IsQuietFor state session request (SeenError numbers) = Unit {0}
+IsQuietFor state session request seen = IsQuiet state session request
+
+-- what is kept is ahead: the call was answered there with what it returns
+pub record IsAheadAt (hint : Option Seen) (state : State) (session : ℕ) (one other : Option ClientState) : Type 0 where
+  pub seen : Seen
+  pub hinted : hint ≡ Some seen
+  pub answer : Answer
+  pub kept : other ≡ Some (Answered answer)
+  pub shown : shows_answer seen answer ≡ true
+  pub way : ((request : Request) × (one ≡ Some (Called request)) × IsQuietFor state session request seen)
+      ⊎ ((given : Answer) × (one ≡ Some (Answered given)))
+
+-- what is kept is behind: the call changed nothing, and isn't heard of any more
+pub record IsBehindAt (hint : Hint) (one other : Option ClientState) : Type 0 where
+  pub never : hint.never ≡ true
+  pub unseen : hint.seen ≡ None
+  pub answer : Answer
+  pub run : one ≡ Some (Answered answer)
+  pub request : Request
+  pub kept : other ≡ Some (Called request)
+
+-- the session is as far, or what is kept is ahead or behind
+abbrev pub IsAlikeAt : Hint → State → ℕ → Option ClientState → Option ClientState → Type 0
+IsAlikeAt hint state session one other =
+    (one ≡ other) ⊎ (IsAheadAt hint.seen state session one other ⊎ IsBehindAt hint one other)
+
+-- no session has anything open
+abbrev pub is_free : Association → Bool
+is_free Free = true
+is_free other = false
+
+-- the request lists branches, or reads or leaves outside of one
+abbrev pub is_reading : State → ℕ → Request → Bool
+is_reading state session (Given (Recover convert)) = true
+is_reading state session (Given (Get key)) = is_free (association_of state session)
+is_reading state session (Given Disconnect) = is_free (association_of state session)
+is_reading state session request = false
+
+-- the answer says that nothing was done
+abbrev pub refuses : Answer → Bool
+refuses (Replied reply) = is_refused reply
+refuses NotRead = true
+
+-- the request changes nothing as things are
+abbrev pub is_still : State → ℕ → Request → Bool
+is_still state session request = is_reading state session request || refuses (answer_to state session request)
+
+-- this is kept of a configuration that an order comes to
+pub record AreAlike (hints : List Hint) (run kept : Config) : Type 0 where
+  pub state : kept.state ≡ run.state
+  pub law : LockLaw run.state
+  pub clients : (session : ℕ) → IsAlikeAt (fact_of hints session) run.state session (slice_get run.clients session)
+      (slice_get kept.clients session)
+
+-- a call was answered otherwise than it returns: the order can't go on past its return
+pub record IsDead (hints : List Hint) (run : Config) : Type 0 where
+  pub session : ℕ
+  pub seen : Seen
+  pub hinted : hint_of hints session ≡ Some seen
+  pub answer : Answer
+  pub at : slice_get run.clients session ≡ Some (Answered answer)
+  pub hidden : shows_answer seen answer ≡ false
+
+-- the session's call can take effect at once: it is quiet, and its answer is what it returns
+pub record CanSettle (config : Config) (session : ℕ) (seen : Seen) : Type 0 where
+  pub request : Request
+  pub at : slice_get config.clients session ≡ Some (Called request)
+  pub quiet : IsQuietFor config.state session request seen
+  pub shown : shows_answer seen (answer_to config.state session request) ≡ true
+
+-- the act of the session isn't known to give its call another answer than it returns; nor is it one that changes
+-- nothing, of a call that isn't heard of any more
+pub record IsAllowed (hints : List Hint) (config : Config) (session : ℕ) : Type 0 where
+  pub fits : (seen : Seen) (request : Request) → hint_of hints session ≡ Some seen
+      → slice_get config.clients session ≡ Some (Called request)
+      → shows_answer seen (answer_to config.state session request) ≡ true
+  pub counts : (request : Request) → (fact_of hints session).never ≡ true → hint_of hints session ≡ None
+      → slice_get config.clients session ≡ Some (Called request) → is_still config.state session request ≡ false
+
+-- the event doesn't end a call otherwise than was known
+abbrev pub FitsHints : List Hint → Event → Type 0
+FitsHints hints (Call session request) = Unit {0}
+FitsHints hints (Return session seen) =
+    ((hint_of hints session ≡ None) × ((fact_of hints session).never ≡ false)) ⊎ (hint_of hints session ≡ Some seen)
+FitsHints hints (Lost session) = (hint_of hints session ≡ None) × ((fact_of hints session).never ≡ false)
+FitsHints hints (Unknown session) = hint_of hints session ≡ None
+
+-- ---- lists
+
+-- what is kept in its place is as good
+abbrev pub ReplacesFor : List Hint → Config → Config → Type 0
+ReplacesFor hints old new = (run : Config) → AreAlike hints run old → AreAlike hints run new
+
+-- moves lead on from a configuration of which one of the list is kept, or from one that can't go on past a return
+pub record IsFollowed (hints : List Hint) (has : Config → Type 0) (events : List Event) (end : Config)
+    : Type 0 where
+  pub kept : Config
+  pub there : has kept
+  pub run : Config
+  pub alike : AreAlike hints run kept
+  pub moves : List Move
+  pub runs : LeadsThrough run events moves end
+
+pub record IsLeft (hints : List Hint) (events : List Event) (end : Config) : Type 0 where
+  pub run : Config
+  pub dead : IsDead hints run
+  pub moves : List Move
+  pub runs : LeadsThrough run events moves end
+
+abbrev pub GoesOn : List Hint → (Config → Type 0) → List Event → Config → Type 0
+GoesOn hints has events end = IsFollowed hints has events end ⊎ IsLeft hints events end
+
+-- a list has what each allowed act leads to, or what is as good; no act counts once the session that is to return is
+-- answered
+abbrev pub IsClosedFor : List Hint → Option ℕ → (Config → Type 0) → Type 0
+IsClosedFor hints returning has = (kept new : Config) (session : ℕ) (act : Act) → has kept
+    → is_over returning kept ≡ false → IsSession session → effect_of kept session act ≡ Some new
+    → IsAllowed hints kept session
+    → (other : Config) × has other × ReplacesFor hints new other
+
+-- the new list has what the event leads to from each of the old one, or what is as good
+abbrev pub HasSeenFor : List Hint → Event → (Config → Type 0) → (Config → Type 0) → Type 0
+HasSeenFor hints event old new = (kept next : Config) → old kept → observed kept event ≡ Some next
+    → (other : Config) × new other × ReplacesFor hints next other
+
+-- ---- what is known of open calls, by the places of their returns
+
+-- what a return shows
+abbrev pub seen_in : Option Event → Option Seen
+seen_in (Some (Return session seen)) = Some seen
+seen_in other = None
+
+-- whether there is no event
+abbrev pub is_past : Option Event → Bool
+is_past None = true
+is_past (Some event) = false
+
+-- a call that isn't heard of any more has a place after all events
+abbrev pub hint_in : List Event → Option ℕ → Hint
+hint_in events None = no_hint
+hint_in events (Some place) = record {
+  seen = seen_in (slice_get events place);
+  never = is_past (slice_get events place);
+}
+
+abbrev pub hints_of : List Event → List (Option ℕ) → List Hint
+hints_of events places = map (hint_in events) places
+
+-- the list has more at its end
+abbrev pub ExtendsBy : List Configuration → List Configuration → Type 0
+ExtendsBy old new = (more : List Configuration) × (new ≡ old ++ more)
+
+-- the list has what the act leads to from this configuration, or what is as good
+abbrev pub HasNextFor : List Hint → Config → ℕ → List Configuration → Type 0
+HasNextFor hints one session list = (act : Act) (new : Config) → effect_of one session act ≡ Some new
+    → IsAllowed hints one session → (other : Config) × Has list other × ReplacesFor hints new other
+
+-- the list has what sessions below a number lead to from this configuration, or what is as good
+abbrev pub IsExpandedFor : List Hint → ℕ → Config → List Configuration → Type 0
+IsExpandedFor hints count one list = (session : ℕ) → session < count → IsSession session
+    → HasNextFor hints one session list
+
+-- that is so of each configuration before this place in which the session that is to return isn't answered
+abbrev pub AreClosedFor : List Hint → Option ℕ → ℕ → List Configuration → Type 0
+AreClosedFor hints returning count list = (place : ℕ) (one : Configuration) → place < count
+    → slice_get list place ≡ Some one → is_over returning (config_of one) ≡ false
+    → IsExpandedFor hints 17 (config_of one) list
+
+-- the session that an event returns to
+abbrev pub returning_in : Event → Option ℕ
+returning_in (Return session seen) = Some session
+returning_in other = None
+
+-- where moves lead on past the event from what is kept in the old list, they do from the new one; or the order can't go
+-- on past a return
+abbrev pub IsAdvanceFor : List Hint → List Hint → Event → List Configuration → List Configuration
+    → Type 0
+IsAdvanceFor hints later event old new = (more : List Event) (end : Config) → GoesOn hints (Has old) (event ∷ more) end
+    → GoesOn later (Has new) more end
+
+-- which events need no act before them, if no kept client is gone with an open call
+abbrev pub NeedsNone : List Configuration → Event → Type 0
+NeedsNone known (Call session request) = (one : Config) → Has known one → has_unheard one session ≡ false
+NeedsNone known (Return session seen) = ⊥
+NeedsNone known (Lost session) = Unit {0}
+NeedsNone known (Unknown session) = ⊥

@@ -1,0 +1,308 @@
+//! Configurations that are kept where later returns are known.
+ghost use Rattle.std.specs.Prelude.{◌≡◌, ◌<◌, true, false, None, Some, slice_get, vec_len, length};
+ghost use Rattle.std.specs.Prelude.{IfOk, OnOk};
+ghost use Rattle.xa_judge.specs.declared.configuration.Configuration.{Configuration as Found};
+ghost use Rattle.xa_judge.specs.Explained.{Config, answer_to, effect_of, observed, shows_answer, IsSession};
+ghost use Rattle.xa_judge.specs.Found.{config_of, Has};
+ghost use Rattle.xa_judge.specs.Foreseen.{hints_of, IsAllowed, ReplacesFor, ExtendsBy, HasNextFor};
+ghost use Rattle.xa_judge.specs.Late.{is_over};
+ghost use Rattle.xa_judge.specs.Foreseen.{IsExpandedFor, AreClosedFor, HasSeenFor};
+
+use crate::client_state::ClientState;
+use crate::configuration::Configuration;
+use crate::effort::Effort;
+use crate::event::{Event, Seen};
+use crate::fingerprint_index::FingerprintIndex;
+use crate::hints::{hint_at, is_never_heard};
+use crate::known::{add, fit};
+use crate::moves::Act;
+use crate::quiet::{is_still_now, settled_one};
+use crate::request::Request;
+use crate::shared_lists::SharedLists;
+use std::alloc::Global;
+use xa_xid::{NoMemory, SessionNo};
+
+/// The configuration after the call of the session of this number has taken effect, if it can at once.
+fn settled_at(
+    one: Configuration,
+    events: &[Event],
+    places: &[Option<usize>],
+    number: u64,
+    lists: &mut SharedLists,
+) -> Result<Configuration, NoMemory>
+    ensures { IfOk result
+        (λ new. ReplacesFor (hints_of events.now places.now) (config_of one) (config_of new)) }
+{
+    match SessionNo::of(number) {
+        None => Ok(one),
+        Some(session) => match hint_at(events, places, session) {
+            None => Ok(one),
+            Some(seen) => {
+                let new = settled_one(one, session, seen, lists)?;
+                Ok(new)
+            }
+        },
+    }
+}
+
+/// The configuration after all calls have taken effect that can at once.
+fn settled(
+    one: Configuration,
+    events: &[Event],
+    places: &[Option<usize>],
+    lists: &mut SharedLists,
+) -> Result<Configuration, NoMemory>
+    ensures { IfOk result
+        (λ new. ReplacesFor (hints_of events.now places.now) (config_of one) (config_of new)) }
+{
+    let mut here = one;
+    for number in 1..17 {
+        here = settled_at(here, events, places, number, lists)?;
+    }
+    Ok(here)
+}
+
+/// Whether the call for the request, which returns this, is known to be answered so if it takes effect now.
+fn fits_now(
+    one: &Configuration,
+    session: SessionNo,
+    request: &Request,
+    seen: &Seen,
+) -> Result<bool, NoMemory>
+    ensures { IfOk result (λ fits. fits ≡ shows_answer seen.now (answer_to one.now.server session request.now)) }
+{
+    let answer = one.server.answer(session, request)?;
+    Ok(seen.shows(&answer))
+}
+
+/// Whether the session's act counts: of a call whose return is known only one that gives it that answer does, and of
+/// one that isn't heard of any more only one that changes something.
+fn is_allowed(
+    one: &Configuration,
+    events: &[Event],
+    places: &[Option<usize>],
+    session: SessionNo,
+) -> Result<bool, NoMemory>
+    ensures { IfOk result (λ yes. yes ≡ false
+        → IsAllowed (hints_of events.now places.now) (config_of one.now) session
+        → ⊥) }
+{
+    match one.client(session) {
+        None => Ok(true),
+        Some(ClientState::Idle) => Ok(true),
+        Some(ClientState::Called(request)) => match hint_at(events, places, session) {
+            Some(seen) => fits_now(one, session, request.request(), seen),
+            None => {
+                if !is_never_heard(events, places, session) {
+                    return Ok(true);
+                }
+                let still = is_still_now(&one.server, session, request.request())?;
+                Ok(!still)
+            }
+        },
+        Some(ClientState::Answered(_)) => Ok(true),
+        Some(ClientState::Gone(_)) => Ok(true),
+        Some(ClientState::Left) => Ok(true),
+    }
+}
+
+/// Adds what an act of the session leads to from the configuration at this place.
+fn add_effect(
+    known: &mut Vec<Configuration>,
+    index: &mut FingerprintIndex,
+    place: usize,
+    events: &[Event],
+    places: &[Option<usize>],
+    session: SessionNo,
+    act: Act,
+) -> Result<(), NoMemory>
+    requires { place < vec_len known.old }
+    ensures grows { OnOk result (ExtendsBy known.old.items known.new.items) }
+    ensures has { OnOk result
+        ((one : Found) (new : Config)
+        → slice_get known.old.items place ≡ Some one
+        → effect_of (config_of one) session act ≡ Some new
+        → (other : Config) × Has known.new.items other
+        × ReplacesFor (hints_of events.now places.now) new other) }
+{
+    match known[place].effected(session, act, &mut index.lists)? {
+        None => Ok(()),
+        Some(next) => {
+            let new = settled(next, events, places, &mut index.lists)?;
+            add(known, index, new)?;
+            Ok(())
+        }
+    }
+}
+
+/// Adds what allowed acts of the session lead to from the configuration at this place.
+fn add_allowed(
+    known: &mut Vec<Configuration>,
+    index: &mut FingerprintIndex,
+    place: usize,
+    events: &[Event],
+    places: &[Option<usize>],
+    session: SessionNo,
+) -> Result<(), NoMemory>
+    requires { place < vec_len known.old }
+    ensures grows { OnOk result (ExtendsBy known.old.items known.new.items) }
+    ensures has { OnOk result ((one : Found) → slice_get known.old.items place ≡ Some one
+        → HasNextFor (hints_of events.now places.now) (config_of one) session known.new.items) }
+{
+    let allowed = is_allowed(&known[place], events, places, session)?;
+    if !allowed {
+        return Ok(());
+    }
+    add_effect(known, index, place, events, places, session, Act::Statement)?;
+    add_effect(
+        known,
+        index,
+        place,
+        events,
+        places,
+        session,
+        Act::Disconnect,
+    )?;
+    Ok(())
+}
+
+/// Adds what allowed acts lead to from the configuration at this place.
+fn add_all(
+    known: &mut Vec<Configuration>,
+    index: &mut FingerprintIndex,
+    place: usize,
+    events: &[Event],
+    places: &[Option<usize>],
+) -> Result<(), NoMemory>
+    requires { place < vec_len known.old }
+    ensures grows { OnOk result (ExtendsBy known.old.items known.new.items) }
+    ensures all { OnOk result ((one : Found) → slice_get known.old.items place ≡ Some one
+        → IsExpandedFor (hints_of events.now places.now) 17 (config_of one) known.new.items) }
+{
+    for number in 1..17 {
+        add_number(known, index, place, events, places, number)?;
+    }
+    Ok(())
+}
+
+/// Adds what allowed acts lead to from the configuration at this place, unless the session `returning` is answered
+/// there.
+fn expand(
+    known: &mut Vec<Configuration>,
+    index: &mut FingerprintIndex,
+    place: usize,
+    events: &[Event],
+    places: &[Option<usize>],
+    returning: &Option<SessionNo>,
+) -> Result<(), NoMemory>
+    requires { place < vec_len known.old }
+    ensures grows { OnOk result (ExtendsBy known.old.items known.new.items) }
+    ensures all { OnOk result ((one : Found) → slice_get known.old.items place ≡ Some one
+        → is_over returning.now (config_of one) ≡ false
+        → IsExpandedFor (hints_of events.now places.now) 17 (config_of one) known.new.items) }
+{
+    if known[place].is_over(returning) {
+        return Ok(());
+    }
+    add_all(known, index, place, events, places)?;
+    Ok(())
+}
+
+/// Adds what allowed acts of the session of this number lead to from the configuration at this place.
+fn add_number(
+    known: &mut Vec<Configuration>,
+    index: &mut FingerprintIndex,
+    place: usize,
+    events: &[Event],
+    places: &[Option<usize>],
+    number: u64,
+) -> Result<(), NoMemory>
+    requires { place < vec_len known.old }
+    ensures grows { OnOk result (ExtendsBy known.old.items known.new.items) }
+    ensures has { OnOk result ((one : Found) → slice_get known.old.items place ≡ Some one → IsSession number
+        → HasNextFor (hints_of events.now places.now) (config_of one) number known.new.items) }
+{
+    match SessionNo::of(number) {
+        None => Ok(()),
+        Some(session) => {
+            add_allowed(known, index, place, events, places, session)?;
+            Ok(())
+        }
+    }
+}
+
+/// Adds all configurations to which allowed acts lead, and none after the session `returning` was answered. Returns
+/// true; or false if that is too much.
+///
+/// May return `NoMemory`.
+pub fn close(
+    known: &mut Vec<Configuration>,
+    index: &mut FingerprintIndex,
+    events: &[Event],
+    places: &[Option<usize>],
+    returning: &Option<SessionNo>,
+    effort: &Effort,
+) -> Result<bool, NoMemory>
+    ensures grows { OnOk result (ExtendsBy known.old.items known.new.items) }
+    ensures closed { IfOk result (λ done. done ≡ true
+        → AreClosedFor (hints_of events.now places.now) returning.now (length known.new.items) known.new.items) }
+{
+    index.clear();
+    let mut place = 0;
+    while place < known.len() {
+        if !effort.allows(known.len(), index) {
+            return Ok(false);
+        }
+        expand(known, index, place, events, places, returning)?;
+        place += 1;
+    }
+    Ok(true)
+}
+
+/// Adds the configuration after the event, if it can be seen there.
+fn add_seen(
+    list: &mut Vec<Configuration>,
+    index: &mut FingerprintIndex,
+    one: Configuration,
+    event: &Event,
+    events: &[Event],
+    places: &[Option<usize>],
+) -> Result<(), NoMemory>
+    ensures grows { OnOk result (ExtendsBy list.old.items list.new.items) }
+    ensures has { OnOk result ((next : Config) → observed (config_of one) event.now ≡ Some next
+        → (other : Config) × Has list.new.items other × ReplacesFor (hints_of events.now places.now) next other) }
+{
+    match one.observed(event)? {
+        None => Ok(()),
+        Some(next) => {
+            let new = settled(next, events, places, &mut index.lists)?;
+            add(list, index, new)?;
+            Ok(())
+        }
+    }
+}
+
+/// Returns the configurations after the event, from those in which it can be seen.
+///
+/// May return `NoMemory`.
+pub fn see_all(
+    alloc: Global,
+    mut known: Vec<Configuration>,
+    index: &mut FingerprintIndex,
+    event: &Event,
+    events: &[Event],
+    places: &[Option<usize>],
+) -> Result<Vec<Configuration>, NoMemory>
+    ensures { IfOk result
+        (λ list. HasSeenFor (hints_of events.now places.now) event.now (Has known.items) (Has list.items)) }
+{
+    index.go_on(event)?;
+    let count = known.len();
+    let mut list = Vec::new(alloc);
+    while let Some(one) = known.pop() {
+        let one = fit(one, count, index.records())?;
+        add_seen(&mut list, index, one, event, events, places)?;
+    }
+    index.settle(list.len());
+    Ok(list)
+}

@@ -1,0 +1,309 @@
+//! Judges events by configurations that are kept where later returns are known.
+ghost use Rattle.std.specs.Prelude.{◌≡◌, ◌<◌, [], true, Some, List, length, slice_get, IfOk, IfSome, OnOk};
+ghost use Rattle.std.specs.List.{Contains};
+ghost use Rattle.xa_judge.specs.declared.answer.Answer.{Answer as AnswerSeen};
+ghost use Rattle.xa_judge.specs.declared.moves.Move.{Move as Moved};
+ghost use Rattle.xa_judge.specs.Explained.{Config, opening_config, LeadsThrough};
+ghost use Rattle.xa_judge.specs.Found.{Has, IsAnsweredIn};
+ghost use Rattle.xa_judge.specs.Foreseen.{hints_of, GoesOn};
+ghost use Rattle.xa_judge.specs.Verdicts.{IsAnswerAfter, IsVerdict};
+
+use crate::client_state::ClientState;
+use crate::closing::answers_in;
+use crate::effort::Effort;
+use crate::event::{Event, Seen};
+use crate::fingerprint_index::FingerprintIndex;
+use crate::following::follows;
+use crate::foreseeing::close;
+use crate::foreseen_event::see_one;
+use crate::frontier::Frontier;
+use crate::hints::{
+    are_unknown, fits, is_blank, last_call, last_place, later_places, next_return, no_places,
+};
+use crate::known::opening;
+use crate::refuting::refuted;
+use crate::shared_answer::SharedAnswer;
+use crate::swept::Swept;
+use crate::trunk::{path_of, share};
+use crate::verdict::Verdict;
+use std::alloc::Global;
+use xa_server::Server;
+use xa_xid::{NoMemory, SessionNo};
+
+/// Goes through the events. Of the call at the place `asked` it isn't known what it returns. No more is done than
+/// `effort` allows.
+fn sweep(
+    alloc: Global,
+    base: &Server,
+    events: &[Event],
+    asked: usize,
+    effort: &mut Effort,
+) -> Result<Swept, NoMemory>
+    ensures { IfOk result (λ swept. (front : _) (moves : List Moved) (end : Config) → swept ≡ Swept.Kept front
+        → LeadsThrough (opening_config base.now) events.now moves end
+        → GoesOn (hints_of events.now front.places.items) (Has front.known.items) [] end) }
+{
+    base.keeps_lock_law();
+    let mut index = FingerprintIndex::new(alloc);
+    let mut trunk = Vec::new(alloc);
+    let mut known = opening(alloc, base)?;
+    let mut places = no_places(alloc)?;
+    for place in 0..events.len() {
+        let event = &events[place];
+        if !fits(events, places.as_slice(), place, event) {
+            return Ok(Swept::Unknown);
+        }
+        let later = later_places(&places, event, next_return(events, place, asked))?;
+        let before = places.as_slice();
+        let after = later.as_slice();
+        known = match see_one(
+            alloc, known, &mut index, event, events, before, after, effort,
+        )? {
+            None => return Ok(Swept::Unknown),
+            Some(list) => list,
+        };
+        effort.spend(&mut index);
+        if known.is_empty() {
+            let count = events.len();
+            let last = last_place(before, place, count).max(last_place(after, place, count));
+            return Ok(Swept::Nothing(place, last));
+        }
+        places = later;
+        share(alloc, place, &mut trunk, &mut known)?;
+    }
+    Ok(Swept::Kept(Frontier {
+        known,
+        trunk,
+        places,
+        index,
+    }))
+}
+
+/// The same, with all configurations to which allowed acts lead before the session is answered, if these are no more
+/// than `limit`, and it isn't known what open calls return.
+fn closed_front(
+    front: Frontier,
+    events: &[Event],
+    session: SessionNo,
+    effort: &mut Effort,
+) -> Result<Option<Frontier>, NoMemory>
+    ensures { IfOk result (λ found. IfSome found (λ closed. (end : Config) (answer : AnswerSeen)
+        → GoesOn (hints_of events.now front.places.items) (Has front.known.items) [] end
+        → slice_get end.clients session ≡ Some (ClientState.Answered answer)
+        → IsAnsweredIn closed.known.items session answer)) }
+{
+    let Frontier {
+        known,
+        trunk,
+        places,
+        mut index,
+    } = front;
+    let mut all = known;
+    let at = places.as_slice();
+    let is_closed = close(&mut all, &mut index, events, at, &Some(session), effort)?;
+    if !is_closed || !are_unknown(events, at) || !is_blank(events, at, session) {
+        return Ok(None);
+    }
+    Ok(Some(Frontier {
+        known: all,
+        trunk,
+        places,
+        index,
+    }))
+}
+
+/// What is kept of all configurations in which the session can have an answer after the events.
+fn front_after(
+    alloc: Global,
+    base: &Server,
+    events: &[Event],
+    session: SessionNo,
+    effort: &mut Effort,
+) -> Result<Option<Frontier>, NoMemory>
+    ensures { IfOk result (λ found. IfSome found (λ front. (answer : AnswerSeen)
+        → IsAnswerAfter base.now events.now session answer
+        → IsAnsweredIn front.known.items session answer)) }
+{
+    match sweep(alloc, base, events, last_call(events, session), effort)? {
+        Swept::Unknown => Ok(None),
+        Swept::Nothing(_, _) => Ok(None),
+        Swept::Kept(front) => {
+            let closed = closed_front(front, events, session, effort)?;
+            Ok(closed)
+        }
+    }
+}
+
+/// Whether one of the answers is the same.
+fn is_among(answers: &[SharedAnswer], answer: &SharedAnswer) -> bool
+    ensures { result ≡ true → Contains answers.now answer.now }
+{
+    for other in answers {
+        if other.is_same(answer) {
+            return true;
+        }
+    }
+    false
+}
+
+/// Adds the answer, unless it is there.
+fn add_answer(answers: &mut Vec<SharedAnswer>, answer: &SharedAnswer) -> Result<(), NoMemory>
+    ensures keeps { OnOk result ((other : AnswerSeen) → Contains answers.old.items other
+        → Contains answers.new.items other) }
+    ensures has { OnOk result (Contains answers.new.items answer.now) }
+{
+    if is_among(answers.as_slice(), answer) {
+        return Ok(());
+    }
+    answers.push(answer.try_clone()?)?;
+    Ok(())
+}
+
+/// The answers, each once.
+fn distinct(alloc: Global, answers: &[SharedAnswer]) -> Result<Vec<SharedAnswer>, NoMemory>
+    ensures { IfOk result (λ once. (answer : AnswerSeen) → Contains answers.now answer
+        → Contains once.items answer) }
+{
+    let mut once = Vec::new(alloc);
+    for answer in answers {
+        add_answer(&mut once, answer)?;
+    }
+    Ok(once)
+}
+
+/// The verdict ILLEGAL at a return to the session, if it shows none of the answers that can be given.
+fn illegal_at(
+    alloc: Global,
+    base: &Server,
+    events: &[Event],
+    place: usize,
+    session: SessionNo,
+    seen: &Seen,
+    limit: usize,
+    effort: &mut Effort,
+) -> Result<Option<Verdict>, NoMemory>
+    requires within { place < length events.now }
+    requires returns { slice_get events.now place ≡ Some (Event.Return session seen.now) }
+    ensures { IfOk result (λ found. IfSome found (IsVerdict base.now events.now limit)) }
+{
+    let (first, _) = events.split_at(place);
+    match front_after(alloc, base, first, session, effort)? {
+        None => Ok(None),
+        Some(front) => {
+            let all = answers_in(alloc, front.known.as_slice(), session)?;
+            let once = distinct(alloc, all.as_slice())?;
+            let kept = Some(&front);
+            refuted(
+                alloc, base, events, place, first, session, seen, once, kept, limit,
+            )
+        }
+    }
+}
+
+/// The verdict ILLEGAL at the event at this place, if it is a return, and that is found.
+fn illegal_on(
+    alloc: Global,
+    base: &Server,
+    events: &[Event],
+    place: usize,
+    limit: usize,
+    effort: &mut Effort,
+) -> Result<Option<Verdict>, NoMemory>
+    ensures { IfOk result (λ found. IfSome found (IsVerdict base.now events.now limit)) }
+{
+    match events.get(place) {
+        Some(Event::Return(session, seen)) => {
+            illegal_at(
+                alloc,
+                base,
+                events,
+                place,
+                *session,
+                seen.seen(),
+                limit,
+                effort,
+            )
+        }
+        _ => Ok(None),
+    }
+}
+
+/// The place of the first event after which nothing is left, if no more is known than the events up to there tell:
+/// it is one of those from `least` to `most`.
+fn first_refuted(
+    alloc: Global,
+    base: &Server,
+    events: &[Event],
+    least: usize,
+    most: usize,
+    effort: &mut Effort,
+) -> Result<Option<usize>, NoMemory> {
+    let mut low = least;
+    let mut high = most;
+    // Halving a number of 64 bits as often leaves nothing of it.
+    for _ in 0..64usize {
+        if low >= high {
+            break;
+        }
+        let middle = low + (high - low) / 2;
+        let (upto, _) = events.split_at((middle + 1).min(events.len()));
+        match sweep(alloc, base, upto, upto.len(), effort)? {
+            Swept::Unknown => return Ok(None),
+            Swept::Nothing(place, _) => {
+                low = low.max(place);
+                high = middle;
+            }
+            Swept::Kept(_) => low = middle + 1,
+        }
+    }
+    Ok(Some(high))
+}
+
+/// The verdict LEGAL, if the moves to the first of the kept configurations lead through the events.
+fn legal_by(
+    alloc: Global,
+    base: &Server,
+    events: &[Event],
+    front: Frontier,
+    limit: usize,
+) -> Result<Option<Verdict>, NoMemory>
+    ensures { IfOk result (λ found. IfSome found (IsVerdict base.now events.now limit)) }
+{
+    let _limit = limit;
+    if front.known.is_empty() {
+        return Ok(None);
+    }
+    let moves = path_of(front.trunk, front.known.as_slice())?;
+    if follows(alloc, base, events, moves.as_slice())? {
+        Ok(Some(Verdict::Legal(moves)))
+    } else {
+        Ok(None)
+    }
+}
+
+/// Returns the verdict on the events, if it is found with no more than `limit` configurations, which are kept where
+/// later returns are known.
+///
+/// May return `NoMemory`.
+pub fn judge_ahead(
+    alloc: Global,
+    base: &Server,
+    events: &[Event],
+    limit: usize,
+) -> Result<Option<Verdict>, NoMemory>
+    // Proved (records, later-returns): A verdict that is found by the configurations that later returns allow is
+    //   right for the whole record.
+    ensures { IfOk result (λ found. IfSome found (IsVerdict base.now events.now limit)) }
+{
+    let mut effort = Effort::new(limit, events.len());
+    match sweep(alloc, base, events, events.len(), &mut effort)? {
+        Swept::Unknown => Ok(None),
+        Swept::Kept(front) => legal_by(alloc, base, events, front, limit),
+        Swept::Nothing(place, last) => {
+            match first_refuted(alloc, base, events, place, last, &mut effort)? {
+                None => Ok(None),
+                Some(first) => illegal_on(alloc, base, events, first, limit, &mut effort),
+            }
+        }
+    }
+}

@@ -1,0 +1,126 @@
+//! What one more event does to the configurations that are kept where later returns are known.
+ghost use Rattle.std.specs.Prelude.{◌≡◌, slice_set, IfOk, IfSome};
+ghost use Rattle.xa_judge.specs.Foreseen.{hints_of, returning_in, FitsHints, IsAdvanceFor, NeedsNone};
+ghost use Rattle.xa_judge.specs.Advances.{IsCallOf};
+ghost use Rattle.xa_judge.specs.Keys.{session_of as session_in};
+
+use crate::advance::none_unheard;
+use crate::configuration::Configuration;
+use crate::effort::Effort;
+use crate::event::Event;
+use crate::fingerprint_index::FingerprintIndex;
+use crate::foreseeing::{close, see_all};
+use std::alloc::Global;
+use xa_xid::{NoMemory, SessionNo};
+
+/// The session that the event returns to.
+fn returning_of(event: &Event) -> Option<SessionNo>
+    ensures { result ≡ returning_in event.now }
+{
+    match event {
+        Event::Call(_, _) => None,
+        Event::Return(session, _) => Some(*session),
+        Event::Lost(_) => None,
+        Event::Unknown(_) => None,
+    }
+}
+
+/// The configurations after an event that allowed acts may precede; `later` has the places of returns after it.
+fn see_closed(
+    alloc: Global,
+    mut known: Vec<Configuration>,
+    index: &mut FingerprintIndex,
+    event: &Event,
+    events: &[Event],
+    places: &[Option<usize>],
+    later: &[Option<usize>],
+    effort: &Effort,
+) -> Result<Option<Vec<Configuration>>, NoMemory>
+    requires fits { FitsHints (hints_of events.now places.now) event.now }
+    requires later { (place : _) × (later.now ≡ slice_set places.now (session_in event.now) place) }
+    ensures { IfOk result (λ found. IfSome found (λ list. IsAdvanceFor (hints_of events.now places.now)
+        (hints_of events.now later.now) event.now known.items list.items)) }
+{
+    let returning = returning_of(event);
+    let is_closed = close(&mut known, index, events, places, &returning, effort)?;
+    if !is_closed {
+        return Ok(None);
+    }
+    let list = see_all(alloc, known, index, event, events, later)?;
+    Ok(Some(list))
+}
+
+/// The configurations after an event that no act has to precede.
+fn see_open(
+    alloc: Global,
+    known: Vec<Configuration>,
+    index: &mut FingerprintIndex,
+    event: &Event,
+    events: &[Event],
+    places: &[Option<usize>],
+    later: &[Option<usize>],
+) -> Result<Option<Vec<Configuration>>, NoMemory>
+    requires fits { FitsHints (hints_of events.now places.now) event.now }
+    requires later { (place : _) × (later.now ≡ slice_set places.now (session_in event.now) place) }
+    requires needs { NeedsNone known.items event.now }
+    ensures { IfOk result (λ found. IfSome found (λ list. IsAdvanceFor (hints_of events.now places.now)
+        (hints_of events.now later.now) event.now known.items list.items)) }
+{
+    let _places = places;
+    let list = see_all(alloc, known, index, event, events, later)?;
+    Ok(Some(list))
+}
+
+/// The configurations after a call, unless a client is gone with an open call.
+fn see_call(
+    alloc: Global,
+    known: Vec<Configuration>,
+    index: &mut FingerprintIndex,
+    session: SessionNo,
+    event: &Event,
+    events: &[Event],
+    places: &[Option<usize>],
+    later: &[Option<usize>],
+) -> Result<Option<Vec<Configuration>>, NoMemory>
+    requires call { IsCallOf session event.now }
+    requires fits { FitsHints (hints_of events.now places.now) event.now }
+    requires later { (place : _) × (later.now ≡ slice_set places.now (session_in event.now) place) }
+    ensures { IfOk result (λ found. IfSome found (λ list. IsAdvanceFor (hints_of events.now places.now)
+        (hints_of events.now later.now) event.now known.items list.items)) }
+{
+    if !none_unheard(known.as_slice(), session) {
+        return Ok(None);
+    }
+    see_open(alloc, known, index, event, events, places, later)
+}
+
+/// Returns the configurations after an event; `later` has the places of returns after it. Or None, if that is too much,
+/// or a client is gone with an open call.
+///
+/// May return `NoMemory`.
+pub fn see_one(
+    alloc: Global,
+    known: Vec<Configuration>,
+    index: &mut FingerprintIndex,
+    event: &Event,
+    events: &[Event],
+    places: &[Option<usize>],
+    later: &[Option<usize>],
+    effort: &Effort,
+) -> Result<Option<Vec<Configuration>>, NoMemory>
+    requires fits { FitsHints (hints_of events.now places.now) event.now }
+    requires later { (place : _) × (later.now ≡ slice_set places.now (session_in event.now) place) }
+    ensures { IfOk result (λ found. IfSome found (λ list. IsAdvanceFor (hints_of events.now places.now)
+        (hints_of events.now later.now) event.now known.items list.items)) }
+{
+    match event {
+        Event::Call(session, _) => {
+            see_call(alloc, known, index, *session, event, events, places, later)
+        }
+        Event::Return(_, _) => see_closed(
+            alloc, known, index, event, events, places, later, effort,
+        ),
+        Event::Lost(_) => see_open(alloc, known, index, event, events, places, later),
+        Event::Unknown(_) => see_closed(alloc, known, index, event, events, places, later, effort),
+    }
+}

@@ -1,0 +1,185 @@
+//! Requests that change nothing.
+ghost use Rattle.std.specs.Prelude.{◌≡◌, true, List, Some, slice_get, IfOk};
+ghost use Rattle.xa_server.specs.declared.association.Association.TheVariants.{Free};
+ghost use Rattle.xa_server.specs.State.{association_of};
+ghost use Rattle.xa_judge.specs.Foreseen.{Hint, hint_of, refuses, is_still, AreAlike, CanSettle, IsQuiet, IsQuietFor};
+ghost use Rattle.xa_judge.specs.Explained.{Config};
+ghost use Rattle.xa_judge.specs.Found.{config_of};
+
+use crate::answer::Answer;
+use crate::client_state::ClientState;
+use crate::configuration::Configuration;
+use crate::event::Seen;
+use crate::kept_server::KeptServer;
+use crate::moves::Act;
+use crate::request::Request;
+use crate::shared_lists::SharedLists;
+use crate::shared_request::SharedRequest;
+use xa_server::{BranchState, Reply, XaError};
+use xa_xid::{Bytes, NoMemory, SessionNo, Statement, Xid};
+
+/// Whether the answer to XA END says that the session has no branch.
+fn says_none(answer: &Answer) -> bool
+    ensures { result ≡ true → answer.now ≡ Answer.Reply (Reply.Refused (XaError.Rmfail BranchState.NonExisting)) }
+{
+    match answer {
+        Answer::Reply(Reply::Refused(XaError::Rmfail(BranchState::NonExisting))) => true,
+        _ => false,
+    }
+}
+
+/// Whether the session has no branch open.
+fn is_outside(server: &KeptServer, session: SessionNo) -> Result<bool, NoMemory>
+    ensures { IfOk result (λ outside. outside ≡ true → association_of server.now session ≡ Free) }
+{
+    // XA END is refused so, whatever it names, exactly if the session has no branch.
+    let nobody = Xid {
+        format_id: 1,
+        gtrid: Bytes::new(),
+        bqual: Bytes::new(),
+    };
+    let request = Request::Statement(Statement::End(nobody));
+    let answer = server.answer(session, &request)?;
+    Ok(says_none(&answer))
+}
+
+/// Whether the request changes nothing, now and at any time before the session does something else.
+fn is_quiet(server: &KeptServer, session: SessionNo, request: &Request) -> Result<bool, NoMemory>
+    ensures { IfOk result (λ quiet. quiet ≡ true → IsQuiet server.now session request.now) }
+{
+    match request {
+        Request::Statement(Statement::Recover { .. }) => Ok(true),
+        Request::Statement(Statement::Get(_)) => is_outside(server, session),
+        Request::Statement(Statement::Disconnect) => is_outside(server, session),
+        _ => Ok(false),
+    }
+}
+
+/// Whether that is so whenever the call's return shows its answer.
+fn is_quiet_for(
+    server: &KeptServer,
+    session: SessionNo,
+    request: &Request,
+    seen: &Seen,
+) -> Result<bool, NoMemory>
+    ensures { IfOk result (λ quiet. quiet ≡ true → IsQuietFor server.now session request.now seen.now) }
+{
+    match seen {
+        Seen::Ok => is_quiet(server, session, request),
+        Seen::Value(_) => is_quiet(server, session, request),
+        Seen::Rows(_) => is_quiet(server, session, request),
+        Seen::Error(_) => Ok(true),
+    }
+}
+
+/// Whether what the session called for is quiet, and its answer is what the call returns.
+fn can_settle_request(
+    one: &Configuration,
+    session: SessionNo,
+    request: &SharedRequest,
+    seen: &Seen,
+) -> Result<bool, NoMemory>
+    requires { slice_get one.now.clients.items session ≡ Some (ClientState.Called request.now) }
+    ensures { IfOk result (λ can. can ≡ true → CanSettle (config_of one.now) session seen.now) }
+{
+    let answer = one.server.answer(session, request.request())?;
+    if !seen.shows(&answer) {
+        return Ok(false);
+    }
+    let quiet = is_quiet_for(&one.server, session, request.request(), seen)?;
+    Ok(quiet)
+}
+
+/// Whether the session's call can take effect at once.
+fn can_settle(one: &Configuration, session: SessionNo, seen: &Seen) -> Result<bool, NoMemory>
+    ensures { IfOk result (λ can. can ≡ true → CanSettle (config_of one.now) session seen.now) }
+{
+    match one.client(session) {
+        None => Ok(false),
+        Some(ClientState::Idle) => Ok(false),
+        Some(ClientState::Called(request)) => can_settle_request(one, session, request, seen),
+        Some(ClientState::Answered(_)) => Ok(false),
+        Some(ClientState::Gone(_)) => Ok(false),
+        Some(ClientState::Left) => Ok(false),
+    }
+}
+
+/// Returns the configuration after the session's call, which returns this, has taken effect, if it can at once.
+///
+/// May return `NoMemory`.
+pub fn settled_one(
+    one: Configuration,
+    session: SessionNo,
+    seen: &Seen,
+    lists: &mut SharedLists,
+) -> Result<Configuration, NoMemory>
+    ensures { IfOk result (λ new. (hints : List Hint) (run : Config)
+        → hint_of hints session ≡ Some seen.now
+        → AreAlike hints run (config_of one)
+        → AreAlike hints run (config_of new)) }
+{
+    if !can_settle(&one, session, seen)? {
+        return Ok(one);
+    }
+    match one.effected(session, Act::Statement, lists)? {
+        None => Ok(one),
+        Some(next) => Ok(next),
+    }
+}
+
+/// Whether the answer says that nothing was done.
+fn is_refusal(answer: &Answer) -> bool
+    ensures { result ≡ refuses answer.now }
+{
+    match answer {
+        Answer::Reply(Reply::Ok) => false,
+        Answer::Reply(Reply::Value(_)) => false,
+        Answer::Reply(Reply::Recovered(_)) => false,
+        Answer::Reply(Reply::Refused(_)) => true,
+        Answer::Unread => true,
+    }
+}
+
+/// Whether the request is answered now that nothing was done.
+fn is_refused_now(
+    server: &KeptServer,
+    session: SessionNo,
+    request: &Request,
+) -> Result<bool, NoMemory>
+    ensures { IfOk result (λ refused. refused ≡ true → is_still server.now session request.now ≡ true) }
+{
+    let answer = server.answer(session, request)?;
+    Ok(is_refusal(&answer))
+}
+
+/// Whether the request lists branches, or reads or leaves outside of one.
+fn is_read_outside(
+    server: &KeptServer,
+    session: SessionNo,
+    request: &Request,
+) -> Result<bool, NoMemory>
+    ensures { IfOk result (λ reads. reads ≡ true → is_still server.now session request.now ≡ true) }
+{
+    match request {
+        Request::Statement(Statement::Recover { .. }) => Ok(true),
+        Request::Statement(Statement::Get(_)) => is_outside(server, session),
+        Request::Statement(Statement::Disconnect) => is_outside(server, session),
+        _ => Ok(false),
+    }
+}
+
+/// Returns whether the request is known to change nothing as things are.
+///
+/// May return `NoMemory`.
+pub fn is_still_now(
+    server: &KeptServer,
+    session: SessionNo,
+    request: &Request,
+) -> Result<bool, NoMemory>
+    ensures { IfOk result (λ still. still ≡ true → is_still server.now session request.now ≡ true) }
+{
+    if is_read_outside(server, session, request)? {
+        return Ok(true);
+    }
+    is_refused_now(server, session, request)
+}

@@ -1,0 +1,205 @@
+//! Refutes a return: none of the answers that its call can have is shown there.
+ghost use Rattle.std.specs.Prelude.{◌≡◌, ◌<◌, true, false, Some, slice_get, length, take, IfOk, IfSome};
+ghost use Rattle.std.specs.List.{All, Contains};
+ghost use Rattle.xa_judge.specs.declared.answer.Answer.{Answer as AnswerSeen};
+ghost use Rattle.xa_judge.specs.declared.client_state.ClientState.TheVariants.{Answered};
+ghost use Rattle.xa_judge.specs.Explained.{shows_answer};
+ghost use Rattle.xa_judge.specs.Verdicts.{IsAnswerAfter, IsVerdict};
+
+use crate::answer::Answer;
+use crate::client_state::ClientState;
+use crate::configuration::Configuration;
+use crate::event::{Event, Seen};
+use crate::following::followed;
+use crate::frontier::Frontier;
+use crate::moves::Move;
+use crate::parts::copy_of as copy_of_event;
+use crate::progress::Silent;
+use crate::row_answers::copy_of_value;
+use crate::searching::moves_through;
+use crate::shared_answer::SharedAnswer;
+use crate::shared_seen::SharedSeen;
+use crate::verdict::Verdict;
+use std::alloc::Global;
+use xa_server::{Reply, Server};
+use xa_xid::{NoMemory, SessionNo};
+
+/// Whether the session has this answer.
+fn has_answer(one: &Configuration, session: SessionNo, answer: &SharedAnswer) -> bool
+    ensures { result ≡ true → slice_get one.now.clients.items session ≡ Some (Answered answer.now) }
+{
+    match one.client(session) {
+        None => false,
+        Some(ClientState::Idle) => false,
+        Some(ClientState::Called(_)) => false,
+        Some(ClientState::Answered(other)) => other.is_same(answer),
+        Some(ClientState::Gone(_)) => false,
+        Some(ClientState::Left) => false,
+    }
+}
+
+/// What a return shows of the answer to a call for a row.
+fn seen_of(answer: &Answer) -> Option<Seen> {
+    match answer {
+        Answer::Reply(Reply::Ok) => Some(Seen::Ok),
+        Answer::Reply(Reply::Value(value)) => Some(Seen::Value(copy_of_value(value))),
+        _ => None,
+    }
+}
+
+/// Moves up to the last event.
+fn up_to_last(alloc: Global, moves: &[Move]) -> Result<Vec<Move>, NoMemory> {
+    let mut last = 0;
+    for place in 0..moves.len() {
+        if moves[place] == Move::Event {
+            last = place;
+        }
+    }
+    let mut first = Vec::new(alloc);
+    for place in 0..last.min(moves.len()) {
+        let by = moves[place];
+        first.push(by)?;
+    }
+    Ok(first)
+}
+
+/// Moves that may lead through the events, and then give the session this answer, if the search finds some.
+fn searched(
+    alloc: Global,
+    base: &Server,
+    events: &[Event],
+    session: SessionNo,
+    answer: &SharedAnswer,
+) -> Result<Option<Vec<Move>>, NoMemory> {
+    let Some(seen) = seen_of(&answer.answer(alloc)?) else {
+        return Ok(None);
+    };
+    let mut more = Vec::new(alloc);
+    for event in events {
+        more.push(copy_of_event(event)?)?;
+    }
+    more.push(Event::Return(session, SharedSeen::of(alloc, seen)?))?;
+    match moves_through(alloc, base, more.as_slice(), &mut Silent)? {
+        None => Ok(None),
+        Some(moves) => Ok(Some(up_to_last(alloc, moves.as_slice())?)),
+    }
+}
+
+/// The moves to the first of the kept configurations in which the session has this answer.
+fn kept_way(
+    front: &Frontier,
+    session: SessionNo,
+    answer: &SharedAnswer,
+) -> Result<Option<Vec<Move>>, NoMemory> {
+    for one in front.known.iter() {
+        if has_answer(one, session, answer) {
+            let mut moves = front.trunk.clone()?;
+            one.path.add_to(&mut moves)?;
+            return Ok(Some(moves));
+        }
+    }
+    Ok(None)
+}
+
+/// Moves that may lead through the events, and give the session this answer: those to a kept configuration, if
+/// configurations are kept, else some that the search finds.
+fn moves_to(
+    alloc: Global,
+    base: &Server,
+    events: &[Event],
+    session: SessionNo,
+    answer: &SharedAnswer,
+    front: Option<&Frontier>,
+) -> Result<Option<Vec<Move>>, NoMemory> {
+    match front {
+        None => searched(alloc, base, events, session, answer),
+        Some(kept) => kept_way(kept, session, answer),
+    }
+}
+
+/// Whether an order of the events is found that gives the session this answer.
+fn is_given(
+    alloc: Global,
+    base: &Server,
+    events: &[Event],
+    session: SessionNo,
+    answer: &SharedAnswer,
+    front: Option<&Frontier>,
+) -> Result<bool, NoMemory>
+    ensures { IfOk result (λ given. given ≡ true → IsAnswerAfter base.now events.now session answer.now) }
+{
+    match moves_to(alloc, base, events, session, answer, front)? {
+        None => Ok(false),
+        Some(moves) => match followed(alloc, base, events, moves.as_slice())? {
+            None => Ok(false),
+            Some(one) => Ok(has_answer(&one, session, answer)),
+        },
+    }
+}
+
+/// Whether such an order is found for each of the answers.
+fn are_given(
+    alloc: Global,
+    base: &Server,
+    events: &[Event],
+    session: SessionNo,
+    answers: &[SharedAnswer],
+    front: Option<&Frontier>,
+) -> Result<bool, NoMemory>
+    ensures { IfOk result (λ given. given ≡ true → All (IsAnswerAfter base.now events.now session) answers.now) }
+{
+    for answer in answers {
+        if !is_given(alloc, base, events, session, answer, front)? {
+            return Ok(false);
+        }
+    }
+    Ok(true)
+}
+
+/// Whether the return shows none of the answers.
+fn shows_none(seen: &Seen, answers: &[SharedAnswer]) -> bool
+    ensures { result ≡ true → All (λ answer. shows_answer seen.now answer ≡ false) answers.now }
+{
+    for answer in answers {
+        if seen.shows_kept(answer.kept()) {
+            return false;
+        }
+    }
+    true
+}
+
+/// Returns the verdict ILLEGAL at the return at this place, if it shows none of these answers and each of them is
+/// given by some order of the `first` events, which are those before the place. `answers` has all that can be given.
+/// Orders are looked for among those to the kept configurations `front`, if there are some, else by the search.
+///
+/// May return `NoMemory`.
+pub fn refuted(
+    alloc: Global,
+    base: &Server,
+    events: &[Event],
+    place: usize,
+    first: &[Event],
+    session: SessionNo,
+    seen: &Seen,
+    answers: Vec<SharedAnswer>,
+    front: Option<&Frontier>,
+    limit: usize,
+) -> Result<Option<Verdict>, NoMemory>
+    requires within { place < length events.now }
+    requires first { first.now ≡ take place events.now }
+    requires returns { slice_get events.now place ≡ Some (Event.Return session seen.now) }
+    requires all { (answer : AnswerSeen) → IsAnswerAfter base.now first.now session answer
+        → Contains answers.items answer }
+    ensures { IfOk result (λ found. IfSome found (IsVerdict base.now events.now limit)) }
+{
+    let (_events, _limit) = (events, limit);
+    if answers.is_empty() || !shows_none(seen, answers.as_slice()) {
+        return Ok(None);
+    }
+    let given = are_given(alloc, base, first, session, answers.as_slice(), front)?;
+    if given {
+        Ok(Some(Verdict::Illegal(place, answers)))
+    } else {
+        Ok(None)
+    }
+}
