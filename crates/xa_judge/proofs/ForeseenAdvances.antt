@@ -6,8 +6,10 @@ use Rattle.std.proofs.Common.{get_or, refl, ap, subst, sym, ◌∙◌, inl, inr,
 use Rattle.std.specs.Prelude.{slice_get}
 use Rattle.std.specs.List.{Contains}
 use Rattle.std.specs.Prelude.{IfSome}
-use Rattle.std.proofs.lemmas.Option.{none-some}
-use Rattle.std.proofs.lemmas.List.{take_more, take_all}
+use Rattle.std.specs.Option.{unwrap_or, option_map}
+use Rattle.std.proofs.lemmas.Bool.{false≢true}
+use Rattle.std.proofs.lemmas.Option.{none-some, slice_get-map}
+use Rattle.std.proofs.lemmas.List.{take_more, take_all, length-set}
 use Rattle.xa_server.specs.State.{State}
 use Rattle.xa_server.specs.Locks.{LockLaw}
 use Rattle.xa_judge.specs.declared.answer.Answer.{Answer}
@@ -19,13 +21,15 @@ use Rattle.xa_judge.specs.declared.event.Event.TheVariants.{Call, Return, Lost, 
 use Rattle.xa_judge.specs.Explained.{Config, opening_config, LeadsThrough}
 use Rattle.xa_judge.specs.Late.{has_unheard}
 use Rattle.xa_judge.specs.declared.frontier.Frontier.{Frontier}
+use Rattle.xa_judge.specs.declared.open_call.OpenCall.{OpenCall}
 use Rattle.xa_judge.specs.Verdicts.{IsAnswerAfter}
 use Rattle.xa_judge.specs.Found.{config_of, Has, IsOpening, IsShortened, IsAnsweredIn}
-use Rattle.xa_judge.proofs.Places.{place_mapped}
+use Rattle.xa_judge.proofs.Places.{place_mapped, same_number, get_written, get_apart}
 use Rattle.xa_judge.proofs.ForeseenSteps.{alike_first}
 use Rattle.xa_judge.specs.Advances.{IsCallOf}
-use Rattle.xa_judge.specs.Foreseen.{Hint, fact_of, hint_of, hints_of, hint_in, FitsHints, GoesOn, HasSeenFor}
-use Rattle.xa_judge.specs.Foreseen.{AreClosedFor, ExtendsBy}
+use Rattle.xa_judge.specs.Foreseen.{NotesCall, Hint, no_hint, fact_of, hint_of, hints_of, hint_in, FitsHints, GoesOn}
+use Rattle.xa_judge.specs.Foreseen.{GoesOnLike, HasSeenFor, AreClosedFor, ExtendsBy, IsAlikeAt, IsDead, seen_by}
+use Rattle.xa_judge.specs.Foreseen.{never_by, asked_by}
 use Rattle.xa_judge.specs.Foreseen.{IsAdvanceFor, IsClosedFor, NeedsNone, AreAlike, returning_in}
 use Rattle.xa_judge.proofs.Waits.{CanWait, session_in}
 use Rattle.xa_judge.proofs.ForeseenLists.{goes_closed, goes_called, left_past, unheard_alike, hints_set}
@@ -33,19 +37,20 @@ use Rattle.xa_judge.proofs.ForeseenReturns.{goes_returned, ends_answered}
 use Rattle.xa_judge.proofs.ForeseenGrowth.{still_has, closed_all}
 
 -- before a return or an unknown answer, all allowed acts may come
-pub advance_closed : (events : List Event) (places later : List (Option ℕ)) (place : Option ℕ) (event : Event)
+pub advance_closed : (events : List Event) (places later : List OpenCall) (place : OpenCall) (event : Event)
     (old closed new : List Configuration) → later ≡ set places (session_in event) place
-    → FitsHints (hints_of events places) event → ExtendsBy old closed
+    → FitsHints (hints_of events places) event → NotesCall (hints_of events places) (hint_in events place) event
+    → ExtendsBy old closed
     → AreClosedFor (hints_of events places) (returning_in event) (length closed) closed
     → HasSeenFor (hints_of events later) event (Has closed) (Has new)
     → IsAdvanceFor (hints_of events places) (hints_of events later) event old new
-advance_closed events places later place event old closed new is fits grows are seen = λ more end goes.
+advance_closed events places later place event old closed new is fits notes grows are seen = λ more end goes.
     let hints = hints_of events places in
     let e = subst (λ p. hints_of events p ≡ set hints (session_in event) (hint_in events place)) (sym is)
     (hints_set events places (session_in event) place) in
     subst (λ h. GoesOn h (Has new) more end) (sym e) (elim goes [
       | inl from ↦ past event (closed_all hints (returning_in event) closed are) from.kept from.run end more from.moves
-          (still_has old closed from.kept grows from.there) from.alike fits
+          (still_has old closed from.kept grows from.there) from.alike fits notes
           (subst (λ h. HasSeenFor h event (Has closed) (Has new)) e seen) from.runs
       | inr gone ↦ inr (left_past hints (hint_in events place) event gone.run end more gone.moves gone.dead fits
           gone.runs)
@@ -54,36 +59,37 @@ advance_closed events places later place event old closed new is fits grows are 
     past : (one : Event) → IsClosedFor (hints_of events places) (returning_in one) (Has closed)
         → (kept run end : Config) → (more : List Event) → (moves : List Move) → Has closed kept
         → AreAlike (hints_of events places) run kept
-        → FitsHints (hints_of events places) one
+        → FitsHints (hints_of events places) one → NotesCall (hints_of events places) (hint_in events place) one
         → HasSeenFor (set (hints_of events places) (session_in one) (hint_in events place)) one (Has closed) (Has new)
         → LeadsThrough run (one ∷ more) moves end
         → GoesOn (set (hints_of events places) (session_in one) (hint_in events place)) (Has new) more end
-    past (Return session shown) all kept run end more moves there alike fits seen runs =
+    past (Return session shown) all kept run end more moves there alike fits notes seen runs =
         goes_returned (hints_of events places) (hint_in events place) session shown (Has closed) (Has new) kept run end
-        more moves all there alike fits seen runs
-    past (Call session request) all kept run end more moves there alike fits seen runs =
+        more moves all there alike fits notes seen runs
+    past (Call session request) all kept run end more moves there alike fits notes seen runs =
         goes_closed (hints_of events places) (hint_in events place) (Call session request) (Has closed) (Has new) kept
-        run end more moves all there alike fits seen runs
-    past (Lost session) all kept run end more moves there alike fits seen runs =
+        run end more moves all there alike fits notes seen runs
+    past (Lost session) all kept run end more moves there alike fits notes seen runs =
         goes_closed (hints_of events places) (hint_in events place) (Lost session) (Has closed) (Has new) kept run end
-        more moves all there alike fits seen runs
-    past (Unknown session) all kept run end more moves there alike fits seen runs =
+        more moves all there alike fits notes seen runs
+    past (Unknown session) all kept run end more moves there alike fits notes seen runs =
         goes_closed (hints_of events places) (hint_in events place) (Unknown session) (Has closed) (Has new) kept run
-        end more moves all there alike fits seen runs
+        end more moves all there alike fits notes seen runs
 
 -- before a call or a loss none has to
-pub advance_open : (events : List Event) (places later : List (Option ℕ)) (place : Option ℕ) (event : Event)
+pub advance_open : (events : List Event) (places later : List OpenCall) (place : OpenCall) (event : Event)
     (old new : List Configuration) → later ≡ set places (session_in event) place
-    → FitsHints (hints_of events places) event → NeedsNone old event
+    → FitsHints (hints_of events places) event → NotesCall (hints_of events places) (hint_in events place) event
+    → NeedsNone old event
     → HasSeenFor (hints_of events later) event (Has old) (Has new)
     → IsAdvanceFor (hints_of events places) (hints_of events later) event old new
-advance_open events places later place event old new is fits needs seen = λ more end goes.
+advance_open events places later place event old new is fits notes needs seen = λ more end goes.
     let hints = hints_of events places in
     let e = subst (λ p. hints_of events p ≡ set hints (session_in event) (hint_in events place)) (sym is)
     (hints_set events places (session_in event) place) in
     subst (λ h. GoesOn h (Has new) more end) (sym e) (elim goes [
       | inl from ↦ goes_called hints (hint_in events place) event (Has old) (Has new) from.kept from.run end more
-          from.moves from.there from.alike fits
+          from.moves from.there from.alike fits notes
           (subst (λ h. HasSeenFor h event (Has old) (Has new)) e seen)
           (waits event needs from.kept from.there from.run
           (λ session heard. unheard_alike (fact_of hints session) from.run from.kept session
@@ -126,17 +132,117 @@ answers_end hints known closed session grows are none heard end answer (inr left
 pub all_after : (base : State) (events : List Event) (session : ℕ) (hints : List Hint) (known : List Configuration)
     (found : Option Frontier)
     → ((moves : List Move) (end : Config) → LeadsThrough (opening_config base) events moves end
-    → GoesOn hints (Has known) [] end)
+    → GoesOnLike hints (Has known) [] end)
     → IfSome found (λ closed. (end : Config) (answer : Answer) → GoesOn hints (Has known) [] end
     → slice_get end.clients session ≡ Some (Answered answer) → IsAnsweredIn closed.known.items session answer)
     → IfSome found (λ front. (answer : Answer) → IsAnswerAfter base events session answer
     → IsAnsweredIn front.known.items session answer)
 all_after base events session hints known None goes all = tt
 all_after base events session hints known (Some front) goes all = λ answer after.
-    all after.config answer (goes after.reached.moves after.config after.reached.runs) after.answered
+    let like = goes after.reached.moves after.config after.reached.runs in
+    all like.0 answer like.2 (like.1 session answer after.answered)
+
+-- a call of which nothing is known may be noted as one that isn't heard of any more
+alike_never : (hints : List Hint) (number : ℕ) (hint : Hint) (run kept : Config) → AreAlike hints run kept
+    → (fact_of hints number).seen ≡ None → (fact_of hints number).never ≡ false
+    → hint.asked ≡ (fact_of hints number).asked → (was : Hint) → slice_get hints number ≡ Some was
+    → AreAlike (set hints number hint) run kept
+alike_never hints number hint run kept alike unseen heard asked was at = record {
+  state = alike.state;
+  law = alike.law;
+  asked = record {
+    room = length-set hints number hint ∙ alike.asked.room;
+    calls = λ session request opened. elim (same_number number session) [
+      | inl is ↦ ap (λ (h : Option Hint). (unwrap_or h no_hint).asked) (written session is) ∙ asked
+          ∙ ap (λ n. (fact_of hints n).asked) is ∙ alike.asked.calls session request opened
+      | inr apart ↦ ap (λ (h : Option Hint). (unwrap_or h no_hint).asked) (get_apart hints number session hint apart)
+          ∙ alike.asked.calls session request opened
+    ];
+  };
+  clients = λ session. elim (same_number number session) [
+    | inl is ↦ at_it session is (subst (λ n. IsAlikeAt (fact_of hints n) run.state session
+        (slice_get run.clients session) (slice_get kept.clients session)) (sym is) (alike.clients session))
+    | inr apart ↦ subst (λ (h : Option Hint). IsAlikeAt (unwrap_or h no_hint) run.state session
+        (slice_get run.clients session) (slice_get kept.clients session))
+        (sym (get_apart hints number session hint apart)) (alike.clients session)
+  ];
+}
+  where
+    written : (session : ℕ) → number ≡ session → slice_get (set hints number hint) session ≡ Some hint
+    written session is = subst (λ n. slice_get (set hints number hint) n ≡ Some hint) is
+        (get_written hints number was hint at)
+
+    at_it : (session : ℕ) → number ≡ session
+        → IsAlikeAt (fact_of hints number) run.state session (slice_get run.clients session)
+        (slice_get kept.clients session)
+        → IsAlikeAt (fact_of (set hints number hint) session) run.state session (slice_get run.clients session)
+        (slice_get kept.clients session)
+    at_it session is (inl same) = inl same
+    at_it session is (inr (inl ahead)) = absurd (none-some ahead.seen (sym unseen ∙ ahead.hinted))
+    at_it session is (inr (inr behind)) = absurd (false≢true (sym heard ∙ behind.never))
+
+dead_never : (hints : List Hint) (number : ℕ) (hint : Hint) (run : Config) → (fact_of hints number).seen ≡ None
+    → IsDead hints run → IsDead (set hints number hint) run
+dead_never hints number hint run unseen dead = record {
+  session = dead.session;
+  seen = dead.seen;
+  hinted = elim (same_number number dead.session) [
+    | inl is ↦ absurd (none-some dead.seen (sym unseen ∙ ap (hint_of hints) is ∙ dead.hinted))
+    | inr apart ↦ ap (λ (h : Option Hint). (unwrap_or h no_hint).seen)
+        (get_apart hints number dead.session hint apart) ∙ dead.hinted
+  ];
+  answer = dead.answer;
+  at = dead.at;
+  hidden = dead.hidden;
+}
+
+pub goes_never : (events : List Event) (places : List OpenCall) (number : ℕ) (old entry : OpenCall)
+    → slice_get places number ≡ Some old → old.returns ≡ None → entry.call ≡ old.call
+    → (known : List Configuration) (more : List Event) (end : Config)
+    → GoesOn (hints_of events places) (Has known) more end
+    → GoesOn (hints_of events (set places number entry)) (Has known) more end
+goes_never events places number old entry at blank same known more end goes =
+    subst (λ h. GoesOn h (Has known) more end) (sym (hints_set events places number entry)) (elim goes [
+      | inl from ↦ inl (record {
+        kept = from.kept;
+        there = from.there;
+        run = from.run;
+        alike = alike_never hints number hint from.run from.kept from.alike unseen heard asked
+            (hint_in events old) there;
+        moves = from.moves;
+        runs = from.runs;
+      })
+      | inr left ↦ inr (record {
+        run = left.run;
+        dead = dead_never hints number hint left.run unseen left.dead;
+        moves = left.moves;
+        runs = left.runs;
+      })
+    ])
+  where
+    hints : List Hint
+    hints = hints_of events places
+
+    hint : Hint
+    hint = hint_in events entry
+
+    there : slice_get hints number ≡ Some (hint_in events old)
+    there = slice_get-map (hint_in events) places number ∙ ap (option_map (hint_in events)) at
+
+    fact : fact_of hints number ≡ hint_in events old
+    fact = ap (λ (h : Option Hint). unwrap_or h no_hint) there
+
+    unseen : (fact_of hints number).seen ≡ None
+    unseen = ap (λ (h : Hint). h.seen) fact ∙ ap (seen_by events) blank
+
+    heard : (fact_of hints number).never ≡ false
+    heard = ap (λ (h : Hint). h.never) fact ∙ ap (never_by events) blank
+
+    asked : hint.asked ≡ (fact_of hints number).asked
+    asked = ap (asked_by events) same ∙ sym (ap (λ (h : Hint). h.asked) fact)
 
 -- one event more
-pub goes_more : (base : State) (events : List Event) (places later : List (Option ℕ)) (place : ℕ) (event : Event)
+pub goes_more : (base : State) (events : List Event) (places later : List OpenCall) (place : ℕ) (event : Event)
     (old new : List Configuration) (more : List Event) (moves : List Move) (end : Config)
     → place < length events → event ≡ get_or events place event
     → IsAdvanceFor (hints_of events places) (hints_of events later) event old new
@@ -154,13 +260,13 @@ goes_more base events places later place event old new more moves end within at 
 -- before all events
 pub goes_first : (base : State) (hints : List Hint) (list : List Configuration) (more : List Event)
     (moves : List Move) (end : Config) → IsOpening base list → LockLaw base
-    → LeadsThrough (opening_config base) more moves end → GoesOn hints (Has list) more end
-goes_first base hints list more moves end is law runs = inl (record {
+    → length hints ≡ 17 → LeadsThrough (opening_config base) more moves end → GoesOn hints (Has list) more end
+goes_first base hints list more moves end is law room runs = inl (record {
   kept = opening_config base;
   there = subst (λ l. Has l (opening_config base)) (sym is.1)
       (subst (λ c. Has (is.0 ∷ []) c) is.2 (place_mapped config_of (is.0 ∷ []) 0 is.0 refl));
   run = opening_config base;
-  alike = alike_first base hints law;
+  alike = alike_first base hints law room;
   moves = moves;
   runs = runs;
 })

@@ -8,16 +8,23 @@ use Rattle.std.specs.Option.{unwrap_or}
 use Rattle.std.proofs.lemmas.Option.{none-some, same_Some, cond_some}
 use Rattle.std.proofs.lemmas.Bool.{false≢true}
 use Rattle.xa_judge.specs.declared.client_state.ClientState.{ClientState}
+use Rattle.xa_judge.specs.declared.request.Request.{Request}
+use Rattle.xa_judge.specs.Explained.{lost}
 use Rattle.xa_judge.specs.declared.client_state.ClientState.TheVariants.{Idle, Called, Answered, Gone, Left}
+use Rattle.xa_judge.specs.declared.event.Seen.{Seen}
 use Rattle.xa_judge.specs.declared.event.Event.{Event}
 use Rattle.xa_judge.specs.declared.event.Event.TheVariants.{Call, Return, Lost, Unknown}
 use Rattle.xa_judge.specs.declared.moves.Act.{Act}
 use Rattle.xa_judge.specs.Explained.{Config, with_client, effect_of, observed, called, returned, answered_unknown}
 use Rattle.xa_judge.specs.Explained.{shows_answer}
 use Rattle.xa_judge.specs.Late.{answered_so}
-use Rattle.xa_judge.specs.Foreseen.{Hint, no_hint, fact_of, hint_of, IsAheadAt, IsBehindAt, IsAlikeAt, AreAlike}
+use Rattle.xa_judge.specs.Foreseen.{AreAsked, NotesCall, Hint, no_hint, fact_of, hint_of, IsAheadAt, IsBehindAt}
+use Rattle.xa_judge.specs.Foreseen.{IsAlikeAt, AreAlike}
 use Rattle.xa_judge.specs.Foreseen.{IsDead, FitsHints}
-use Rattle.xa_judge.proofs.Places.{same_number, get_written, get_apart}
+use Rattle.std.proofs.Common.{◌<◌, ◌⊎◌}
+use Rattle.std.proofs.lemmas.List.{length-set}
+use Rattle.std.proofs.lemmas.Option.{slice_get_within}
+use Rattle.xa_judge.proofs.Places.{same_number, get_written, get_apart, get_within}
 use Rattle.xa_judge.proofs.Waits.{acted, Saw, session_in, saw_call, saw_return, saw_lost}
 
 -- what an unknown answer changes: its own client alone
@@ -60,14 +67,48 @@ hint_apart : (hints : List Hint) (session other : ℕ) (hint : Hint) → session
     → hint_of (set hints session hint) other ≡ hint_of hints other
 hint_apart hints session other hint apart = ap (λ (h : Hint). h.seen) (fact_apart hints session other hint apart)
 
+-- what is open was called for, also once one client has gone on and that is noted
+asked_set : (hints : List Hint) (run : Config) (session : ℕ) (hint : Hint) (c one : ClientState) → AreAsked hints run
+    → slice_get run.clients session ≡ Some one
+    → ((request : Request) → (c ≡ Called request) ⊎ (c ≡ Gone (Some request)) → hint.asked ≡ Some request)
+    → AreAsked (set hints session hint) (with_client run session c)
+asked_set hints run session hint c one asked here noted = record {
+  room = length-set hints session hint ∙ asked.room ∙ sym (length-set run.clients session c);
+  calls = λ other request opened. elim (same_number session other) [
+    | inl e ↦ subst (λ n. (fact_of (set hints session hint) n).asked ≡ Some request) e
+        (ap (λ (o : Option Hint). (unwrap_or o no_hint).asked) (get_written hints session place.0 hint place.1)
+        ∙ noted request (elim opened [
+          | inl is ↦ inl (same_Some c (Called request)
+              (sym now ∙ subst (λ n. slice_get (set run.clients session c) n ≡ Some (Called request)) (sym e) is))
+          | inr is ↦ inr (same_Some c (Gone (Some request))
+              (sym now ∙ subst (λ n. slice_get (set run.clients session c) n ≡ Some (Gone (Some request))) (sym e)
+              is))
+        ]))
+    | inr apart ↦ ap (λ (h : Hint). h.asked) (fact_apart hints session other hint apart)
+        ∙ asked.calls other request (elim opened [
+          | inl is ↦ inl (sym (get_apart run.clients session other c apart) ∙ is)
+          | inr is ↦ inr (sym (get_apart run.clients session other c apart) ∙ is)
+        ])
+  ];
+}
+  where
+    now : slice_get (set run.clients session c) session ≡ Some c
+    now = get_written run.clients session one c here
+
+    place : (h : Hint) × (slice_get hints session ≡ Some h)
+    place = get_within hints session (subst (λ n. session < n) (sym asked.room)
+        (slice_get_within run.clients session one here))
+
 -- one client is in the same state in both, and the others are as they were
 pub same_client : (hints : List Hint) (run kept : Config) (session : ℕ) (hint : Hint) (c : ClientState)
     (one other : ClientState) → AreAlike hints run kept → slice_get run.clients session ≡ Some one
     → slice_get kept.clients session ≡ Some other
+    → ((request : Request) → (c ≡ Called request) ⊎ (c ≡ Gone (Some request)) → hint.asked ≡ Some request)
     → AreAlike (set hints session hint) (with_client run session c) (with_client kept session c)
-same_client hints run kept session hint c one other are here there = record {
+same_client hints run kept session hint c one other are here there noted = record {
   state = are.state;
   law = are.law;
+  asked = asked_set hints run session hint c one are.asked here noted;
   clients = λ at. elim (same_number session at) [
     | inl e ↦ inl (subst (λ n. slice_get (set run.clients session c) n ≡ slice_get (set kept.clients session c) n) e
         (get_written run.clients session one c here ∙ sym (get_written kept.clients session other c there)))
@@ -80,23 +121,160 @@ same_client hints run kept session hint c one other are here there = record {
   ];
 }
 
+-- what an event leaves open is noted
+noted_event : (hints : List Hint) (hint : Hint) (run next : Config) (event : Event) (c : ClientState)
+    → AreAsked hints run → NotesCall hints hint event → observed run event ≡ Some next
+    → next ≡ with_client run (session_in event) c → (was : ClientState)
+    → slice_get run.clients (session_in event) ≡ Some was → (request : Request)
+    → (c ≡ Called request) ⊎ (c ≡ Gone (Some request)) → hint.asked ≡ Some request
+unfolding observed called returned lost answered_unknown
+noted_event hints hint run next event c asked notes sees is was here = by event notes sees is here
+  where
+    left : (it : ℕ) (x y before : ClientState) → slice_get run.clients it ≡ Some before
+        → with_client run it x ≡ with_client run it y → x ≡ y
+    left it x y before at e = same_Some x y (sym (get_written run.clients it before x at)
+        ∙ ap (λ (d : Config). slice_get d.clients it) e ∙ get_written run.clients it before y at)
+
+    called_is : (x : ClientState) (a b : Request) → x ≡ Called a → (x ≡ Called b) ⊎ (x ≡ Gone (Some b)) → a ≡ b
+    called_is x a b e (inl f) = both a b (sym e ∙ f)
+      where
+        both : (p q : Request) → Called p ≡ Called q → p ≡ q
+        both p q g = cc
+    called_is x a b e (inr f) = absurd (both a b (sym e ∙ f))
+      where
+        both : (p q : Request) → Called p ≡ Gone (Some q) → ⊥
+        both p q g = cc
+
+    gone_is : (x : ClientState) (a b : Request) → x ≡ Gone (Some a) → (x ≡ Called b) ⊎ (x ≡ Gone (Some b)) → a ≡ b
+    gone_is x a b e (inr f) = both a b (sym e ∙ f)
+      where
+        both : (p q : Request) → Gone (Some p) ≡ Gone (Some q) → p ≡ q
+        both p q g = cc
+    gone_is x a b e (inl f) = absurd (both a b (sym e ∙ f))
+      where
+        both : (p q : Request) → Gone (Some p) ≡ Called q → ⊥
+        both p q g = cc
+
+    shut : (x y : ClientState) (b : Request) → x ≡ y → ((r : Request) → y ≡ Called r → ⊥)
+        → ((r : Request) → y ≡ Gone (Some r) → ⊥) → (x ≡ Called b) ⊎ (x ≡ Gone (Some b)) → ⊥
+    shut x y b e first second (inl f) = first b (sym e ∙ f)
+    shut x y b e first second (inr f) = second b (sym e ∙ f)
+
+    idle_called : (r : Request) → Idle ≡ Called r → ⊥
+    idle_called r f = cc
+
+    idle_gone : (r : Request) → Idle ≡ Gone (Some r) → ⊥
+    idle_gone r f = cc
+
+    left_called : (r : Request) → Left ≡ Called r → ⊥
+    left_called r f = cc
+
+    left_gone : (r : Request) → Left ≡ Gone (Some r) → ⊥
+    left_gone r f = cc
+
+    none_called : (r : Request) → Gone None ≡ Called r → ⊥
+    none_called r f = cc
+
+    none_gone : (r : Request) → Gone None ≡ Gone (Some r) → ⊥
+    none_gone r f = cc
+
+    call : (it : ℕ) (asks : Request) (o : Option ClientState) → slice_get run.clients it ≡ o
+        → called o run it asks ≡ Some next → next ≡ with_client run it c → hint.asked ≡ Some asks
+        → (request : Request) → (c ≡ Called request) ⊎ (c ≡ Gone (Some request)) → hint.asked ≡ Some request
+    call it asks None at e f noted request opened = absurd (none-some next e)
+    call it asks (Some Idle) at e f noted request opened =
+        noted ∙ ap Some (called_is c asks request (sym (left it (Called asks) c Idle at (same_Some _ next e
+        ∙ f))) opened)
+    call it asks (Some (Called x)) at e f noted request opened = absurd (none-some next e)
+    call it asks (Some (Answered x)) at e f noted request opened = absurd (none-some next e)
+    call it asks (Some (Gone None)) at e f noted request opened =
+        noted ∙ ap Some (gone_is c asks request
+        (sym (left it (Gone (Some asks)) c (Gone None) at (same_Some _ next e ∙ f))) opened)
+    call it asks (Some (Gone (Some x))) at e f noted request opened = absurd (none-some next e)
+    call it asks (Some Left) at e f noted request opened =
+        absurd (shut c Left request (sym (left it Left c Left at (same_Some _ next e
+        ∙ f))) left_called left_gone opened)
+
+    back : (it : ℕ) (seen : Seen) (o : Option ClientState) → slice_get run.clients it ≡ o
+        → returned o run it seen ≡ Some next → next ≡ with_client run it c
+        → (request : Request) → (c ≡ Called request) ⊎ (c ≡ Gone (Some request)) → hint.asked ≡ Some request
+    back it seen None at e f request opened = absurd (none-some next e)
+    back it seen (Some Idle) at e f request opened = absurd (none-some next e)
+    back it seen (Some (Called x)) at e f request opened = absurd (none-some next e)
+    back it seen (Some (Answered x)) at e f request opened =
+        absurd (shut c Idle request (sym (left it Idle c (Answered x) at
+        ((cond_some (shows_answer seen x) (with_client run it Idle) next e).1 ∙ f))) idle_called idle_gone opened)
+    back it seen (Some (Gone x)) at e f request opened = absurd (none-some next e)
+    back it seen (Some Left) at e f request opened = absurd (none-some next e)
+
+    unheard : (it : ℕ) (o : Option ClientState) → slice_get run.clients it ≡ o → lost o run it ≡ Some next
+        → next ≡ with_client run it c → hint.asked ≡ (fact_of hints it).asked
+        → (request : Request) → (c ≡ Called request) ⊎ (c ≡ Gone (Some request)) → hint.asked ≡ Some request
+    unheard it None at e f noted request opened = absurd (none-some next e)
+    unheard it (Some Idle) at e f noted request opened =
+        absurd (shut c (Gone None) request (sym (left it (Gone None) c Idle at (same_Some _ next e ∙ f))) none_called
+        none_gone opened)
+    unheard it (Some (Called x)) at e f noted request opened =
+        noted ∙ asked.calls it x (inl at) ∙ ap Some (gone_is c x request
+        (sym (left it (Gone (Some x)) c (Called x) at (same_Some _ next e ∙ f))) opened)
+    unheard it (Some (Answered x)) at e f noted request opened =
+        absurd (shut c (Gone None) request (sym (left it (Gone None) c (Answered x) at (same_Some _ next e ∙ f)))
+        none_called none_gone opened)
+    unheard it (Some (Gone x)) at e f noted request opened = absurd (none-some next e)
+    unheard it (Some Left) at e f noted request opened = absurd (none-some next e)
+
+    over : (it : ℕ) (o : Option ClientState) → slice_get run.clients it ≡ o → answered_unknown o run it ≡ Some next
+        → next ≡ with_client run it c
+        → (request : Request) → (c ≡ Called request) ⊎ (c ≡ Gone (Some request)) → hint.asked ≡ Some request
+    over it None at e f request opened = absurd (none-some next e)
+    over it (Some Idle) at e f request opened = absurd (none-some next e)
+    over it (Some (Called x)) at e f request opened =
+        absurd (shut c Idle request (sym (left it Idle c (Called x) at (same_Some _ next e ∙ f))) idle_called idle_gone
+        opened)
+    over it (Some (Answered x)) at e f request opened =
+        absurd (shut c Idle request (sym (left it Idle c (Answered x) at (same_Some _ next e ∙ f))) idle_called
+        idle_gone opened)
+    over it (Some (Gone x)) at e f request opened = absurd (none-some next e)
+    over it (Some Left) at e f request opened = absurd (none-some next e)
+
+    by : (this : Event) → NotesCall hints hint this → observed run this ≡ Some next
+        → next ≡ with_client run (session_in this) c → slice_get run.clients (session_in this) ≡ Some was
+        → (request : Request) → (c ≡ Called request) ⊎ (c ≡ Gone (Some request)) → hint.asked ≡ Some request
+    by (Call it asks) noted e f at = call it asks (slice_get run.clients it) refl e f noted
+    by (Return it seen) noted e f at = back it seen (slice_get run.clients it) refl e f
+    by (Lost it) noted e f at = unheard it (slice_get run.clients it) refl e f noted
+    by (Unknown it) noted e f at = over it (slice_get run.clients it) refl e f
+
+-- an idle client has nothing open
+pub idle_shut : (hint : Hint) (request : Request) → (Idle ≡ Called request) ⊎ (Idle ≡ Gone (Some request))
+    → hint.asked ≡ Some request
+idle_shut hint request (inl e) = absurd (no request e)
+  where
+    no : (r : Request) → Idle ≡ Called r → ⊥
+    no r f = cc
+idle_shut hint request (inr e) = absurd (no request e)
+  where
+    no : (r : Request) → Idle ≡ Gone (Some r) → ⊥
+    no r f = cc
+
 -- what is kept sees the event as well
 abbrev pub SeesAlike : List Hint → Hint → Config → Event → Config → Type 0
 SeesAlike hints hint kept event next = (new : Config) × (observed kept event ≡ Some new)
     × AreAlike (set hints (session_in event) hint) next new
 
 equal_sees : (hints : List Hint) (hint : Hint) (run kept next : Config) (event : Event)
-    → AreAlike hints run kept → observed run event ≡ Some next
+    → AreAlike hints run kept → NotesCall hints hint event → observed run event ≡ Some next
     → slice_get run.clients (session_in event) ≡ slice_get kept.clients (session_in event)
     → SeesAlike hints hint kept event next
-equal_sees hints hint run kept next event are sees same =
+equal_sees hints hint run kept next event are notes sees same =
     let s = saw run next event sees in
     let there : slice_get kept.clients (session_in event) ≡ Some s.before = sym same ∙ s.found in (
       with_client kept (session_in event) s.next,
       s.again kept there,
       subst (λ c. AreAlike (set hints (session_in event) hint) c (with_client kept (session_in event) s.next))
           (sym s.is)
-          (same_client hints run kept (session_in event) hint s.next s.before s.before are s.found there),
+          (same_client hints run kept (session_in event) hint s.next s.before s.before are s.found there
+          (noted_event hints hint run next event s.next are.asked notes sees s.is s.before s.found)),
     )
 
 ahead_sees : (hints : List Hint) (hint : Hint) (run kept next : Config) (event : Event)
@@ -120,7 +298,8 @@ ahead_sees hints hint run kept next (Return session seen) are fits sees ahead = 
             ∙ ap (λ b. cond b (Some (with_client kept session Idle)) None)
             (subst (λ x. shows_answer x ahead.answer ≡ true) same ahead.shown),
         subst (λ c. AreAlike (set hints session hint) c (with_client kept session Idle)) (sym idle)
-            (same_client hints run kept session hint Idle s.before (Answered ahead.answer) are s.found ahead.kept),
+            (same_client hints run kept session hint Idle s.before (Answered ahead.answer) are s.found ahead.kept
+            (idle_shut hint)),
       )
 ]
   where
@@ -163,18 +342,18 @@ behind_sees hints hint run kept next (Unknown session) are fits sees behind = (
       (same_Some (with_client run session Idle) next
       (sym (ap (λ o. answered_unknown o run session) behind.run) ∙ sees))
       (same_client hints run kept session hint Idle (Answered behind.answer) (Called behind.request) are behind.run
-      behind.kept),
+      behind.kept (idle_shut hint)),
 )
 
 pub alike_sees : (hints : List Hint) (hint : Hint) (run kept next : Config) (event : Event)
-    → AreAlike hints run kept → FitsHints hints event → observed run event ≡ Some next
+    → AreAlike hints run kept → FitsHints hints event → NotesCall hints hint event → observed run event ≡ Some next
     → SeesAlike hints hint kept event next
-alike_sees hints hint run kept next event are fits sees = by (are.clients (session_in event))
+alike_sees hints hint run kept next event are fits notes sees = by (are.clients (session_in event))
   where
     by : IsAlikeAt (fact_of hints (session_in event)) run.state (session_in event)
         (slice_get run.clients (session_in event)) (slice_get kept.clients (session_in event))
         → SeesAlike hints hint kept event next
-    by (inl same) = equal_sees hints hint run kept next event are sees same
+    by (inl same) = equal_sees hints hint run kept next event are notes sees same
     by (inr (inl ahead)) = ahead_sees hints hint run kept next event are fits sees ahead
     by (inr (inr behind)) = behind_sees hints hint run kept next event are fits sees behind
 

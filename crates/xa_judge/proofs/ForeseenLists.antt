@@ -17,7 +17,10 @@ use Rattle.xa_judge.specs.declared.moves.Move.{Move}
 use Rattle.xa_judge.specs.declared.moves.Move.TheVariants.{Event as Seeing, Effect}
 use Rattle.xa_judge.specs.Explained.{Config, LeadsThrough, observed}
 use Rattle.xa_judge.specs.Late.{has_unheard, unheard_so}
-use Rattle.xa_judge.specs.Foreseen.{Hint, no_hint, fact_of, is_past, hint_of, IsAlikeAt, AreAlike, IsDead, IsFollowed}
+use Rattle.xa_judge.specs.declared.open_call.OpenCall.{OpenCall}
+use Rattle.xa_judge.specs.declared.request.Request.{Request}
+use Rattle.xa_judge.specs.Foreseen.{NotesCall, seen_by, never_by, Hint, no_hint, fact_of, is_past, hint_of, IsAlikeAt}
+use Rattle.xa_judge.specs.Foreseen.{AreAlike, IsDead, IsFollowed}
 use Rattle.xa_judge.specs.Foreseen.{IsLeft, GoesOn}
 use Rattle.xa_judge.specs.Foreseen.{IsClosedFor, HasSeenFor, FitsHints, hint_in, hints_of, seen_in}
 use Rattle.xa_judge.proofs.Waits.{later, session_in, CanWait}
@@ -41,11 +44,12 @@ left_past hints hint event run end more [] dead fits runs = absurd runs
 -- the event itself
 pub seen_from : (hints : List Hint) (hint : Hint) (event : Event) (old new : Config → Type 0)
     (kept run next end : Config) (more : List Event) (moves : List Move) → old kept → AreAlike hints run kept
-    → FitsHints hints event → HasSeenFor (set hints (session_in event) hint) event old new
+    → FitsHints hints event → NotesCall hints hint event
+    → HasSeenFor (set hints (session_in event) hint) event old new
     → observed run event ≡ Some next → LeadsThrough next more moves end
     → IsFollowed (set hints (session_in event) hint) new more end
-seen_from hints hint event old new kept run next end more moves there alike fits seen sees runs =
-    let both = alike_sees hints hint run kept next event alike fits sees in
+seen_from hints hint event old new kept run next end more moves there alike fits notes seen sees runs =
+    let both = alike_sees hints hint run kept next event alike fits notes sees in
     let other = seen kept both.0 there both.1 in
     record {
       kept = other.0;
@@ -59,22 +63,24 @@ seen_from hints hint event old new kept run next end more moves there alike fits
 -- past an event, from a closed list
 pub goes_closed : (hints : List Hint) (hint : Hint) (event : Event) (old new : Config → Type 0)
     (kept run end : Config) (more : List Event) (moves : List Move) → IsClosedFor hints None old → old kept
-    → AreAlike hints run kept → FitsHints hints event
+    → AreAlike hints run kept → FitsHints hints event → NotesCall hints hint event
     → HasSeenFor (set hints (session_in event) hint) event old new
     → LeadsThrough run (event ∷ more) moves end
     → GoesOn (set hints (session_in event) hint) new more end
-goes_closed hints hint event old new kept run end more (Effect session act ∷ moves) closed there alike fits seen runs =
+goes_closed hints hint event old new kept run end more (Effect session act ∷ moves) closed there alike fits notes seen
+    runs =
     elim (alike_acts hints run kept runs.0 session act alike runs.2) [
-      | inl same ↦ goes_closed hints hint event old new kept runs.0 end more moves closed there same fits seen runs.3
+      | inl same ↦ goes_closed hints hint event old new kept runs.0 end more moves closed there same fits notes seen
+          runs.3
       | inr (inl follows) ↦
           let other = closed kept follows.0 session act there refl runs.1 follows.1 follows.2 in
           goes_closed hints hint event old new other.0 runs.0 end more moves closed other.1
-          (other.2 runs.0 follows.3) fits seen runs.3
+          (other.2 runs.0 follows.3) fits notes seen runs.3
       | inr (inr dead) ↦ inr (left_past hints hint event runs.0 end more moves dead fits runs.3)
     ]
-goes_closed hints hint event old new kept run end more (Seeing ∷ moves) closed there alike fits seen runs =
-    inl (seen_from hints hint event old new kept run runs.0 end more moves there alike fits seen runs.1 runs.2)
-goes_closed hints hint event old new kept run end more [] closed there alike fits seen runs = absurd runs
+goes_closed hints hint event old new kept run end more (Seeing ∷ moves) closed there alike fits notes seen runs =
+    inl (seen_from hints hint event old new kept run runs.0 end more moves there alike fits notes seen runs.1 runs.2)
+goes_closed hints hint event old new kept run end more [] closed there alike fits notes seen runs = absurd runs
 
 -- whose client isn't gone with an open call in what is kept, isn't so on the way
 pub unheard_alike : (hint : Hint) (run kept : Config) (session : ℕ)
@@ -90,14 +96,15 @@ unheard_alike hint run kept session (inr (inl ahead)) is = elim ahead.way [
 -- past a call, from any list: no act has to come before it
 pub goes_called : (hints : List Hint) (hint : Hint) (event : Event) (old new : Config → Type 0)
     (kept run end : Config) (more : List Event) (moves : List Move) → old kept
-    → AreAlike hints run kept → FitsHints hints event
+    → AreAlike hints run kept → FitsHints hints event → NotesCall hints hint event
     → HasSeenFor (set hints (session_in event) hint) event old new
     → CanWait run event
     → LeadsThrough run (event ∷ more) moves end
     → GoesOn (set hints (session_in event) hint) new more end
-goes_called hints hint event old new kept run end more moves there alike fits seen waits runs =
+goes_called hints hint event old new kept run end more moves there alike fits notes seen waits runs =
     let first = later run end event more moves waits runs in
-    inl (seen_from hints hint event old new kept run first.first end more first.moves there alike fits seen first.sees
+    inl (seen_from hints hint event old new kept run first.first end more first.moves there alike fits notes seen
+    first.sees
     first.runs)
 
 -- if nothing is known of any open call, a session's answer is that of what is kept
@@ -120,48 +127,68 @@ set_mapped f [] i a = refl
 set_mapped f (x ∷ xs) zero a = refl
 set_mapped f (x ∷ xs) (suc i) a = ap (λ l. f x ∷ l) (set_mapped f xs i a)
 
-pub hints_set : (events : List Event) (places : List (Option ℕ)) (session : ℕ) (place : Option ℕ)
+pub hints_set : (events : List Event) (places : List OpenCall) (session : ℕ) (place : OpenCall)
     → hints_of events (set places session place) ≡ set (hints_of events places) session (hint_in events place)
 hints_set events places session place = set_mapped (hint_in events) places session place
 
 -- the return at the place that is known
-pub hint_here : (events : List Event) (places : List (Option ℕ)) (place session : ℕ) (seen : Seen)
-    → slice_get places session ≡ Some (Some place) → slice_get events place ≡ Some (Return session seen)
+pub hint_here : (events : List Event) (places : List OpenCall) (place session : ℕ) (seen : Seen) (o : OpenCall)
+    → slice_get places session ≡ Some o → o.returns ≡ Some place → slice_get events place ≡ Some (Return session seen)
     → hint_of (hints_of events places) session ≡ Some seen
-hint_here events places place session seen known at =
+hint_here events places place session seen o known returns at =
     ap (λ o. (unwrap_or o no_hint).seen)
-    (slice_get-map (hint_in events) places session ∙ ap (option_map (hint_in events)) known) ∙ ap seen_in at
+    (slice_get-map (hint_in events) places session ∙ ap (option_map (hint_in events)) known)
+    ∙ ap (seen_by events) returns ∙ ap seen_in at
 
 -- a session with no place, or one with one at which no call returns
-pub unknown_at : (events : List Event) (places : List (Option ℕ)) (session : ℕ)
-    → ((o : Option ℕ) → slice_get places session ≡ Some o → (hint_in events o).seen ≡ None)
+pub unknown_at : (events : List Event) (places : List OpenCall) (session : ℕ)
+    → ((o : OpenCall) → slice_get places session ≡ Some o → (hint_in events o).seen ≡ None)
     → hint_of (hints_of events places) session ≡ None
 unknown_at events places session none =
     ap (λ o. (unwrap_or o no_hint).seen) (slice_get-map (hint_in events) places session)
     ∙ by (slice_get places session) refl
   where
-    by : (o : Option (Option ℕ)) → slice_get places session ≡ o
+    by : (o : Option OpenCall) → slice_get places session ≡ o
         → (unwrap_or (option_map (hint_in events) o) no_hint).seen ≡ None
     by None at = refl
     by (Some place) at = none place at
 
 -- of a session with no place nothing is known
-pub heard_at : (events : List Event) (places : List (Option ℕ)) (session : ℕ)
-    → ((o : Option ℕ) → slice_get places session ≡ Some o → o ≡ None)
+pub heard_at : (events : List Event) (places : List OpenCall) (session : ℕ)
+    → ((o : OpenCall) → slice_get places session ≡ Some o → o.returns ≡ None)
     → (fact_of (hints_of events places) session).never ≡ false
 heard_at events places session none =
     ap (λ o. (unwrap_or o no_hint).never) (slice_get-map (hint_in events) places session)
     ∙ by (slice_get places session) refl
   where
-    by : (o : Option (Option ℕ)) → slice_get places session ≡ o
+    by : (o : Option OpenCall) → slice_get places session ≡ o
         → (unwrap_or (option_map (hint_in events) o) no_hint).never ≡ false
     by None at = refl
-    by (Some place) at = ap (λ p. (hint_in events p).never) (none place at)
+    by (Some place) at = ap (never_by events) (none place at)
 
 -- a call whose place is after all events isn't heard of any more
-pub never_at : (events : List Event) (places : List (Option ℕ)) (session place : ℕ)
-    → slice_get places session ≡ Some (Some place) → slice_get events place ≡ None
+pub never_at : (events : List Event) (places : List OpenCall) (session place : ℕ) (o : OpenCall)
+    → slice_get places session ≡ Some o → o.returns ≡ Some place → slice_get events place ≡ None
     → (fact_of (hints_of events places) session).never ≡ true
-never_at events places session place known past =
+never_at events places session place o known returns past =
     ap (λ o. (unwrap_or o no_hint).never)
-    (slice_get-map (hint_in events) places session ∙ ap (option_map (hint_in events)) known) ∙ ap is_past past
+    (slice_get-map (hint_in events) places session ∙ ap (option_map (hint_in events)) known)
+    ∙ ap (never_by events) returns ∙ ap is_past past
+
+-- what is noted of a session is noted at its place
+pub noted_at : (events : List Event) (places : List OpenCall) (session : ℕ) (request : Request)
+    → (fact_of (hints_of events places) session).asked ≡ Some request
+    → (o : OpenCall) × (slice_get places session ≡ Some o) × ((hint_in events o).asked ≡ Some request)
+noted_at events places session request e = by (slice_get places session) refl
+  where
+    by : (o : Option OpenCall) → slice_get places session ≡ o
+        → (o : OpenCall) × (slice_get places session ≡ Some o) × ((hint_in events o).asked ≡ Some request)
+    by None at = absurd (none-some request
+        (sym (ap (λ (h : Option Hint). (unwrap_or h no_hint).asked) (slice_get-map (hint_in events) places session
+        ∙ ap (option_map (hint_in events)) at)) ∙ e))
+    by (Some o) at = (
+      o,
+      at,
+      sym (ap (λ (h : Option Hint). (unwrap_or h no_hint).asked) (slice_get-map (hint_in events) places session
+          ∙ ap (option_map (hint_in events)) at)) ∙ e,
+    )

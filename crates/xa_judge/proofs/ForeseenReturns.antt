@@ -25,13 +25,14 @@ use Rattle.xa_judge.specs.declared.moves.Move.TheVariants.{Event as Seeing, Effe
 use Rattle.xa_judge.specs.Explained.{Config, with_client, effect_of, carried_out, disconnected, observed, returned}
 use Rattle.xa_judge.specs.Explained.{answer_to, next_state, shows_answer, LeadsThrough}
 use Rattle.xa_judge.specs.Late.{call_is_answered, answered_so}
-use Rattle.xa_judge.specs.Foreseen.{Hint, fact_of, hint_of, IsQuietFor, IsAheadAt, IsAlikeAt, AreAlike, FitsHints}
+use Rattle.xa_judge.specs.Foreseen.{NotesCall, Hint, fact_of, hint_of, IsQuietFor, IsAheadAt, IsAlikeAt, AreAlike}
+use Rattle.xa_judge.specs.Foreseen.{FitsHints}
 use Rattle.xa_judge.specs.Foreseen.{HasSeenFor, GoesOn}
 use Rattle.xa_judge.specs.Foreseen.{IsClosedFor, IsDead}
 use Rattle.xa_judge.proofs.Places.{same_number, get_written, get_apart, set_apart}
 use Rattle.xa_judge.proofs.Waits.{acted, later, CanWait}
 use Rattle.xa_judge.proofs.ForeseenSteps.{answered_rests, alike_acts, quiet_keeps, still_quiet_for, act_keeps}
-use Rattle.xa_judge.proofs.ForeseenEvents.{same_client, dead_acts}
+use Rattle.xa_judge.proofs.ForeseenEvents.{idle_shut, same_client, dead_acts}
 use Rattle.xa_judge.proofs.ForeseenLists.{left_past, seen_from, answer_kept}
 
 -- an act of another session leads on as well from where a client stands otherwise
@@ -144,19 +145,19 @@ answered_at (Some Left) is = absurd (false≢true is)
 -- what is kept has answered the session: the return is seen there at once
 seen_answered : (hints : List Hint) (hint : Hint) (session : ℕ) (seen : Seen)
     (old new : Config → Type 0) (kept run end : Config) (more : List Event) (moves : List Move) → old kept
-    → AreAlike hints run kept → FitsHints hints (Return session seen)
+    → AreAlike hints run kept → FitsHints hints (Return session seen) → NotesCall hints hint (Return session seen)
     → HasSeenFor (set hints session hint) (Return session seen) old new
     → LeadsThrough run (Return session seen ∷ more) moves end → call_is_answered kept session ≡ true
     → GoesOn (set hints session hint) new more end
 unfolding observed returned
-seen_answered hints hint session seen old new kept run end more moves there alike fits are runs answered =
+seen_answered hints hint session seen old new kept run end more moves there alike fits notes are runs answered =
     by (alike.clients session)
   where
     first : call_is_answered run session ≡ true → GoesOn (set hints session hint) new more end
     first waits =
         let f = later run end (Return session seen) more moves waits runs in
-        inl (seen_from hints hint (Return session seen) old new kept run f.first end more f.moves there alike fits are
-        f.sees f.runs)
+        inl (seen_from hints hint (Return session seen) old new kept run f.first end more f.moves there alike fits
+        notes are f.sees f.runs)
 
     early : (a : IsAheadAt (hint_of hints session) run.state session (slice_get run.clients session)
         (slice_get kept.clients session)) (request : Request)
@@ -178,7 +179,8 @@ seen_answered hints hint session seen old new kept run end more moves there alik
             there = other.1;
             run = with_client run session Idle;
             alike = other.2 (with_client run session Idle)
-                (same_client hints run kept session hint Idle (Called request) (Answered a.answer) alike at a.kept);
+                (same_client hints run kept session hint Idle (Called request) (Answered a.answer) alike at a.kept
+                (idle_shut hint));
             moves = rest.0;
             runs = rest.1;
           })
@@ -201,29 +203,30 @@ either false = inr refl
 pub goes_returned : (hints : List Hint) (hint : Hint) (session : ℕ) (seen : Seen)
     (old new : Config → Type 0) (kept run end : Config) (more : List Event) (moves : List Move)
     → IsClosedFor hints (Some session) old → old kept → AreAlike hints run kept
-    → FitsHints hints (Return session seen)
+    → FitsHints hints (Return session seen) → NotesCall hints hint (Return session seen)
     → HasSeenFor (set hints session hint) (Return session seen) old new
     → LeadsThrough run (Return session seen ∷ more) moves end
     → GoesOn (set hints session hint) new more end
-goes_returned hints hint session seen old new kept run end more (Effect other act ∷ moves) closed there alike fits are
-    runs =
+goes_returned hints hint session seen old new kept run end more (Effect other act ∷ moves) closed there alike fits
+    notes are runs =
     elim (either (call_is_answered kept session)) [
       | inl answered ↦ seen_answered hints hint session seen old new kept run end more (Effect other act ∷ moves) there
-          alike fits are runs answered
+          alike fits notes are runs answered
       | inr unanswered ↦ elim (alike_acts hints run kept runs.0 other act alike runs.2) [
         | inl same ↦ goes_returned hints hint session seen old new kept runs.0 end more moves closed there same fits
-            are runs.3
+            notes are runs.3
         | inr (inl follows) ↦
             let next = closed kept follows.0 other act there unanswered runs.1 follows.1 follows.2 in
             goes_returned hints hint session seen old new next.0 runs.0 end more moves closed next.1
-            (next.2 runs.0 follows.3) fits are runs.3
+            (next.2 runs.0 follows.3) fits notes are runs.3
         | inr (inr dead) ↦ inr (left_past hints hint (Return session seen) runs.0 end more moves dead fits runs.3)
       ]
     ]
-goes_returned hints hint session seen old new kept run end more (Seeing ∷ moves) closed there alike fits are runs =
-    inl (seen_from hints hint (Return session seen) old new kept run runs.0 end more moves there alike fits are runs.1
-    runs.2)
-goes_returned hints hint session seen old new kept run end more [] closed there alike fits are runs = absurd runs
+goes_returned hints hint session seen old new kept run end more (Seeing ∷ moves) closed there alike fits notes
+    are runs =
+    inl (seen_from hints hint (Return session seen) old new kept run runs.0 end more moves there alike fits notes are
+    runs.1 runs.2)
+goes_returned hints hint session seen old new kept run end more [] closed there alike fits notes are runs = absurd runs
 
 -- an answer stays until its return
 answer_stays : (run end : Config) (session : ℕ) (answer : Answer) (moves : List Move)

@@ -4,6 +4,7 @@
 use Rattle.std.proofs.Common.{◌≡◌, ◌≢◌, ◌⊎◌, ◌||◌, ℕ, Bool, true, false, Option, Some, None, List, set, refl, ap, sym}
 use Rattle.std.proofs.Common.{◌∙◌, subst}
 use Rattle.std.proofs.Common.{inl, inr}
+use Rattle.std.proofs.Common.{zero, suc, length, replicate}
 use Rattle.std.specs.Prelude.{slice_get}
 use Rattle.std.proofs.lemmas.Option.{none-some, same_Some}
 use Rattle.std.proofs.lemmas.Bool.{false≢true}
@@ -39,10 +40,11 @@ use Rattle.xa_judge.specs.declared.moves.Act.{Act}
 use Rattle.xa_judge.specs.declared.moves.Act.TheVariants.{Statement as ItsStatement, Disconnect as ItsDisconnect}
 use Rattle.xa_judge.specs.Explained.{Config, opening_config, effect_of, carried_out, disconnected, answer_to}
 use Rattle.xa_judge.specs.Explained.{next_state, shows_answer}
-use Rattle.xa_judge.specs.Foreseen.{Hint, fact_of, is_free, is_reading, refuses, is_still, hint_of, IsQuiet}
+use Rattle.xa_judge.specs.Foreseen.{Hint, IsOpenFor, fact_of, is_free, is_reading, refuses, is_still, hint_of, IsQuiet}
 use Rattle.xa_judge.specs.Foreseen.{IsQuietFor, IsAheadAt, IsAlikeAt, AreAlike, IsDead, IsAllowed, CanSettle}
 use Rattle.xa_judge.proofs.Places.{same_number, get_written, get_apart}
 use Rattle.xa_judge.proofs.Waits.{acted}
+use Rattle.xa_judge.proofs.Acts.{asked_acts, asked_closed, answered_called, answered_gone}
 use Rattle.xa_judge.proofs.KeyStates.{free_get}
 
 -- ---- quiet requests
@@ -204,6 +206,7 @@ both_act hints run kept next session act are leads same =
       record {
         state = sym (ap (λ (c : Config). c.state) a.is);
         law = keeps.law;
+        asked = asked_acts hints run next session act are.asked leads;
         clients = λ at. subst (λ l. IsAlikeAt (fact_of hints at) next.state at (slice_get l at)
             (slice_get (set kept.clients session a.next) at)) (sym (ap (λ (c : Config). c.clients) a.is))
             (elim (same_number session at) [
@@ -264,6 +267,10 @@ ahead_act hints run kept next session act are leads ahead = elim ahead.way [
         record {
           state = are.state;
           law = are.law;
+          asked = asked_closed hints run run.state session (Called request)
+              (Answered (answer_to run.state session request)) are.asked at
+              (answered_called (answer_to run.state session request))
+              (answered_gone (answer_to run.state session request));
           clients = λ other. elim (same_number session other) [
             | inl e ↦ subst (λ n. IsAlikeAt (fact_of hints n) run.state n
                 (slice_get (set run.clients session (Answered (answer_to run.state session request))) n)
@@ -397,6 +404,8 @@ waits_act hints run kept next session ItsStatement are leads same waits =
     alike = record {
       state = are.state;
       law = are.law;
+      asked = asked_closed hints run run.state session (Called waits.request) (Answered answer) are.asked here
+          (answered_called answer) (answered_gone answer);
       clients = λ other. elim (same_number session other) [
         | inl e ↦ subst (λ n. IsAlikeAt (fact_of hints n) run.state n
             (slice_get (set run.clients session (Answered answer)) n) (slice_get kept.clients n)) e
@@ -575,6 +584,7 @@ alike_settles hints run kept session request seen new are hinted at quiet shown 
     subst (AreAlike hints run) is (record {
       state = quiet_keeps kept.state session request seen quiet shown ∙ are.state;
       law = are.law;
+      asked = are.asked;
       clients = λ other. elim (same_number session other) [
         | inl e ↦ subst (λ n. IsAlikeAt (fact_of hints n) run.state n (slice_get run.clients n)
             (slice_get (set kept.clients session (Answered answer)) n)) e (here (are.clients session))
@@ -644,8 +654,25 @@ pub settles_one : (hints : List Hint) (run kept new : Config) (session : ℕ) (s
 settles_one hints run kept new session seen are hinted can leads =
     alike_settles hints run kept session can.request seen new are hinted can.at can.quiet can.shown leads
 
+all_idle : (n session : ℕ) (c : ClientState) → slice_get (replicate n Idle) session ≡ Some c → c ≡ Idle
+all_idle zero session c is = absurd (none-some c is)
+all_idle (suc n) zero c is = sym (same_Some Idle c is)
+all_idle (suc n) (suc session) c is = all_idle n session c is
+
 -- before all events
-pub alike_first : (base : State) (hints : List Hint) → LockLaw base
+pub alike_first : (base : State) (hints : List Hint) → LockLaw base → length hints ≡ 17
     → AreAlike hints (opening_config base) (opening_config base)
 unfolding opening_config
-alike_first base hints law = record { state = refl; law = law; clients = λ session. inl refl }
+alike_first base hints law room =
+    record { state = refl; law = law; asked = record { room = room; calls = none }; clients = λ session. inl refl }
+  where
+    none : (session : ℕ) (request : Request) → IsOpenFor (opening_config base) session request
+        → (fact_of hints session).asked ≡ Some request
+    none session request (inl is) = absurd (idle_called request (all_idle 17 session (Called request) is))
+      where
+        idle_called : (r : Request) → Called r ≡ Idle → ⊥
+        idle_called r e = cc
+    none session request (inr is) = absurd (idle_gone request (all_idle 17 session (Gone (Some request)) is))
+      where
+        idle_gone : (r : Request) → Gone (Some r) ≡ Idle → ⊥
+        idle_gone r e = cc

@@ -22,10 +22,14 @@ pub mod RowSteps
 pub mod RowLists
 pub mod RowAnswers
 pub mod RowVerdicts
+pub mod Acts
 pub mod ForeseenSteps
 pub mod ForeseenEvents
 pub mod ForeseenLists
 pub mod ForeseenReturns
 pub mod ForeseenGrowth
 pub mod ForeseenAdvances
+pub mod Commuting
+pub mod Eager
+pub mod OwnSteps
 pub mod KeyParts

@@ -7,8 +7,9 @@
 --     IsQuiet, IsQuietFor  the request changes nothing, now and whenever the return shows its answer
 --     IsAheadAt, IsBehindAt, IsAlikeAt   how far a session is, on the way of an order, and in what is kept
 --     AreAlike             this is kept of a configuration
+--     GoesOn, GoesOnLike   moves lead on from what is kept to the end;  to one with the same answers
 --     IsDead               a call was answered otherwise than it returns
-use Rattle.std.specs.Prelude.{◌≡◌, ◌⊎◌, ◌||◌, ℕ, Bool, true, false, Option, Some, None, List, ◌<◌, ◌∷◌, ◌++◌}
+use Rattle.std.specs.Prelude.{◌≡◌, length, ◌⊎◌, ◌||◌, ℕ, Bool, true, false, Option, Some, None, List, ◌<◌, ◌∷◌, ◌++◌}
 use Rattle.std.specs.Prelude.{slice_get, map}
 use Rattle.std.specs.Option.{unwrap_or}
 use Rattle.xa_xid.specs.declared.statement.Statement.TheVariants.{Get, Recover, Disconnect}
@@ -22,10 +23,11 @@ use Rattle.xa_judge.specs.declared.request.Request.TheVariants.{Statement as Giv
 use Rattle.xa_judge.specs.declared.answer.Answer.{Answer}
 use Rattle.xa_judge.specs.declared.answer.Answer.TheVariants.{Reply as Replied, Unread as NotRead}
 use Rattle.xa_judge.specs.declared.client_state.ClientState.{ClientState}
-use Rattle.xa_judge.specs.declared.client_state.ClientState.TheVariants.{Called, Answered}
+use Rattle.xa_judge.specs.declared.client_state.ClientState.TheVariants.{Called, Answered, Gone}
 use Rattle.xa_judge.specs.declared.event.Seen.{Seen}
 use Rattle.xa_judge.specs.declared.event.Seen.TheVariants.{Error as SeenError}
 use Rattle.xa_judge.specs.declared.configuration.Configuration.{Configuration}
+use Rattle.xa_judge.specs.declared.open_call.OpenCall.{OpenCall}
 use Rattle.xa_judge.specs.Found.{config_of, Has}
 use Rattle.xa_judge.specs.Late.{has_unheard, is_over}
 use Rattle.xa_judge.specs.Explained.{Config, shows_answer, answer_to, effect_of, observed, LeadsThrough, IsSession}
@@ -34,13 +36,26 @@ use Rattle.xa_judge.specs.declared.event.Event.TheVariants.{Call, Return, Lost, 
 use Rattle.xa_judge.specs.declared.moves.Act.{Act}
 use Rattle.xa_judge.specs.declared.moves.Move.{Move}
 
--- what is known of an open call: what it returns; or that it isn't heard of any more
+-- what is known of an open call: what it returns; or that it isn't heard of any more; and what was called for
 pub record Hint : Type 0 where
   pub seen : Option Seen
   pub never : Bool
+  pub asked : Option Request
 
 abbrev pub no_hint : Hint
-no_hint = record { seen = None; never = false }
+no_hint = record { seen = None; never = false; asked = None }
+
+-- a session that isn't answered has called for this
+abbrev pub IsOpenFor : Config → ℕ → Request → Type 0
+IsOpenFor config session request =
+    (slice_get config.clients session ≡ Some (Called request))
+    ⊎ (slice_get config.clients session ≡ Some (Gone (Some request)))
+
+-- each session has a place, and what is open was called for
+pub record AreAsked (hints : List Hint) (config : Config) : Type 0 where
+  pub room : length hints ≡ length config.clients
+  pub calls : (session : ℕ) (request : Request) → IsOpenFor config session request
+      → (unwrap_or (slice_get hints session) no_hint).asked ≡ Some request
 
 -- what is known of the session's open call
 abbrev pub fact_of : List Hint → ℕ → Hint
@@ -86,7 +101,7 @@ abbrev pub IsAlikeAt : Hint → State → ℕ → Option ClientState → Option 
 IsAlikeAt hint state session one other =
     (one ≡ other) ⊎ (IsAheadAt hint.seen state session one other ⊎ IsBehindAt hint one other)
 
--- no session has anything open
+-- the session has no branch open
 abbrev pub is_free : Association → Bool
 is_free Free = true
 is_free other = false
@@ -111,6 +126,7 @@ is_still state session request = is_reading state session request || refuses (an
 pub record AreAlike (hints : List Hint) (run kept : Config) : Type 0 where
   pub state : kept.state ≡ run.state
   pub law : LockLaw run.state
+  pub asked : AreAsked hints run
   pub clients : (session : ℕ) → IsAlikeAt (fact_of hints session) run.state session (slice_get run.clients session)
       (slice_get kept.clients session)
 
@@ -172,6 +188,15 @@ pub record IsLeft (hints : List Hint) (events : List Event) (end : Config) : Typ
 abbrev pub GoesOn : List Hint → (Config → Type 0) → List Event → Config → Type 0
 GoesOn hints has events end = IsFollowed hints has events end ⊎ IsLeft hints events end
 
+-- who is answered at one end, is answered so at the other
+abbrev pub IsLike : Config → Config → Type 0
+IsLike end last = (session : ℕ) (answer : Answer) → slice_get end.clients session ≡ Some (Answered answer)
+    → slice_get last.clients session ≡ Some (Answered answer)
+
+-- moves lead on to such an end
+abbrev pub GoesOnLike : List Hint → (Config → Type 0) → List Event → Config → Type 0
+GoesOnLike hints has events end = (last : Config) × IsLike end last × GoesOn hints has events last
+
 -- a list has what each allowed act leads to, or what is as good; no act counts once the session that is to return is
 -- answered
 abbrev pub IsClosedFor : List Hint → Option ℕ → (Config → Type 0) → Type 0
@@ -198,14 +223,37 @@ is_past None = true
 is_past (Some event) = false
 
 -- a call that isn't heard of any more has a place after all events
-abbrev pub hint_in : List Event → Option ℕ → Hint
-hint_in events None = no_hint
-hint_in events (Some place) = record {
-  seen = seen_in (slice_get events place);
-  never = is_past (slice_get events place);
+abbrev pub seen_by : List Event → Option ℕ → Option Seen
+seen_by events None = None
+seen_by events (Some place) = seen_in (slice_get events place)
+
+abbrev pub never_by : List Event → Option ℕ → Bool
+never_by events None = false
+never_by events (Some place) = is_past (slice_get events place)
+
+-- what a call is for
+abbrev pub request_in : Option Event → Option Request
+request_in (Some (Call session request)) = Some request
+request_in other = None
+
+abbrev pub asked_by : List Event → Option ℕ → Option Request
+asked_by events None = None
+asked_by events (Some place) = request_in (slice_get events place)
+
+abbrev pub hint_in : List Event → OpenCall → Hint
+hint_in events open_call = record {
+  seen = seen_by events open_call.returns;
+  never = never_by events open_call.returns;
+  asked = asked_by events open_call.call;
 }
 
-abbrev pub hints_of : List Event → List (Option ℕ) → List Hint
+-- what is noted at an event is what its session has called for
+abbrev pub NotesCall : List Hint → Hint → Event → Type 0
+NotesCall hints hint (Call session request) = hint.asked ≡ Some request
+NotesCall hints hint (Lost session) = hint.asked ≡ (fact_of hints session).asked
+NotesCall hints hint event = Unit {0}
+
+abbrev pub hints_of : List Event → List OpenCall → List Hint
 hints_of events places = map (hint_in events) places
 
 -- the list has more at its end

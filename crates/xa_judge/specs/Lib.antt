@@ -13,3 +13,4 @@ pub mod Told
 pub mod Keys
 pub mod Rows
 pub mod Foreseen
+pub mod Clear

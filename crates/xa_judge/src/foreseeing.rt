@@ -16,6 +16,7 @@ use crate::fingerprint_index::FingerprintIndex;
 use crate::hints::{hint_at, is_never_heard};
 use crate::known::{add, fit};
 use crate::moves::Act;
+use crate::open_call::OpenCall;
 use crate::quiet::{is_still_now, settled_one};
 use crate::request::Request;
 use crate::shared_lists::SharedLists;
@@ -26,7 +27,7 @@ use xa_xid::{NoMemory, SessionNo};
 fn settled_at(
     one: Configuration,
     events: &[Event],
-    places: &[Option<usize>],
+    places: &[OpenCall],
     number: u64,
     lists: &mut SharedLists,
 ) -> Result<Configuration, NoMemory>
@@ -49,7 +50,7 @@ fn settled_at(
 fn settled(
     one: Configuration,
     events: &[Event],
-    places: &[Option<usize>],
+    places: &[OpenCall],
     lists: &mut SharedLists,
 ) -> Result<Configuration, NoMemory>
     ensures { IfOk result
@@ -80,7 +81,7 @@ fn fits_now(
 fn is_allowed(
     one: &Configuration,
     events: &[Event],
-    places: &[Option<usize>],
+    places: &[OpenCall],
     session: SessionNo,
 ) -> Result<bool, NoMemory>
     ensures { IfOk result (λ yes. yes ≡ false
@@ -112,7 +113,7 @@ fn add_effect(
     index: &mut FingerprintIndex,
     place: usize,
     events: &[Event],
-    places: &[Option<usize>],
+    places: &[OpenCall],
     session: SessionNo,
     act: Act,
 ) -> Result<(), NoMemory>
@@ -141,7 +142,7 @@ fn add_allowed(
     index: &mut FingerprintIndex,
     place: usize,
     events: &[Event],
-    places: &[Option<usize>],
+    places: &[OpenCall],
     session: SessionNo,
 ) -> Result<(), NoMemory>
     requires { place < vec_len known.old }
@@ -172,7 +173,7 @@ fn add_all(
     index: &mut FingerprintIndex,
     place: usize,
     events: &[Event],
-    places: &[Option<usize>],
+    places: &[OpenCall],
 ) -> Result<(), NoMemory>
     requires { place < vec_len known.old }
     ensures grows { OnOk result (ExtendsBy known.old.items known.new.items) }
@@ -192,7 +193,7 @@ fn expand(
     index: &mut FingerprintIndex,
     place: usize,
     events: &[Event],
-    places: &[Option<usize>],
+    places: &[OpenCall],
     returning: &Option<SessionNo>,
 ) -> Result<(), NoMemory>
     requires { place < vec_len known.old }
@@ -214,7 +215,7 @@ fn add_number(
     index: &mut FingerprintIndex,
     place: usize,
     events: &[Event],
-    places: &[Option<usize>],
+    places: &[OpenCall],
     number: u64,
 ) -> Result<(), NoMemory>
     requires { place < vec_len known.old }
@@ -239,7 +240,7 @@ pub fn close(
     known: &mut Vec<Configuration>,
     index: &mut FingerprintIndex,
     events: &[Event],
-    places: &[Option<usize>],
+    places: &[OpenCall],
     returning: &Option<SessionNo>,
     effort: &Effort,
 ) -> Result<bool, NoMemory>
@@ -266,7 +267,7 @@ fn add_seen(
     one: Configuration,
     event: &Event,
     events: &[Event],
-    places: &[Option<usize>],
+    places: &[OpenCall],
 ) -> Result<(), NoMemory>
     ensures grows { OnOk result (ExtendsBy list.old.items list.new.items) }
     ensures has { OnOk result ((next : Config) → observed (config_of one) event.now ≡ Some next
@@ -291,7 +292,7 @@ pub fn see_all(
     index: &mut FingerprintIndex,
     event: &Event,
     events: &[Event],
-    places: &[Option<usize>],
+    places: &[OpenCall],
 ) -> Result<Vec<Configuration>, NoMemory>
     ensures { IfOk result
         (λ list. HasSeenFor (hints_of events.now places.now) event.now (Has known.items) (Has list.items)) }

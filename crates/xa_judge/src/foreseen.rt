@@ -1,11 +1,12 @@
 //! Judges events by configurations that are kept where later returns are known.
-ghost use Rattle.std.specs.Prelude.{◌≡◌, ◌<◌, [], true, Some, List, length, slice_get, IfOk, IfSome, OnOk};
+ghost use Rattle.std.specs.Prelude.{◌≡◌, ◌<◌, ◌≤◌, [], true, Some, List, length, drop, slice_get, IfOk, IfSome, OnOk};
 ghost use Rattle.std.specs.List.{Contains};
 ghost use Rattle.xa_judge.specs.declared.answer.Answer.{Answer as AnswerSeen};
+ghost use Rattle.xa_judge.specs.declared.event.Event.{Event as EventSeen};
 ghost use Rattle.xa_judge.specs.declared.moves.Move.{Move as Moved};
 ghost use Rattle.xa_judge.specs.Explained.{Config, opening_config, LeadsThrough};
 ghost use Rattle.xa_judge.specs.Found.{Has, IsAnsweredIn};
-ghost use Rattle.xa_judge.specs.Foreseen.{hints_of, GoesOn};
+ghost use Rattle.xa_judge.specs.Foreseen.{hints_of, GoesOn, GoesOnLike};
 ghost use Rattle.xa_judge.specs.Verdicts.{IsAnswerAfter, IsVerdict};
 
 use crate::client_state::ClientState;
@@ -19,8 +20,10 @@ use crate::foreseen_event::see_one;
 use crate::frontier::Frontier;
 use crate::hints::{
     are_unknown, fits, is_blank, last_call, last_place, later_places, next_return, no_places,
+    note_unheard,
 };
 use crate::known::opening;
+use crate::own_step::stepped;
 use crate::refuting::refuted;
 use crate::shared_answer::SharedAnswer;
 use crate::swept::Swept;
@@ -29,6 +32,76 @@ use crate::verdict::Verdict;
 use std::alloc::Global;
 use xa_server::Server;
 use xa_xid::{NoMemory, SessionNo};
+
+/// Goes on from what is kept before the event at the place `from` to before the one at the place `until`. Of the call
+/// at the place `asked` it isn't known what it returns. No more is done than `effort` allows.
+fn sweep_on(
+    alloc: Global,
+    front: Frontier,
+    events: &[Event],
+    from: usize,
+    until: usize,
+    asked: usize,
+    effort: &mut Effort,
+) -> Result<Swept, NoMemory>
+    requires order { from ≤ until }
+    requires within { until ≤ length events.now }
+    ensures { IfOk result (λ swept. (last : _) (end : Config) → swept ≡ Swept.Kept last
+        → GoesOnLike (hints_of events.now front.places.items) (Has front.known.items) (drop from events.now) end
+        → GoesOnLike (hints_of events.now last.places.items) (Has last.known.items) (drop until events.now) end) }
+{
+    let Frontier {
+        mut known,
+        mut trunk,
+        mut places,
+        mut index,
+    } = front;
+    for place in from..until {
+        let event = &events[place];
+        if !fits(events, places.as_slice(), place, event) {
+            return Ok(Swept::Unknown);
+        }
+        let later = later_places(events, &places, place, event, asked)?;
+        let before = places.as_slice();
+        let after = later.as_slice();
+        known = match see_one(
+            alloc, known, &mut index, event, events, before, after, effort,
+        )? {
+            None => return Ok(Swept::Unknown),
+            Some(list) => stepped(alloc, list, &mut index, events, after, place + 1, event)?,
+        };
+        effort.spend(&mut index);
+        if known.is_empty() {
+            let count = events.len();
+            let last = last_place(before, place, count).max(last_place(after, place, count));
+            return Ok(Swept::Nothing(place, last));
+        }
+        places = later;
+        note_unheard(events, &mut places, place, event, asked);
+        share(alloc, place, &mut trunk, &mut known)?;
+    }
+    Ok(Swept::Kept(Frontier {
+        known,
+        trunk,
+        places,
+        index,
+    }))
+}
+
+/// What is kept before all events.
+fn opened(alloc: Global, base: &Server) -> Result<Frontier, NoMemory>
+    ensures { IfOk result (λ front. (events : List EventSeen) (moves : List Moved) (end : Config)
+        → LeadsThrough (opening_config base.now) events moves end
+        → GoesOnLike (hints_of events front.places.items) (Has front.known.items) events end) }
+{
+    base.keeps_lock_law();
+    Ok(Frontier {
+        known: opening(alloc, base)?,
+        trunk: Vec::new(alloc),
+        places: no_places(alloc)?,
+        index: FingerprintIndex::new(alloc),
+    })
+}
 
 /// Goes through the events. Of the call at the place `asked` it isn't known what it returns. No more is done than
 /// `effort` allows.
@@ -41,42 +114,11 @@ fn sweep(
 ) -> Result<Swept, NoMemory>
     ensures { IfOk result (λ swept. (front : _) (moves : List Moved) (end : Config) → swept ≡ Swept.Kept front
         → LeadsThrough (opening_config base.now) events.now moves end
-        → GoesOn (hints_of events.now front.places.items) (Has front.known.items) [] end) }
+        → GoesOnLike (hints_of events.now front.places.items) (Has front.known.items) [] end) }
 {
-    base.keeps_lock_law();
-    let mut index = FingerprintIndex::new(alloc);
-    let mut trunk = Vec::new(alloc);
-    let mut known = opening(alloc, base)?;
-    let mut places = no_places(alloc)?;
-    for place in 0..events.len() {
-        let event = &events[place];
-        if !fits(events, places.as_slice(), place, event) {
-            return Ok(Swept::Unknown);
-        }
-        let later = later_places(&places, event, next_return(events, place, asked))?;
-        let before = places.as_slice();
-        let after = later.as_slice();
-        known = match see_one(
-            alloc, known, &mut index, event, events, before, after, effort,
-        )? {
-            None => return Ok(Swept::Unknown),
-            Some(list) => list,
-        };
-        effort.spend(&mut index);
-        if known.is_empty() {
-            let count = events.len();
-            let last = last_place(before, place, count).max(last_place(after, place, count));
-            return Ok(Swept::Nothing(place, last));
-        }
-        places = later;
-        share(alloc, place, &mut trunk, &mut known)?;
-    }
-    Ok(Swept::Kept(Frontier {
-        known,
-        trunk,
-        places,
-        index,
-    }))
+    let first = opened(alloc, base)?;
+    let swept = sweep_on(alloc, first, events, 0, events.len(), asked, effort)?;
+    Ok(swept)
 }
 
 /// The same, with all configurations to which allowed acts lead before the session is answered, if these are no more
@@ -228,12 +270,48 @@ fn illegal_on(
     }
 }
 
-/// The place of the first event after which nothing is left, if no more is known than the events up to there tell:
-/// it is one of those from `least` to `most`.
-fn first_refuted(
+/// The place of the first call up to this place that returns later.
+fn first_open(events: &[Event], place: usize) -> usize {
+    for early in 0..place {
+        if let Some(later) = next_return(events, early, events.len())
+            && later > place
+        {
+            return early;
+        }
+    }
+    place
+}
+
+/// A copy of what is kept before the event at the place `from`.
+fn copy_of(
     alloc: Global,
-    base: &Server,
+    front: &Frontier,
     events: &[Event],
+    from: usize,
+) -> Result<Frontier, NoMemory> {
+    let mut index = FingerprintIndex::new(alloc);
+    for place in 0..from.min(events.len()) {
+        index.go_on(&events[place])?;
+    }
+    index.settle(front.known.len());
+    let mut known = Vec::new(alloc);
+    for one in front.known.iter() {
+        known.push(one.copy()?)?;
+    }
+    Ok(Frontier {
+        known,
+        trunk: front.trunk.clone()?,
+        places: front.places.clone()?,
+        index,
+    })
+}
+
+/// The place that `first_refuted` looks for, by halving, from what is kept before the event at the place `from`.
+fn halved(
+    alloc: Global,
+    front: &Frontier,
+    events: &[Event],
+    from: usize,
     least: usize,
     most: usize,
     effort: &mut Effort,
@@ -247,7 +325,12 @@ fn first_refuted(
         }
         let middle = low + (high - low) / 2;
         let (upto, _) = events.split_at((middle + 1).min(events.len()));
-        match sweep(alloc, base, upto, upto.len(), effort)? {
+        let count = upto.len();
+        if from > count {
+            break;
+        }
+        let start = copy_of(alloc, front, events, from)?;
+        match sweep_on(alloc, start, upto, from, count, count, effort)? {
             Swept::Unknown => return Ok(None),
             Swept::Nothing(place, _) => {
                 low = low.max(place);
@@ -257,6 +340,31 @@ fn first_refuted(
         }
     }
     Ok(Some(high))
+}
+
+/// The place of the first event after which nothing is left, if no more is known than the events up to there tell:
+/// it is one of those from `least` to `most`.
+///
+/// What is known of calls that return by then is the same up to any of these places. So events before the first other
+/// call are gone through once.
+fn first_refuted(
+    alloc: Global,
+    base: &Server,
+    events: &[Event],
+    least: usize,
+    most: usize,
+    effort: &mut Effort,
+) -> Result<Option<usize>, NoMemory> {
+    let from = first_open(events, least);
+    if from > events.len() {
+        return Ok(None);
+    }
+    let first = opened(alloc, base)?;
+    match sweep_on(alloc, first, events, 0, from, events.len(), effort)? {
+        Swept::Unknown => Ok(None),
+        Swept::Nothing(_, _) => Ok(None),
+        Swept::Kept(front) => halved(alloc, &front, events, from, least, most, effort),
+    }
 }
 
 /// The verdict LEGAL, if the moves to the first of the kept configurations lead through the events.

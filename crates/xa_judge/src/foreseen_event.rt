@@ -1,6 +1,7 @@
 //! What one more event does to the configurations that are kept where later returns are known.
 ghost use Rattle.std.specs.Prelude.{◌≡◌, slice_set, IfOk, IfSome};
-ghost use Rattle.xa_judge.specs.Foreseen.{hints_of, returning_in, FitsHints, IsAdvanceFor, NeedsNone};
+ghost use Rattle.xa_judge.specs.Foreseen.{hint_in, hints_of, NotesCall, returning_in, FitsHints, IsAdvanceFor};
+ghost use Rattle.xa_judge.specs.Foreseen.{NeedsNone};
 ghost use Rattle.xa_judge.specs.Advances.{IsCallOf};
 ghost use Rattle.xa_judge.specs.Keys.{session_of as session_in};
 
@@ -10,6 +11,7 @@ use crate::effort::Effort;
 use crate::event::Event;
 use crate::fingerprint_index::FingerprintIndex;
 use crate::foreseeing::{close, see_all};
+use crate::open_call::OpenCall;
 use std::alloc::Global;
 use xa_xid::{NoMemory, SessionNo};
 
@@ -32,12 +34,13 @@ fn see_closed(
     index: &mut FingerprintIndex,
     event: &Event,
     events: &[Event],
-    places: &[Option<usize>],
-    later: &[Option<usize>],
+    places: &[OpenCall],
+    later: &[OpenCall],
     effort: &Effort,
 ) -> Result<Option<Vec<Configuration>>, NoMemory>
     requires fits { FitsHints (hints_of events.now places.now) event.now }
-    requires later { (place : _) × (later.now ≡ slice_set places.now (session_in event.now) place) }
+    requires later { (entry : _) × (later.now ≡ slice_set places.now (session_in event.now) entry)
+        × NotesCall (hints_of events.now places.now) (hint_in events.now entry) event.now }
     ensures { IfOk result (λ found. IfSome found (λ list. IsAdvanceFor (hints_of events.now places.now)
         (hints_of events.now later.now) event.now known.items list.items)) }
 {
@@ -57,11 +60,12 @@ fn see_open(
     index: &mut FingerprintIndex,
     event: &Event,
     events: &[Event],
-    places: &[Option<usize>],
-    later: &[Option<usize>],
+    places: &[OpenCall],
+    later: &[OpenCall],
 ) -> Result<Option<Vec<Configuration>>, NoMemory>
     requires fits { FitsHints (hints_of events.now places.now) event.now }
-    requires later { (place : _) × (later.now ≡ slice_set places.now (session_in event.now) place) }
+    requires later { (entry : _) × (later.now ≡ slice_set places.now (session_in event.now) entry)
+        × NotesCall (hints_of events.now places.now) (hint_in events.now entry) event.now }
     requires needs { NeedsNone known.items event.now }
     ensures { IfOk result (λ found. IfSome found (λ list. IsAdvanceFor (hints_of events.now places.now)
         (hints_of events.now later.now) event.now known.items list.items)) }
@@ -79,12 +83,13 @@ fn see_call(
     session: SessionNo,
     event: &Event,
     events: &[Event],
-    places: &[Option<usize>],
-    later: &[Option<usize>],
+    places: &[OpenCall],
+    later: &[OpenCall],
 ) -> Result<Option<Vec<Configuration>>, NoMemory>
     requires call { IsCallOf session event.now }
     requires fits { FitsHints (hints_of events.now places.now) event.now }
-    requires later { (place : _) × (later.now ≡ slice_set places.now (session_in event.now) place) }
+    requires later { (entry : _) × (later.now ≡ slice_set places.now (session_in event.now) entry)
+        × NotesCall (hints_of events.now places.now) (hint_in events.now entry) event.now }
     ensures { IfOk result (λ found. IfSome found (λ list. IsAdvanceFor (hints_of events.now places.now)
         (hints_of events.now later.now) event.now known.items list.items)) }
 {
@@ -104,12 +109,13 @@ pub fn see_one(
     index: &mut FingerprintIndex,
     event: &Event,
     events: &[Event],
-    places: &[Option<usize>],
-    later: &[Option<usize>],
+    places: &[OpenCall],
+    later: &[OpenCall],
     effort: &Effort,
 ) -> Result<Option<Vec<Configuration>>, NoMemory>
     requires fits { FitsHints (hints_of events.now places.now) event.now }
-    requires later { (place : _) × (later.now ≡ slice_set places.now (session_in event.now) place) }
+    requires later { (entry : _) × (later.now ≡ slice_set places.now (session_in event.now) entry)
+        × NotesCall (hints_of events.now places.now) (hint_in events.now entry) event.now }
     ensures { IfOk result (λ found. IfSome found (λ list. IsAdvanceFor (hints_of events.now places.now)
         (hints_of events.now later.now) event.now known.items list.items)) }
 {

@@ -3,6 +3,7 @@
 use crate::configuration::Configuration;
 use crate::fingerprint_index::FingerprintIndex;
 use crate::moves::Move;
+use crate::open_call::OpenCall;
 
 /// What is kept of all configurations to which events lead.
 #[derive(Drop)]
@@ -12,7 +13,7 @@ pub struct Frontier {
     /// The first moves to each of them, from the opening on.
     pub trunk: Vec<Move>,
     /// Where the open calls return, as far as that is known.
-    pub places: Vec<Option<usize>>,
+    pub places: Vec<OpenCall>,
     /// At which places the configurations are.
     pub index: FingerprintIndex,
 }

@@ -1,10 +1,16 @@
 //! What is known of open calls: where they return.
-ghost use Rattle.std.specs.Prelude.{◌≡◌, true, false, ℕ, Some, None, slice_get, slice_set, IfOk};
+ghost use Rattle.std.specs.Prelude.{◌≡◌, true, false, ℕ, Some, None, List, slice_get, slice_set, length, IfOk, IfSome};
 ghost use Rattle.std.specs.Option.{option_copied};
-ghost use Rattle.xa_judge.specs.Foreseen.{hint_in, hint_of, hints_of, fact_of, seen_in, FitsHints};
+ghost use Rattle.xa_judge.specs.Foreseen.{hint_in, hint_of, hints_of, fact_of, seen_in, FitsHints, NotesCall};
+ghost use Rattle.xa_judge.specs.declared.configuration.Configuration.{Configuration as Found};
+ghost use Rattle.xa_judge.specs.declared.event.Event.{Event as EventSeen};
+ghost use Rattle.xa_judge.specs.Explained.{Config};
+ghost use Rattle.xa_judge.specs.Found.{Has};
+ghost use Rattle.xa_judge.specs.Foreseen.{GoesOn};
 ghost use Rattle.xa_judge.specs.Keys.{session_of as session_in};
 
 use crate::event::{Event, Seen};
+use crate::open_call::OpenCall;
 use std::alloc::Global;
 use xa_xid::{NoMemory, SessionNo};
 
@@ -34,30 +40,46 @@ pub fn last_call(events: &[Event], session: SessionNo) -> usize {
 }
 
 /// No call is open.
-pub fn no_places(alloc: Global) -> Result<Vec<Option<usize>>, NoMemory> {
+pub fn no_places(alloc: Global) -> Result<Vec<OpenCall>, NoMemory>
+    ensures { IfOk result (λ places. length places.items ≡ 17) }
+{
     let mut places = Vec::new(alloc);
     for _ in 0..17usize {
-        places.push(None)?;
+        places.push(OpenCall {
+            call: None,
+            returns: None,
+        })?;
     }
     Ok(places)
 }
 
-/// Whether no call is known to return at the place.
-fn is_no_return(events: &[Event], place: &Option<usize>) -> bool
-    ensures { result ≡ true → (hint_in events.now place.now).seen ≡ None }
+/// Whether it isn't known what the call returns.
+fn is_no_return(events: &[Event], entry: &OpenCall) -> bool
+    ensures { result ≡ true → (hint_in events.now entry.now).seen ≡ None }
 {
-    match place {
+    match entry.returns {
         None => true,
-        Some(at) => seen_at(events, *at).is_none(),
+        Some(at) => seen_at(events, at).is_none(),
+    }
+}
+
+/// Whether that is so of the call that is known at this place.
+fn is_no_return_at(events: &[Event], places: &[OpenCall], number: usize) -> bool
+    ensures { result ≡ true → (entry : _) → slice_get places.now number ≡ Some entry
+        → (hint_in events.now entry).seen ≡ None }
+{
+    match places.get(number) {
+        None => true,
+        Some(entry) => is_no_return(events, entry),
     }
 }
 
 /// Tells whether it isn't known of any open call what it returns.
-pub fn are_unknown(events: &[Event], places: &[Option<usize>]) -> bool
+pub fn are_unknown(events: &[Event], places: &[OpenCall]) -> bool
     ensures { result ≡ true → (session : ℕ) → hint_of (hints_of events.now places.now) session ≡ None }
 {
-    for place in places {
-        if !is_no_return(events, place) {
+    for number in 0..places.len() {
+        if !is_no_return_at(events, places, number) {
             return false;
         }
     }
@@ -65,24 +87,39 @@ pub fn are_unknown(events: &[Event], places: &[Option<usize>]) -> bool
 }
 
 /// Tells whether nothing is known of the session's open call.
-pub fn is_blank(events: &[Event], places: &[Option<usize>], session: SessionNo) -> bool
+pub fn is_blank(events: &[Event], places: &[OpenCall], session: SessionNo) -> bool
     ensures { result ≡ true → (fact_of (hints_of events.now places.now) session).never ≡ false }
 {
     let _events = events;
     match places.get(session.get() as usize) {
         None => true,
-        Some(place) => place.is_none(),
+        Some(open) => open.returns.is_none(),
+    }
+}
+
+/// Tells whether it isn't known that the session's open call isn't heard of any more.
+pub fn may_be_heard(events: &[Event], places: &[OpenCall], session: SessionNo) -> bool
+    ensures { result ≡ true → (fact_of (hints_of events.now places.now) session).never ≡ false }
+{
+    match places.get(session.get() as usize) {
+        None => true,
+        Some(open) => match open.returns {
+            None => true,
+            Some(place) => events.get(place).is_some(),
+        },
     }
 }
 
 /// Tells whether the session's open call isn't heard of any more.
-pub fn is_never_heard(events: &[Event], places: &[Option<usize>], session: SessionNo) -> bool
+pub fn is_never_heard(events: &[Event], places: &[OpenCall], session: SessionNo) -> bool
     ensures { result ≡ true → (fact_of (hints_of events.now places.now) session).never ≡ true }
 {
     match places.get(session.get() as usize) {
         None => false,
-        Some(None) => false,
-        Some(Some(place)) => events.get(*place).is_none(),
+        Some(open) => match open.returns {
+            None => false,
+            Some(place) => events.get(place).is_none(),
+        },
     }
 }
 
@@ -100,22 +137,20 @@ fn seen_at(events: &[Event], place: usize) -> Option<&Seen>
 }
 
 /// What the session's open call returns, if that is known: `places` has the places of returns.
-pub fn hint_at<'a>(
-    events: &'a [Event],
-    places: &[Option<usize>],
-    session: SessionNo,
-) -> Option<&'a Seen>
+pub fn hint_at<'a>(events: &'a [Event], places: &[OpenCall], session: SessionNo) -> Option<&'a Seen>
     ensures { option_copied result ≡ hint_of (hints_of events.now places.now) session }
 {
     match places.get(session.get() as usize) {
         None => None,
-        Some(None) => None,
-        Some(Some(place)) => seen_at(events, *place),
+        Some(open) => match open.returns {
+            None => None,
+            Some(place) => seen_at(events, place),
+        },
     }
 }
 
 /// Whether nothing is known of what the session's open call returns.
-fn is_unknown(events: &[Event], places: &[Option<usize>], session: SessionNo) -> bool
+fn is_unknown(events: &[Event], places: &[OpenCall], session: SessionNo) -> bool
     ensures { result ≡ true → hint_of (hints_of events.now places.now) session ≡ None }
 {
     match hint_at(events, places, session) {
@@ -125,18 +160,21 @@ fn is_unknown(events: &[Event], places: &[Option<usize>], session: SessionNo) ->
 }
 
 /// Whether the session's call is known to return at this place.
-fn is_known_at(places: &[Option<usize>], place: usize, session: SessionNo) -> bool
-    ensures { result ≡ true → slice_get places.now session ≡ Some (Some place) }
+fn is_known_at(places: &[OpenCall], place: usize, session: SessionNo) -> bool
+    ensures { result ≡ true → (entry : _) × (slice_get places.now session ≡ Some entry)
+        × (entry.returns ≡ Some place) }
 {
     match places.get(session.get() as usize) {
         None => false,
-        Some(None) => false,
-        Some(Some(known)) => *known == place,
+        Some(open) => match open.returns {
+            None => false,
+            Some(known) => known == place,
+        },
     }
 }
 
 /// Whether the event at this place doesn't end a call otherwise than is known.
-pub fn fits(events: &[Event], places: &[Option<usize>], place: usize, event: &Event) -> bool
+pub fn fits(events: &[Event], places: &[OpenCall], place: usize, event: &Event) -> bool
     requires { slice_get events.now place ≡ Some event.now }
     ensures { result ≡ true → FitsHints (hints_of events.now places.now) event.now }
 {
@@ -153,61 +191,160 @@ pub fn fits(events: &[Event], places: &[Option<usize>], place: usize, event: &Ev
     }
 }
 
-/// Returns where the call at this place returns. If no event shows what it is answered, and its client isn't lost, it
-/// is the place after all events. Of the call at the place `asked`, and if the client is lost, nothing is known.
-pub fn next_return(events: &[Event], place: usize, asked: usize) -> Option<usize> {
+/// The place of the next event of the session whose call stands at this place.
+fn next_own(events: &[Event], place: usize) -> Option<usize> {
     let Some(Event::Call(session, _)) = events.get(place) else {
         return None;
     };
-    if place == asked {
-        return None;
-    }
     for later in place.saturating_add(1)..events.len() {
         if let Some(event) = events.get(later)
             && session_of(event) == *session
         {
-            return match event {
-                Event::Return(_, _) => Some(later),
-                Event::Unknown(_) => Some(events.len()),
-                _ => None,
-            };
+            return Some(later);
         }
     }
-    Some(events.len())
+    None
 }
 
-/// Notes where the call of the event's session returns.
-pub fn put_place(places: &mut Vec<Option<usize>>, place: usize, known: Option<usize>)
-    ensures { places.new.items ≡ slice_set places.old.items place known }
-{
-    if place < places.len() {
-        places[place] = known;
+/// Returns where the call at this place returns, if an event shows what it is answered. Of the call at the place
+/// `asked` that isn't known.
+pub fn next_return(events: &[Event], place: usize, asked: usize) -> Option<usize> {
+    if place == asked {
+        return None;
+    }
+    let later = next_own(events, place)?;
+    match events.get(later) {
+        Some(Event::Return(_, _)) => Some(later),
+        _ => None,
     }
 }
 
-/// The places of returns after the event.
-pub fn later_places(
-    places: &Vec<Option<usize>>,
-    event: &Event,
-    known: Option<usize>,
-) -> Result<Vec<Option<usize>>, NoMemory>
-    ensures { IfOk result (λ later. later.items ≡ slice_set places.now.items (session_in event.now) known) }
+/// Whether no event shows what the call at this place is answered, and its client isn't lost.
+fn is_unheard(events: &[Event], place: usize) -> bool {
+    match next_own(events, place) {
+        None => true,
+        Some(later) => matches!(events.get(later), Some(Event::Unknown(_))),
+    }
+}
+
+/// Notes what is known of the open call of the session of this number.
+pub fn put_open(places: &mut Vec<OpenCall>, number: usize, entry: OpenCall)
+    ensures { places.new.items ≡ slice_set places.old.items number entry }
 {
+    if number < places.len() {
+        places[number] = entry;
+    }
+}
+
+/// What is known of the open call of the event's session after the event. Of the call at the place `asked` it isn't
+/// known what it returns.
+fn open_after(
+    events: &[Event],
+    places: &[OpenCall],
+    place: usize,
+    event: &Event,
+    asked: usize,
+) -> OpenCall
+    requires { slice_get events.now place ≡ Some event.now }
+    ensures { NotesCall (hints_of events.now places.now) (hint_in events.now result) event.now }
+{
+    let none = OpenCall {
+        call: None,
+        returns: None,
+    };
+    match event {
+        Event::Call(_, _) => OpenCall {
+            call: Some(place),
+            returns: next_return(events, place, asked),
+        },
+        Event::Return(_, _) => none,
+        // The call is still open: nobody hears its answer.
+        Event::Lost(session) => match places.get(session.get() as usize) {
+            None => none,
+            Some(open) => OpenCall {
+                call: open.call,
+                returns: None,
+            },
+        },
+        Event::Unknown(_) => none,
+    }
+}
+
+/// Returns what is known of open calls after the event at this place. Of the call at the place `asked` it isn't known
+/// what it returns.
+///
+/// May return `NoMemory`.
+pub fn later_places(
+    events: &[Event],
+    places: &Vec<OpenCall>,
+    place: usize,
+    event: &Event,
+    asked: usize,
+) -> Result<Vec<OpenCall>, NoMemory>
+    requires { slice_get events.now place ≡ Some event.now }
+    ensures { IfOk result (λ later. (entry : _)
+        × (later.items ≡ slice_set places.now.items (session_in event.now) entry)
+        × NotesCall (hints_of events.now places.now.items) (hint_in events.now entry) event.now) }
+{
+    let open = open_after(events, places.as_slice(), place, event, asked);
     let mut later = places.clone()?;
-    put_place(&mut later, session_of(event).get() as usize, known);
+    put_open(&mut later, session_of(event).get() as usize, open);
     Ok(later)
 }
 
 /// Returns the last of the places that is one of `count` events; `least`, if none comes after it.
-pub fn last_place(places: &[Option<usize>], least: usize, count: usize) -> usize {
+pub fn last_place(places: &[OpenCall], least: usize, count: usize) -> usize {
     let mut last = least;
     for place in places {
         // A call that isn't heard of any more refutes nothing.
-        if let Some(at) = place
-            && *at < count
+        if let Some(at) = place.returns
+            && at < count
         {
-            last = last.max(*at);
+            last = last.max(at);
         }
     }
     last
+}
+
+/// What is known of the session's open call, of which nothing was known, if it isn't heard of any more.
+fn never_heard(events: &[Event], places: &[OpenCall], number: usize) -> Option<OpenCall>
+    ensures { IfSome result (λ entry. (old : _) × (slice_get places.now number ≡ Some old) × (old.returns ≡ None)
+        × (entry.call ≡ old.call)) }
+{
+    match places.get(number) {
+        None => None,
+        Some(open) => match open.returns {
+            Some(_) => None,
+            None => Some(OpenCall {
+                call: open.call,
+                returns: Some(events.len()),
+            }),
+        },
+    }
+}
+
+/// Notes that the call at this place isn't heard of any more, if so it is. Of the call at the place `asked` that isn't
+/// known.
+pub fn note_unheard(
+    events: &[Event],
+    places: &mut Vec<OpenCall>,
+    place: usize,
+    event: &Event,
+    asked: usize,
+)
+    ensures { (known : List Found) (more : List EventSeen) (end : Config)
+        → GoesOn (hints_of events.now places.old.items) (Has known) more end
+        → GoesOn (hints_of events.now places.new.items) (Has known) more end }
+{
+    let Event::Call(session, _) = event else {
+        return;
+    };
+    if place == asked || !is_unheard(events, place) {
+        return;
+    }
+    let number = session.get() as usize;
+    match never_heard(events, places.as_slice(), number) {
+        None => {}
+        Some(entry) => put_open(places, number, entry),
+    }
 }

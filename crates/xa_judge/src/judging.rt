@@ -13,6 +13,7 @@ use crate::known::opening;
 use crate::loading::count_alone;
 use crate::near::judge_behind;
 use crate::progress::{Progress, Silent, tell, tell_first};
+use crate::search_size::SearchSize;
 use crate::searching::moves_through;
 use crate::trunk::{path_of, share};
 use crate::verdict::Verdict;
@@ -23,8 +24,8 @@ use xa_xid::NoMemory;
 /// How many configurations are kept at first: most records need no more, and one that does is known soon.
 const NARROW: usize = 8;
 
-/// How many configurations are kept of a record before it is tried to keep fewer: up to so many each has a server of
-/// its own, so they are quick to look at.
+/// How many configurations are kept of a record before the search tries more: up to so many each has a server of its
+/// own, so they are quick to look at.
 const WIDE: usize = 255;
 
 /// From this number of events before calls overlap, one order is looked for first: the search needs only the
@@ -109,7 +110,7 @@ pub fn judge_narrow<P: Progress>(
     judge_kept(alloc, base, events, NARROW, limit, progress)
 }
 
-/// Returns the verdict LEGAL, if a search for one order finds moves that lead through all of the events.
+/// Returns the verdict LEGAL, if a search of this size for one order finds moves that lead through all of the events.
 ///
 /// May return `NoMemory`.
 pub fn judge_by_search<P: Progress>(
@@ -117,6 +118,7 @@ pub fn judge_by_search<P: Progress>(
     base: &Server,
     events: &[Event],
     limit: usize,
+    size: SearchSize,
     progress: &mut P,
 ) -> Result<Option<Verdict>, NoMemory>
     ensures verdict { IfOk result (λ found. IfSome found (IsVerdict base.now events.now limit)) }
@@ -125,7 +127,7 @@ pub fn judge_by_search<P: Progress>(
         (λ verdict. IsToldUpTo P.judged_gives (length events.now) (seen_for events.now verdict) progress.old
         progress.new)) }
 {
-    match moves_through(alloc, base, events, progress)? {
+    match moves_through(alloc, base, events, size, progress)? {
         None => Ok(None),
         Some(moves) => {
             if follows(alloc, base, events, moves.as_slice())? {
@@ -137,9 +139,9 @@ pub fn judge_by_search<P: Progress>(
     }
 }
 
-/// The verdict, if it is one that says whether an order explains the events. It was found without telling how far
-/// judging was, so that is told here.
-fn tell_verdict<P: Progress>(
+/// Returns the verdict, if it is one that says whether an order explains the events. It was found without telling how
+/// far judging was, so that is told here.
+pub fn tell_verdict<P: Progress>(
     base: &Server,
     events: &[Event],
     found: Option<Verdict>,
@@ -204,7 +206,7 @@ fn judge_foreseen<P: Progress>(
     Ok(tell_verdict(base, events, found, limit, progress))
 }
 
-/// The verdict, if a search for one order is enough; else, if it is found row by row.
+/// The verdict, if a short search for one order is enough; else, if it is found row by row.
 fn judge_order_first<P: Progress>(
     alloc: Global,
     base: &Server,
@@ -218,13 +220,13 @@ fn judge_order_first<P: Progress>(
         (λ verdict. IsToldUpTo P.judged_gives (length events.now) (seen_for events.now verdict) progress.old
         progress.new)) }
 {
-    match judge_by_search(alloc, base, events, limit, progress)? {
+    match judge_by_search(alloc, base, events, limit, SearchSize::Short, progress)? {
         Some(verdict) => Ok(Some(verdict)),
         None => judge_apart(alloc, base, events, limit, progress),
     }
 }
 
-/// The verdict, if it is found row by row; else, if a search for one order is enough.
+/// The verdict, if it is found row by row; else, if a short search for one order is enough.
 fn judge_rows_first<P: Progress>(
     alloc: Global,
     base: &Server,
@@ -240,12 +242,12 @@ fn judge_rows_first<P: Progress>(
 {
     match judge_apart(alloc, base, events, limit, progress)? {
         Some(verdict) => Ok(Some(verdict)),
-        None => judge_by_search(alloc, base, events, limit, progress),
+        None => judge_by_search(alloc, base, events, limit, SearchSize::Short, progress),
     }
 }
 
-/// The verdict for a record with many events before calls overlap, if it is enough to look at the rows that
-/// later calls name.
+/// The verdict for a record with many events before calls overlap, if a short search or few configurations are enough
+/// and only the rows that later calls name are looked at.
 fn judge_long<P: Progress>(
     alloc: Global,
     base: &Server,
@@ -261,11 +263,17 @@ fn judge_long<P: Progress>(
 {
     match judge_order_first(alloc, base, events, limit, progress)? {
         Some(verdict) => Ok(Some(verdict)),
-        None => judge_behind(alloc, base, events, limit, progress),
+        None => judge_behind(alloc, base, events, limit, WIDE, progress),
     }
 }
 
-/// The verdict, if few configurations or a search for one order are enough.
+/// Whether many events come before calls overlap.
+fn is_long(events: &[Event]) -> bool {
+    let alone = count_alone(events);
+    LONG <= alone && alone < events.len()
+}
+
+/// The verdict, if few configurations or a short search for one order are enough.
 fn judge_early<P: Progress>(
     alloc: Global,
     base: &Server,
@@ -279,8 +287,7 @@ fn judge_early<P: Progress>(
         (λ verdict. IsToldUpTo P.judged_gives (length events.now) (seen_for events.now verdict) progress.old
         progress.new)) }
 {
-    let alone = count_alone(events);
-    if LONG <= alone && alone < events.len() {
+    if is_long(events) {
         match judge_long(alloc, base, events, limit, progress)? {
             Some(verdict) => Ok(Some(verdict)),
             None => judge_narrow(alloc, base, events, limit, progress),
@@ -293,7 +300,7 @@ fn judge_early<P: Progress>(
     }
 }
 
-/// The verdict, if it is found with more configurations; else, if by those that later returns allow.
+/// The verdict, if it is found by the configurations that later returns allow; else, if by more than eight.
 fn judge_wide<P: Progress>(
     alloc: Global,
     base: &Server,
@@ -307,13 +314,72 @@ fn judge_wide<P: Progress>(
         (λ verdict. IsToldUpTo P.judged_gives (length events.now) (seen_for events.now verdict) progress.old
         progress.new)) }
 {
-    match judge_kept(alloc, base, events, WIDE, limit, progress)? {
+    match judge_foreseen(alloc, base, events, limit, progress)? {
         Some(verdict) => Ok(Some(verdict)),
-        None => judge_foreseen(alloc, base, events, limit, progress),
+        None => judge_kept(alloc, base, events, WIDE, limit, progress),
     }
 }
 
-/// The verdict, if it is found before all configurations are kept.
+/// The verdict, if a search for one order is enough that tries as much as any.
+fn judge_whole_search<P: Progress>(
+    alloc: Global,
+    base: &Server,
+    events: &[Event],
+    limit: usize,
+    progress: &mut P,
+) -> Result<Option<Verdict>, NoMemory>
+    ensures verdict { IfOk result (λ found. IfSome found (IsVerdict base.now events.now limit)) }
+    ensures told { IfOk result (λ found. MatchOption found
+        (ArePasses P.judged_gives (length events.now) progress.old progress.new)
+        (λ verdict. IsToldUpTo P.judged_gives (length events.now) (seen_for events.now verdict) progress.old
+        progress.new)) }
+{
+    judge_by_search(alloc, base, events, limit, SearchSize::Whole, progress)
+}
+
+/// The verdict for a record with many events before calls overlap, if all configurations are enough of what comes after
+/// these.
+fn judge_wide_behind<P: Progress>(
+    alloc: Global,
+    base: &Server,
+    events: &[Event],
+    limit: usize,
+    progress: &mut P,
+) -> Result<Option<Verdict>, NoMemory>
+    ensures verdict { IfOk result (λ found. IfSome found (IsVerdict base.now events.now limit)) }
+    ensures told { IfOk result (λ found. MatchOption found
+        (ArePasses P.judged_gives (length events.now) progress.old progress.new)
+        (λ verdict. IsToldUpTo P.judged_gives (length events.now) (seen_for events.now verdict) progress.old
+        progress.new)) }
+{
+    if is_long(events) {
+        judge_behind(alloc, base, events, limit, limit, progress)
+    } else {
+        Ok(None)
+    }
+}
+
+/// The verdict, if it is found with the whole search; else, with all configurations after many events.
+fn judge_late<P: Progress>(
+    alloc: Global,
+    base: &Server,
+    events: &[Event],
+    limit: usize,
+    progress: &mut P,
+) -> Result<Option<Verdict>, NoMemory>
+    ensures verdict { IfOk result (λ found. IfSome found (IsVerdict base.now events.now limit)) }
+    ensures told { IfOk result (λ found. MatchOption found
+        (ArePasses P.judged_gives (length events.now) progress.old progress.new)
+        (λ verdict. IsToldUpTo P.judged_gives (length events.now) (seen_for events.now verdict) progress.old
+        progress.new)) }
+{
+    match judge_whole_search(alloc, base, events, limit, progress)? {
+        Some(verdict) => Ok(Some(verdict)),
+        None => judge_wide_behind(alloc, base, events, limit, progress),
+    }
+}
+
+/// The verdict, if it is found before the whole search.
 fn judge_soon<P: Progress>(
     alloc: Global,
     base: &Server,
@@ -330,6 +396,26 @@ fn judge_soon<P: Progress>(
     match judge_early(alloc, base, events, limit, progress)? {
         Some(verdict) => Ok(Some(verdict)),
         None => judge_wide(alloc, base, events, limit, progress),
+    }
+}
+
+/// The verdict, if it is found before all configurations are kept.
+fn judge_with_less<P: Progress>(
+    alloc: Global,
+    base: &Server,
+    events: &[Event],
+    limit: usize,
+    progress: &mut P,
+) -> Result<Option<Verdict>, NoMemory>
+    ensures verdict { IfOk result (λ found. IfSome found (IsVerdict base.now events.now limit)) }
+    ensures told { IfOk result (λ found. MatchOption found
+        (ArePasses P.judged_gives (length events.now) progress.old progress.new)
+        (λ verdict. IsToldUpTo P.judged_gives (length events.now) (seen_for events.now verdict) progress.old
+        progress.new)) }
+{
+    match judge_soon(alloc, base, events, limit, progress)? {
+        Some(verdict) => Ok(Some(verdict)),
+        None => judge_late(alloc, base, events, limit, progress),
     }
 }
 
@@ -356,7 +442,7 @@ pub fn judge_telling<P: Progress>(
     ensures told { IfOk result (λ verdict. IsToldUpTo P.judged_gives (length events.now)
         (seen_for events.now verdict) progress.old progress.new) }
 {
-    match judge_soon(alloc, base, events, limit, progress)? {
+    match judge_with_less(alloc, base, events, limit, progress)? {
         Some(verdict) => Ok(verdict),
         None => judge_in_breadth(alloc, base, 0, events, limit, progress),
     }
@@ -367,8 +453,9 @@ pub fn judge_telling<P: Progress>(
 /// If more than `limit` different configurations have to be kept before an event, the verdict is `Undecided`,
 /// unless one order was found, or the verdict was found by judging statements outside of branches row by row,
 /// or by configurations that later returns allow. If eight aren't enough, or 512 or more events come before
-/// calls overlap, the first two are tried; if 255 aren't enough either, the third, before all configurations
-/// are kept. Identifiers that a call returns have to be in ascending order.
+/// calls overlap, a short search for one order and the second are tried, and then the third. After these come
+/// 255 configurations, and a search that tries more, before all configurations are kept. Identifiers that a
+/// call returns have to be in ascending order.
 /// Errors: `NoMemory` if an allocation failed.
 /// Takes memory for the configurations: in a list of up to 255 each has a copy of the server's records, as
 /// long as 128 MiB hold these by an estimate; others share those of one server. Those that later returns allow

@@ -6,6 +6,7 @@ use crate::event::Event;
 use crate::foreseen::judge_ahead;
 use crate::judging::{judge_by_search, judge_kept};
 use crate::progress::Silent;
+use crate::search_size::SearchSize;
 use crate::verdict::Verdict;
 use std::alloc::Global;
 use xa_server::Server;
@@ -41,13 +42,18 @@ pub fn judge_many(
 ) -> Result<Option<Verdict>, NoMemory>
     ensures { IfOk result (λ found. IfSome found (IsVerdict base.now events.now limit)) }
 {
-    if let Some(verdict) = judge_by_search(alloc, base, events, limit, &mut Silent)? {
+    let short = SearchSize::Short;
+    if let Some(verdict) = judge_by_search(alloc, base, events, limit, short, &mut Silent)? {
         return Ok(Some(verdict));
     }
-    match judge_ahead(alloc, base, events, limit)? {
-        Some(verdict) => Ok(Some(verdict)),
-        None => judge_kept(alloc, base, events, limit, limit, &mut Silent),
+    if let Some(verdict) = judge_ahead(alloc, base, events, limit)? {
+        return Ok(Some(verdict));
     }
+    let whole = SearchSize::Whole;
+    if let Some(verdict) = judge_by_search(alloc, base, events, limit, whole, &mut Silent)? {
+        return Ok(Some(verdict));
+    }
+    judge_kept(alloc, base, events, limit, limit, &mut Silent)
 }
 
 /// Returns the verdict on one part of a record, if one is found with no more than `limit` configurations.

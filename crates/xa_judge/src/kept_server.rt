@@ -1,5 +1,6 @@
 //! Servers that are kept as the requests that they carried out.
 ghost use Rattle.std.specs.Prelude.{◌≡◌, true, IfOk, OnOk, IfSome};
+ghost use Rattle.xa_server.specs.Overview.{keys_about as keys_about_statement};
 ghost use Rattle.xa_judge.specs.Explained.{answer_to, next_state};
 ghost use Rattle.xa_judge.specs.Kept.{state_since, state_past};
 
@@ -14,7 +15,7 @@ use std::marker::Model;
 use std::mem;
 use std::sync::Arc;
 use xa_server::Server;
-use xa_xid::{NoMemory, SessionNo};
+use xa_xid::{Key, NoMemory, SessionNo, Statement};
 
 /// From this number of requests on, a server gets records of its own if there is room: to carry the requests
 /// out at each look takes long.
@@ -195,6 +196,22 @@ impl KeptServer {
         match self.own() {
             Some(server) => request.answer(server, session),
             None => request.answer(&self.made()?, session),
+        }
+    }
+
+    /// Returns the keys of the rows that the session's statement is about.
+    ///
+    /// May return `NoMemory`.
+    pub fn keys_about(
+        &self,
+        session: SessionNo,
+        statement: &Statement,
+    ) -> Result<Vec<Key>, NoMemory>
+        ensures { IfOk result (λ keys. keys.items ≡ keys_about_statement self.now session statement.now) }
+    {
+        match self.own() {
+            Some(server) => server.keys_about(self.alloc, session, statement),
+            None => self.made()?.keys_about(self.alloc, session, statement),
         }
     }
 

@@ -16,7 +16,8 @@ ghost use Rattle.xa_judge.specs.Verdicts.{IsVerdict};
 use crate::alone_call::{AloneCall, alone};
 use crate::event::Event;
 use crate::following::follows;
-use crate::judging::judge_in_breadth;
+use crate::foreseen::judge_ahead;
+use crate::judging::{judge_in_breadth, tell_verdict};
 use crate::loading::{count_alone, key_called, moves_alone};
 use crate::moves::Move;
 use crate::progress::Progress;
@@ -240,8 +241,75 @@ fn legal_behind(
     }
 }
 
-/// The verdict on the later events, by a server near the one to which the first events lead, if it gives one.
-fn judge_later<P: Progress>(
+/// The verdict on the later events, by at most `width` configurations on a server near the one to which the first
+/// events lead, if these are enough.
+fn judge_later_kept<P: Progress>(
+    alloc: Global,
+    base: &Server,
+    events: &[Event],
+    first: &[Event],
+    near: &Server,
+    later: &[Event],
+    limit: usize,
+    width: usize,
+    progress: &mut P,
+) -> Result<Option<Verdict>, NoMemory>
+    requires parts { events.now ≡ first.now ++ later.now }
+    requires within { length first.now + length later.now < 2 ^ 63 }
+    requires near { (keys : Keys) × (full : State) × IsLoadedTo base.now first.now full
+        × AreNear (named_in keys) full near.now
+        × All (CallsNamed (named_in keys)) later.now }
+    ensures verdict { IfOk result (λ found. IfSome found (IsVerdict base.now events.now limit)) }
+    ensures told { IfOk result (λ found. MatchOption found
+        (ArePasses P.judged_gives (length events.now) progress.old progress.new)
+        (λ verdict. IsToldUpTo P.judged_gives (length events.now) (seen_for events.now verdict) progress.old
+        progress.new)) }
+{
+    match judge_in_breadth(alloc, near, first.len(), later, width.min(limit), progress)? {
+        Verdict::Legal(moves) => {
+            let found = legal_behind(alloc, base, events, first, moves.as_slice(), limit)?;
+            Ok(found)
+        }
+        Verdict::Illegal(place, answers) => {
+            Ok(Some(Verdict::Illegal(first.len() + place, answers)))
+        }
+        Verdict::Undecided(_) => Ok(None),
+    }
+}
+
+/// The same by the configurations that later returns allow.
+fn judge_later_ahead(
+    alloc: Global,
+    base: &Server,
+    events: &[Event],
+    first: &[Event],
+    near: &Server,
+    later: &[Event],
+    limit: usize,
+) -> Result<Option<Verdict>, NoMemory>
+    requires parts { events.now ≡ first.now ++ later.now }
+    requires within { length first.now + length later.now < 2 ^ 63 }
+    requires near { (keys : Keys) × (full : State) × IsLoadedTo base.now first.now full
+        × AreNear (named_in keys) full near.now
+        × All (CallsNamed (named_in keys)) later.now }
+    ensures verdict { IfOk result (λ found. IfSome found (IsVerdict base.now events.now limit)) }
+{
+    match judge_ahead(alloc, near, later, limit)? {
+        None => Ok(None),
+        Some(Verdict::Legal(moves)) => {
+            let found = legal_behind(alloc, base, events, first, moves.as_slice(), limit)?;
+            Ok(found)
+        }
+        Some(Verdict::Illegal(place, answers)) => {
+            let behind = first.len() + place;
+            Ok(Some(Verdict::Illegal(behind, answers)))
+        }
+        Some(Verdict::Undecided(_)) => Ok(None),
+    }
+}
+
+/// The same, with telling how far judging is.
+fn judge_later_telling<P: Progress>(
     alloc: Global,
     base: &Server,
     events: &[Event],
@@ -262,20 +330,45 @@ fn judge_later<P: Progress>(
         (λ verdict. IsToldUpTo P.judged_gives (length events.now) (seen_for events.now verdict) progress.old
         progress.new)) }
 {
-    match judge_in_breadth(alloc, near, first.len(), later, limit, progress)? {
-        Verdict::Legal(moves) => {
-            let found = legal_behind(alloc, base, events, first, moves.as_slice(), limit)?;
-            Ok(found)
-        }
-        Verdict::Illegal(place, answers) => {
-            Ok(Some(Verdict::Illegal(first.len() + place, answers)))
-        }
-        Verdict::Undecided(_) => Ok(None),
+    let found = judge_later_ahead(alloc, base, events, first, near, later, limit)?;
+    Ok(tell_verdict(base, events, found, limit, progress))
+}
+
+/// The verdict on the later events, by a server near the one to which the first events lead, if it gives one with the
+/// configurations that later returns allow, or with at most `width`.
+fn judge_later<P: Progress>(
+    alloc: Global,
+    base: &Server,
+    events: &[Event],
+    first: &[Event],
+    near: &Server,
+    later: &[Event],
+    limit: usize,
+    width: usize,
+    progress: &mut P,
+) -> Result<Option<Verdict>, NoMemory>
+    requires parts { events.now ≡ first.now ++ later.now }
+    requires within { length first.now + length later.now < 2 ^ 63 }
+    requires near { (keys : Keys) × (full : State) × IsLoadedTo base.now first.now full
+        × AreNear (named_in keys) full near.now
+        × All (CallsNamed (named_in keys)) later.now }
+    ensures verdict { IfOk result (λ found. IfSome found (IsVerdict base.now events.now limit)) }
+    ensures told { IfOk result (λ found. MatchOption found
+        (ArePasses P.judged_gives (length events.now) progress.old progress.new)
+        (λ verdict. IsToldUpTo P.judged_gives (length events.now) (seen_for events.now verdict) progress.old
+        progress.new)) }
+{
+    match judge_later_telling(alloc, base, events, first, near, later, limit, progress)? {
+        Some(verdict) => Ok(Some(verdict)),
+        None => judge_later_kept(
+            alloc, base, events, first, near, later, limit, width, progress,
+        ),
     }
 }
 
 /// Returns the verdict by what comes after calls that don't overlap, on a server without the rows that this
-/// part doesn't name; or None if that gives no verdict.
+/// part doesn't name; or None if that gives no verdict with the configurations that later returns allow, or with
+/// at most `width`.
 ///
 /// May return `NoMemory`.
 pub fn judge_behind<P: Progress>(
@@ -283,6 +376,7 @@ pub fn judge_behind<P: Progress>(
     base: &Server,
     events: &[Event],
     limit: usize,
+    width: usize,
     progress: &mut P,
 ) -> Result<Option<Verdict>, NoMemory>
     // Proved (records, named-rows-only): A verdict that is found after calls that don't overlap, on a server
@@ -301,6 +395,8 @@ pub fn judge_behind<P: Progress>(
     let found = loaded(base, first, &keys)?;
     match found {
         None => Ok(None),
-        Some(near) => judge_later(alloc, base, events, first, &near, later, limit, progress),
+        Some(near) => judge_later(
+            alloc, base, events, first, &near, later, limit, width, progress,
+        ),
     }
 }

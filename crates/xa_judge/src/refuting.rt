@@ -16,6 +16,7 @@ use crate::moves::Move;
 use crate::parts::copy_of as copy_of_event;
 use crate::progress::Silent;
 use crate::row_answers::copy_of_value;
+use crate::search_size::SearchSize;
 use crate::searching::moves_through;
 use crate::shared_answer::SharedAnswer;
 use crate::shared_seen::SharedSeen;
@@ -79,7 +80,7 @@ fn searched(
         more.push(copy_of_event(event)?)?;
     }
     more.push(Event::Return(session, SharedSeen::of(alloc, seen)?))?;
-    match moves_through(alloc, base, more.as_slice(), &mut Silent)? {
+    match moves_through(alloc, base, more.as_slice(), SearchSize::Whole, &mut Silent)? {
         None => Ok(None),
         Some(moves) => Ok(Some(up_to_last(alloc, moves.as_slice())?)),
     }

@@ -14,10 +14,15 @@ const RECORD: usize = 512;
 /// No server with more records has room.
 pub const MOST_RECORDS: usize = BYTES / RECORD;
 
+/// Whether so many bytes have room for `count` servers, each with `bytes` and this many records.
+fn holds_all(room: usize, count: usize, bytes: usize, records: usize) -> bool {
+    let each = records.saturating_mul(RECORD).saturating_add(bytes);
+    count.saturating_mul(each) <= room
+}
+
 /// Tells whether there is room for `count` servers with this many records of rows and branches each.
 pub fn has_room(count: usize, records: usize) -> bool {
-    let each = records.saturating_mul(RECORD).saturating_add(SERVER);
-    count.saturating_mul(each) <= BYTES
+    holds_all(BYTES, count, SERVER, records)
 }
 
 /// How many bytes configurations with a server of their own each may take: with the rest, judging stays below 512 MiB.
@@ -30,6 +35,5 @@ const APART_EACH: usize = 4_096;
 /// Tells whether memory holds `count` configurations with a server of its own each, which has this many records of rows
 /// and branches.
 pub fn holds(count: usize, records: usize) -> bool {
-    let each = records.saturating_mul(RECORD).saturating_add(APART_EACH);
-    count.saturating_mul(each) <= APART
+    holds_all(APART, count, APART_EACH, records)
 }

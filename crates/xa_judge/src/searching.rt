@@ -8,6 +8,7 @@ use crate::known::opening;
 use crate::loading::{count_alone, moves_alone, server_for};
 use crate::moves::Move;
 use crate::progress::Progress;
+use crate::search_size::SearchSize;
 use crate::trunk::{path_of, share};
 use std::alloc::Global;
 use xa_server::Server;
@@ -16,13 +17,6 @@ use xa_xid::NoMemory;
 /// How many configurations are kept at a time. If a search with the first number finds no order, the next one
 /// is tried: few are fast, and mostly enough.
 const WIDTHS: [usize; 3] = [8, 32, 256];
-
-/// How many effects a search may try for any record: all configurations decide sooner than a search that goes
-/// on.
-const EFFECTS: u64 = 500_000;
-
-/// How many more effects a search may try for each event, since a longer record needs more.
-const EFFECTS_EACH: u64 = 64;
 
 /// Moves that may lead through all of the events, if the search finds some with this width and this many
 /// effects, which are taken off. `before` other events come before them.
@@ -59,13 +53,14 @@ fn moves_within<P: Progress>(
     Ok(Some(path_of(trunk, beam.known.as_slice())?))
 }
 
-/// Moves that may lead through all of the events, if the search finds some with any width. `before` other
-/// events come before them.
+/// Moves that may lead through all of the events, if a search of this size finds some with any width. `before`
+/// other events come before them.
 fn moves_behind<P: Progress>(
     alloc: Global,
     base: &Server,
     before: usize,
     events: &[Event],
+    size: SearchSize,
     progress: &mut P,
 ) -> Result<Option<Vec<Move>>, NoMemory>
     requires { before + length events.now < 2 ^ 64 }
@@ -74,8 +69,7 @@ fn moves_behind<P: Progress>(
         (λ _. IsToldUpTo P.judged_gives (before + length events.now) (before + length events.now) progress.old
         progress.new)) }
 {
-    let all = events.len() as u64;
-    let mut left = all.saturating_mul(EFFECTS_EACH).saturating_add(EFFECTS);
+    let mut left = size.effects(events.len());
     for width in WIDTHS {
         match moves_within(alloc, base, before, events, width, &mut left, progress)? {
             None => {}
@@ -85,8 +79,8 @@ fn moves_behind<P: Progress>(
     Ok(None)
 }
 
-/// Returns moves that may lead through all of the events, if the search finds some. Its caller has to check
-/// them.
+/// Returns moves that may lead through all of the events, if a search of this size finds some. Its caller has to
+/// check them.
 ///
 /// The search looks at no order in which a call is answered otherwise than it returns. It keeps the
 /// configurations with the fewest stuck calls; first few, then more. It begins where calls overlap, on a
@@ -96,6 +90,7 @@ pub fn moves_through<P: Progress>(
     alloc: Global,
     base: &Server,
     events: &[Event],
+    size: SearchSize,
     progress: &mut P,
 ) -> Result<Option<Vec<Move>>, NoMemory>
     ensures { IfOk result (λ found. MatchOption found
@@ -104,7 +99,7 @@ pub fn moves_through<P: Progress>(
 {
     let (first, later) = events.split_at(count_alone(events).min(events.len()));
     let near = server_for(alloc, base, first, later)?;
-    match moves_behind(alloc, &near, first.len(), later, progress)? {
+    match moves_behind(alloc, &near, first.len(), later, size, progress)? {
         None => Ok(None),
         Some(moves) => {
             let mut all = moves_alone(alloc, first)?;

@@ -27,7 +27,7 @@ use Rattle.xa_server.proofs.Seen.{get-branches}
 use Rattle.xa_server.proofs.Steps.{same_state, same_branches, gather_same}
 
 -- the committed value of a row after writes: what the newest write to it says, else what stood there
-get-with_writes : (writes : List (List ℕ × Write)) (rows : map.FinMap bytes_cmp Text) (key : List ℕ)
+pub get-with_writes : (writes : List (List ℕ × Write)) (rows : map.FinMap bytes_cmp Text) (key : List ℕ)
     → map.get (with_writes writes rows) key ≡ unwrap_or (find bytes_cmp key writes) (map.get rows key)
 get-with_writes [] rows key = refl
 get-with_writes (write ∷ writes) rows key =

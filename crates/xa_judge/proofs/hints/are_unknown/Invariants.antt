@@ -1,8 +1,10 @@
-use Rattle.std.proofs.Common.{◌≡◌, ℕ, Option, None, take}
-use Rattle.std.specs.List.{All}
+use Rattle.std.proofs.Common.{◌≡◌, ◌<◌, ℕ, None, Some}
+use Rattle.std.specs.Prelude.{slice_get}
+use Rattle.xa_judge.specs.declared.open_call.OpenCall.{OpenCall}
 use Rattle.xa_judge.specs.Foreseen.{hint_in}
 use Rattle.xa_judge.proofs.hints.are_unknown.Given as goal
 
--- none before the place
-abbrev pub invariant-loop-place : goal.invariant-loop-place
-invariant-loop-place l = All (λ (o : Option ℕ). (hint_in l.events o).seen ≡ None) (take l.place-index l.places)
+-- those of lower numbers
+abbrev pub invariant-loop-number : goal.invariant-loop-number
+invariant-loop-number l = (at : ℕ) (entry : OpenCall) → at < l.number → slice_get l.places at ≡ Some entry
+    → (hint_in l.events entry).seen ≡ None

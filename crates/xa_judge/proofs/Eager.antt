@@ -1,0 +1,559 @@
+-- A step of a session's branch that no other session has to do with until it returns takes effect at once.
+--     exchanged        an act of another session may come after the step
+--     goes_first       so it may come first of all moves
+use Rattle.std.proofs.Common.{◌≡◌, ◌≢◌, ◌⊎◌, ℕ, false, Option, Some, None, List, [], ◌∷◌, set, refl, ap, sym, ◌∙◌}
+use Rattle.std.proofs.Common.{subst, inl, inr}
+use Rattle.std.specs.Prelude.{slice_get}
+use Rattle.std.proofs.lemmas.Bool.{false≢true}
+use Rattle.std.proofs.lemmas.Option.{none-some, same_Some, cond_some}
+use Rattle.xa_xid.specs.declared.xid.Xid.{Xid}
+use Rattle.xa_xid.specs.declared.statement.Statement.{Statement}
+use Rattle.xa_xid.specs.declared.statement.Statement.TheVariants.{Disconnect}
+use Rattle.xa_server.specs.State.{State}
+use Rattle.xa_server.specs.Locks.{LockLaw}
+use Rattle.xa_judge.specs.declared.request.Request.{Request}
+use Rattle.xa_judge.specs.declared.request.Request.TheVariants.{Statement as Given, Unread}
+use Rattle.xa_judge.specs.declared.answer.Answer.{Answer}
+use Rattle.xa_judge.specs.declared.answer.Answer.TheVariants.{Reply as Replied}
+use Rattle.xa_judge.specs.declared.client_state.ClientState.{ClientState}
+use Rattle.xa_judge.specs.declared.client_state.ClientState.TheVariants.{Idle, Called, Answered, Gone, Left}
+use Rattle.xa_judge.specs.declared.event.Seen.{Seen}
+use Rattle.xa_judge.specs.declared.event.Event.{Event}
+use Rattle.xa_judge.specs.declared.event.Event.TheVariants.{Call, Return, Lost, Unknown}
+use Rattle.xa_judge.specs.declared.moves.Act.{Act}
+use Rattle.xa_judge.specs.declared.moves.Act.TheVariants.{Statement as ItsStatement, Disconnect as ItsDisconnect}
+use Rattle.xa_judge.specs.declared.moves.Move.{Move}
+use Rattle.xa_judge.specs.declared.moves.Move.TheVariants.{Event as Seeing, Effect}
+use Rattle.xa_judge.specs.Explained.{Config, with_client, effect_of, carried_out, disconnected, observed, called}
+use Rattle.xa_judge.specs.Explained.{returned}
+use Rattle.xa_judge.specs.Explained.{lost, answered_unknown, answer_to, next_state, shows_answer, LeadsThrough}
+use Rattle.xa_judge.proofs.Places.{same_number, get_written, get_apart, set_apart}
+use Rattle.xa_judge.proofs.Waits.{acted, session_in}
+use Rattle.xa_judge.proofs.ForeseenSteps.{act_keeps, both_act}
+use Rattle.xa_judge.proofs.ForeseenEvents.{saw}
+use Rattle.xa_judge.specs.Foreseen.{Hint, fact_of, IsOpenFor, IsAlikeAt, AreAlike}
+use Rattle.xa_judge.proofs.Acts.{ActsAs, acts_as}
+use Rattle.xa_judge.specs.Clear.{IsOwnStep, IsClearOf, IsClearRequest, AreOpenClear, AreCallsClear, AreNotedClear}
+use Rattle.xa_judge.specs.Clear.{IsSteppedFor}
+use Rattle.xa_judge.proofs.Commuting.{step_commutes}
+use Rattle.xa_judge.specs.declared.configuration.Configuration.{Configuration}
+use Rattle.xa_judge.specs.Found.{config_of, Has, AddsUnlessThere}
+use Rattle.xa_judge.specs.Foreseen.{GoesOn, GoesOnLike, IsLike}
+use Rattle.xa_judge.proofs.Loops.{has_last}
+use Rattle.xa_judge.proofs.Growth.{has_added}
+use Rattle.xa_judge.proofs.ForeseenGrowth.{still_has, adds_one}
+use Rattle.std.proofs.Common.{◌++◌, arith}
+
+-- ---- two requests
+
+record RequestsCommute (state : State) (session other : ℕ) (one : Statement) (two : Request) (xid : Xid)
+    (rows : List (List ℕ)) : Type 0 where
+  pub first : answer_to (next_state state other two) session (Given one) ≡ answer_to state session (Given one)
+  pub second : answer_to (next_state state session (Given one)) other two ≡ answer_to state other two
+  pub same : next_state (next_state state other two) session (Given one)
+      ≡ next_state (next_state state session (Given one)) other two
+  pub still : IsOwnStep (next_state state other two) session one xid rows
+
+requests_commute : (state : State) (session other : ℕ) (one : Statement) (two : Request) (xid : Xid)
+    (rows : List (List ℕ)) → LockLaw state
+    → session ≢ other → IsOwnStep state session one xid rows → IsClearRequest one two xid rows
+    → RequestsCommute state session other one two xid rows
+requests_commute state session other one (Given two) xid rows law apart step clear =
+    let c = step_commutes state session other one two xid rows law apart step clear in
+    record { first = ap Replied c.first; second = ap Replied c.second; same = c.same; still = c.still }
+requests_commute state session other one Unread xid rows law apart step clear =
+    record { first = refl; second = refl; same = refl; still = step }
+
+-- leaving has nothing to do with a step of another session
+leaving_clear : (one : Statement) (xid : Xid) (rows : List (List ℕ)) → IsClearOf one Disconnect xid rows
+leaving_clear one xid rows = record {
+  avoids = tt;
+  apart = λ key other e f. absurd (none-some other f);
+  lists = λ convert e. absurd (no convert e);
+}
+  where
+    no : (convert : _) → Disconnect ≡ Rattle.xa_xid.specs.declared.statement.Statement.TheVariants.Recover convert → ⊥
+    no convert e = cc
+
+-- an act of another session may come after the step
+pub exchanged : (run mid next : Config) (session other : ℕ) (act : Act) (one : Statement) (xid : Xid)
+    (rows : List (List ℕ))
+    → LockLaw run.state → session ≢ other → slice_get run.clients session ≡ Some (Called (Given one))
+    → IsOwnStep run.state session one xid rows → AreOpenClear run session one xid rows
+    → effect_of run other act ≡ Some mid → effect_of mid session ItsStatement ≡ Some next
+    → (first : Config) × (effect_of run session ItsStatement ≡ Some first) × (effect_of first other act ≡ Some next)
+unfolding effect_of carried_out
+exchanged run mid next session other act one xid rows law apart at step clear leads then = (
+  made run,
+  step_at run at,
+  theirs.again (made run) (get_apart run.clients session other (answer_in run) apart) ∙ ap Some both,
+)
+  where
+    answer_in : Config → ClientState
+    answer_in config = Answered (answer_to config.state session (Given one))
+
+    made : Config → Config
+    made config = record {
+      state = next_state config.state session (Given one);
+      clients = set config.clients session (answer_in config);
+    }
+
+    step_at : (config : Config) → slice_get config.clients session ≡ Some (Called (Given one))
+        → effect_of config session ItsStatement ≡ Some (made config)
+    step_at config here = ap (λ o. carried_out o config session) here
+
+    theirs : ActsAs run other act mid
+    theirs = acts_as run mid other act leads
+
+    is_clear : IsOpenFor run other theirs.request ⊎ (theirs.request ≡ Given Disconnect)
+        → IsClearRequest one theirs.request xid rows
+    is_clear (inl opened) = clear other theirs.request apart opened
+    is_clear (inr leaves) = subst (λ r. IsClearRequest one r xid rows) (sym leaves) (leaving_clear one xid rows)
+
+    commute : RequestsCommute run.state session other one theirs.request xid rows
+    commute = requests_commute run.state session other one theirs.request xid rows law apart step
+        (is_clear theirs.asked)
+
+    at_mid : slice_get mid.clients session ≡ Some (Called (Given one))
+    at_mid = ap (λ (c : Config). slice_get c.clients session) theirs.is
+        ∙ get_apart run.clients other session (theirs.client (answer_to run.state other theirs.request))
+        (λ e. apart (sym e)) ∙ at
+
+    is_next : made mid ≡ next
+    is_next = same_Some (made mid) next (sym (step_at mid at_mid) ∙ then)
+
+    make : State → Answer → Answer → Config
+    make state mine its = record {
+      state = state;
+      clients = set (set run.clients session (Answered mine)) other (theirs.client its);
+    }
+
+    both : record {
+      state = next_state (made run).state other theirs.request;
+      clients = set (made run).clients other (theirs.client (answer_to (made run).state other theirs.request));
+    } ≡ next
+    both =
+        ap (make (next_state (made run).state other theirs.request) (answer_to run.state session (Given one)))
+        commute.second
+        ∙ ap (λ s. make s (answer_to run.state session (Given one)) (answer_to run.state other theirs.request))
+        (sym commute.same)
+        ∙ ap (λ mine. make (next_state (next_state run.state other theirs.request) session (Given one)) mine
+        (answer_to run.state other theirs.request)) (sym commute.first)
+        ∙ ap (λ l. record {
+          state = next_state (next_state run.state other theirs.request) session
+              (Given one);
+          clients = l;
+        })
+        (set_apart run.clients session other
+        (Answered (answer_to (next_state run.state other theirs.request) session (Given one)))
+        (theirs.client (answer_to run.state other theirs.request)) apart)
+        ∙ ap made (sym theirs.is) ∙ is_next
+
+-- ---- events
+
+-- an event of another session may come after the act
+pub seen_later : (run mid next : Config) (session : ℕ) (act : Act) (event : Event) → session ≢ session_in event
+    → observed run event ≡ Some mid → effect_of mid session act ≡ Some next
+    → (first : Config) × (effect_of run session act ≡ Some first) × (observed first event ≡ Some next)
+seen_later run mid next session act event apart sees leads =
+    let s = saw run mid event sees in
+    let a = acted mid next session act leads in
+    let state_is : run.state ≡ mid.state = sym (ap (λ (c : Config). c.state) s.is) in
+    let at : slice_get run.clients session ≡ Some a.before =
+    sym (ap (λ (c : Config). slice_get c.clients session) s.is
+    ∙ get_apart run.clients (session_in event) session s.next (λ e. apart (sym e))) ∙ a.found in
+    let first : Config = record { state = a.state; clients = set run.clients session a.next } in (
+      first,
+      a.again run at state_is,
+      s.again first (get_apart run.clients session (session_in event) a.next apart ∙ s.found)
+          ∙ ap Some (ap (λ l. record { state = a.state; clients = l })
+          (set_apart run.clients session (session_in event) a.next s.next apart)
+          ∙ ap (λ (l : List ClientState). record { state = a.state; clients = set l session a.next })
+          (sym (ap (λ (c : Config). c.clients) s.is)) ∙ sym a.is),
+    )
+
+-- what is open after another session's event is clear, if what it calls for is
+pub event_clear : (run mid : Config) (session : ℕ) (one : Statement) (xid : Xid) (rows : List (List ℕ)) (event : Event)
+    → AreOpenClear run session one xid rows → observed run event ≡ Some mid
+    → ((request : Request) → event ≡ Call (session_in event) request → IsClearRequest one request xid rows)
+    → AreOpenClear mid session one xid rows
+unfolding observed called returned lost answered_unknown
+event_clear run mid session one xid rows event clear sees calls = λ other request apart opened.
+    let s = saw run mid event sees in
+    elim (same_number (session_in event) other) [
+      | inr beside ↦ clear other request apart (elim opened [
+        | inl at ↦ inl (sym (ap (λ (c : Config). slice_get c.clients other) s.is
+            ∙ get_apart run.clients (session_in event) other s.next beside) ∙ at)
+        | inr at ↦ inr (sym (ap (λ (c : Config). slice_get c.clients other) s.is
+            ∙ get_apart run.clients (session_in event) other s.next beside) ∙ at)
+      ])
+      | inl e ↦ here event sees calls other request apart opened e
+    ]
+  where
+    read : (session_of_it : ℕ) (c : ClientState) (was : ClientState) → slice_get run.clients session_of_it ≡ Some was
+        → with_client run session_of_it c ≡ mid → (other : ℕ) → session_of_it ≡ other
+        → slice_get mid.clients other ≡ Some c
+    read it c was at is other e = subst (λ n. slice_get mid.clients n ≡ Some c) e
+        (sym (ap (λ (d : Config). slice_get d.clients it) is) ∙ get_written run.clients it was c at)
+
+    opens : (o : Option ClientState) (request other : Request) → o ≡ Some (Called request)
+        → (o ≡ Some (Called other)) ⊎ (o ≡ Some (Gone (Some other))) → request ≡ other
+    opens o request other is (inl e) = both request other (sym is ∙ e)
+      where
+        both : (x y : Request) → Some (Called x) ≡ Some (Called y) → x ≡ y
+        both x y f = cc
+    opens o request other is (inr e) = absurd (both request other (sym is ∙ e))
+      where
+        both : (x y : Request) → Some (Called x) ≡ Some (Gone (Some y)) → ⊥
+        both x y f = cc
+
+    goes : (o : Option ClientState) (request other : Request) → o ≡ Some (Gone (Some request))
+        → (o ≡ Some (Called other)) ⊎ (o ≡ Some (Gone (Some other))) → request ≡ other
+    goes o request other is (inr e) = both request other (sym is ∙ e)
+      where
+        both : (x y : Request) → Some (Gone (Some x)) ≡ Some (Gone (Some y)) → x ≡ y
+        both x y f = cc
+    goes o request other is (inl e) = absurd (both request other (sym is ∙ e))
+      where
+        both : (x y : Request) → Some (Gone (Some x)) ≡ Some (Called y) → ⊥
+        both x y f = cc
+
+    shut : (o : Option ClientState) (c : ClientState) (other : Request) → o ≡ Some c
+        → ((y : Request) → c ≡ Called y → ⊥) → ((y : Request) → c ≡ Gone (Some y) → ⊥)
+        → (o ≡ Some (Called other)) ⊎ (o ≡ Some (Gone (Some other))) → ⊥
+    shut o c other is first second (inl e) = first other (same_Some c (Called other) (sym is ∙ e))
+    shut o c other is first second (inr e) = second other (same_Some c (Gone (Some other)) (sym is ∙ e))
+
+    idle_called : (y : Request) → Idle ≡ Called y → ⊥
+    idle_called y f = cc
+
+    idle_gone : (y : Request) → Idle ≡ Gone (Some y) → ⊥
+    idle_gone y f = cc
+
+    left_called : (y : Request) → Left ≡ Called y → ⊥
+    left_called y f = cc
+
+    left_gone : (y : Request) → Left ≡ Gone (Some y) → ⊥
+    left_gone y f = cc
+
+    none_called : (y : Request) → Gone None ≡ Called y → ⊥
+    none_called y f = cc
+
+    none_gone : (y : Request) → Gone None ≡ Gone (Some y) → ⊥
+    none_gone y f = cc
+
+    call : (it : ℕ) (asked : Request) (c : Option ClientState) → slice_get run.clients it ≡ c
+        → called c run it asked ≡ Some mid → IsClearRequest one asked xid rows → (other : ℕ) (request : Request)
+        → IsOpenFor mid other request → it ≡ other → IsClearRequest one request xid rows
+    call it asked None at f gives other request opened e = absurd (none-some mid f)
+    call it asked (Some Idle) at f gives other request opened e =
+        subst (λ r. IsClearRequest one r xid rows)
+        (opens _ asked request (read it (Called asked) Idle at (same_Some _ mid f) other e) opened) gives
+    call it asked (Some (Called was)) at f gives other request opened e = absurd (none-some mid f)
+    call it asked (Some (Answered was)) at f gives other request opened e = absurd (none-some mid f)
+    call it asked (Some (Gone None)) at f gives other request opened e =
+        subst (λ r. IsClearRequest one r xid rows)
+        (goes _ asked request (read it (Gone (Some asked)) (Gone None) at (same_Some _ mid f) other e) opened) gives
+    call it asked (Some (Gone (Some was))) at f gives other request opened e = absurd (none-some mid f)
+    call it asked (Some Left) at f gives other request opened e =
+        absurd (shut _ Left request (read it Left Left at (same_Some _ mid f) other e) left_called left_gone opened)
+
+    back : (it : ℕ) (shown : Seen) (c : Option ClientState) → slice_get run.clients it ≡ c
+        → returned c run it shown ≡ Some mid → (other : ℕ) (request : Request)
+        → IsOpenFor mid other request → it ≡ other → IsClearRequest one request xid rows
+    back it shown None at f other request opened e = absurd (none-some mid f)
+    back it shown (Some Idle) at f other request opened e = absurd (none-some mid f)
+    back it shown (Some (Called was)) at f other request opened e = absurd (none-some mid f)
+    back it shown (Some (Answered was)) at f other request opened e =
+        absurd (shut _ Idle request (read it Idle (Answered was) at
+        (cond_some (shows_answer shown was) (with_client run it Idle) mid f).1 other e) idle_called idle_gone opened)
+    back it shown (Some (Gone was)) at f other request opened e = absurd (none-some mid f)
+    back it shown (Some Left) at f other request opened e = absurd (none-some mid f)
+
+    unheard : (it : ℕ) (c : Option ClientState) → slice_get run.clients it ≡ c → lost c run it ≡ Some mid
+        → (other : ℕ) (request : Request) → session ≢ other → IsOpenFor mid other request → it ≡ other
+        → IsClearRequest one request xid rows
+    unheard it None at f other request apart opened e = absurd (none-some mid f)
+    unheard it (Some Idle) at f other request apart opened e =
+        absurd (shut _ (Gone None) request (read it (Gone None) Idle at (same_Some _ mid f) other e) none_called
+        none_gone opened)
+    unheard it (Some (Called was)) at f other request apart opened e =
+        let same = goes _ was request (read it (Gone (Some was)) (Called was) at (same_Some _ mid f) other e) opened in
+        subst (λ r. IsClearRequest one r xid rows) same
+        (clear other was apart (inl (subst (λ n. slice_get run.clients n ≡ Some (Called was)) e at)))
+    unheard it (Some (Answered was)) at f other request apart opened e =
+        absurd (shut _ (Gone None) request (read it (Gone None) (Answered was) at (same_Some _ mid f) other e)
+        none_called none_gone opened)
+    unheard it (Some (Gone was)) at f other request apart opened e = absurd (none-some mid f)
+    unheard it (Some Left) at f other request apart opened e = absurd (none-some mid f)
+
+    over : (it : ℕ) (c : Option ClientState) → slice_get run.clients it ≡ c → answered_unknown c run it ≡ Some mid
+        → (other : ℕ) (request : Request) → IsOpenFor mid other request → it ≡ other
+        → IsClearRequest one request xid rows
+    over it None at f other request opened e = absurd (none-some mid f)
+    over it (Some Idle) at f other request opened e = absurd (none-some mid f)
+    over it (Some (Called was)) at f other request opened e =
+        absurd (shut _ Idle request (read it Idle (Called was) at (same_Some _ mid f) other e) idle_called idle_gone
+        opened)
+    over it (Some (Answered was)) at f other request opened e =
+        absurd (shut _ Idle request (read it Idle (Answered was) at (same_Some _ mid f) other e) idle_called
+        idle_gone opened)
+    over it (Some (Gone was)) at f other request opened e = absurd (none-some mid f)
+    over it (Some Left) at f other request opened e = absurd (none-some mid f)
+
+    here : (this : Event) → observed run this ≡ Some mid
+        → ((request : Request) → this ≡ Call (session_in this) request → IsClearRequest one request xid rows)
+        → (other : ℕ) (request : Request) → session ≢ other → IsOpenFor mid other request → session_in this ≡ other
+        → IsClearRequest one request xid rows
+    here (Call it asked) seen gives other request apart opened e =
+        call it asked (slice_get run.clients it) refl seen (gives asked refl) other request opened e
+    here (Return it shown) seen gives other request apart opened e =
+        back it shown (slice_get run.clients it) refl seen other request opened e
+    here (Lost it) seen gives other request apart opened e =
+        unheard it (slice_get run.clients it) refl seen other request apart opened e
+    here (Unknown it) seen gives other request apart opened e =
+        over it (slice_get run.clients it) refl seen other request opened e
+
+-- what is open after another session's act is clear
+act_clear : (run mid : Config) (session other : ℕ) (act : Act) (one : Statement) (xid : Xid) (rows : List (List ℕ))
+    → AreOpenClear run session one xid rows → effect_of run other act ≡ Some mid → AreOpenClear mid session one xid rows
+act_clear run mid session other act one xid rows clear leads = λ at request apart opened.
+    elim (same_number other at) [
+      | inr beside ↦ clear at request apart (elim opened [
+        | inl is ↦ inl (sym (ap (λ (c : Config). slice_get c.clients at) theirs.is
+            ∙ get_apart run.clients other at theirs_next beside) ∙ is)
+        | inr is ↦ inr (sym (ap (λ (c : Config). slice_get c.clients at) theirs.is
+            ∙ get_apart run.clients other at theirs_next beside) ∙ is)
+      ])
+      | inl e ↦ absurd (shut (subst (λ n. IsOpenFor mid n request) (sym e) opened))
+    ]
+  where
+    theirs : ActsAs run other act mid
+    theirs = acts_as run mid other act leads
+
+    theirs_next : ClientState
+    theirs_next = theirs.client (answer_to run.state other theirs.request)
+
+    now : slice_get mid.clients other ≡ Some theirs_next
+    now = ap (λ (c : Config). slice_get c.clients other) theirs.is
+        ∙ get_written run.clients other theirs.there theirs_next theirs.found
+
+    shut : {request : Request} → IsOpenFor mid other request → ⊥
+    shut {request} (inl is) = theirs.closed (answer_to run.state other theirs.request) request
+        (same_Some theirs_next (Called request) (sym now ∙ is))
+    shut {request} (inr is) = theirs.gone (answer_to run.state other theirs.request) request
+        (same_Some theirs_next (Gone (Some request)) (sym now ∙ is))
+
+-- ---- the step comes first
+
+pub goes_first : (run end : Config) (session : ℕ) (one : Statement) (xid : Xid) (rows : List (List ℕ))
+    (more : List Event) (moves : List Move)
+    → LockLaw run.state → slice_get run.clients session ≡ Some (Called (Given one))
+    → IsOwnStep run.state session one xid rows → AreOpenClear run session one xid rows
+    → AreCallsClear session one xid rows more → LeadsThrough run more moves end
+    → (first : Config) × (all : List Move) × (last : Config) × (effect_of run session ItsStatement ≡ Some first)
+    × LeadsThrough first more all last × IsLike end last
+unfolding effect_of carried_out disconnected observed returned
+goes_first run end session one xid rows more (Effect other act ∷ moves) law at step clear calls runs =
+    elim (same_number session other) [
+      | inl e ↦ own act (subst (λ n. effect_of run n act ≡ Some runs.0) (sym e) runs.2)
+      | inr apart ↦
+          let theirs = acts_as run runs.0 other act runs.2 in
+          let asked = is_clear theirs.asked other apart theirs.request in
+          let commute = requests_commute run.state session other one theirs.request xid rows law apart step asked in
+          let state_is : runs.0.state ≡ next_state run.state other theirs.request =
+          ap (λ (c : Config). c.state) theirs.is in
+          let still = subst (λ s. IsOwnStep s session one xid rows) (sym state_is) commute.still in
+          let at_mid : slice_get runs.0.clients session ≡ Some (Called (Given one)) =
+          ap (λ (c : Config). slice_get c.clients session) theirs.is
+          ∙ get_apart run.clients other session (theirs.client (answer_to run.state other theirs.request))
+          (λ e. apart (sym e)) ∙ at in
+          let rest = goes_first runs.0 end session one xid rows more moves
+          (act_keeps run runs.0 other act law runs.2).law
+          at_mid still (act_clear run runs.0 session other act one xid rows clear runs.2) calls runs.3 in
+          let swapped = exchanged run runs.0 rest.0 session other act one xid rows law apart at step clear runs.2
+          rest.3 in (
+            swapped.0,
+            Effect other act ∷ rest.1,
+            rest.2,
+            swapped.1,
+            (rest.0, runs.1, swapped.2, rest.4),
+            rest.5,
+          )
+    ]
+  where
+    is_clear : {request : Request} → IsOpenFor run other request ⊎ (request ≡ Given Disconnect) → (it : ℕ)
+        → session ≢ other → (asked : Request) → IsClearRequest one request xid rows
+    is_clear {request} (inl opened) it apart asked = clear other request apart opened
+    is_clear (inr leaves) it apart asked = subst (λ r. IsClearRequest one r xid rows) (sym leaves)
+        (leaving_clear one xid rows)
+
+    own : (a : Act) → effect_of run session a ≡ Some runs.0
+        → (first : Config) × (all : List Move) × (last : Config) × (effect_of run session ItsStatement ≡ Some first)
+        × LeadsThrough first more all last × IsLike end last
+    own ItsStatement leads = (runs.0, moves, end, leads, runs.3, (λ at answer e. e))
+    own ItsDisconnect leads = absurd (none-some runs.0 (sym (ap (λ o. disconnected o run session) at) ∙ leads))
+goes_first run end session one xid rows (event ∷ more) (Seeing ∷ moves) law at step clear calls runs =
+    elim (apart_from event calls runs.1) [
+      | inl none ↦ absurd none
+      | inr parts ↦
+          let s = saw run runs.0 event runs.1 in
+          let state_is : runs.0.state ≡ run.state = ap (λ (c : Config). c.state) s.is in
+          let at_mid : slice_get runs.0.clients session ≡ Some (Called (Given one)) =
+          ap (λ (c : Config). slice_get c.clients session) s.is
+          ∙ get_apart run.clients (session_in event) session s.next (λ e. parts.0 (sym e)) ∙ at in
+          let rest = goes_first runs.0 end session one xid rows more moves (subst LockLaw (sym state_is) law) at_mid
+          (subst (λ t. IsOwnStep t session one xid rows) (sym state_is) step)
+          (event_clear run runs.0 session one xid rows event clear runs.1 parts.1) parts.2 runs.2 in
+          let swapped = seen_later run runs.0 rest.0 session ItsStatement event parts.0 runs.1 rest.3 in
+          (swapped.0, Seeing ∷ rest.1, rest.2, swapped.1, (rest.0, swapped.2, rest.4), rest.5)
+    ]
+  where
+    apart_from : (this : Event) → AreCallsClear session one xid rows (this ∷ more) → observed run this ≡ Some runs.0
+        → ⊥ ⊎ ((session ≢ session_in this)
+        × ((request : Request) → this ≡ Call (session_in this) request → IsClearRequest one request xid rows)
+        × AreCallsClear session one xid rows more)
+    apart_from (Call other asked) all sees = inr (
+      all.0,
+      (λ request e. subst (λ r. IsClearRequest one r xid rows)
+          (same_asked asked request e) all.1),
+      all.2,
+    )
+      where
+        same_asked : (x y : Request) → Call other x ≡ Call other y → x ≡ y
+        same_asked x y f = cc
+    apart_from (Return other shown) (inl e) sees =
+        inl (none-some runs.0 (sym (ap (λ o. returned o run other shown)
+        (subst (λ n. slice_get run.clients n ≡ Some (Called (Given one))) e at)) ∙ sees))
+    apart_from (Return other shown) (inr rest) sees = inr (rest.0, (λ request e. absurd (no request e)), rest.1)
+      where
+        no : (request : Request) → Return other shown ≡ Call other request → ⊥
+        no request e = cc
+    apart_from (Lost other) all sees = inr (all.0, (λ request e. absurd (no request e)), all.1)
+      where
+        no : (request : Request) → Lost other ≡ Call other request → ⊥
+        no request e = cc
+    apart_from (Unknown other) all sees = inr (all.0, (λ request e. absurd (no request e)), all.1)
+      where
+        no : (request : Request) → Unknown other ≡ Call other request → ⊥
+        no request e = cc
+goes_first run end session one xid rows [] (Seeing ∷ moves) law at step clear calls runs = absurd runs
+goes_first run end session one xid rows [] [] law at step clear calls runs =
+    (made, [], made, ap (λ o. carried_out o run session) at, refl, like)
+  where
+    answered : ClientState
+    answered = Answered (answer_to run.state session (Given one))
+
+    made : Config
+    made = record {
+      state = next_state run.state session (Given one);
+      clients = set run.clients session answered;
+    }
+
+    not_answered : (answer : Answer) → Some (Called (Given one)) ≡ Some (Answered answer) → ⊥
+    not_answered answer e = cc
+
+    like : IsLike end made
+    like = λ other answer e.
+        let there : slice_get run.clients other ≡ Some (Answered answer) =
+        ap (λ (c : Config). slice_get c.clients other) (sym runs) ∙ e in
+        elim (same_number session other) [
+          | inl is ↦ absurd (not_answered answer (sym at
+              ∙ subst (λ n. slice_get run.clients n ≡ Some (Answered answer)) (sym is) there))
+          | inr apart ↦ get_apart run.clients session other answered apart ∙ there
+        ]
+goes_first run end session one xid rows (event ∷ more) [] law at step clear calls runs = absurd runs
+
+-- ---- in what is kept
+
+-- a step that nothing has to do with takes effect at once
+pub steps_first : (hints : List Hint) (kept new : Config) (session : ℕ) (one : Statement) (xid : Xid)
+    (rows : List (List ℕ)) (more : List Event) → slice_get kept.clients session ≡ Some (Called (Given one))
+    → (fact_of hints session).never ≡ false → IsOwnStep kept.state session one xid rows
+    → AreNotedClear hints session one xid rows → AreCallsClear session one xid rows more
+    → effect_of kept session ItsStatement ≡ Some new → IsSteppedFor hints more kept new
+steps_first hints kept new session one xid rows more at heard step clear calls leads = λ run end moves alike runs.
+    let same = as_far run alike (alike.clients session) in
+    let found = goes_first run end session one xid rows more moves alike.law (same ∙ at)
+    (subst (λ s. IsOwnStep s session one xid rows) alike.state step)
+    (λ other request apart opened. clear other request apart (alike.asked.calls other request opened)) calls runs in
+    let both = both_act hints run kept found.0 session ItsStatement alike found.3 same in (
+      found.0,
+      found.1,
+      found.2,
+      subst (AreAlike hints found.0) (same_Some both.0 new (sym both.1 ∙ leads)) both.2,
+      found.4,
+      found.5,
+    )
+  where
+    not_answered : (answer : Answer) → Some (Called (Given one)) ≡ Some (Answered answer) → ⊥
+    not_answered answer e = cc
+
+    as_far : (run : Config) → AreAlike hints run kept
+        → IsAlikeAt (fact_of hints session) run.state session (slice_get run.clients session)
+        (slice_get kept.clients session)
+        → slice_get run.clients session ≡ slice_get kept.clients session
+    as_far run alike (inl same) = same
+    as_far run alike (inr (inl ahead)) = absurd (not_answered ahead.answer (sym at ∙ ahead.kept))
+    as_far run alike (inr (inr behind)) = absurd (false≢true (sym heard ∙ behind.never))
+
+-- what doesn't take it stays as it is
+pub steps_none : (hints : List Hint) (more : List Event) (kept : Config) → IsSteppedFor hints more kept kept
+steps_none hints more kept = λ run end moves alike runs. (run, moves, end, alike, runs, (λ at answer e. e))
+
+-- orders go on from a list of which each configuration has taken the step if it can
+pub goes_stepped : (hints : List Hint) (more : List Event) (old new : Config → Type 0)
+    → ((kept : Config) → old kept → (other : Config) × new other × IsSteppedFor hints more kept other)
+    → (end : Config) → GoesOn hints old more end → GoesOnLike hints new more end
+goes_stepped hints more old new steps end (inl from) =
+    let other = steps from.kept from.there in
+    let on = other.2 from.run end from.moves from.alike from.runs in (
+      on.2,
+      on.5,
+      inl (record {
+        kept = other.0;
+        there = other.1;
+        run = on.0;
+        alike = on.3;
+        moves = on.1;
+        runs = on.4;
+      }),
+    )
+goes_stepped hints more old new steps end (inr left) = (end, (λ at answer e. e), inr left)
+
+-- what doesn't step goes on
+pub goes_same : (hints : List Hint) (more : List Event) (known : List Configuration) (end : Config)
+    → GoesOn hints (Has known) more end → GoesOnLike hints (Has known) more end
+goes_same hints more known end goes = (end, (λ at answer e. e), goes)
+
+-- in a loop over a list: each configuration is still to come, or its step is there
+abbrev pub StepsBoth : List Hint → List Event → List Configuration → List Configuration → List Configuration → Type 0
+StepsBoth hints more first rest list = (kept : Config) → Has first kept
+    → Has rest kept ⊎ ((other : Config) × Has list other × IsSteppedFor hints more kept other)
+
+pub steps_more : (hints : List Hint) (more : List Event) (first known rest list new : List Configuration)
+    (one added : Configuration) → known ≡ rest ++ one ∷ [] → AddsUnlessThere list added new
+    → IsSteppedFor hints more (config_of one) (config_of added)
+    → StepsBoth hints more first known list → StepsBoth hints more first rest new
+steps_more hints more first known rest list new one added parts adds here has = λ kept was. elim (has kept was) [
+  | inl there ↦ elim (has_last rest known one kept parts there) [
+    | inl still ↦ inl still
+    | inr same ↦ inr (
+      config_of added,
+      has_added list new added adds,
+      subst (λ c. IsSteppedFor hints more c (config_of added)) same here,
+    )
+  ]
+  | inr done ↦ inr (done.0, still_has list new done.0 (adds_one list new added adds) done.1, done.2)
+]
+
+pub steps_end : (hints : List Hint) (more : List Event) (first rest list : List Configuration) → rest ≡ []
+    → StepsBoth hints more first rest list → (kept : Config) → Has first kept
+    → (other : Config) × Has list other × IsSteppedFor hints more kept other
+steps_end hints more first rest list none has = λ kept there. elim (has kept there) [
+  | inl still ↦ absurd (empty (subst (λ l. Has l kept) none still))
+  | inr done ↦ done
+]
+  where
+    empty : {c : Config} → Has [] c → ⊥
+    empty h = omega (arith, h.1)

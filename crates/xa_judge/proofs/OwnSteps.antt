@@ -1,0 +1,191 @@
+-- Which statements are steps of the session's own branch, by their replies.
+--     started_step, ended_step, prepared_step, row_step, finished_step
+--     among_at            a row that is one of these stands at a place
+use Rattle.std.proofs.Common.{◌≡◌, ◌||◌, Bool, true, false, not, Option, Some, None, List, [], ◌∷◌, ℕ}
+use Rattle.std.proofs.Common.{refl, ap, sym, ◌∙◌, subst, inl, inr, zero, suc}
+use Rattle.std.specs.Prelude.{is_some, map, slice_get}
+use Rattle.std.specs.Option.{option_map_or, option_and_then}
+use Rattle.std.specs.List.{list_any}
+use Rattle.std.specs.Ordering.{eq_by_cmp}
+use Rattle.std.specs.FinMap as fin
+use Rattle.std.specs.FinMap.{contains_key-keys}
+use Rattle.std.proofs.lemmas.Bool.{false≢true}
+use Rattle.xa_xid.specs.declared.xid.Xid.{Xid}
+use Rattle.xa_xid.specs.Xid.{bytes_cmp}
+use Rattle.xa_xid.proofs.Orders.{bytes_total, exact_texts}
+use Rattle.xa_xid.specs.declared.statement.Statement.{Statement}
+use Rattle.xa_xid.specs.declared.statement.Statement.TheVariants.{Start, End, Prepare, Commit, Rollback, Del}
+use Rattle.xa_server.specs.declared.association.Association.{Association}
+use Rattle.xa_server.specs.declared.association.Association.TheVariants.{Free, Active, Idle}
+use Rattle.xa_server.specs.declared.reply.Reply.{Reply}
+use Rattle.xa_server.specs.declared.reply.Reply.TheVariants.{Ok as Accepted, Refused}
+use Rattle.xa_server.specs.declared.xa_error.XaError.TheVariants.{Nota, Rmfail}
+use Rattle.xa_server.specs.declared.xa_error.XaError.{XaError}
+use Rattle.xa_server.specs.declared.xa_error.BranchState.TheVariants.{Prepared as StatePrepared}
+use Rattle.xa_server.specs.State.{LockMode, Branch, State, association_of, is_prepared}
+use Rattle.xa_server.specs.Locks.{holds}
+use Rattle.xa_server.specs.Overview.{held_row, rows_held, rows_of, keys_of, keys_about}
+use Rattle.xa_server.specs.Replies.{table, reply_to, ok_if, refused_if}
+use Rattle.xa_server.specs.Step.{is_refused}
+use Rattle.xa_server.proofs.Accepted.{accepted_start, own_is, accepted_del}
+use Rattle.xa_server.proofs.Maps.{same_itself, same_or_apart}
+use Rattle.xa_judge.specs.declared.request.Request.{Request}
+use Rattle.xa_judge.specs.declared.request.Request.TheVariants.{Statement as Given}
+use Rattle.xa_judge.specs.declared.answer.Answer.TheVariants.{Reply as Replied}
+use Rattle.xa_judge.specs.Explained.{answer_to}
+use Rattle.xa_judge.specs.Clear.{IsAmong, HasRow, MayEnd, IsEnding, key_of, IsOwnStep}
+use Rattle.xa_judge.specs.Clear.{starts, ends, prepares, works, finishes}
+use Rattle.xa_judge.proofs.Commuting.{by_row, by_ending}
+
+-- an answer that says OK has that reply
+pub replied : (reply : Reply) → Replied reply ≡ Replied Accepted → reply ≡ Accepted
+replied reply e = cc
+
+-- the request's answer is the statement's reply
+pub accepted : (state : State) (session : ℕ) (request : Request) (statement : Statement) → request ≡ Given statement
+    → answer_to state session request ≡ Replied Accepted → reply_to state session statement ≡ Accepted
+accepted state session request statement is e =
+    replied (reply_to state session statement) (sym (ap (answer_to state session) is) ∙ e)
+
+nothing_there : (found : Option Branch) → is_some found ≡ false → found ≡ None
+nothing_there None e = refl
+nothing_there (Some branch) e = absurd (false≢true (sym e))
+
+pub started_step : (state : State) (session : ℕ) (xid : Xid) (rows : List (List ℕ))
+    → reply_to state session (Start xid) ≡ Accepted → IsOwnStep state session (Start xid) xid rows
+unfolding reply_to
+started_step state session xid rows e =
+    let is = accepted_start state (association_of state session) xid (ap is_refused e) in
+    starts refl is.0 (nothing_there (fin.get state.branches xid) is.1)
+
+active_of : (state : State) (a : Association) (xid : Xid) → table state a (End xid) ≡ Accepted → a ≡ Active xid
+unfolding table
+active_of state Free xid e = absurd (false≢true (sym (ap is_refused e)))
+active_of state (Active own) xid e = ap Active (sym (own_is xid own _ (ap is_refused e)))
+active_of state (Idle own) xid e = absurd (false≢true (sym (ap is_refused e)))
+
+-- XA END is accepted only of the branch that the session has open
+pub has_active : (state : State) (session : ℕ) (xid : Xid) → reply_to state session (End xid) ≡ Accepted
+    → association_of state session ≡ Active xid
+unfolding reply_to
+has_active state session xid e = active_of state (association_of state session) xid e
+
+pub ended_step : (state : State) (session : ℕ) (xid : Xid) (rows : List (List ℕ))
+    → reply_to state session (End xid) ≡ Accepted → IsOwnStep state session (End xid) xid rows
+ended_step state session xid rows e = ends refl (has_active state session xid e)
+
+idle_of : (state : State) (a : Association) (xid : Xid) → table state a (Prepare xid) ≡ Accepted → a ≡ Idle xid
+unfolding table
+idle_of state Free xid e = absurd (false≢true (sym (ap is_refused e)))
+idle_of state (Active own) xid e = absurd (false≢true (sym (ap is_refused e)))
+idle_of state (Idle own) xid e = ap Idle (sym (own_is xid own _ (ap is_refused e)))
+
+pub prepared_step : (state : State) (session : ℕ) (xid : Xid) (rows : List (List ℕ))
+    → reply_to state session (Prepare xid) ≡ Accepted → IsOwnStep state session (Prepare xid) xid rows
+unfolding reply_to
+prepared_step state session xid rows e = prepares refl (idle_of state (association_of state session) xid e)
+
+-- in a branch a DEL is accepted only if no other branch holds the row
+pub has_row : (state : State) (session : ℕ) (key : List ℕ) (xid : Xid) → association_of state session ≡ Active xid
+    → reply_to state session (Del key) ≡ Accepted → HasRow state session key xid
+unfolding reply_to
+has_row state session key xid own e = (
+  own,
+  accepted_del state xid key (ap is_refused (sym (ap (λ a. table state a (Del key)) own) ∙ e)),
+)
+
+-- the only row of a statement that names one
+one_row : (key : List ℕ) → IsAmong key (key ∷ [])
+one_row key = ap (λ b. b || false) (same_itself bytes_total exact_texts key)
+
+named_row : (state : State) (session : ℕ) (statement : Statement) (key : List ℕ) → key_of statement ≡ Some key
+    → keys_about state session statement ≡ key ∷ []
+unfolding keys_about
+named_row state session statement key is =
+    by_row (λ s. keys_about state session s ≡ key ∷ []) statement key is refl (λ value. refl) refl
+
+pub row_step : (state : State) (session : ℕ) (statement : Statement) (xid : Xid) (rows : List (List ℕ))
+    (key : List ℕ) → key_of statement ≡ Some key → rows ≡ keys_about state session statement
+    → HasRow state session key xid → IsOwnStep state session statement xid rows
+row_step state session statement xid rows key is about has =
+    works key is has (subst (IsAmong key) (sym (about ∙ named_row state session statement key is)) (one_row key))
+
+-- a row that is one of these stands at a place
+pub among_at : (key : List ℕ) (rows : List (List ℕ)) → IsAmong key rows
+    → (at : ℕ) × (slice_get rows at ≡ Some key)
+among_at key [] e = absurd (false≢true e)
+among_at key (row ∷ rows) e = elim (same_or_apart bytes_total exact_texts key row) [
+  | inl is ↦ (zero, ap Some (sym is))
+  | inr apart ↦
+      let rest = among_at key rows (sym (ap (λ b. b || list_any (eq_by_cmp bytes_cmp key) rows) apart) ∙ e) in
+      (suc rest.0, rest.1)
+]
+
+-- ---- the end of a branch
+
+keys_same : (branch : Branch) (locks : List (List ℕ × LockMode))
+    → keys_of (map (held_row branch) locks) ≡ map (λ lock. lock.0) locks
+keys_same branch [] = refl
+keys_same branch (lock ∷ locks) = ap (λ l. lock.0 ∷ l) (keys_same branch locks)
+
+-- the rows that a branch holds are those that its end is about
+held_among : (state : State) (xid : Xid) (key : List ℕ) → holds state xid key ≡ true
+    → IsAmong key (keys_of (rows_of state xid))
+unfolding rows_of
+held_among state xid key e = by (fin.get state.branches xid) e
+  where
+    by : (found : Option Branch)
+        → is_some (option_and_then (λ (branch : Branch). fin.get branch.locks key) found) ≡ true
+        → list_any (eq_by_cmp bytes_cmp key) (keys_of (option_map_or rows_held found [])) ≡ true
+    by None e = absurd (false≢true e)
+    by (Some branch) e =
+        ap (list_any (eq_by_cmp bytes_cmp key)) (keys_same branch (fin.entries branch.locks))
+        ∙ sym (contains_key-keys branch.locks key) ∙ e
+
+passed : (b : Bool) (error : XaError) → ok_if b error ≡ Accepted → b ≡ true
+passed true error e = refl
+passed false error e = absurd (false≢true (sym (ap is_refused e)))
+
+never : (b : Bool) → refused_if (not b) Nota (Refused (Rmfail StatePrepared)) ≡ Accepted → ⊥
+never true e = false≢true (sym (ap is_refused e))
+never false e = false≢true (sym (ap is_refused e))
+
+commit_ends : (state : State) (session : ℕ) (xid : Xid) (one_phase : Bool) (a : Association)
+    → association_of state session ≡ a → table state a (Commit xid one_phase) ≡ Accepted → MayEnd state session xid
+unfolding table
+commit_ends state session xid false Free is e = inl (is, passed (is_prepared state xid) _ e)
+commit_ends state session xid true Free is e = absurd (never (is_prepared state xid) e)
+commit_ends state session xid false (Active own) is e = absurd (false≢true (sym (ap is_refused e)))
+commit_ends state session xid true (Active own) is e = absurd (false≢true (sym (ap is_refused e)))
+commit_ends state session xid false (Idle own) is e = absurd (false≢true (sym (ap is_refused e)))
+commit_ends state session xid true (Idle own) is e = inr (is ∙ ap Idle (sym (own_is xid own _ (ap is_refused e))))
+
+roll_ends : (state : State) (session : ℕ) (xid : Xid) (a : Association) → association_of state session ≡ a
+    → table state a (Rollback xid) ≡ Accepted → MayEnd state session xid
+unfolding table
+roll_ends state session xid Free is e = inl (is, passed (is_prepared state xid) _ e)
+roll_ends state session xid (Active own) is e = absurd (false≢true (sym (ap is_refused e)))
+roll_ends state session xid (Idle own) is e = inr (is ∙ ap Idle (sym (own_is xid own _ (ap is_refused e))))
+
+may_end : (state : State) (session : ℕ) (statement : Statement) (xid : Xid) → IsEnding statement xid
+    → reply_to state session statement ≡ Accepted → MayEnd state session xid
+unfolding reply_to
+may_end state session statement xid ending e =
+    by_ending (λ s. table state (association_of state session) s ≡ Accepted → MayEnd state session xid) statement xid
+    ending (λ one_phase. commit_ends state session xid one_phase (association_of state session) refl)
+    (roll_ends state session xid (association_of state session) refl) e
+
+ended_rows : (state : State) (session : ℕ) (statement : Statement) (xid : Xid) → IsEnding statement xid
+    → keys_about state session statement ≡ keys_of (rows_of state xid)
+unfolding keys_about
+ended_rows state session statement xid ending =
+    by_ending (λ s. keys_about state session s ≡ keys_of (rows_of state xid)) statement xid ending
+    (λ one_phase. refl) refl
+
+pub finished_step : (state : State) (session : ℕ) (statement : Statement) (xid : Xid) (rows : List (List ℕ))
+    → IsEnding statement xid → rows ≡ keys_about state session statement
+    → reply_to state session statement ≡ Accepted → IsOwnStep state session statement xid rows
+finished_step state session statement xid rows ending about e =
+    finishes ending (may_end state session statement xid ending e) (ap is_refused e)
+    (λ key held. subst (IsAmong key) (sym (about ∙ ended_rows state session statement xid ending))
+    (held_among state xid key held))

@@ -1,0 +1,147 @@
+-- Statements that have nothing to do with a step of another session's branch.
+--     named_by, key_of       the branch and the row that a statement names
+--     IsEnding, IsUnlisted   it ends the branch;  it leaves the list of PREPARED branches
+--     IsOwnStep              an accepted statement changes only its branch, and values only of rows
+--     IsClearOf              another statement has nothing to do with it
+--     AreOpenClear, AreCallsClear    nor has what is open, or is called for until it returns
+-- Every rule here is the project's own: crates/xa_judge/README.md.
+use Rattle.std.specs.Prelude.{◌≡◌, ◌≢◌, ◌⊎◌, ℕ, Bool, true, false, Option, Some, None, List, [], ◌∷◌}
+use Rattle.std.specs.List.{list_any}
+use Rattle.std.specs.Ordering.{eq_by_cmp}
+use Rattle.std.specs.FinMap as map
+use Rattle.xa_xid.specs.declared.xid.Xid.{Xid}
+use Rattle.xa_xid.specs.Xid.{same_xid, bytes_cmp}
+use Rattle.xa_xid.specs.declared.statement.Statement.{Statement}
+use Rattle.xa_xid.specs.declared.statement.Statement.TheVariants.{Start, End, Prepare, Commit, Rollback, Recover}
+use Rattle.xa_xid.specs.declared.statement.Statement.TheVariants.{Get, Put, Del}
+use Rattle.xa_server.specs.declared.association.Association.{Association}
+use Rattle.xa_server.specs.declared.association.Association.TheVariants.{Free, Active, Idle}
+use Rattle.xa_server.specs.State.{State, association_of, is_prepared}
+use Rattle.xa_server.specs.Replies.{reply_to}
+use Rattle.xa_server.specs.Step.{is_refused}
+use Rattle.xa_server.specs.Locks.{holds, is_held_against}
+use Rattle.xa_judge.specs.declared.request.Request.{Request}
+use Rattle.xa_judge.specs.declared.request.Request.TheVariants.{Statement as Given, Unread}
+use Rattle.xa_judge.specs.declared.event.Event.{Event}
+use Rattle.xa_judge.specs.declared.event.Event.TheVariants.{Call, Return, Lost, Unknown}
+use Rattle.std.specs.Prelude.{slice_get}
+use Rattle.xa_judge.specs.declared.client_state.ClientState.TheVariants.{Called}
+use Rattle.xa_judge.specs.declared.moves.Move.{Move}
+use Rattle.xa_judge.specs.Explained.{Config, LeadsThrough}
+use Rattle.xa_judge.specs.Foreseen.{Hint, fact_of, IsOpenFor, AreAlike, IsLike}
+
+-- the branch that a statement names
+abbrev pub named_by : Statement → Option Xid
+named_by (Start xid) = Some xid
+named_by (End xid) = Some xid
+named_by (Prepare xid) = Some xid
+named_by (Commit xid one_phase) = Some xid
+named_by (Rollback xid) = Some xid
+named_by other = None
+
+-- the row that it names
+abbrev pub key_of : Statement → Option (List ℕ)
+key_of (Get key) = Some key
+key_of (Put key value) = Some key
+key_of (Del key) = Some key
+key_of other = None
+
+-- the statement doesn't name the branch
+abbrev pub Avoids : Statement → Xid → Type 0
+Avoids (Start other) xid = same_xid xid other ≡ false
+Avoids (End other) xid = same_xid xid other ≡ false
+Avoids (Prepare other) xid = same_xid xid other ≡ false
+Avoids (Commit other one_phase) xid = same_xid xid other ≡ false
+Avoids (Rollback other) xid = same_xid xid other ≡ false
+Avoids other xid = Unit {0}
+
+-- the statement ends the branch
+abbrev pub IsEnding : Statement → Xid → Type 0
+IsEnding (Commit other one_phase) xid = other ≡ xid
+IsEnding (Rollback other) xid = other ≡ xid
+IsEnding other xid = ⊥
+
+-- the statement leaves the list of PREPARED branches
+abbrev pub IsUnlisted : Statement → Type 0
+IsUnlisted (Prepare xid) = ⊥
+IsUnlisted (Commit xid one_phase) = one_phase ≡ true
+IsUnlisted (Rollback xid) = ⊥
+IsUnlisted other = Unit {0}
+
+-- the session hasn't the branch open
+abbrev pub IsBeside : Association → Xid → Type 0
+IsBeside Free xid = Unit {0}
+IsBeside (Active own) xid = same_xid xid own ≡ false
+IsBeside (Idle own) xid = same_xid xid own ≡ false
+
+-- the row is one of these
+abbrev pub IsAmong : List ℕ → List (List ℕ) → Type 0
+IsAmong key rows = list_any (eq_by_cmp bytes_cmp key) rows ≡ true
+
+-- the session has the branch open and ACTIVE, and no other branch holds the row
+abbrev pub HasRow : State → ℕ → List ℕ → Xid → Type 0
+HasRow state session key xid =
+    (association_of state session ≡ Active xid) × (is_held_against state (Active xid) key ≡ false)
+
+-- the session may end the branch: it has nothing open, and the branch is PREPARED; or it has ended its work on it
+abbrev pub MayEnd : State → ℕ → Xid → Type 0
+MayEnd state session xid =
+    ((association_of state session ≡ Free) × (is_prepared state xid ≡ true))
+    ⊎ (association_of state session ≡ Idle xid)
+
+-- an accepted statement of the session that changes only this branch, and values only of these rows
+pub data IsOwnStep (state : State) (session : ℕ) (statement : Statement) (xid : Xid) (rows : List
+    (List ℕ)) : Type 0 where
+  starts : statement ≡ Start xid → association_of state session ≡ Free → map.get state.branches xid ≡ None
+      → IsOwnStep state session statement xid rows
+  ends : statement ≡ End xid → association_of state session ≡ Active xid → IsOwnStep state session statement xid rows
+  prepares : statement ≡ Prepare xid → association_of state session ≡ Idle xid
+      → IsOwnStep state session statement xid rows
+  works : (key : List ℕ) → key_of statement ≡ Some key → HasRow state session key xid → IsAmong key rows
+      → IsOwnStep state session statement xid rows
+  finishes : IsEnding statement xid → MayEnd state session xid → is_refused (reply_to state session statement) ≡ false
+      → ((key : List ℕ) → holds state xid key ≡ true → IsAmong key rows)
+      → IsOwnStep state session statement xid rows
+
+-- a statement of another session has nothing to do with such a step
+pub record IsClearOf (one two : Statement) (xid : Xid) (rows : List (List ℕ)) : Type 0 where
+  pub avoids : Avoids two xid
+  pub apart : (key other : List ℕ) → IsAmong key rows → key_of two ≡ Some other → eq_by_cmp bytes_cmp other key ≡ false
+  pub lists : (convert : Bool) → two ≡ Recover convert → IsUnlisted one
+
+-- the request has nothing to do with the step
+abbrev pub IsClearRequest : Statement → Request → Xid → List (List ℕ) → Type 0
+IsClearRequest one (Given two) xid rows = IsClearOf one two xid rows
+IsClearRequest one Unread xid rows = Unit {0}
+
+-- nor has what other sessions have called for
+abbrev pub AreOpenClear : Config → ℕ → Statement → Xid → List (List ℕ) → Type 0
+AreOpenClear config session one xid rows = (other : ℕ) (request : Request) → session ≢ other
+    → IsOpenFor config other request → IsClearRequest one request xid rows
+
+-- nor what they call for until the session's call returns, or all is over
+abbrev pub AreCallsClear : ℕ → Statement → Xid → List (List ℕ) → List Event → Type 0
+AreCallsClear session one xid rows [] = Unit {0}
+AreCallsClear session one xid rows (Call other request ∷ more) =
+    (session ≢ other) × IsClearRequest one request xid rows × AreCallsClear session one xid rows more
+AreCallsClear session one xid rows (Return other seen ∷ more) =
+    (session ≡ other) ⊎ ((session ≢ other) × AreCallsClear session one xid rows more)
+AreCallsClear session one xid rows (Lost other ∷ more) = (session ≢ other) × AreCallsClear session one xid rows more
+AreCallsClear session one xid rows (Unknown other ∷ more) = (session ≢ other) × AreCallsClear session one xid rows more
+
+-- nor has what is noted of open calls
+abbrev pub AreNotedClear : List Hint → ℕ → Statement → Xid → List (List ℕ) → Type 0
+AreNotedClear hints session one xid rows = (other : ℕ) (request : Request) → session ≢ other
+    → (fact_of hints other).asked ≡ Some request → IsClearRequest one request xid rows
+
+-- where moves lead on from a configuration, some lead on from one of which the new one is kept, to the same answers
+abbrev pub IsSteppedFor : List Hint → List Event → Config → Config → Type 0
+IsSteppedFor hints more old new = (run end : Config) (moves : List Move) → AreAlike hints run old
+    → LeadsThrough run more moves end
+    → (first : Config) × (all : List Move) × (last : Config) × AreAlike hints first new
+    × LeadsThrough first more all last × IsLike end last
+
+-- the session has called for the step
+abbrev pub IsReadyStep : Config → ℕ → Statement → Xid → List (List ℕ) → Type 0
+IsReadyStep config session one xid rows =
+    (slice_get config.clients session ≡ Some (Called (Given one))) × IsOwnStep config.state session one xid rows
