@@ -64,7 +64,7 @@ class Pictures(unittest.TestCase):
     def test_every_record_is_drawn(self):
         for name, record in RECORDS.items():
             with self.subTest(record=name):
-                drawn = Drawn(record)
+                drawn = Drawn(record, (1, record.count(b"\n") + 1))
                 self.assertLessEqual({it.tag.removeprefix(SVG) for it in drawn.root.iter()}, DRAWN)
                 if not judged(record).startswith(b"LINE"):
                     self.assertEqual([int(it.get("data-line")) for it in drawn.of("call")], list(events(record)))
