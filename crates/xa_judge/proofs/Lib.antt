@@ -18,10 +18,7 @@ pub mod KeyStates
 pub mod KeyClients
 pub mod KeyRuns
 pub mod KeyVerdicts
-pub mod RowSteps
-pub mod RowLists
-pub mod RowAnswers
-pub mod RowVerdicts
+pub mod RefutedReturns
 pub mod Acts
 pub mod ForeseenSteps
 pub mod ForeseenEvents

@@ -11,6 +11,5 @@ pub mod Path
 pub mod Near
 pub mod Told
 pub mod Keys
-pub mod Rows
 pub mod Foreseen
 pub mod Clear

@@ -8,11 +8,10 @@ ghost use Rattle.xa_judge.specs.Keys.{free_in, first_turns, HasNoBranch, IsCut, 
 ghost use Rattle.xa_judge.specs.Near.{named_in};
 ghost use Rattle.xa_judge.specs.Verdicts.{IsVerdict};
 
-use crate::by_row::judge_row;
 use crate::event::Event;
 use crate::following::follows;
-use crate::judging::judge_narrow;
-use crate::judging_part::{judge_few, judge_many, judge_part};
+use crate::hints::session_of;
+use crate::judging_part::judge_part;
 use crate::loading::key_called;
 use crate::moves::Move;
 use crate::parts::{count_before, merge, pick, place_in, sides_of};
@@ -20,10 +19,11 @@ use crate::progress::Silent;
 use crate::request::Request;
 use crate::shared_answer::SharedAnswer;
 use crate::verdict::Verdict;
+use crate::ways::judge_narrow;
 use std::alloc::Global;
 use std::collections::BTreeSet;
 use xa_server::Server;
-use xa_xid::{Key, NoMemory, SessionNo, Statement};
+use xa_xid::{Key, NoMemory, Statement};
 
 /// Whether there is no branch.
 fn has_no_branch(alloc: Global, base: &Server) -> Result<bool, NoMemory>
@@ -41,16 +41,6 @@ fn may_hold(event: &Event) -> bool {
         }
         Event::Lost(_) => true,
         _ => false,
-    }
-}
-
-/// Whose event it is.
-fn session_of(event: &Event) -> SessionNo {
-    match event {
-        Event::Call(session, _) => *session,
-        Event::Return(session, _) => *session,
-        Event::Lost(session) => *session,
-        Event::Unknown(session) => *session,
     }
 }
 
@@ -122,6 +112,7 @@ fn legal_together(
 ) -> Result<Option<Verdict>, NoMemory>
     ensures { IfOk result (λ found. IfSome found (IsVerdict base.now events.now limit)) }
 {
+    // Only the contract names the limit: LEGAL doesn't depend on it.
     let _limit = limit;
     if follows(alloc, base, events, moves.as_slice())? {
         Ok(Some(Verdict::Legal(moves)))
@@ -233,44 +224,6 @@ fn together(
     }
 }
 
-/// What refutes the statements on the row with the only key, if that is found.
-fn refute_one(
-    alloc: Global,
-    base: &Server,
-    keys: &[Key],
-    events: &[Event],
-    limit: usize,
-) -> Result<Option<Verdict>, NoMemory>
-    requires { HasNoBranch base.now }
-    ensures { IfOk result (λ found. IfSome found (IsVerdict base.now events.now limit)) }
-{
-    match keys.first() {
-        None => Ok(None),
-        Some(key) => judge_row(alloc, base, key, events, limit),
-    }
-}
-
-/// The verdict on the statements on the row with the only key.
-fn judge_one(
-    alloc: Global,
-    base: &Server,
-    keys: &[Key],
-    events: &[Event],
-    limit: usize,
-) -> Result<Option<Verdict>, NoMemory>
-    requires { HasNoBranch base.now }
-    ensures { IfOk result (λ found. IfSome found (IsVerdict base.now events.now limit)) }
-{
-    if let Some(verdict) = judge_few(alloc, base, events, limit)? {
-        return Ok(Some(verdict));
-    }
-    // What refutes one row quickly comes before a search for one order, which would go on to its end.
-    match refute_one(alloc, base, keys, events, limit)? {
-        Some(verdict) => Ok(Some(verdict)),
-        None => judge_many(alloc, base, events, limit),
-    }
-}
-
 /// The verdict on the statements on these rows, row by row.
 fn judge_rows(
     alloc: Global,
@@ -284,7 +237,7 @@ fn judge_rows(
     ensures { IfOk result (λ found. IfSome found (IsVerdict base.now events.now limit)) }
 {
     if keys.len() < 2 {
-        return judge_one(alloc, base, keys, events, limit);
+        return judge_part(alloc, base, events, limit);
     }
     // Rows on which calls don't overlap need no cut, however many they are.
     if let Some(verdict) = judge_narrow(alloc, base, events, limit, &mut Silent)? {
@@ -341,7 +294,7 @@ pub fn judge_by_keys(
     };
     if keys.len() < 2 && count_before(sides.as_slice(), false, sides.len()) == 0 {
         // Nothing is cut off: there is only this row.
-        return refute_one(alloc, base, keys.as_slice(), events, limit);
+        return Ok(None);
     }
     let part = pick(alloc, true, sides.as_slice(), events)?;
     let all = keys.as_slice();

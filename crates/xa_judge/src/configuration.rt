@@ -124,7 +124,10 @@ impl Configuration {
         })
     }
 
-    /// Returns how far the session is.
+    /// Returns how far the session is: `None` only if `clients` has no place of its number. From `opening` on it has
+    /// one for each session.
+    ///
+    /// The clause `session` tells callers that the number of any session is from 1 to 16.
     pub fn client(&self, session: SessionNo) -> Option<&ClientState>
         ensures value { option_copied result ≡ slice_get self.now.clients.items session }
         ensures session { IsSession session }

@@ -3,19 +3,33 @@
 use crate::fingerprint_index::FingerprintIndex;
 use crate::room::holds;
 
-/// How many configurations may be looked up for any record. That takes about as long as a search for one order may.
-const LOOKUPS: u64 = 500_000;
+/// How many records of rows and branches may be looked at for any record of events: some seconds' work, after which the
+/// other ways to a verdict follow.
+const LOOKS: u64 = 22_000_000;
 
-/// How many more may be looked up for each event, since a longer record needs more.
-const LOOKUPS_EACH: u64 = 64;
+/// How many more may be looked at for each event, since a longer record needs more.
+const LOOKS_EACH: u64 = 3_000;
 
-/// How many configurations may be kept at a time, and how many more may be looked up.
+/// What looking up a configuration takes besides: as much as looking at this many records does.
+const LOOKUP: u64 = 8;
+
+/// Of a configuration no more records than these are counted: large tables mustn't use up what may be done.
+const COUNTED: u64 = 36;
+
+/// How many configurations may be kept at a time, and how many more may be looked up. A configuration with more records
+/// of rows and branches takes longer to look up, so these are counted.
 #[derive(Drop)]
 pub struct Effort {
     /// The greatest number that is kept.
     limit: usize,
-    /// How many may still be looked up.
+    /// How many records may still be looked at.
     left: u64,
+}
+
+/// How much was looked at since lookups were counted anew.
+fn looked_at(index: &FingerprintIndex) -> u64 {
+    let each = LOOKUP + COUNTED.min(index.records() as u64);
+    each.saturating_mul(index.lookups())
 }
 
 impl Effort {
@@ -23,17 +37,18 @@ impl Effort {
     pub fn new(limit: usize, events: usize) -> Effort {
         Effort {
             limit,
-            left: LOOKUPS.saturating_add(LOOKUPS_EACH.saturating_mul(events as u64)),
+            left: LOOKS.saturating_add(LOOKS_EACH.saturating_mul(events as u64)),
         }
     }
 
     /// Tells whether more may be done where so many configurations are kept, each with a server of its own.
     pub fn allows(&self, kept: usize, index: &FingerprintIndex) -> bool {
-        kept <= self.limit && index.lookups() <= self.left && holds(kept, index.records())
+        kept <= self.limit && looked_at(index) <= self.left && holds(kept, index.records())
     }
 
     /// Counts what was looked up in the index so far.
     pub fn spend(&mut self, index: &mut FingerprintIndex) {
-        self.left = self.left.saturating_sub(index.forget_lookups());
+        self.left = self.left.saturating_sub(looked_at(index));
+        index.forget_lookups();
     }
 }

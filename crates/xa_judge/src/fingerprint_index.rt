@@ -201,11 +201,9 @@ impl FingerprintIndex {
         self.lookups
     }
 
-    /// Returns how often a configuration was looked up, and counts from nought again.
-    pub fn forget_lookups(&mut self) -> u64 {
-        let lookups = self.lookups;
+    /// Counts from nought how often a configuration is looked up.
+    pub fn forget_lookups(&mut self) {
         self.lookups = 0;
-        lookups
     }
 
     /// Returns the place before this one that has the same fingerprint, if one has.

@@ -1,5 +1,5 @@
 //! Fingerprints: 64-bit numbers by which configurations are told apart.
-ghost use Rattle.std.specs.Prelude.{◌≡◌, Some, fold, map, IfOk};
+ghost use Rattle.std.specs.Prelude.{◌≡◌, fold, map, IfOk};
 ghost use Rattle.xa_judge.specs.Marks.{with_word, with_text, with_xid, with_value, with_xids, with_state, with_error};
 ghost use Rattle.xa_judge.specs.Marks.{with_answer, with_client};
 ghost use Rattle.xa_judge.specs.Marks.{with_phase, with_owner, with_hold, with_row, with_rows, with_branch, with_key};
@@ -281,20 +281,6 @@ pub fn mark_of_key(key: &Key) -> u64
     ensures { result ≡ with_text 0 key.now }
 {
     Fingerprint::new().with_text(key.as_slice()).number
-}
-
-/// Returns the fingerprint of a value.
-pub fn mark_of_value(value: &Option<Bytes>) -> u64
-    ensures { result ≡ with_value 0 value.now }
-{
-    Fingerprint::new().with_value(value).number
-}
-
-/// Returns the fingerprint of the value that is this text.
-pub fn mark_of_text(text: &Bytes) -> u64
-    ensures { result ≡ with_value 0 (Some text.now) }
-{
-    Fingerprint::new().with(1).with_text(text.as_slice()).number
 }
 
 /// Returns a number after one more word.

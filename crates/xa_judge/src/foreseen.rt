@@ -18,9 +18,9 @@ use crate::following::follows;
 use crate::foreseeing::close;
 use crate::foreseen_event::see_one;
 use crate::frontier::Frontier;
+use crate::halving::first_refuted;
 use crate::hints::{
-    are_unknown, fits, is_blank, last_call, last_place, later_places, next_return, no_places,
-    note_unheard,
+    are_unknown, fits, is_blank, last_call, last_place, later_places, no_places, note_unheard,
 };
 use crate::known::opening;
 use crate::own_step::stepped;
@@ -35,7 +35,9 @@ use xa_xid::{NoMemory, SessionNo};
 
 /// Goes on from what is kept before the event at the place `from` to before the one at the place `until`. Of the call
 /// at the place `asked` it isn't known what it returns. No more is done than `effort` allows.
-fn sweep_on(
+///
+/// May return `NoMemory`.
+pub fn sweep_on(
     alloc: Global,
     front: Frontier,
     events: &[Event],
@@ -88,8 +90,10 @@ fn sweep_on(
     }))
 }
 
-/// What is kept before all events.
-fn opened(alloc: Global, base: &Server) -> Result<Frontier, NoMemory>
+/// Returns what is kept before all events.
+///
+/// May return `NoMemory`.
+pub fn opened(alloc: Global, base: &Server) -> Result<Frontier, NoMemory>
     ensures { IfOk result (λ front. (events : List EventSeen) (moves : List Moved) (end : Config)
         → LeadsThrough (opening_config base.now) events moves end
         → GoesOnLike (hints_of events front.places.items) (Has front.known.items) events end) }
@@ -234,9 +238,8 @@ fn illegal_at(
         Some(front) => {
             let all = answers_in(alloc, front.known.as_slice(), session)?;
             let once = distinct(alloc, all.as_slice())?;
-            let kept = Some(&front);
             refuted(
-                alloc, base, events, place, first, session, seen, once, kept, limit,
+                alloc, base, events, place, first, session, seen, once, &front, limit,
             )
         }
     }
@@ -267,103 +270,6 @@ fn illegal_on(
             )
         }
         _ => Ok(None),
-    }
-}
-
-/// The place of the first call up to this place that returns later.
-fn first_open(events: &[Event], place: usize) -> usize {
-    for early in 0..place {
-        if let Some(later) = next_return(events, early, events.len())
-            && later > place
-        {
-            return early;
-        }
-    }
-    place
-}
-
-/// A copy of what is kept before the event at the place `from`.
-fn copy_of(
-    alloc: Global,
-    front: &Frontier,
-    events: &[Event],
-    from: usize,
-) -> Result<Frontier, NoMemory> {
-    let mut index = FingerprintIndex::new(alloc);
-    for place in 0..from.min(events.len()) {
-        index.go_on(&events[place])?;
-    }
-    index.settle(front.known.len());
-    let mut known = Vec::new(alloc);
-    for one in front.known.iter() {
-        known.push(one.copy()?)?;
-    }
-    Ok(Frontier {
-        known,
-        trunk: front.trunk.clone()?,
-        places: front.places.clone()?,
-        index,
-    })
-}
-
-/// The place that `first_refuted` looks for, by halving, from what is kept before the event at the place `from`.
-fn halved(
-    alloc: Global,
-    front: &Frontier,
-    events: &[Event],
-    from: usize,
-    least: usize,
-    most: usize,
-    effort: &mut Effort,
-) -> Result<Option<usize>, NoMemory> {
-    let mut low = least;
-    let mut high = most;
-    // Halving a number of 64 bits as often leaves nothing of it.
-    for _ in 0..64usize {
-        if low >= high {
-            break;
-        }
-        let middle = low + (high - low) / 2;
-        let (upto, _) = events.split_at((middle + 1).min(events.len()));
-        let count = upto.len();
-        if from > count {
-            break;
-        }
-        let start = copy_of(alloc, front, events, from)?;
-        match sweep_on(alloc, start, upto, from, count, count, effort)? {
-            Swept::Unknown => return Ok(None),
-            Swept::Nothing(place, _) => {
-                low = low.max(place);
-                high = middle;
-            }
-            Swept::Kept(_) => low = middle + 1,
-        }
-    }
-    Ok(Some(high))
-}
-
-/// The place of the first event after which nothing is left, if no more is known than the events up to there tell:
-/// it is one of those from `least` to `most`.
-///
-/// What is known of calls that return by then is the same up to any of these places. So events before the first other
-/// call are gone through once.
-fn first_refuted(
-    alloc: Global,
-    base: &Server,
-    events: &[Event],
-    least: usize,
-    most: usize,
-    effort: &mut Effort,
-) -> Result<Option<usize>, NoMemory> {
-    let from = first_open(events, least);
-    if from > events.len() {
-        return Ok(None);
-    }
-    let first = opened(alloc, base)?;
-    match sweep_on(alloc, first, events, 0, from, events.len(), effort)? {
-        Swept::Unknown => Ok(None),
-        Swept::Nothing(_, _) => Ok(None),
-        Swept::Kept(front) => halved(alloc, &front, events, from, least, most, effort),
     }
 }
 

@@ -4,6 +4,7 @@ use crate::client_state::ClientState;
 use crate::configuration::Configuration;
 use crate::effect::Effect;
 use crate::event::{Event, Seen};
+use crate::hints::session_of;
 use crate::kept_server::KeptServer;
 use crate::request::Request;
 use std::alloc::Global;
@@ -29,16 +30,6 @@ pub struct Foresight<'a> {
     events: &'a [Event],
     /// At each session's number, what its last call returns, if that is known.
     returns: Vec<Option<&'a Seen>>,
-}
-
-/// The session to which the event belongs.
-fn session_of(event: &Event) -> SessionNo {
-    match event {
-        Event::Call(session, _) => *session,
-        Event::Return(session, _) => *session,
-        Event::Lost(session) => *session,
-        Event::Unknown(session) => *session,
-    }
 }
 
 /// What the session's open call returns, from this place on, if that is known.

@@ -4,10 +4,11 @@
 //! sessions, and no branch of the base holds it, nothing else depends on the row.
 ghost use Rattle.std.specs.Prelude.{◌≡◌, ◌≤◌, true, take, length, slice_get, IfOk, IfSome, option_copied};
 ghost use Rattle.xa_judge.specs.Keys.{free_in, is_chosen as is_chosen_turn, turn_after, FitsRow, FitsTurn};
-ghost use Rattle.xa_judge.specs.Keys.{first_turns, session_of as session_in, IsCut, picked, count_in};
+ghost use Rattle.xa_judge.specs.Keys.{first_turns, IsCut, picked, count_in};
 ghost use Rattle.xa_judge.specs.Near.{named_in};
 
 use crate::event::Event;
+use crate::hints::session_of;
 use crate::moves::Move;
 use crate::request::Request;
 use crate::turn::Turn;
@@ -119,18 +120,6 @@ fn turn_past(event: &Event, side: bool) -> Turn
         Event::Return(_, _) => Turn::Nobody,
         Event::Lost(_) => Turn::Rest,
         Event::Unknown(_) => Turn::Nobody,
-    }
-}
-
-/// Whose event it is.
-fn session_of(event: &Event) -> SessionNo
-    ensures { result ≡ session_in event.now }
-{
-    match event {
-        Event::Call(session, _) => *session,
-        Event::Return(session, _) => *session,
-        Event::Lost(session) => *session,
-        Event::Unknown(session) => *session,
     }
 }
 

@@ -13,13 +13,7 @@ use crate::event::{Event, Seen};
 use crate::following::followed;
 use crate::frontier::Frontier;
 use crate::moves::Move;
-use crate::parts::copy_of as copy_of_event;
-use crate::progress::Silent;
-use crate::row_answers::copy_of_value;
-use crate::search_size::SearchSize;
-use crate::searching::moves_through;
 use crate::shared_answer::SharedAnswer;
-use crate::shared_seen::SharedSeen;
 use crate::verdict::Verdict;
 use std::alloc::Global;
 use xa_server::{Reply, Server};
@@ -39,53 +33,6 @@ fn has_answer(one: &Configuration, session: SessionNo, answer: &SharedAnswer) ->
     }
 }
 
-/// What a return shows of the answer to a call for a row.
-fn seen_of(answer: &Answer) -> Option<Seen> {
-    match answer {
-        Answer::Reply(Reply::Ok) => Some(Seen::Ok),
-        Answer::Reply(Reply::Value(value)) => Some(Seen::Value(copy_of_value(value))),
-        _ => None,
-    }
-}
-
-/// Moves up to the last event.
-fn up_to_last(alloc: Global, moves: &[Move]) -> Result<Vec<Move>, NoMemory> {
-    let mut last = 0;
-    for place in 0..moves.len() {
-        if moves[place] == Move::Event {
-            last = place;
-        }
-    }
-    let mut first = Vec::new(alloc);
-    for place in 0..last.min(moves.len()) {
-        let by = moves[place];
-        first.push(by)?;
-    }
-    Ok(first)
-}
-
-/// Moves that may lead through the events, and then give the session this answer, if the search finds some.
-fn searched(
-    alloc: Global,
-    base: &Server,
-    events: &[Event],
-    session: SessionNo,
-    answer: &SharedAnswer,
-) -> Result<Option<Vec<Move>>, NoMemory> {
-    let Some(seen) = seen_of(&answer.answer(alloc)?) else {
-        return Ok(None);
-    };
-    let mut more = Vec::new(alloc);
-    for event in events {
-        more.push(copy_of_event(event)?)?;
-    }
-    more.push(Event::Return(session, SharedSeen::of(alloc, seen)?))?;
-    match moves_through(alloc, base, more.as_slice(), SearchSize::Whole, &mut Silent)? {
-        None => Ok(None),
-        Some(moves) => Ok(Some(up_to_last(alloc, moves.as_slice())?)),
-    }
-}
-
 /// The moves to the first of the kept configurations in which the session has this answer.
 fn kept_way(
     front: &Frontier,
@@ -102,34 +49,18 @@ fn kept_way(
     Ok(None)
 }
 
-/// Moves that may lead through the events, and give the session this answer: those to a kept configuration, if
-/// configurations are kept, else some that the search finds.
-fn moves_to(
-    alloc: Global,
-    base: &Server,
-    events: &[Event],
-    session: SessionNo,
-    answer: &SharedAnswer,
-    front: Option<&Frontier>,
-) -> Result<Option<Vec<Move>>, NoMemory> {
-    match front {
-        None => searched(alloc, base, events, session, answer),
-        Some(kept) => kept_way(kept, session, answer),
-    }
-}
-
-/// Whether an order of the events is found that gives the session this answer.
+/// Whether an order to a kept configuration is one of the events, and gives the session this answer.
 fn is_given(
     alloc: Global,
     base: &Server,
     events: &[Event],
     session: SessionNo,
     answer: &SharedAnswer,
-    front: Option<&Frontier>,
+    front: &Frontier,
 ) -> Result<bool, NoMemory>
     ensures { IfOk result (λ given. given ≡ true → IsAnswerAfter base.now events.now session answer.now) }
 {
-    match moves_to(alloc, base, events, session, answer, front)? {
+    match kept_way(front, session, answer)? {
         None => Ok(false),
         Some(moves) => match followed(alloc, base, events, moves.as_slice())? {
             None => Ok(false),
@@ -145,7 +76,7 @@ fn are_given(
     events: &[Event],
     session: SessionNo,
     answers: &[SharedAnswer],
-    front: Option<&Frontier>,
+    front: &Frontier,
 ) -> Result<bool, NoMemory>
     ensures { IfOk result (λ given. given ≡ true → All (IsAnswerAfter base.now events.now session) answers.now) }
 {
@@ -171,7 +102,7 @@ fn shows_none(seen: &Seen, answers: &[SharedAnswer]) -> bool
 
 /// Returns the verdict ILLEGAL at the return at this place, if it shows none of these answers and each of them is
 /// given by some order of the `first` events, which are those before the place. `answers` has all that can be given.
-/// Orders are looked for among those to the kept configurations `front`, if there are some, else by the search.
+/// Orders are looked for among those to the kept configurations `front`.
 ///
 /// May return `NoMemory`.
 pub fn refuted(
@@ -183,7 +114,7 @@ pub fn refuted(
     session: SessionNo,
     seen: &Seen,
     answers: Vec<SharedAnswer>,
-    front: Option<&Frontier>,
+    front: &Frontier,
     limit: usize,
 ) -> Result<Option<Verdict>, NoMemory>
     requires within { place < length events.now }

@@ -56,7 +56,7 @@ feed-reverse (byte ∷ text) free =
     (feed-append (reverse text) (byte ∷ []) (feed-reverse text (rest_of byte text free))
     (both _ _ (first_of byte text free) refl))
 
--- a text is as it is where its first byte is no blank
+-- taking the leading blanks off a text leaves a last byte that is no blank
 unblank_end : (text : List ℕ) (byte : ℕ) → belongs BlankByte byte ≡ false
     → unblank (text ++ byte ∷ []) ≡ unblank text ++ byte ∷ []
 unfolding behind

@@ -60,7 +60,7 @@ texts-more bytes old new key answers index answer within at before is put =
     ∙ ap (insert_key bytes_cmp (texts_of (take index answers))) is
     ∙ sym (with_answers-more answers index answer within at)
 
--- before the first key no text was put in
+-- the loop over answers begins: no text was put in, and there is no key
 pub texts-none : {A : Type 0} (bytes : A → List ℕ) (keys : List A) (answers : List Answer) → keys ≡ []
     → map bytes keys ≡ texts_of (take 0 answers)
 unfolding with_answers

@@ -43,7 +43,7 @@ abbrev pub xid_with : Option ℕ → Option ℕ → Option ℕ → Option (List 
 xid_with (Some format_id) (Some gtrid) (Some bqual) (Some digits) = xid_written format_id gtrid bqual digits
 xid_with format_id gtrid bqual digits = None
 
--- the identifier of four words, if no text follows them
+-- the identifier of four words, if no text follows them; each argument is the text from one of the words on
 unfoldable pub row_of : List ℕ → List ℕ → List ℕ → List ℕ → Option Xid
 row_of first second third fourth =
     if is_empty_line (behind_word fourth) then xid_with (number_of_word (first_word first))

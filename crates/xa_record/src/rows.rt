@@ -77,7 +77,7 @@ fn written(format_id: u64, gtrid: u64, bqual: u64, digits: &[u8]) -> Option<Xid>
     }
 }
 
-/// The identifier of four words, if no text follows them.
+/// The identifier of four words, if no text follows them. Each argument is the text from one of the words on.
 #[tactic(auto, unfolding(crate::specs::Rows::row_of))]
 fn row_in(first: &[u8], second: &[u8], third: &[u8], fourth: &[u8]) -> Option<Xid>
     ensures { result ≡ row_of first.now second.now third.now fourth.now }

@@ -11,7 +11,8 @@ use Rattle.xa_script.specs.declared.command.Job.TheVariants.{Run, Race, Coordina
 use Rattle.xa_script.specs.declared.command.Job.TheVariants.{Audit}
 use Rattle.xa_script.proofs.NamedJobs.{at_found, same_byte}
 
--- judging with the limit that a value's text says, and as two others say
+-- if the subcommand is `judge` and its five options say this job, the matches are that job's. `IsJob` reads the options
+-- from the matches' rows, so each of the five is rewritten in turn (`one_text-rows`)
 judges : (m found : ArgMatches) (name : Text) (job : Job) → subcommand_rows_of m ≡ Some (name, rows_of (found_of found))
     → name ≡ codes "judge"
     → IsJudgeOf (one_text (found_of found) (codes "limit")) (one_text (found_of found) (codes "explain"))

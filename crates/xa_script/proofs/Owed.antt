@@ -1,4 +1,5 @@
--- What a writer of texts owes.
+-- What a writer of texts owes. `old` and `new` are what its inner writer has got, if that is known; `due` is what has
+-- to be written, `given` how many bytes of that are written, and `held` what was taken of the line (`src/texts.rt`).
 use Rattle.std.proofs.Common.{◌≡◌, ◌∙◌, ◌+◌, ◌-◌, ◌++◌, ℕ, List, [], Option, Some, None, ap, ap₂, sym, append-nil}
 use Rattle.std.proofs.Common.{subst, length, take, drop, Result, Ok, Err, inl, inr, ◌⊎◌, ◌<◌, ◌≤◌, false}
 use Rattle.std.proofs.Common.{arith}
@@ -49,7 +50,8 @@ all_given (Some known) (Some old) (Some new) due held kept no_due no_held still 
     let none : due ++ held ≡ [] = ap₂ (λ (xs ys : List ℕ). xs ++ ys) no_due no_held in
     still ∙ sym (append-nil old) ∙ ap (λ (xs : List ℕ). old ++ xs) (sym none) ∙ kept
 
--- what is due where nothing was comes behind what was sent
+-- where nothing was due (`before`) and nothing is held any more, a text that is due now, and of which nothing is given
+-- yet, comes behind all that the inner writer has got
 pub due_behind : (old new : Option (List ℕ)) (before text held : List ℕ) (given : ℕ) → new ≡ old → before ≡ []
     → given ≡ 0 → held ≡ []
     → Appends (append_known old before) (append_known new (drop given text ++ held)) text

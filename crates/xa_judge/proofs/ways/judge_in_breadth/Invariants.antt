@@ -4,7 +4,7 @@ use Rattle.xa_judge.specs.Explained.{Config}
 use Rattle.xa_judge.specs.Late.{IsKept}
 use Rattle.xa_judge.specs.Found.{Has, Reaches}
 use Rattle.xa_judge.specs.Told.{AreReports, IsComplete, IsSizeOfKept}
-use Rattle.xa_judge.proofs.judging.judge_in_breadth.Given as goal
+use Rattle.xa_judge.proofs.ways.judge_in_breadth.Given as goal
 
 -- what was seen leads to each of the list, by acts as late as they can be, and what is still explained goes on from
 -- it; all that was seen was reported before

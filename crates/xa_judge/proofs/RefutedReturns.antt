@@ -1,7 +1,6 @@
--- The verdict on one row that only free statements name.
---     all_listed           the answers of what is kept are all that a session can have
+-- The verdict at a return that shows none of the answers that its call can have.
 --     last_answered        before the last event, a return, its session had an answer that it shows
---     illegal_row          such a return is refuted if it shows none of the answers
+--     illegal_return       such a return is refuted if it shows none of the answers
 --     all_more, all_end    loops over answers
 use Rattle.std.proofs.Common.{◌≡◌, ℕ, ◌+◌, ◌<◌, true, false, Option, Some, None, List, [], ◌∷◌, ◌++◌, length, take}
 use Rattle.std.proofs.Common.{refl, ap, sym, ◌∙◌, subst, get_or, ◌≤◌}
@@ -11,7 +10,6 @@ use Rattle.std.proofs.lemmas.Bool.{false≢true}
 use Rattle.std.proofs.lemmas.List.{take_more, take_all}
 use Rattle.std.proofs.lemmas.Option.{none-some, same_Some, cond_some, get_or_from_slice_get}
 use Rattle.std.proofs.lemmas.List.Elements.{All-contains, All-push}
-use Rattle.xa_xid.specs.Xid.{Text}
 use Rattle.xa_server.specs.State.{State}
 use Rattle.xa_judge.specs.declared.answer.Answer.{Answer}
 use Rattle.xa_judge.specs.declared.client_state.ClientState.{ClientState}
@@ -24,23 +22,9 @@ use Rattle.xa_judge.specs.declared.moves.Move.TheVariants.{Event as Seeing, Effe
 use Rattle.xa_judge.specs.Explained.{Config, with_client, opening_config, observed, returned, shows_answer}
 use Rattle.xa_judge.specs.Explained.{LeadsThrough}
 use Rattle.xa_judge.specs.Explained.{Explained}
-use Rattle.xa_judge.specs.Rows.{Row, RowContinues, ExtendsTo, AreRowsClosed, AreRowAnswers}
 use Rattle.xa_judge.specs.Verdicts.{IsRefuted, IsAnswerAfter, AreAllAnswers}
 use Rattle.xa_judge.proofs.Places.{get_within}
 use Rattle.xa_judge.proofs.KeyVerdicts.{explained_take}
-use Rattle.xa_judge.proofs.RowLists.{ends_in}
-
--- the answers of what is kept are all that the session can have after the events
-pub all_listed : (base : State) (key : List ℕ) (events : List Event) (values : List (Option Text)) (session : ℕ)
-    (old closed : List Row) (answers : List Answer)
-    → ((moves : List Move) (end : Config) → LeadsThrough (opening_config base) events moves end
-    → RowContinues key values old [] end)
-    → ExtendsTo old closed → AreRowsClosed (length closed) closed → AreRowAnswers session values closed answers
-    → (answer : Answer) → IsAnswerAfter base events session answer → Contains answers answer
-all_listed base key events values session old closed answers goes grows are all answer after =
-    let last = ends_in key values old closed after.config grows are
-    (goes after.reached.moves after.config after.reached.runs) in
-    all key last.0 after.config answer last.1 last.2 after.answered
 
 -- ---- the last event
 
@@ -113,13 +97,13 @@ last_answered base events session seen explained =
 -- ---- the verdict
 
 -- a return that shows none of the answers is refuted
-pub illegal_row : (base : State) (events : List Event) (place session : ℕ) (seen : Seen) (answers : List Answer)
+pub illegal_return : (base : State) (events : List Event) (place session : ℕ) (seen : Seen) (answers : List Answer)
     → place < length events → slice_get events place ≡ Some (Return session seen) → 0 < length answers
     → All (IsAnswerAfter base (take place events) session) answers
     → ((answer : Answer) → IsAnswerAfter base (take place events) session answer → Contains answers answer)
     → All (λ answer. shows_answer seen answer ≡ false) answers
     → IsRefuted base events place × AreAllAnswers base events place answers
-illegal_row base events place session seen answers within at some each all none = (
+illegal_return base events place session seen answers within at some each all none = (
   record {
     within = within;
     before = before;

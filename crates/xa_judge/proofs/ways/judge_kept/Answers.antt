@@ -1,5 +1,5 @@
 use Rattle.xa_judge.proofs.Told.{passes_of, whole_told}
-use Rattle.xa_judge.proofs.judging.judge_kept.Goals as goal
+use Rattle.xa_judge.proofs.ways.judge_kept.Goals as goal
 
 pub returns-in-Legal-clause-told : goal.returns-in-Legal-clause-told
 returns-in-Legal-clause-told g c = whole_told (rw c.in-Legal.is at c.in_ok-moves.ensures.told)

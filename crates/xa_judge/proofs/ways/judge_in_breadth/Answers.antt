@@ -8,7 +8,7 @@ use Rattle.xa_judge.specs.Told.{no_report, IsSizeOfKept}
 use Rattle.xa_judge.proofs.Told.{report_more}
 use Rattle.xa_judge.proofs.Verdicts.{opens_complete, continues_shortened, some_shortened}
 use Rattle.xa_judge.proofs.Late.{opens_kept, kept_on}
-use Rattle.xa_judge.proofs.judging.judge_in_breadth.Goals as goal
+use Rattle.xa_judge.proofs.ways.judge_in_breadth.Goals as goal
 
 pub loop-place-init : goal.loop-place-init
 loop-place-init g c =

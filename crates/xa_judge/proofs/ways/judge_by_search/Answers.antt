@@ -1,7 +1,7 @@
 use Rattle.std.proofs.Common.{subst}
 use Rattle.xa_judge.specs.Following.{Leads}
 use Rattle.xa_judge.proofs.Told.{passes_of}
-use Rattle.xa_judge.proofs.judging.judge_by_search.Goals as goal
+use Rattle.xa_judge.proofs.ways.judge_by_search.Goals as goal
 
 pub returns-then-branch-clause-verdict : goal.returns-then-branch-clause-verdict
 returns-then-branch-clause-verdict g c =
