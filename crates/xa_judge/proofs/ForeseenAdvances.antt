@@ -1,15 +1,15 @@
 -- One event more, where later returns are known.
 --     advance_closed     before a return or an unknown answer, all allowed acts may come
 --     advance_open       before a call or a loss none has to
-use Rattle.std.proofs.Common.{◌≡◌, ℕ, ◌+◌, ◌<◌, false, Option, Some, None, List, [], ◌∷◌, ◌++◌, set, length, take}
-use Rattle.std.proofs.Common.{get_or, refl, ap, subst, sym, ◌∙◌, inl, inr, arith, append_assoc, append-nil}
+use Rattle.std.proofs.Common.{◌≡◌, ℕ, false, Option, Some, None, List, [], ◌∷◌, ◌++◌, set, length, take}
+use Rattle.std.proofs.Common.{refl, ap, subst, sym, ◌∙◌, inl, inr, arith, append-nil}
 use Rattle.std.specs.Prelude.{slice_get}
 use Rattle.std.specs.List.{Contains}
 use Rattle.std.specs.Prelude.{IfSome}
 use Rattle.std.specs.Option.{unwrap_or, option_map}
 use Rattle.std.proofs.lemmas.Bool.{false≢true}
 use Rattle.std.proofs.lemmas.Option.{none-some, slice_get-map}
-use Rattle.std.proofs.lemmas.List.{take_more, take_all, length-set}
+use Rattle.std.proofs.lemmas.List.{take_all, length-set}
 use Rattle.xa_server.specs.State.{State}
 use Rattle.xa_server.specs.Locks.{LockLaw}
 use Rattle.xa_judge.specs.declared.answer.Answer.{Answer}
@@ -240,22 +240,6 @@ goes_never events places number old entry at blank same known more end goes =
 
     asked : hint.asked ≡ (fact_of hints number).asked
     asked = ap (asked_by events) same ∙ sym (ap (λ (h : Hint). h.asked) fact)
-
--- one event more
-pub goes_more : (base : State) (events : List Event) (places later : List OpenCall) (place : ℕ) (event : Event)
-    (old new : List Configuration) (more : List Event) (moves : List Move) (end : Config)
-    → place < length events → event ≡ get_or events place event
-    → IsAdvanceFor (hints_of events places) (hints_of events later) event old new
-    → ((next : List Event) (all : List Move) → LeadsThrough (opening_config base) (take place events ++ next) all end
-    → GoesOn (hints_of events places) (Has old) next end)
-    → LeadsThrough (opening_config base) (take (place + 1) events ++ more) moves end
-    → GoesOn (hints_of events later) (Has new) more end
-goes_more base events places later place event old new more moves end within at leads before runs =
-    let parts : take (place + 1) events ++ more ≡ take place events ++ event ∷ more =
-    ap (λ l. l ++ more) (take_more events place event within ∙ ap (λ x. take place events ++ x ∷ []) (sym at))
-    ∙ append_assoc (take place events) (event ∷ []) more in
-    leads more end
-    (before (event ∷ more) moves (subst (λ l. LeadsThrough (opening_config base) l moves end) parts runs))
 
 -- before all events
 pub goes_first : (base : State) (hints : List Hint) (list : List Configuration) (more : List Event)

@@ -2,7 +2,7 @@
 --     left_past             an order that can't go on past a return, past an event
 --     goes_closed           past an event, from a closed list
 --     goes_called           past a call or a loss, from any list
-use Rattle.std.proofs.Common.{◌≡◌, ℕ, true, false, Option, Some, None, List, [], ◌∷◌, set, map, zero, suc, refl, ap}
+use Rattle.std.proofs.Common.{◌≡◌, ℕ, false, Option, Some, None, List, [], ◌∷◌, set, map, zero, suc, refl, ap}
 use Rattle.std.proofs.Common.{sym, ◌∙◌, inl}
 use Rattle.std.proofs.Common.{inr}
 use Rattle.std.specs.Option.{option_map, unwrap_or}
@@ -10,19 +10,17 @@ use Rattle.std.specs.Prelude.{slice_get}
 use Rattle.std.proofs.lemmas.Bool.{false≢true}
 use Rattle.std.proofs.lemmas.Option.{none-some, slice_get-map}
 use Rattle.xa_judge.specs.declared.client_state.ClientState.{ClientState}
-use Rattle.xa_judge.specs.declared.event.Seen.{Seen}
 use Rattle.xa_judge.specs.declared.event.Event.{Event}
-use Rattle.xa_judge.specs.declared.event.Event.TheVariants.{Return}
 use Rattle.xa_judge.specs.declared.moves.Move.{Move}
 use Rattle.xa_judge.specs.declared.moves.Move.TheVariants.{Event as Seeing, Effect}
 use Rattle.xa_judge.specs.Explained.{Config, LeadsThrough, observed}
 use Rattle.xa_judge.specs.Late.{has_unheard, unheard_so}
 use Rattle.xa_judge.specs.declared.open_call.OpenCall.{OpenCall}
 use Rattle.xa_judge.specs.declared.request.Request.{Request}
-use Rattle.xa_judge.specs.Foreseen.{NotesCall, seen_by, never_by, Hint, no_hint, fact_of, is_past, hint_of, IsAlikeAt}
+use Rattle.xa_judge.specs.Foreseen.{NotesCall, Hint, no_hint, fact_of, hint_of, IsAlikeAt}
 use Rattle.xa_judge.specs.Foreseen.{AreAlike, IsDead, IsFollowed}
 use Rattle.xa_judge.specs.Foreseen.{IsLeft, GoesOn}
-use Rattle.xa_judge.specs.Foreseen.{IsClosedFor, HasSeenFor, FitsHints, hint_in, hints_of, seen_in}
+use Rattle.xa_judge.specs.Foreseen.{IsClosedFor, HasSeenFor, FitsHints, hint_in, hints_of}
 use Rattle.xa_judge.proofs.Waits.{later, session_in, CanWait}
 use Rattle.xa_judge.proofs.ForeseenSteps.{alike_acts}
 use Rattle.xa_judge.proofs.ForeseenEvents.{alike_sees, dead_acts, dead_sees}
@@ -131,15 +129,6 @@ pub hints_set : (events : List Event) (places : List OpenCall) (session : ℕ) (
     → hints_of events (set places session place) ≡ set (hints_of events places) session (hint_in events place)
 hints_set events places session place = set_mapped (hint_in events) places session place
 
--- the return at the place that is known
-pub hint_here : (events : List Event) (places : List OpenCall) (place session : ℕ) (seen : Seen) (o : OpenCall)
-    → slice_get places session ≡ Some o → o.returns ≡ Some place → slice_get events place ≡ Some (Return session seen)
-    → hint_of (hints_of events places) session ≡ Some seen
-hint_here events places place session seen o known returns at =
-    ap (λ o. (unwrap_or o no_hint).seen)
-    (slice_get-map (hint_in events) places session ∙ ap (option_map (hint_in events)) known)
-    ∙ ap (seen_by events) returns ∙ ap seen_in at
-
 -- a session with no place, or one with one at which no call returns
 pub unknown_at : (events : List Event) (places : List OpenCall) (session : ℕ)
     → ((o : OpenCall) → slice_get places session ≡ Some o → (hint_in events o).seen ≡ None)
@@ -152,28 +141,6 @@ unknown_at events places session none =
         → (unwrap_or (option_map (hint_in events) o) no_hint).seen ≡ None
     by None at = refl
     by (Some place) at = none place at
-
--- of a session with no place nothing is known
-pub heard_at : (events : List Event) (places : List OpenCall) (session : ℕ)
-    → ((o : OpenCall) → slice_get places session ≡ Some o → o.returns ≡ None)
-    → (fact_of (hints_of events places) session).never ≡ false
-heard_at events places session none =
-    ap (λ o. (unwrap_or o no_hint).never) (slice_get-map (hint_in events) places session)
-    ∙ by (slice_get places session) refl
-  where
-    by : (o : Option OpenCall) → slice_get places session ≡ o
-        → (unwrap_or (option_map (hint_in events) o) no_hint).never ≡ false
-    by None at = refl
-    by (Some place) at = ap (never_by events) (none place at)
-
--- a call whose place is after all events isn't heard of any more
-pub never_at : (events : List Event) (places : List OpenCall) (session place : ℕ) (o : OpenCall)
-    → slice_get places session ≡ Some o → o.returns ≡ Some place → slice_get events place ≡ None
-    → (fact_of (hints_of events places) session).never ≡ true
-never_at events places session place o known returns past =
-    ap (λ o. (unwrap_or o no_hint).never)
-    (slice_get-map (hint_in events) places session ∙ ap (option_map (hint_in events)) known)
-    ∙ ap (never_by events) returns ∙ ap is_past past
 
 -- what is noted of a session is noted at its place
 pub noted_at : (events : List Event) (places : List OpenCall) (session : ℕ) (request : Request)

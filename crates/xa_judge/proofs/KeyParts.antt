@@ -1,7 +1,7 @@
 -- Lists that are cut, event by event.
---     CutSoFar, cut_first, cut_more, cut_all      the parts of events, while they are found one after another
+--     CutSoFar, cut_more, cut_all      the parts of events, while they are found one after another
 --     picked_next, picked_end       the events of one part, while they are picked
---     count_next, counted_all       how many there are, while they are counted
+--     count_next       how many there are, while they are counted
 use Rattle.std.proofs.Common.{◌≡◌, ◌≢◌, ◌⊎◌, ℕ, ◌+◌, ◌<◌, ◌≤◌, zero, suc, Bool, true, false, Some, List, [], ◌∷◌, ◌++◌}
 use Rattle.std.proofs.Common.{length, take, drop, get_or, set, refl, ap, sym, ◌∙◌, subst, inl, inr, arith}
 use Rattle.std.proofs.Common.{append_assoc, append-nil, min}
@@ -22,13 +22,6 @@ pub record CutSoFar (named : List ℕ → Bool) (free : ℕ → Bool) (turns : L
     (events : List Event) (place : ℕ) : Type 0 where
   pub on : (more : List Bool) → IsCut named free turns more (drop place events)
       → IsCut named free first_turns (sides ++ more) events
-
-pub cut_first : (named : List ℕ → Bool) (free : ℕ → Bool) (turns : List Turn) (events : List Event)
-    → turns ≡ first_turns
-    → CutSoFar named free turns [] events 0
-cut_first named free turns events is = record {
-  on = λ more cut. subst (λ t. IsCut named free t more events) is cut;
-}
 
 pub cut_more : (named : List ℕ → Bool) (free : ℕ → Bool) (turns : List Turn) (sides : List Bool) (events : List Event)
     (place : ℕ) (event : Event) (turn : Turn) (side : Bool) → CutSoFar named free turns sides events place
@@ -191,25 +184,6 @@ count_next wanted d place sides within =
       λ e. step ∙ ap (λ n. count_in wanted (take place sides) + n) (one_in wanted side e),
       λ e. step ∙ ap (λ n. count_in wanted (take place sides) + n) (one_out wanted side e) ∙ omega arith,
     )
-
--- past the end of the list nothing more is counted
-pub counted_all : (wanted : Bool) (index place : ℕ) (sides : List Bool) → index ≤ place
-    → (place ≤ index) ⊎ (length sides ≤ index)
-    → count_in wanted (take index sides) ≡ count_in wanted (take place sides)
-counted_all wanted index place sides le over = ap (count_in wanted) (same index place sides le over)
-  where
-    same : (index place : ℕ) (sides : List Bool) → index ≤ place → (place ≤ index) ⊎ (length sides ≤ index)
-        → take index sides ≡ take place sides
-    same zero zero sides le over = refl
-    same zero (suc place) [] le over = refl
-    same zero (suc place) (side ∷ sides) le (inl over) = absurd (omega arith)
-    same zero (suc place) (side ∷ sides) le (inr over) = absurd (omega arith)
-    same (suc index) zero sides le over = absurd (omega arith)
-    same (suc index) (suc place) [] le over = refl
-    same (suc index) (suc place) (side ∷ sides) le (inl over) =
-        ap (λ l. side ∷ l) (same index place sides (omega arith) (inl (omega arith)))
-    same (suc index) (suc place) (side ∷ sides) le (inr over) =
-        ap (λ l. side ∷ l) (same index place sides (omega arith) (inr (omega arith)))
 
 -- one of two numbers is no more than a third, if the least of them isn't
 pub at_least_one : (m n place : ℕ) → min m n ≤ place → (m ≤ place) ⊎ (n ≤ place)

@@ -415,20 +415,6 @@ illegal_part named free base sides events wanted index place explained limit ans
           (subst (λ i. AreAllAnswers base (picked wanted sides events) i answers.items) (sym count) is.1),
     )
 
--- the events of a part are no more than the record's
-pub picked_few : (wanted : Bool) (sides : List Bool) (events : List Event)
-    → length (picked wanted sides events) ≤ length sides
-picked_few true [] events = omega arith
-picked_few false [] events = omega arith
-picked_few true (true ∷ sides) [] = omega arith
-picked_few true (false ∷ sides) [] = omega arith
-picked_few false (true ∷ sides) [] = omega arith
-picked_few false (false ∷ sides) [] = omega arith
-picked_few true (true ∷ sides) (event ∷ events) = omega (arith, picked_few true sides events)
-picked_few true (false ∷ sides) (event ∷ events) = omega (arith, picked_few true sides events)
-picked_few false (true ∷ sides) (event ∷ events) = omega (arith, picked_few false sides events)
-picked_few false (false ∷ sides) (event ∷ events) = omega (arith, picked_few false sides events)
-
 -- a part with this verdict is explained up to each of its events
 pub legal_before : (base : State) (events : List Event) (limit count : ℕ) (moves : Vec Move Global) (verdict : Verdict)
     → IsVerdict base events limit verdict → verdict ≡ LegalBy moves
@@ -436,10 +422,3 @@ pub legal_before : (base : State) (events : List Event) (limit count : ℕ) (mov
 legal_before base events limit count moves verdict right is =
     let told = subst (IsVerdict base events limit) is right in
     explained_take base events count (moves.items, told.0, told.1)
-
--- or up to where it is refuted
-pub illegal_before : (base : State) (events : List Event) (limit place : ℕ) (answers : Vec Answer Global)
-    (verdict : Verdict) → IsVerdict base events limit verdict → verdict ≡ IllegalAt place answers
-    → Explained base (take place events)
-illegal_before base events limit place answers verdict right is =
-    (subst (IsVerdict base events limit) is right).0.before

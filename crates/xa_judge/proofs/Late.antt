@@ -140,10 +140,6 @@ seen_only event first known rest list new one parts (inr some) only = (
 pub settled_none : (session : ℕ) (first : List Configuration) → SettledOnly session first first []
 settled_none session first = (λ config has. has, λ config has. absurd (has_none config has))
 
--- before the first step the whole list is left to go over, and nothing was made of it
-pub seen_none : (event : Event) (first : List Configuration) → SeenOnly event first first []
-seen_none event first = (λ config has. has, λ config has. absurd (has_none config has))
-
 -- the client of the session is gone with an open call in the configuration at a place
 pub unheard_at : (known : List Configuration) (place session : ℕ) (one : Configuration) → place < length known
     → one ≡ get_or known place one → has_unheard (config_of one) session ≡ true → IsAnyUnheard (Has known) session

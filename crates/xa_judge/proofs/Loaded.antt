@@ -2,8 +2,7 @@
 --     leads_append                      moves through some events, and then moves through more
 --     alone_leads, alone_only           a call that returns at once, where all are idle, leads to the state after it,
 --                                       and nowhere else
---     loaded_none, loaded_more          with no events the base is where they lead, and from a state to which events
---                                       lead one such call goes on
+--     loaded_more                       from a state to which events lead one such call goes on
 --     refuted_behind, answers_behind    what is refuted from the state is refuted behind the events, with the same
 --                                       answers
 use Rattle.std.proofs.Common.{◌≡◌, ◌≢◌, ◌==◌, ℕ, ◌+◌, ◌<◌, zero, suc, true, cond, Some, None, List, [], ◌∷◌, ◌++◌}
@@ -289,10 +288,6 @@ alone_only state session request seen more all end is runs =
       subst (λ c. LeadsThrough c more after_return.0 end)
           (sym (idle_again state second.state session (Called request) (Answered answer) is)) after_return.1,
     )
-
--- no events lead from the base to the base itself
-pub loaded_none : (base : State) → IsLoadedTo base [] base
-loaded_none base = record { moves = []; leads = refl; only = λ more all end runs. (all, runs) }
 
 -- a state to which events lead goes on by one call that returns at once
 pub loaded_more : (base full : State) (events : List Event) (session : ℕ) (request : Request) (seen : Seen)

@@ -295,6 +295,28 @@ fn legal_by(
     }
 }
 
+/// The verdict ILLEGAL at one of the events from `least` to `most`, if that is found.
+fn illegal_within(
+    alloc: Global,
+    base: &Server,
+    events: &[Event],
+    least: usize,
+    most: usize,
+    limit: usize,
+) -> Result<Option<Verdict>, NoMemory>
+    ensures { IfOk result (λ found. IfSome found (IsVerdict base.now events.now limit)) }
+{
+    // Each time the events are gone through may take as much as the first time, which came to its end.
+    let mut effort = Effort::new(limit, events.len());
+    match first_refuted(alloc, base, events, least, most, &mut effort)? {
+        None => Ok(None),
+        Some(first) => {
+            let mut effort = Effort::new(limit, events.len());
+            illegal_on(alloc, base, events, first, limit, &mut effort)
+        }
+    }
+}
+
 /// Returns the verdict on the events, if it is found with no more than `limit` configurations, which are kept where
 /// later returns are known.
 ///
@@ -313,11 +335,6 @@ pub fn judge_ahead(
     match sweep(alloc, base, events, events.len(), &mut effort)? {
         Swept::Unknown => Ok(None),
         Swept::Kept(front) => legal_by(alloc, base, events, front, limit),
-        Swept::Nothing(place, last) => {
-            match first_refuted(alloc, base, events, place, last, &mut effort)? {
-                None => Ok(None),
-                Some(first) => illegal_on(alloc, base, events, first, limit, &mut effort),
-            }
-        }
+        Swept::Nothing(place, last) => illegal_within(alloc, base, events, place, last, limit),
     }
 }

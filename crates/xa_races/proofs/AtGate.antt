@@ -1,7 +1,6 @@
 -- Lines of sessions at a gate.
 --     opened_each, all_opened     the gate can let in each line of each session
 --     shut_beside                 it can stop one of them
---     ends_long                   why a race of runs fails
 use Rattle.std.proofs.Common.{◌≡◌, ℕ, zero, suc, Bool, ◌+◌, ◌<◌, ◌≤◌, List, [], ◌∷◌, ◌++◌, length, map, take, drop}
 use Rattle.std.proofs.Common.{Some}
 use Rattle.std.proofs.Common.{refl, ap, sym, ◌∙◌, subst, inl, inr, arith}
@@ -19,14 +18,12 @@ use Rattle.decision_log.proofs.Histories.{begins_through, behind}
 use Rattle.xa_session.specs.Replay.{state_after}
 use Rattle.xa_endless.specs.declared.session.EndlessSession.{EndlessSession}
 use Rattle.xa_store.specs.Legal.{IsLegal, LetsIn}
-use Rattle.xa_store.specs.declared.race_fault.RaceFault.{RaceFault}
-use Rattle.xa_store.specs.declared.race_fault.RaceFault.TheVariants.{GateShut, Full, NoMemory, ThreadRefused}
+use Rattle.xa_store.specs.declared.race_fault.RaceFault.TheVariants.{GateShut}
 use Rattle.xa_orders.specs.Orders.{Told}
-use Rattle.xa_races.specs.Long.{known_in, HoldsAll, seen_by_last, IsBlamed, BlamesLong}
-use Rattle.xa_races.specs.Outcome.{script_fault_of}
+use Rattle.xa_races.specs.Long.{known_in, HoldsAll, seen_by_last, IsBlamed}
 use Rattle.xa_races.specs.CountedRaced.{statements_of}
 use Rattle.xa_races.specs.CountedHeld.{AreWithin, AreNumbered, AreRunsOf}
-use Rattle.xa_races.specs.HeldRuns.{AllOpened, IsShutBeside, EndsLong}
+use Rattle.xa_races.specs.HeldRuns.{AllOpened, IsShutBeside}
 use Rattle.xa_races.specs.declared.long_run.LongRun.{LongRun}
 use Rattle.xa_races.proofs.Earlier.{earlier, legal_earlier}
 use Rattle.xa_races.proofs.CountedRaced.{given_none}
@@ -151,11 +148,3 @@ shut_beside gate lines before runs session line are numbers few holds blamed =
         shut = blamed.stops.1;
       };
     }
-
--- each fault of a race of runs is told with its cause
-pub ends_long : (gate : ℕ → ℕ → Bool → Type 0) (capacity : ℕ) (renews : Bool) (from : ℕ) (runs : List LongRun)
-    (fault : RaceFault) → BlamesLong gate runs fault → EndsLong gate capacity renews from runs (script_fault_of fault)
-ends_long gate capacity renews from runs (GateShut session line) blamed = (session, line, blamed)
-ends_long gate capacity renews from runs (Full session line) blamed = absurd blamed
-ends_long gate capacity renews from runs NoMemory blamed = tt
-ends_long gate capacity renews from runs ThreadRefused blamed = tt

@@ -57,13 +57,6 @@ within_more lines index told old new below at is least own before =
     (λ one both. (both.0, omega (arith, both.1, least))) (take index lines) before)
     (subst (λ (one : Told). IsSession one.session × (one.session ≤ new)) at (is, own))
 
--- lines of sessions up to a number are of sessions up to a greater one
-pub within_greater : (old new : ℕ) (lines : List Told) → old ≤ new → AreWithin old lines → AreWithin new lines
-within_greater old new lines least within =
-    All-weaker (λ (one : Told). IsSession one.session × (one.session ≤ old))
-    (λ (one : Told). IsSession one.session × (one.session ≤ new))
-    (λ one both. (both.0, omega (arith, both.1, least))) lines within
-
 -- the first element, or this if there is none
 abbrev pub head_or : {A : Type 0} → List A → A → A
 head_or [] d = d

@@ -10,7 +10,7 @@ use Rattle.std.specs.Ordering.{nat_cmp, ordering_then, ordering_reverse}
 use Rattle.std.proofs.lemmas.Cmp.{ranked}
 use Rattle.std.proofs.lemmas.List.{map-append}
 use Rattle.std.proofs.lemmas.List.Elements.{All-nil, All-cons, All-head, All-tail, All-append, All-take, All-drop}
-use Rattle.std.proofs.lemmas.List.Elements.{All-push, All-map, All-weaker, All-contains, Contains-append_right}
+use Rattle.std.proofs.lemmas.List.Elements.{All-push, All-map, All-weaker, All-contains}
 use Rattle.std.proofs.lemmas.List.Sums.{sum_by-cons, sum_by_push, count_by-le-length}
 use Rattle.xa_orders.specs.Orders.{Pairwise}
 use Rattle.xa_races.specs.declared.came_tally.CameTally.{CameTally}
@@ -24,10 +24,6 @@ apart_bytes one other apart = by (pointwise nat_eq one other) refl
     by : (b : Bool) → pointwise nat_eq one other ≡ b → pointwise nat_eq one other ≡ false
     by true same = absurd (apart ((bytes_decides one other).0 same))
     by false other' = other'
-
--- equal texts are equal byte by byte, by the test
-pub same_bytes : (one other : List ℕ) → one ≡ other → pointwise nat_eq one other ≡ true
-same_bytes one other same = (bytes_decides one other).1 same
 
 -- a text that isn't among those that came came 0 times
 times_none : (text : List ℕ) (came : List (List ℕ)) → All (λ one. one ≢ text) came → times text came ≡ 0
@@ -78,10 +74,6 @@ texts_insert xs n one =
 pub all_inserted : {A : Type 0} (P : A → Type 0) (xs : List A) (n : ℕ) (x : A) → All P xs → P x → All P (insert xs n x)
 all_inserted P xs n x all p =
     All-append P (take n xs) (x ∷ drop n xs) (All-take P n xs all) (All-cons P x (drop n xs) p (All-drop P n xs all))
-
--- what was put in is there
-contains_new : {A : Type 0} (xs : List A) (n : ℕ) (x : A) → Contains (insert xs n x) x
-contains_new xs n x = Contains-append_right (take n xs) (x ∷ drop n xs) x (0, omega arith, refl)
 
 -- what is in a list is in it with one element more in front
 contains_cons : {A : Type 0} (xs : List A) (y x : A) → Contains xs x → Contains (y ∷ xs) x
@@ -134,13 +126,6 @@ tallied_inserted came xs n one none apart tallied = record {
       (contains_inserted (texts_of xs) n one.text.items t found)) came
       tallied.listed;
 }
-
--- after a count was put in, its text is listed
-pub listed_inserted : (xs : List CameTally) (n : ℕ) (one : CameTally)
-    → Contains (texts_of (insert xs n one)) one.text.items
-listed_inserted xs n one =
-    subst (λ (l : List (List ℕ)). Contains l one.text.items) (sym (texts_insert xs n one))
-    (contains_new (texts_of xs) n one.text.items)
 
 -- after a text came that is listed, counting it up keeps all counts right
 pub tallied_counted : (came : List (List ℕ)) (text : List ℕ) (xs : List CameTally) → Contains (texts_of xs) text

@@ -169,13 +169,6 @@ pub answers_text-none : (session : ℕ) (lines : List (List ℕ)) → answers_te
 unfolding answers_text
 answers_text-none session lines = refl
 
--- mapping a front is taking the front of the mapped list
-map_take : {A B : Type 0} (f : A → B) (xs : List A) (n : ℕ) → map f (take n xs) ≡ take n (map f xs)
-map_take f [] zero = refl
-map_take f [] (suc n) = refl
-map_take f (x ∷ xs) zero = refl
-map_take f (x ∷ xs) (suc n) = ap (λ l. f x ∷ l) (map_take f xs n)
-
 -- mapping a front that is one longer adds the mapped element at the end
 pub map_more : {A B : Type 0} (f : A → B) (xs : List A) (i : ℕ) (x : A) → i < length xs → x ≡ get_or xs i x
     → map f (take (i + 1) xs) ≡ map f (take i xs) ++ f x ∷ []

@@ -10,8 +10,7 @@ use Rattle.xa_server.specs.State.{State, no_state}
 use Rattle.xa_session.specs.declared.answer.Answer.{Answer}
 use Rattle.xa_lines.specs.Transcript.{answer_to, state_then}
 use Rattle.xa_orders.specs.Orders.{Told, Parts, told_text, told_state}
-use Rattle.xa_races.specs.CountedRaced.{rank_in, line_text, laid_texts, IsReadLine, IsRaced, GivesRaced, HasCome}
-use Rattle.xa_races.specs.CountedHeld.{AreWithin}
+use Rattle.xa_races.specs.CountedRaced.{rank_in, line_text, laid_texts, IsRaced, GivesRaced, HasCome}
 use Rattle.xa_races.proofs.Turns.{laid_one, laid_none}
 use Rattle.xa_races.proofs.Law.{one_line}
 
@@ -138,12 +137,3 @@ pub some_at : {A : Type 0} (xs : List A) (index : ℕ) → index < length xs →
 some_at [] index below = absurd (omega arith)
 some_at (x ∷ xs) zero below = (x, refl)
 some_at (x ∷ xs) (suc index) below = some_at xs index (omega (arith, below))
-
--- lines of sessions up to a number, for equal numbers and lines
-pub within_by : (n m : ℕ) (xs ys : List Told) → n ≡ m → ys ≡ xs → AreWithin m xs → AreWithin n ys
-within_by n m xs ys count same within =
-    subst (λ (k : ℕ). AreWithin k ys) (sym count) (subst (λ (l : List Told). AreWithin m l) (sym same) within)
-
--- lines that can be read, for an equal list
-pub read_by : (xs ys : List Told) → ys ≡ xs → All IsReadLine xs → All IsReadLine ys
-read_by xs ys same read = subst (λ (l : List Told). All IsReadLine l) (sym same) read

@@ -63,11 +63,6 @@ prepended-first list None (Err number) = refl
 prepended-first list (Some one) (Ok more) = ap (λ (l : List Allowance). Ok l) (sym (append_assoc list (one ∷ []) more))
 prepended-first list (Some one) (Err number) = refl
 
--- before the first line no allowances were read
-pub prepended-none : (rest : Result (List Allowance) ℕ) → rest ≡ prepended [] rest
-prepended-none (Ok more) = refl
-prepended-none (Err number) = refl
-
 -- the loop over lines: one was cut off that isn't faulty
 pub allowances_in-line : (whole : Result (List Allowance) ℕ) (list longer : List Allowance) (number : ℕ)
     (text line rest : List ℕ) (found : Option Allowance)

@@ -7,10 +7,10 @@ use Rattle.std.proofs.lemmas.List.{take_more}
 use Rattle.std.proofs.lemmas.Str.{encodes-append}
 use Rattle.std.specs.Prelude.{encode_utf8, encode_utf8_all}
 use Rattle.json.specs.Json.{no_members}
-use Rattle.json.specs.Token.{Token, begin_array, end_array, end_object, key, string, number}
-use Rattle.json.specs.Tree.{json_tokens, items_tokens, members_tokens}
+use Rattle.json.specs.Token.{Token, end_array, end_object, key, string, number}
+use Rattle.json.specs.Tree.{items_tokens, members_tokens}
 use Rattle.xa_lines.specs.Script.{lines_of}
-use Rattle.xa_record.specs.Forms.{text_value, texts_value, values_of, with_verdict, with_line}
+use Rattle.xa_record.specs.Forms.{values_of, with_verdict, with_line}
 
 -- the loop over characters: one more is encoded
 pub characters_more : (text old new : List ℕ) (index : ℕ) → index < length text
@@ -22,22 +22,6 @@ characters_more text old new index within before put =
     put ∙ ap (λ l. l ++ encode_utf8 byte) before ∙ ap (λ l. encode_utf8_all (take index text) ++ l)
     (sym (append-nil (encode_utf8 byte)))
     ∙ sym (encodes-append (take index text) (byte ∷ [])) ∙ sym (ap encode_utf8_all (take_more text index 0 within))
-
--- the beginning of an array was written: its items are left
-pub array-begun : (old new : List Token) (texts : List (List ℕ)) → new ≡ old ++ begin_array ∷ []
-    → old ++ json_tokens (texts_value texts) ≡ new ++ items_tokens (values_of texts)
-array-begun old new texts begun =
-    sym (append_assoc old (begin_array ∷ []) (items_tokens (values_of texts)))
-    ∙ ap (λ l. l ++ items_tokens (values_of texts)) (sym begun)
-
--- the loop over an array's texts: one more was written
-pub array-more : (whole old new : List Token) (text : List ℕ) (texts : List (List ℕ))
-    → whole ≡ old ++ items_tokens (values_of (text ∷ texts))
-    → new ≡ old ++ json_tokens (text_value text)
-    → whole ≡ new ++ items_tokens (values_of texts)
-array-more whole old new text texts is written =
-    is ∙ sym (append_assoc old (json_tokens (text_value text)) (items_tokens (values_of texts)))
-    ∙ ap (λ l. l ++ items_tokens (values_of texts)) (sym written)
 
 -- the loop over an array's texts ends: no text is left, and the end of the array was written
 pub array-ended : (whole old new : List Token) (texts : List (List ℕ)) → whole ≡ old ++ items_tokens (values_of texts)

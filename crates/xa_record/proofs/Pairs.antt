@@ -1,5 +1,5 @@
 -- The calls that the lines of a record say.
-use Rattle.std.proofs.Common.{◌≡◌, ℕ, zero, suc, ◌<◌, Some, List, [], ◌∷◌, ◌++◌, map, length, get_or, slice_get, refl}
+use Rattle.std.proofs.Common.{◌≡◌, ℕ, zero, suc, ◌<◌, Some, List, [], ◌∷◌, map, length, get_or, slice_get, refl}
 use Rattle.std.proofs.Common.{ap, sym, ◌∙◌, subst}
 use Rattle.std.proofs.lemmas.List.{length-map}
 use Rattle.std.proofs.lemmas.Option.{slice_get_read}
@@ -9,16 +9,6 @@ use Rattle.xa_record.specs.Reading.{NumberedEvent}
 use Rattle.xa_record.specs.Events.{IsCallOf, AreCalls}
 use Rattle.xa_record.specs.Kept.{told_kept, numbered_kept}
 use Rattle.xa_record.proofs.Places.{slice_get-kept}
-
--- one thing more that the lines say, and its event: calls stay calls
-pub AreCalls-more : (numbered : List NumberedEvent) (events : List Event) (one : NumberedEvent) (event : Event)
-    → AreCalls numbered events → IsCallOf one.told event
-    → AreCalls (numbered ++ one ∷ []) (events ++ event ∷ [])
-AreCalls-more [] [] one event are is = (is, tt)
-AreCalls-more [] (first ∷ events) one event are is = absurd are
-AreCalls-more (first ∷ numbered) [] one event are is = absurd are
-AreCalls-more (first ∷ numbered) (next ∷ events) one event are is =
-    (are.0, AreCalls-more numbered events one event are.1 is)
 
 -- there are as many events as things that the lines say
 AreCalls-length : (numbered : List NumberedEvent) (events : List Event) → AreCalls numbered events

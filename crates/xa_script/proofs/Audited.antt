@@ -1,15 +1,8 @@
 -- Histories that readers hold, one after another, and what a fault of their audit leaves.
-use Rattle.std.proofs.Common.{◌≡◌, ◌∙◌, ◌++◌, ◌∷◌, [], ℕ, List, Option, Some, None, map, refl, sym, ap, subst, inl, inr}
+use Rattle.std.proofs.Common.{◌≡◌, ◌∙◌, ◌++◌, ◌∷◌, [], ℕ, List, Option, Some, None, map, refl, sym, ap, subst}
 use Rattle.std.specs.Prelude.{IfSome}
 use Rattle.std.specs.Io.KnownBytes.{Keeps}
 use Rattle.std.proofs.lemmas.List.{map_push, map-id}
-use Rattle.xa_lines.specs.declared.script_fault.ScriptFault.{ScriptFault}
-use Rattle.xa_lines.specs.declared.script_fault.ScriptFault.TheVariants.{Read, TooLong, Write, NoMemory, Full, GateShut}
-use Rattle.xa_lines.specs.declared.script_fault.ScriptFault.TheVariants.{ThreadRefused}
-use Rattle.xa_lines.specs.Transcript.{IsOfReading}
-use Rattle.xa_audit.specs.Audits.{AfterAuditFault}
-use Rattle.xa_audit.specs.declared.form.Form.{Form}
-use Rattle.xa_script.specs.Status.{AfterAuditing}
 
 -- the last of texts that are all known, and those before it
 pub last_known : {A : Type 0} (all : List (Option A)) (last : Option A) (texts : List A)
@@ -53,34 +46,3 @@ taken_all taken all remaining P same holds texts e = holds texts (ap (map remain
 pub kept_all : (o : Option (List ℕ)) → Keeps o o
 kept_all None = tt
 kept_all (Some xs) = refl
-
--- a fault of reading leaves the writer as it was
-pub after_reading : (histories : List (List ℕ)) (form : Form) (fault : ScriptFault) (contents : Option (List ℕ))
-    → IsOfReading fault
-    → AfterAuditing histories form fault contents contents
-after_reading histories form Read contents of = kept_all contents
-after_reading histories form TooLong contents of = kept_all contents
-after_reading histories form NoMemory contents of = kept_all contents
-after_reading histories form Write contents (inl e) = cc
-after_reading histories form Write contents (inr (inl e)) = cc
-after_reading histories form Write contents (inr (inr e)) = cc
-after_reading histories form Full contents (inl e) = cc
-after_reading histories form Full contents (inr (inl e)) = cc
-after_reading histories form Full contents (inr (inr e)) = cc
-after_reading histories form GateShut contents (inl e) = cc
-after_reading histories form GateShut contents (inr (inl e)) = cc
-after_reading histories form GateShut contents (inr (inr e)) = cc
-after_reading histories form ThreadRefused contents (inl e) = cc
-after_reading histories form ThreadRefused contents (inr (inl e)) = cc
-after_reading histories form ThreadRefused contents (inr (inr e)) = cc
-
--- a fault of writing leaves a prefix of the text, and a lack of memory leaves nothing
-pub after_writing : (histories : List (List ℕ)) (form : Form) (fault : ScriptFault) (old new : Option (List ℕ))
-    → AfterAuditFault histories form fault old new → AfterAuditing histories form fault old new
-after_writing histories form Read old new left = absurd left
-after_writing histories form TooLong old new left = absurd left
-after_writing histories form Write old new left = left
-after_writing histories form NoMemory old new left = left
-after_writing histories form Full old new left = absurd left
-after_writing histories form GateShut old new left = absurd left
-after_writing histories form ThreadRefused old new left = absurd left
