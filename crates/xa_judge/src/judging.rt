@@ -11,6 +11,7 @@ use crate::near::judge_behind;
 use crate::progress::{Progress, Silent};
 use crate::search_size::SearchSize;
 use crate::verdict::Verdict;
+use crate::way::Way;
 use crate::ways::{judge_by_search, judge_in_breadth, judge_kept, judge_narrow, tell_verdict};
 use std::alloc::Global;
 use xa_server::Server;
@@ -23,6 +24,29 @@ const WIDE: usize = 255;
 /// From this number of events before calls overlap, one order is looked for first: the search needs only the
 /// rows that later calls name.
 const LONG: usize = 512;
+
+/// The ways that are tried one after another before all configurations are kept, the cheap ones first.
+const WAYS: [Way; 6] = [
+    Way::Narrow,
+    Way::Rows,
+    Way::ShortSearch,
+    Way::LaterReturns,
+    Way::Wide,
+    Way::WholeSearch,
+];
+
+/// The ways for a record with many events before calls overlap. Those come first that look only at the rows that later
+/// calls name.
+const WAYS_OF_LONG: [Way; 8] = [
+    Way::ShortSearch,
+    Way::Rows,
+    Way::BehindWide,
+    Way::Narrow,
+    Way::LaterReturns,
+    Way::Wide,
+    Way::WholeSearch,
+    Way::BehindAll,
+];
 
 /// The verdict, if it is found by judging free statements row by row.
 fn judge_apart<P: Progress>(
@@ -60,9 +84,10 @@ fn judge_foreseen<P: Progress>(
     Ok(tell_verdict(base, events, found, limit, progress))
 }
 
-/// The verdict, if a short search for one order is enough; else, if it is found row by row.
-fn judge_order_first<P: Progress>(
+/// The verdict that is found this way, if one is.
+fn judge_by<P: Progress>(
     alloc: Global,
+    way: Way,
     base: &Server,
     events: &[Event],
     limit: usize,
@@ -74,15 +99,36 @@ fn judge_order_first<P: Progress>(
         (λ verdict. IsToldUpTo P.judged_gives (length events.now) (seen_for events.now verdict) progress.old
         progress.new)) }
 {
-    match judge_by_search(alloc, base, events, limit, SearchSize::Short, progress)? {
-        Some(verdict) => Ok(Some(verdict)),
-        None => judge_apart(alloc, base, events, limit, progress),
+    match way {
+        Way::Narrow => judge_narrow(alloc, base, events, limit, progress),
+        Way::Wide => judge_kept(alloc, base, events, WIDE, limit, progress),
+        Way::Rows => judge_apart(alloc, base, events, limit, progress),
+        Way::ShortSearch => judge_by_search(
+            alloc,
+            base,
+            events,
+            limit,
+            SearchSize::Short,
+            progress,
+        ),
+        Way::WholeSearch => judge_by_search(
+            alloc,
+            base,
+            events,
+            limit,
+            SearchSize::Whole,
+            progress,
+        ),
+        Way::LaterReturns => judge_foreseen(alloc, base, events, limit, progress),
+        Way::BehindWide => judge_behind(alloc, base, events, limit, WIDE, progress),
+        Way::BehindAll => judge_behind(alloc, base, events, limit, limit, progress),
     }
 }
 
-/// The verdict, if it is found row by row; else, if a short search for one order is enough.
-fn judge_rows_first<P: Progress>(
+/// The verdict that the first of the ways finds that finds one.
+fn judge_in_order<P: Progress>(
     alloc: Global,
+    ways: &[Way],
     base: &Server,
     events: &[Event],
     limit: usize,
@@ -94,185 +140,18 @@ fn judge_rows_first<P: Progress>(
         (λ verdict. IsToldUpTo P.judged_gives (length events.now) (seen_for events.now verdict) progress.old
         progress.new)) }
 {
-    match judge_apart(alloc, base, events, limit, progress)? {
-        Some(verdict) => Ok(Some(verdict)),
-        None => judge_by_search(alloc, base, events, limit, SearchSize::Short, progress),
+    for way in ways {
+        if let Some(verdict) = judge_by(alloc, *way, base, events, limit, progress)? {
+            return Ok(Some(verdict));
+        }
     }
-}
-
-/// The verdict for a record with many events before calls overlap, if a short search or few configurations are enough
-/// and only the rows that later calls name are looked at.
-fn judge_long<P: Progress>(
-    alloc: Global,
-    base: &Server,
-    events: &[Event],
-    limit: usize,
-    progress: &mut P,
-) -> Result<Option<Verdict>, NoMemory>
-    ensures verdict { IfOk result (λ found. IfSome found (IsVerdict base.now events.now limit)) }
-    ensures told { IfOk result (λ found. MatchOption found
-        (ArePasses P.judged_gives (length events.now) progress.old progress.new)
-        (λ verdict. IsToldUpTo P.judged_gives (length events.now) (seen_for events.now verdict) progress.old
-        progress.new)) }
-{
-    match judge_order_first(alloc, base, events, limit, progress)? {
-        Some(verdict) => Ok(Some(verdict)),
-        None => judge_behind(alloc, base, events, limit, WIDE, progress),
-    }
+    Ok(None)
 }
 
 /// Whether many events come before calls overlap.
 fn is_long(events: &[Event]) -> bool {
     let alone = count_alone(events);
     LONG <= alone && alone < events.len()
-}
-
-/// The verdict, if few configurations, judging row by row, or a short search for one order is enough. Most records
-/// need few configurations, so these come first. If many events come before calls overlap, `judge_long` comes before
-/// them: it needs only the rows that later calls name.
-fn judge_early<P: Progress>(
-    alloc: Global,
-    base: &Server,
-    events: &[Event],
-    limit: usize,
-    progress: &mut P,
-) -> Result<Option<Verdict>, NoMemory>
-    ensures verdict { IfOk result (λ found. IfSome found (IsVerdict base.now events.now limit)) }
-    ensures told { IfOk result (λ found. MatchOption found
-        (ArePasses P.judged_gives (length events.now) progress.old progress.new)
-        (λ verdict. IsToldUpTo P.judged_gives (length events.now) (seen_for events.now verdict) progress.old
-        progress.new)) }
-{
-    if is_long(events) {
-        match judge_long(alloc, base, events, limit, progress)? {
-            Some(verdict) => Ok(Some(verdict)),
-            None => judge_narrow(alloc, base, events, limit, progress),
-        }
-    } else {
-        match judge_narrow(alloc, base, events, limit, progress)? {
-            Some(verdict) => Ok(Some(verdict)),
-            None => judge_rows_first(alloc, base, events, limit, progress),
-        }
-    }
-}
-
-/// The verdict, if it is found by the configurations that later returns allow; else, if by more than eight.
-fn judge_wide<P: Progress>(
-    alloc: Global,
-    base: &Server,
-    events: &[Event],
-    limit: usize,
-    progress: &mut P,
-) -> Result<Option<Verdict>, NoMemory>
-    ensures verdict { IfOk result (λ found. IfSome found (IsVerdict base.now events.now limit)) }
-    ensures told { IfOk result (λ found. MatchOption found
-        (ArePasses P.judged_gives (length events.now) progress.old progress.new)
-        (λ verdict. IsToldUpTo P.judged_gives (length events.now) (seen_for events.now verdict) progress.old
-        progress.new)) }
-{
-    match judge_foreseen(alloc, base, events, limit, progress)? {
-        Some(verdict) => Ok(Some(verdict)),
-        None => judge_kept(alloc, base, events, WIDE, limit, progress),
-    }
-}
-
-/// The verdict, if a search for one order is enough that tries as much as any.
-fn judge_whole_search<P: Progress>(
-    alloc: Global,
-    base: &Server,
-    events: &[Event],
-    limit: usize,
-    progress: &mut P,
-) -> Result<Option<Verdict>, NoMemory>
-    ensures verdict { IfOk result (λ found. IfSome found (IsVerdict base.now events.now limit)) }
-    ensures told { IfOk result (λ found. MatchOption found
-        (ArePasses P.judged_gives (length events.now) progress.old progress.new)
-        (λ verdict. IsToldUpTo P.judged_gives (length events.now) (seen_for events.now verdict) progress.old
-        progress.new)) }
-{
-    judge_by_search(alloc, base, events, limit, SearchSize::Whole, progress)
-}
-
-/// The verdict for a record with many events before calls overlap, if all configurations are enough of what comes after
-/// these.
-fn judge_wide_behind<P: Progress>(
-    alloc: Global,
-    base: &Server,
-    events: &[Event],
-    limit: usize,
-    progress: &mut P,
-) -> Result<Option<Verdict>, NoMemory>
-    ensures verdict { IfOk result (λ found. IfSome found (IsVerdict base.now events.now limit)) }
-    ensures told { IfOk result (λ found. MatchOption found
-        (ArePasses P.judged_gives (length events.now) progress.old progress.new)
-        (λ verdict. IsToldUpTo P.judged_gives (length events.now) (seen_for events.now verdict) progress.old
-        progress.new)) }
-{
-    if is_long(events) {
-        judge_behind(alloc, base, events, limit, limit, progress)
-    } else {
-        Ok(None)
-    }
-}
-
-/// The verdict, if it is found with the whole search; else, with all configurations after many events.
-fn judge_late<P: Progress>(
-    alloc: Global,
-    base: &Server,
-    events: &[Event],
-    limit: usize,
-    progress: &mut P,
-) -> Result<Option<Verdict>, NoMemory>
-    ensures verdict { IfOk result (λ found. IfSome found (IsVerdict base.now events.now limit)) }
-    ensures told { IfOk result (λ found. MatchOption found
-        (ArePasses P.judged_gives (length events.now) progress.old progress.new)
-        (λ verdict. IsToldUpTo P.judged_gives (length events.now) (seen_for events.now verdict) progress.old
-        progress.new)) }
-{
-    match judge_whole_search(alloc, base, events, limit, progress)? {
-        Some(verdict) => Ok(Some(verdict)),
-        None => judge_wide_behind(alloc, base, events, limit, progress),
-    }
-}
-
-/// The verdict, if it is found before the whole search.
-fn judge_soon<P: Progress>(
-    alloc: Global,
-    base: &Server,
-    events: &[Event],
-    limit: usize,
-    progress: &mut P,
-) -> Result<Option<Verdict>, NoMemory>
-    ensures verdict { IfOk result (λ found. IfSome found (IsVerdict base.now events.now limit)) }
-    ensures told { IfOk result (λ found. MatchOption found
-        (ArePasses P.judged_gives (length events.now) progress.old progress.new)
-        (λ verdict. IsToldUpTo P.judged_gives (length events.now) (seen_for events.now verdict) progress.old
-        progress.new)) }
-{
-    match judge_early(alloc, base, events, limit, progress)? {
-        Some(verdict) => Ok(Some(verdict)),
-        None => judge_wide(alloc, base, events, limit, progress),
-    }
-}
-
-/// The verdict, if it is found before all configurations are kept.
-fn judge_with_less<P: Progress>(
-    alloc: Global,
-    base: &Server,
-    events: &[Event],
-    limit: usize,
-    progress: &mut P,
-) -> Result<Option<Verdict>, NoMemory>
-    ensures verdict { IfOk result (λ found. IfSome found (IsVerdict base.now events.now limit)) }
-    ensures told { IfOk result (λ found. MatchOption found
-        (ArePasses P.judged_gives (length events.now) progress.old progress.new)
-        (λ verdict. IsToldUpTo P.judged_gives (length events.now) (seen_for events.now verdict) progress.old
-        progress.new)) }
-{
-    match judge_soon(alloc, base, events, limit, progress)? {
-        Some(verdict) => Ok(Some(verdict)),
-        None => judge_late(alloc, base, events, limit, progress),
-    }
 }
 
 /// Judges the events as `judge` does, and tells `progress` how far it is.
@@ -298,7 +177,12 @@ pub fn judge_telling<P: Progress>(
     ensures told { IfOk result (λ verdict. IsToldUpTo P.judged_gives (length events.now)
         (seen_for events.now verdict) progress.old progress.new) }
 {
-    match judge_with_less(alloc, base, events, limit, progress)? {
+    let ways: &[Way] = if is_long(events) {
+        &WAYS_OF_LONG
+    } else {
+        &WAYS
+    };
+    match judge_in_order(alloc, ways, base, events, limit, progress)? {
         Some(verdict) => Ok(verdict),
         None => judge_in_breadth(alloc, base, 0, events, limit, progress),
     }

@@ -69,6 +69,7 @@ mod swept;
 mod trunk;
 mod turn;
 mod verdict;
+mod way;
 mod ways;
 
 pub use answer::Answer;
