@@ -1,9 +1,13 @@
-"""Which program is run where none is named."""
+"""Which program is run where none is named, and whether one is the built program."""
 import os
 import shutil
 from pathlib import Path
 
+from .child import Child, Trouble
+
 ROOT = Path(__file__).resolve().parents[3]
+NAME = b"xa_script"
+SECONDS, MOST_BYTES = 10, 1 << 16  # of what a program says of its version
 
 
 def usual_program():
@@ -14,7 +18,24 @@ def usual_program():
     return Path(found or built[1])
 
 
+def is_executable(path):
+    return not path.is_dir() and os.access(path, os.X_OK)
+
+
+def is_built_program(path):
+    """Whether a program's version says so. Its memory isn't bounded here: a bound that is too small for it doesn't make
+    it another program."""
+    child = Child(path, ["--version"], "unlimited")
+    try:
+        return child.exchange(b"", None, SECONDS, MOST_BYTES).startswith(NAME)
+    except Trouble:
+        return False
+    finally:
+        child.end()
+
+
 def no_program(path):
-    """What is wrong with a path that should be a program, in one line, with what to do."""
-    wrong = "is a folder" if path.is_dir() else "isn't executable" if path.exists() else "isn't there"
+    """What is wrong with a path that should be the program, in one line, with what to do."""
+    wrong = ("is a folder" if path.is_dir() else "isn't there" if not path.exists()
+             else "isn't xa_script" if is_executable(path) else "isn't executable")
     return f"the program {path} {wrong}: build it by scripts/build, or name a built xa_script by --program"

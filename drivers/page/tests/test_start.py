@@ -6,7 +6,7 @@ import unittest
 
 from browser import ELSEWHERE, the_browser
 from selenium.webdriver.common.keys import Keys
-from support import MEMORY, PAGE, PROGRAM, Page, send
+from support import MEMORY, PAGE, PROGRAM, Page, send, standing_in
 
 
 def own_addresses():
@@ -40,6 +40,15 @@ class Started(unittest.TestCase):
         self.assert_advice(["--program", "/nothing/here"], "/nothing/here isn't there", "--program")
         self.assert_advice(["--program", "/tmp"], "/tmp is a folder", "scripts/build")
         self.assert_advice(["--program", PAGE / "README.md"], "isn't executable")
+
+    def test_a_program_that_isnt_the_built_one(self):
+        self.assert_advice(["--program", "/bin/true"], "/bin/true isn't xa_script", "--program")
+        with standing_in("exit 0") as silent:
+            self.assert_advice(["--program", silent], "isn't xa_script")
+        with standing_in("exec yes") as endless:
+            self.assert_advice(["--program", endless], "isn't xa_script")
+        with standing_in("exec sleep 600") as slow:
+            self.assert_advice(["--program", slow], "isn't xa_script")
 
     def test_another_machines_address(self):
         self.assert_advice(["--program", PROGRAM, "--port", "0", "--host", "203.0.113.9"],
