@@ -36,11 +36,13 @@ class Classroom(ThreadingHTTPServer):
         self._places = threading.BoundedSemaphore(limits.connections)
         self.pool = Pool(program, limits, status and Status(status, limits.status_bytes))
         super().__init__((host, port), Handler)
-        self.host, self.is_open = host, not host.startswith("127.")
-        here = "127.0.0.1" if host == "0.0.0.0" else host
-        self.address = f"http://{here}:{self.server_port}/"
-        self.hosts = {f"{here}:{self.server_port}",
-                      *([f"localhost:{self.server_port}"] if here.startswith("127.") else [])}
+        bound = self.server_address[0]  # what the host leads to, where it is a name
+        self.is_open, self.is_everywhere = not bound.startswith("127."), bound == "0.0.0.0"
+        here = "127.0.0.1" if self.is_everywhere else bound
+        self.host = here if self.is_everywhere else host
+        self.address = f"http://{self.host}:{self.server_port}/"
+        own = {self.host, here, "localhost"} if here.startswith("127.") else {self.host}
+        self.hosts = {f"{name}:{self.server_port}" for name in own}
 
     def process_request(self, request, address):
         """A connection for which there is no place is closed at once."""

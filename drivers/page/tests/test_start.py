@@ -24,6 +24,15 @@ def refused(*words):
     return ran.returncode, ran.stderr
 
 
+def started(test, host):
+    """A page at this host, which ends with the test."""
+    process = subprocess.Popen([*SERVE, "--program", PROGRAM, "--port", "0", "--host", host],
+                               stdout=subprocess.PIPE, stderr=subprocess.PIPE, text=True)
+    for last in (process.stderr.close, process.stdout.close, lambda: process.wait(20), process.terminate):
+        test.addCleanup(last)
+    return process
+
+
 class Started(unittest.TestCase):
     def assert_advice(self, words, *said):
         status, text = refused(*words)
@@ -59,16 +68,24 @@ class Started(unittest.TestCase):
             self.assertEqual(refused("--program", PROGRAM, *words)[0], 2)
 
 
+class AtAName(unittest.TestCase):
+    """A page at a name that leads to this machine alone."""
+
+    def test_it_is_open_to_no_other_machine(self):
+        process = started(self, "localhost")
+        port = int(re.fullmatch(r"http://localhost:(\d+)/\n", process.stdout.readline())[1])
+        for name in ("localhost", "127.0.0.1"):
+            self.assertEqual(send(port, "GET", "/", headers=[("Host", f"{name}:{port}")])[0], 200, name)
+        self.assertEqual(send(port, "GET", "/", headers=[("Host", f"127.0.0.2:{port}")])[0], 403)
+        process.terminate()
+        self.assertEqual(process.communicate(timeout=20), ("", ""))
+
+
 class Opened(unittest.TestCase):
     """A page for students on other machines. A name of another machine is still none that is served."""
 
     def setUp(self):
-        self.process = subprocess.Popen([*SERVE, "--program", PROGRAM, "--port", "0", "--host", "0.0.0.0"],
-                                        stdout=subprocess.PIPE, stderr=subprocess.PIPE, text=True)
-        self.addCleanup(self.process.stderr.close)
-        self.addCleanup(self.process.stdout.close)
-        self.addCleanup(self.process.wait, 20)
-        self.addCleanup(self.process.terminate)
+        self.process = started(self, "0.0.0.0")
         self.port = int(re.fullmatch(r"http://127\.0\.0\.1:(\d+)/\n", self.process.stdout.readline())[1])
         self.said = [self.process.stderr.readline() for _ in range(3)]
 
