@@ -5,6 +5,7 @@ import threading
 from http.server import ThreadingHTTPServer
 from pathlib import Path
 
+from .addresses import own_addresses
 from .examples import examples
 from .handler import Handler
 from .pool import Pool
@@ -36,13 +37,24 @@ class Classroom(ThreadingHTTPServer):
         self._places = threading.BoundedSemaphore(limits.connections)
         self.pool = Pool(program, limits, status and Status(status, limits.status_bytes))
         super().__init__((host, port), Handler)
+        self._name_addresses(host)
+        self.files["/api/outside"] = "application/json", json.dumps({"addresses": self.outside}).encode()
+
+    def _name_addresses(self, host):
+        """Which hosts are served, and at which addresses other machines open the page; `address` is one of these where
+        there are any, so that it leads here from everywhere."""
         bound = self.server_address[0]  # what the host leads to, where it is a name
-        self.is_open, self.is_everywhere = not bound.startswith("127."), bound == "0.0.0.0"
-        here = "127.0.0.1" if self.is_everywhere else bound
-        self.host = here if self.is_everywhere else host
-        self.address = f"http://{self.host}:{self.server_port}/"
-        own = {self.host, here, "localhost"} if here.startswith("127.") else {self.host}
-        self.hosts = {f"{name}:{self.server_port}" for name in own}
+        self.is_open, is_everywhere = not bound.startswith("127."), bound == "0.0.0.0"
+        here = "127.0.0.1" if is_everywhere else bound
+        name = here if is_everywhere else host
+        own = {name, here, "localhost"} if here.startswith("127.") else {name}
+        self.hosts = {f"{it}:{self.server_port}" for it in own}
+        outside = own_addresses() if is_everywhere else [name] if self.is_open else []
+        self.outside = [self._address_at(it) for it in outside]
+        self.address = [*self.outside, self._address_at(name)][0]
+
+    def _address_at(self, name):
+        return f"http://{name}:{self.server_port}/"
 
     def process_request(self, request, address):
         """A connection for which there is no place is closed at once."""

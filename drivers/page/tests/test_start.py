@@ -3,10 +3,11 @@ import re
 import socket
 import subprocess
 import unittest
+from unittest import mock
 
 from browser import ELSEWHERE, the_browser
 from selenium.webdriver.common.keys import Keys
-from support import MEMORY, PAGE, PROGRAM, Page, send, standing_in
+from support import MEMORY, PAGE, PROGRAM, ROOT, Classroom, Limits, Page, send, standing_in
 
 
 def own_addresses():
@@ -81,18 +82,29 @@ class AtAName(unittest.TestCase):
         self.assertEqual(process.communicate(timeout=20), ("", ""))
 
 
+class WithoutANetwork(unittest.TestCase):
+    def test_no_address_is_made_up(self):
+        with mock.patch("classroom.server.own_addresses", return_value=[]), Classroom(
+                PROGRAM, ROOT, 0, Limits(), "0.0.0.0") as served:
+            self.assertEqual((served.outside, served.address), ([], f"http://127.0.0.1:{served.server_port}/"))
+
+
 class Opened(unittest.TestCase):
     """A page for students on other machines. A name of another machine is still none that is served."""
 
     def setUp(self):
         self.process = started(self, "0.0.0.0")
-        self.port = int(re.fullmatch(r"http://127\.0\.0\.1:(\d+)/\n", self.process.stdout.readline())[1])
+        self.address = self.process.stdout.readline().strip()
+        self.port = int(self.address.split(":")[2].strip("/"))
         self.said = [self.process.stderr.readline() for _ in range(3)]
 
     def test_what_it_opens_is_said(self):
-        own = " ".join(f"http://{address}:{self.port}/" for address in sorted(own_addresses()))
-        wanted = own or f"port {self.port} of this machine's addresses"
-        self.assertEqual(self.said[0], f"Other machines open it at {wanted}\n")
+        own = {f"http://{address}:{self.port}/" for address in own_addresses()}
+        said = self.said[0].removeprefix("Other machines open it at ").strip()
+        if own:
+            self.assertEqual((set(said.split()), said.split()[0]), (own, self.address))
+        else:
+            self.assertEqual(said, f"port {self.port} of this machine's addresses")
         self.assertIn(f"port {self.port}", self.said[1])
         self.assertIn("no password", self.said[2])
 
@@ -115,12 +127,25 @@ class Opened(unittest.TestCase):
         self.assertFalse(browser.run("return isSecureContext"))
         browser.type('#entry input[name="1"]', "GET 'k'" + Keys.ENTER)
         browser.until(lambda: browser.texts("#given .reply") == ["NONE"], "it is answered")
+        self.assertEqual(self.copied(browser), browser.run("return location.href"))
+
+    def test_a_link_that_is_copied_here_leads_here_from_other_machines(self):
+        if not own_addresses():
+            self.skipTest("this machine has no address in a network")
+        browser = the_browser()
+        self.addCleanup(browser.leave)
+        for name in ("127.0.0.1", "localhost"):
+            browser.go(f"http://{name}:{self.port}/#sessions?script=1%20GET%20'k'&at=0")
+            browser.until(lambda: browser.all("#pending > li"), "the line waits")
+            self.assertEqual(self.copied(browser), self.address + browser.run("return location.hash"))
+
+    def copied(self, browser):
+        """What the button puts into the clipboard."""
         browser.push("#copy-link")
         browser.until(lambda: browser.text("#copy-link") == "Copied", "the link is copied")
-        browser.focus('#entry input[name="1"]')
+        browser.replace('#entry input[name="1"]', "")
         browser.chord(Keys.CONTROL, "v")
-        self.assertEqual(browser.one('#entry input[name="1"]').get_property("value"),
-                         browser.run("return location.href"))
+        return browser.one('#entry input[name="1"]').get_property("value")
 
 
 if __name__ == "__main__":

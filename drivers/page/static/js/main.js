@@ -14,6 +14,7 @@ import { Server } from "./server.js";
 import { Sessions } from "./sessions.js";
 
 const FIRST = "sessions";
+const LOCAL = /^(localhost|127\..*)$/; // what leads each machine to itself
 const LONGEST = 1_000_000; // characters of an address: browsers take about twice as many
 const TOO_LONG = "This is too long for an address, which has a million characters at most.";
 
@@ -25,11 +26,12 @@ class App {
     addEventListener("hashchange", () => this.enter());
     listen(() => this.enter());
     listenToMenus();
-    byId("copy-link").addEventListener("click", (event) => copy(location.href, event.target));
+    byId("copy-link").addEventListener("click", (event) => copy(this.link(), event.target));
   }
 
   async begin() {
-    const [examples] = await Promise.all([fetched("examples"), rules.load()]);
+    const [examples, outside] = await Promise.all([fetched("examples"), fetched("outside"), rules.load()]);
+    this.outside = outside.addresses[0];
     for (const view of Object.values(this.views)) view.offer(examples);
     this.enter();
     const program = await ask("program", {});
@@ -58,6 +60,11 @@ class App {
     if (wanted.length > LONGEST) this.notify({ fault: TOO_LONG });
     else if (location.hash === wanted) this.enter();
     else location.hash = wanted;
+  }
+
+  // The address of what is shown, as it leads here from another machine too, where other machines can come at all.
+  link() {
+    return this.outside && LOCAL.test(location.hostname) ? this.outside + location.hash : location.href;
   }
 
   linkOf(view) {
