@@ -222,6 +222,50 @@ class Commit(View):
         self.assertEqual(self.answers()[-2:], ["VALUE '70'", "VALUE '130'"])
         self.assertEqual(self.answers()[-3], "RECOVERED committed 1 rolled back 0 missing 0")
 
+    def fill_transfer(self, **parts):
+        """Opens the form of a transfer, and asks for the calls of one that has these in place of what stands there."""
+        self.open()
+        self.browser.push("#own-transfer summary")
+        for name, text in parts.items():
+            self.browser.replace(f"#{name.replace('_', '-')}", text)
+        self.browser.push('#transfer-form button[type="submit"]')
+
+    def assert_no_transfer(self, part, said, **parts):
+        """The part of the form at which it says what to do has the focus, and there are no calls."""
+        with self.subTest(**parts):
+            self.fill_transfer(**parts)
+            self.until(lambda: self.browser.run("return document.activeElement.id") == part, f"the focus is at {part}")
+            self.assertEqual(self.browser.run("return document.activeElement.validationMessage"), said)
+            self.assertNotIn("calls", self.browser.run("return location.hash"))
+
+    def test_a_form_says_why_it_is_no_transfer(self):
+        self.assert_no_transfer("amount", "The payer has 5. Give a smaller amount, or let the payer have more.",
+                                from_has="5")
+        self.assert_no_transfer("to-name", "This is the payer's own row. Give another name or store.",
+                                to_name="alice", to_store="0")
+        self.assert_no_transfer("from-name", "A name has at most 64 bytes, and this one has 80. Give a shorter one.",
+                                from_name="ä" * 40)
+        self.assert_no_transfer("to-name", "Give a name.", to_name="")
+        for amount in ("0", "-3", "1.5", "10.00000001", "1000001", ""):
+            self.assert_no_transfer("amount", "Give a whole number from 1 to 1000000.", amount=amount)
+        self.assert_no_transfer("to-has", "Give a whole number from 0 to 1000000.", to_has="-1")
+        self.assert_no_transfer("to-store", "Give a whole number from 0 to 15.", to_store="0.00000001")
+
+    def test_a_form_that_was_mended_is_a_transfer(self):
+        self.assert_no_transfer("amount", "The payer has 9. Give a smaller amount, or let the payer have more.",
+                                from_has="9")
+        self.browser.replace("#from-has", "10")
+        self.assertTrue(self.browser.run("return document.querySelector('#transfer-form').checkValidity()"))
+        self.browser.push('#transfer-form button[type="submit"]')
+        self.until(lambda: self.waiting() > 5, "the calls wait")
+
+    def test_a_transfer_of_all_to_the_same_longest_name_in_another_store(self):
+        self.fill_transfer(from_name="ä" * 32, to_name="ä" * 32, amount="100")
+        self.until(lambda: self.waiting() > 5, "the calls wait")
+        self.browser.chord(Keys.ALT, Keys.END)
+        self.until(lambda: self.given() and not self.waiting(), "all is answered")
+        self.assertEqual(self.answers()[-2:], ["VALUE '0'", "VALUE '200'"])
+
     def test_bytes_of_any_kind_are_shown_as_text(self):
         text = b"<img src=x onerror=window.hacked=1>\xff\n"
         xid = f"X'{text.hex()}',X''"

@@ -13,7 +13,7 @@ import { readStores } from "./shown_stores.js";
 import { linesUntil, nameOfStop, readStops } from "./stops.js";
 import { Tape } from "./tape.js";
 import { follow, titleOf } from "./titles.js";
-import { transferCalls } from "./transfer.js";
+import { isTransfer, transferCalls, valuesIn } from "./transfer.js";
 
 const STORES = 3;
 const MOST_STORES = 16;
@@ -82,13 +82,9 @@ export class Commit {
 
   openTransfer(event) {
     event.preventDefault();
-    const text = (id) => fromText(byId(id).value);
-    const number = (id) => Number(byId(id).value);
-    const stores = Math.max(this.stores, number("from-store") + 1, number("to-store") + 1);
-    const calls = transferCalls({ fromName: text("from-name"), fromHas: number("from-has"),
-      fromStore: number("from-store"), toName: text("to-name"), toHas: number("to-has"), toStore: number("to-store"),
-      amount: number("amount"), crash: byId("crash").value });
-    this.open(calls, 0, stores);
+    if (!isTransfer(event.target)) return;
+    const transfer = valuesIn(event.target);
+    this.open(transferCalls(transfer), 0, Math.max(this.stores, transfer.fromStore + 1, transfer.toStore + 1));
   }
 
   async save(how) {

@@ -1,9 +1,52 @@
 // A transfer between two rows as calls: what a form says, with a crash where it is wanted.
+import { fromText } from "./bytes.js";
+
+const MOST_BYTES = 64; // of a key
+
+const parts = (form) => [...form.elements].filter(({ name }) => name);
+
+const valueOf = (input) => (input.type === "number" ? input.valueAsNumber : fromText(input.value));
+
+// What a form says: names are bytes, and what both have, the stores and the amount are numbers.
+export const valuesIn = (form) => Object.fromEntries(parts(form).map((input) => [input.name, valueOf(input)]));
+
+// Whether a form says a transfer. If it doesn't, each part that is wrong says what to do until something is changed.
+export function isTransfer(form) {
+  const values = valuesIn(form);
+  for (const input of parts(form)) input.setCustomValidity(faultOf(input, values));
+  form.addEventListener("input", () => parts(form).forEach((input) => input.setCustomValidity("")), { once: true });
+  return form.reportValidity();
+}
+
+const faultOf = (input, values) => ownFault(input) || TOGETHER[input.name]?.(values) || "";
+
+function ownFault(input) {
+  if (input.type === "number") return numberFault(input);
+  return input.type === "text" ? nameFault(valueOf(input)) : "";
+}
+
+// A browser takes a number that differs from a whole one by very little for whole.
+function numberFault({ valueAsNumber: number, min, max }) {
+  const isRight = Number.isInteger(number) && number >= Number(min) && number <= Number(max);
+  return isRight ? "" : `Give a whole number from ${min} to ${max}.`;
+}
+
+function nameFault(bytes) {
+  if (!bytes) return "Give a name.";
+  return bytes.length <= MOST_BYTES ? ""
+    : `A name has at most ${MOST_BYTES} bytes, and this one has ${bytes.length}. Give a shorter one.`;
+}
+
+// What may be wrong with parts of which each by itself is right.
+const TOGETHER = {
+  toName: ({ fromName, fromStore, toName, toStore }) =>
+    (fromName === toName && fromStore === toStore ? "This is the payer's own row. Give another name or store." : ""),
+  amount: ({ fromHas, amount }) =>
+    (amount > fromHas ? `The payer has ${fromHas}. Give a smaller amount, or let the payer have more.` : ""),
+};
 
 const quoted = (name) => `'${name.replaceAll("\\", "\\\\").replaceAll("'", "''")}'`;
 
-// `form` has {fromName, fromHas, fromStore, toName, toHas, toStore, amount, crash}: names are bytes, and the others
-// numbers.
 export function transferCalls({ fromName, fromHas, fromStore, toName, toHas, toStore, amount, crash }) {
   const opened = (store, name, has) => [`AT ${store} PUT ${quoted(name)},'${has}'`];
   const [from, to] = [quoted(fromName), quoted(toName)];
