@@ -15,6 +15,9 @@ from .talk import unknown_transaction
 REMARK, BLANK, WORK, STRANGER, CRASH, COORDINATOR = "remark", "blank", "work", "stranger", "crash", "coordinator"
 CAPTIONS = (REMARK, BLANK)
 VOTES = (b"READY", b"ONE PHASE", b"NO", b"NOTHING")
+# answers behind which a transaction has no branch left for a recovery, by the call's word
+FINISHED = (b"COMMITTED", b"ROLLED BACK", b"HAZARD")
+ENDINGS = {b"PREPARE": (b"NOTHING",), b"FINISH": FINISHED, b"ABANDON": FINISHED}
 FAIL = re.compile(rb"[ \t]*FAIL[ \t]+(\d{1,2})[ \t]+AFTER[ \t]+(\d{1,18})[ \t\r]*")
 STOP = re.compile(rb"[ \t]*STOP[ \t\r]*")
 STOPPED_AT = re.compile(rb"(?:NO|UNFINISHED|UNRECOVERED) (\d+): (.*)", re.S)
@@ -59,6 +62,7 @@ class Exchange:
     behind: Shown = field(default_factory=Shown)
     groups: list = field(default_factory=list)  # stores in the order in which they were asked, each with its statements
     vote: Optional[bytes] = None                # of the transaction, before this call
+    over: frozenset = frozenset()               # the transactions that had ended before this call
     is_failing: bool = False                    # a session was let fail, and its coordinator not stopped since
     reason: bytes = b""
 
@@ -69,6 +73,9 @@ class Exchange:
     @property
     def first(self):
         return first_line(self.answer)
+
+    def ends_transaction(self):
+        return self.first.startswith(ENDINGS.get(self.words[0], ()))
 
     def is_bad(self):
         return self.answer is not None and BAD.match(self.answer) is not None
@@ -157,9 +164,10 @@ def exchanges(lines, answers, counts, why=None):
     session in each store."""
     found = [read_call(place, line) for place, line in enumerate(lines)]
     votes, decided, fuses, is_failing, before = {}, set(), {}, False, Shown()
+    over = frozenset()
     for it in found[:len(answers)]:
         it.answer, it.behind = answers[it.place]
-        it.before, it.is_failing = before, is_failing
+        it.before, it.is_failing, it.over = before, is_failing, over
         number = it.words[1] if len(it.words) > 1 else b""
         it.vote, it.reason = votes.get(number), (why or {}).get(it.place, b"")
         fail = FAIL.fullmatch(it.line)
@@ -175,6 +183,8 @@ def exchanges(lines, answers, counts, why=None):
                          if any(map(it.first.startswith, VOTES)) else {})
         elif it.words[0] == b"DECIDE" and it.first == b"DECIDED":
             decided.add(number)
+        if it.ends_transaction():
+            over |= {int(number)}
         before = it.behind
     return found
 

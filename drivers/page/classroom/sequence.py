@@ -331,8 +331,8 @@ class Sequence:
             self.note(COORDINATOR, [Run("term", "roll back"), Run("note", why)])
         elif word == b"FINISH" and it.vote == b"ONE PHASE" and it.groups:
             self.note(COORDINATOR, [Run("term", "one phase"), Run("note", "one participant: no vote, no decision")])
-        elif word == b"RECOVER" and it.before.of("UNDECIDED") and it.behind.of("CLOSED") != it.before.of("CLOSED"):
-            numbers = ", ".join(map(str, it.before.of("UNDECIDED")[:8]))
+        elif word == b"RECOVER" and presumed_aborted(it):
+            numbers = ", ".join(map(str, presumed_aborted(it)[:8]))
             self.note(COORDINATOR,
                       [Run("term", "presumed abort"), Run("note", f"no decision for {numbers}: rolled back")])
 
@@ -440,6 +440,12 @@ class Sequence:
                                          "data_xid": xid.decode("latin-1")}, element("title", {}, escape(says)),
                                    element("rect", {"class_": "band", "x": x, "y": since, "width": wide,
                                                     "height": max(2, y - since), "rx": 2})))
+
+
+def presumed_aborted(it):
+    """The transactions that a recovery rolls back since nobody decided them; it closes the numbers of others too."""
+    closed = set(it.before.of("UNDECIDED")) & set(it.behind.of("CLOSED"))
+    return sorted(closed - it.over)
 
 
 def readable_row(line):

@@ -24,11 +24,17 @@ FONTS = """return [...new Set([...document.querySelectorAll('body *')].filter((i
     .map((it) => `${parseFloat(getComputedStyle(it).fontSize)} ${it.tagName} ${it.className.baseVal ?? it.className} ${it.id}`))]"""
 
 
-def drawn(path, *words):
-    ran = subprocess.run([PAGE / "sequence", "--program", PROGRAM, *words, path], capture_output=True, timeout=240)
+def drawn(path, *words, calls=None):
+    ran = subprocess.run([PAGE / "sequence", "--program", PROGRAM, *words, path], capture_output=True, timeout=240,
+                         input=None if calls is None else "\n".join(calls).encode())
     if ran.returncode:
         raise AssertionError(ran.stderr)
     return ET.fromstring(ran.stdout)
+
+
+def story(*calls, stores=2):
+    """The drawing of these calls."""
+    return drawn("-", "--stores", str(stores), calls=calls)
 
 
 def call(svg, line):
@@ -105,6 +111,15 @@ class Files(unittest.TestCase):
         self.assertIn("commit in one phase", finish)
         bands = [it for it in drawn(self.scenario("two_transactions")).iter(f"{SVG}g") if it.get("class") == "doubt"]
         self.assertEqual(sorted(it.get("data-store") for it in bands), ["0", "1", "1", "2"])
+
+    def test_a_recovery_names_no_transaction_that_had_ended(self):
+        work, others = "WORK 1 1 PUT 'bob','110'", ["AT 1 XA ROLLBACK 0x630000000000000001,0x01,22593"]
+        for ended in (["BEGIN", work, "PREPARE 1", "FINISH 1"], ["BEGIN", work, "ABANDON 1"], ["BEGIN", "PREPARE 1"],
+                      ["BEGIN", "WORK 1 0 GET 'k'", work, "PREPARE 1", *others, "FINISH 1"]):
+            with self.subTest(ended=ended):
+                self.assertNotIn("presumed abort", said(call(story(*ended, "RECOVER"), len(ended) + 1)))
+                both = [*ended, "BEGIN", "WORK 2 0 PUT 'carol','1'", "RECOVER"]
+                self.assertIn("no decision for 2: rolled back", said(call(story(*both), len(both))))
 
     def test_what_cant_be_drawn_is_one_line(self):
         for words in (["nothing.calls"], [SCENARIOS[0], "--program", "/nothing"], [SCENARIOS[0], "--program", "/"]):
