@@ -23,6 +23,10 @@ STOP = re.compile(rb"[ \t]*STOP[ \t\r]*")
 STOPPED_AT = re.compile(rb"(?:NO|UNFINISHED|UNRECOVERED) (\d+): (.*)", re.S)
 BAD = re.compile(rb"ERROR|FAULT|NOT STARTED|LOST|NO \d|HAZARD|UNFINISHED|UNRECOVERED|STILL PREPARED|UNKNOWN|WRONG "
                  rb"STAGE|CLOSED|NUMBERS SPENT")
+# answers to work behind which its store takes no part for its sake
+NO_WORK = re.compile(rb"ERROR 1064|UNKNOWN|WRONG STAGE|NOT STARTED|LOST")
+ROW = re.compile(rb"(?:WORK[ \t\r]+\d+|AT)[ \t\r]+\d+[ \t\r]+(?:GET|PUT|DEL)[ \t\r]*"
+                 rb"('(?:[^'\\]|''|\\.)*'|[^ \t\r,]+).*", re.S | re.I)
 # answers that the program explains where it is asked to be verbose
 EXPLAINED = re.compile(rb"WRONG STAGE|UNKNOWN|ERROR 1064")
 REASON = re.compile(rb"xa_script: line (\d+): (.*)")
@@ -64,6 +68,7 @@ class Exchange:
     vote: Optional[bytes] = None                # of the transaction, before this call
     over: frozenset = frozenset()               # the transactions that had ended before this call
     is_failing: bool = False                    # a session was let fail, and its coordinator not stopped since
+    is_doubt_in_way: bool = False               # it was refused a row that a branch in doubt has locked
     reason: bytes = b""
 
     @property
@@ -74,11 +79,54 @@ class Exchange:
     def first(self):
         return first_line(self.answer)
 
+    @property
+    def row(self):
+        """The key of the row that its statement is about, as it is written."""
+        found = ROW.fullmatch(self.said)
+        return found[1] if found else None
+
+    def gave_work(self):
+        """Whether its store takes part by it, if it didn't before."""
+        if self.kind != WORK or self.answer is None or NO_WORK.match(self.answer):
+            return False
+        return not self.first.startswith(b"FAULT") or any(one.is_answered for _, made in self.groups for one in made)
+
     def ends_transaction(self):
         return self.first.startswith(ENDINGS.get(self.words[0], ()))
 
     def is_bad(self):
         return self.answer is not None and BAD.match(self.answer) is not None
+
+
+class Locks:
+    """Which branches of the coordinator may hold a row, as far as its calls tell."""
+
+    def __init__(self):
+        self._open = {}  # by its store, the transaction whose branch there isn't prepared
+        self._rows = {}  # by its transaction and store, the rows that a branch got work on
+
+    def follow(self, it):
+        if it.gave_work():
+            branch = int(it.words[1]), it.store
+            self._open[it.store] = branch[0]
+            if not it.is_bad():
+                self._rows.setdefault(branch, set()).add(it.row)
+        is_over = it.first.startswith(b"RECOVERED")
+        self._open = {store: number for store, number in self._open.items()
+                      if not is_over and number not in it.over and (number, store) not in self._prepared(it, store)}
+
+    def is_doubt_in_way(self, it):
+        """Whether it is sure that a branch in doubt, and not one that is still open, keeps another client from a
+        row."""
+        if it.kind != STRANGER or not it.first.startswith(b"ERROR 3572"):
+            return False
+        prepared = self._prepared(it, it.store)
+        return bool(prepared) and (it.store not in self._open
+                                   or any(it.row in self._rows.get(branch, ()) for branch in prepared))
+
+    @staticmethod
+    def _prepared(it, store):
+        return [transaction_of(xid) for xid in it.behind.prepared.get(store, [])]
 
 
 def words_of(line):
@@ -164,7 +212,7 @@ def exchanges(lines, answers, counts, why=None):
     session in each store."""
     found = [read_call(place, line) for place, line in enumerate(lines)]
     votes, decided, fuses, is_failing, before = {}, set(), {}, False, Shown()
-    over = frozenset()
+    over, locks = frozenset(), Locks()
     for it in found[:len(answers)]:
         it.answer, it.behind = answers[it.place]
         it.before, it.is_failing, it.over = before, is_failing, over
@@ -185,6 +233,8 @@ def exchanges(lines, answers, counts, why=None):
             decided.add(number)
         if it.ends_transaction():
             over |= {int(number)}
+        locks.follow(it)
+        it.is_doubt_in_way = locks.is_doubt_in_way(it)
         before = it.behind
     return found
 

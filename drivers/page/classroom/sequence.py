@@ -405,8 +405,7 @@ class Sequence:
             runs.append(Run("reason", it.reason))
         elif it.first.startswith(b"HAZARD"):
             runs.append(Run("reason", "in these stores somebody else had finished the branch"))
-        elif (it.kind == STRANGER and it.first.startswith(b"ERROR 3572")
-              and any(map(transaction_of, it.behind.prepared.get(it.store, [])))):
+        elif it.is_doubt_in_way:
             runs.append(Run("reason", "a branch is in doubt here, and keeps its locks"))
         if it.kind != STRANGER and not self.is_file:
             says = f"Cut here: the coordinator crashes after line {line} (STOP)"

@@ -121,6 +121,20 @@ class Files(unittest.TestCase):
                 both = [*ended, "BEGIN", "WORK 2 0 PUT 'carol','1'", "RECOVER"]
                 self.assertIn("no decision for 2: rolled back", said(call(story(*both), len(both))))
 
+    def test_a_refusal_is_put_down_to_doubt_only_where_that_is_sure(self):
+        begun = ["BEGIN", "WORK 1 0 PUT 'a','1'", "WORK 1 1 PUT 'a','1'", "PREPARE 1", "BEGIN",
+                 "WORK 2 0 PUT 'carol','1'"]
+        refused = [("carol", False), ("a", True)]
+        for more in ([], ["PREPARE 2"], ["STOP"]):
+            svg = story(*begun, *more, *(f"AT 0 PUT '{row}','2'" for row, _ in refused))
+            for at, (row, is_doubt) in enumerate(refused):
+                answer = said(call(svg, len(begun) + len(more) + at + 1))
+                self.assertIn("ERROR 3572", answer)
+                self.assertEqual("is in doubt here" in answer, is_doubt, (more, row))
+        svg = story(*begun, "ABANDON 2", "AT 0 DEL 'a'", "AT 0 PUT X'61','2'")
+        for line in (8, 9):
+            self.assertIn("is in doubt here", said(call(svg, line)), "no other branch is there")
+
     def test_what_cant_be_drawn_is_one_line(self):
         for words in (["nothing.calls"], [SCENARIOS[0], "--program", "/nothing"], [SCENARIOS[0], "--program", "/"]):
             ran = subprocess.run([PAGE / "sequence", "--program", PROGRAM, *words], capture_output=True, text=True)
