@@ -6,7 +6,7 @@ Each message has a row of its own with its label above its arrow, so no label ca
 from pathlib import Path
 from xml.sax.saxutils import escape
 
-from .exchanges import CAPTIONS, CRASH, REMARK, STRANGER, branch_name, transaction_of
+from .exchanges import CAPTIONS, CRASH, REMARK, STRANGER, WORK, branch_name, transaction_of
 from .flow import Run, flow
 from .record_lines import lines_of
 from .svg import element, plain
@@ -32,6 +32,7 @@ BELOW = 0.38        # from an arrow to the next label
 BETWEEN = 0.45      # calls
 HEAD = 3.1
 BAND = 0.95
+QUESTION = [Run("term", "?"), Run("note", "what is it answered?")]
 NAMES = [("Transaction manager", "Manager", "TM"), ("Coordinator", "Coord.", "C"), ("Other client", "Client", "Cl.")]
 
 
@@ -53,6 +54,7 @@ class Sequence:
 
     def __init__(self, found, stores, at, width=900, size=14, asked=False, is_file=False):
         self.found, self.stores, self.at, self.asked, self.is_file = found, stores, at, asked, is_file
+        self.participants = {it.store for it in found if it.gave_work() or (it.kind == WORK and it.answer is None)}
         if asked and self.next() is not None:
             self.found = found[:self.next() + 1]  # what stands behind it may tell the answer
         self.width, self.size = max(260, width), size
@@ -121,8 +123,8 @@ class Sequence:
             x, room = self.x(lifeline), self.step - 0.35 * size
             names = self.names(lifeline)
             name = next((name for name in names if 0.68 * size * len(name) <= room), names[-1])
-            part = ("participant"
-                    if FIRST_STORE <= lifeline < FIRST_STORE + self.stores and 0.54 * size * 11 <= room else "")
+            is_part = lifeline in map(self.store, self.participants) and 0.54 * size * 11 <= room
+            part = "participant" if is_part else ""
             wide = min(room, max(0.68 * size * len(name), 0.54 * size * len(part)) + 0.8 * size)
             found += [element("rect", {"class_": "head-box", "x": x - wide / 2, "y": 0.25 * size, "width": wide,
                                        "height": (HEAD - 0.6) * size, "rx": 0.3 * size}),
@@ -240,7 +242,7 @@ class Sequence:
         if not self.is_file and it.kind not in CAPTIONS and it.place == self.at - 1 - self.captions_behind():
             self.current = element("rect",
                                    {"class_": "current", "x": 0, "y": top, "width": self.width, "height": self.y - top})
-        kind = " waiting" if it.answer is None and not (self.asked and it.place == self.next()) else ""
+        kind = " waiting" if it.answer is None and not self.is_asked(it) else ""
         made, self.marks = self.marks[before:], self.marks[:before]
         attributes = {"class_": f"call {it.kind}{kind}", "data_line": it.place + 1, "data_bottom": self.y,
                       "data_answer": None if it.answer is None or it.kind in CAPTIONS
@@ -282,7 +284,7 @@ class Sequence:
 
     def draw_crash(self, it):
         size, store = self.size, self.store(it.store)
-        bad = [Run("bad", plain(it.first)), Run("reason", it.reason)] if it.is_bad() else []
+        bad = [Run("bad", plain(it.first)), Run("reason", self.reason(it))] if it.is_bad() else []
         if it.words[0] == b"STOP" and it.answer is not None and not bad:
             y, x, reach = self.y + 0.65 * size, self.x(COORDINATOR), 0.6 * size
             self.marks.append(
@@ -302,15 +304,27 @@ class Sequence:
             says.append(Run("reason", f"the coordinator's session in store {it.store} {how}"))
         self.row([Run("cut-sign", "✂"), *says], self.x(COORDINATOR) + 0.5 * size, 0.35)
 
+    def is_asked(self, it):
+        return self.asked and it.place == self.next()
+
+    def draw_unsent(self, it):
+        """What another client can't send, since there is no such store, stays with that client."""
+        runs = [Run("statement", it.said)]
+        if it.answer is not None:
+            runs += [Run("bad", it.first), Run("reason", self.reason(it))]
+        self.note(CLIENT, runs + (QUESTION if self.is_asked(it) else []))
+
     def draw_call(self, it):
         sender, receiver = MANAGER, COORDINATOR
         if it.kind == STRANGER:
             sender, receiver = CLIENT, self.store(it.store)
-            receiver = FIRST_STORE + self.stores - 1 if receiver is None else receiver
+        if receiver is None:
+            self.draw_unsent(it)
+            return
         self.message(sender, receiver, [Run("statement", it.said)], "client" if it.kind == STRANGER else "asks")
         if it.answer is None:
-            if self.asked and it.place == self.next():
-                self.message(receiver, sender, [Run("term", "?"), Run("note", "what is it answered?")], "answer")
+            if self.is_asked(it):
+                self.message(receiver, sender, QUESTION, "answer")
             return
         self.notes_before(it)
         for store, said in it.groups:
@@ -392,6 +406,19 @@ class Sequence:
             return ("what is in doubt?" if len(said) > 1 else "all ended?"), ""
         return "work", ""
 
+    def reason(self, it):
+        """Why it was answered so, where that is to be said."""
+        if it.reason:
+            return it.reason
+        if it.first.startswith(b"UNKNOWN STORE"):
+            last = self.stores - 1
+            there = ("is only store 0" if last == 0
+                     else f"are only the stores 0 {'and' if last == 1 else 'to'} {last}")
+            return f"there {there}: take another, or raise the number of stores"
+        if it.first.startswith(b"HAZARD"):
+            return "in these stores somebody else had finished the branch"
+        return "a branch is in doubt here, and keeps its locks" if it.is_doubt_in_way else ""
+
     def draw_answer(self, it, sender, receiver):
         line, kind = it.place + 1, "bad" if it.is_bad() else "reply"
         runs, lines = [], lines_of(it.answer)
@@ -401,12 +428,8 @@ class Sequence:
         if it.is_failing and first.endswith(b" out of memory"):
             first = first.removesuffix(b" out of memory") + b" stopped"
         runs.append(Run(kind, first))
-        if it.reason:
-            runs.append(Run("reason", it.reason))
-        elif it.first.startswith(b"HAZARD"):
-            runs.append(Run("reason", "in these stores somebody else had finished the branch"))
-        elif it.is_doubt_in_way:
-            runs.append(Run("reason", "a branch is in doubt here, and keeps its locks"))
+        if self.reason(it):
+            runs.append(Run("reason", self.reason(it)))
         if it.kind != STRANGER and not self.is_file:
             says = f"Cut here: the coordinator crashes after line {line} (STOP)"
             runs.append(Run("cut-sign", "✂", Button("stop", says, line=line)))

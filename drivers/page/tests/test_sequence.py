@@ -135,6 +135,28 @@ class Files(unittest.TestCase):
         for line in (8, 9):
             self.assertIn("is in doubt here", said(call(svg, line)), "no other branch is there")
 
+    def test_nothing_is_sent_to_a_store_that_isnt_there(self):
+        lines = ["BEGIN", "AT 7 PUT 'k','v'", "AT x GET 'k'", "WORK 1 7 GET 'k'", "FAIL 7 AFTER 0"]
+        svg = story(*lines)
+        self.assertEqual([it.get("class") for line in (2, 3) for it in call(svg, line).iter(f"{SVG}g")
+                          if "message" in it.get("class").split()], [])
+        for line in (2, 4, 5):
+            self.assertIn("UNKNOWN STORE 7", said(call(svg, line)))
+            self.assertIn("there are only the stores 0 and 1: ", said(call(svg, line)))
+            self.assertIn(lines[line - 1], said(call(svg, line)))
+        for stores, there in ((1, "there is only store 0: "), (3, "there are only the stores 0 to 2: ")):
+            self.assertIn(there, said(call(story("AT 3 GET 'k'", stores=stores), 1)))
+
+    def test_only_stores_with_work_are_participants(self):
+        def roles(svg):
+            return [sum(it.get("x") == role.get("x") for role in svg.iter(f"{SVG}text") if role.get("class") == "role")
+                    for it in svg.iter(f"{SVG}text") if it.get("class") == "head"]
+
+        lines = ["BEGIN", "WORK 1 1 PUT 'k','v'", "WORK 9 0 GET 'k'", "FAIL 2 AFTER 0", "WORK 1 2 GET 'k'",
+                 "AT 3 GET 'k'"]
+        self.assertEqual(roles(story(*lines, stores=4)), [0, 0, 0, 1, 0, 0, 0])
+        self.assertEqual(roles(story(*lines[:3], "FAIL 2 AFTER 1", *lines[4:], stores=4)), [0, 0, 0, 1, 1, 0, 0])
+
     def test_what_cant_be_drawn_is_one_line(self):
         for words in (["nothing.calls"], [SCENARIOS[0], "--program", "/nothing"], [SCENARIOS[0], "--program", "/"]):
             ran = subprocess.run([PAGE / "sequence", "--program", PROGRAM, *words], capture_output=True, text=True)
