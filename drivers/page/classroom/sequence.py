@@ -3,6 +3,7 @@ store and the other client, and time goes down.
 
 Each message has a row of its own with its label above its arrow, so no label can lie over another.
 """
+import math
 from pathlib import Path
 from xml.sax.saxutils import escape
 
@@ -30,6 +31,7 @@ LINE = 1.24
 ARROW = 0.24        # from a label to its arrow
 BELOW = 0.38        # from an arrow to the next label
 BETWEEN = 0.45      # calls
+BESIDE = 14         # the least width of a frame that leaves the other lifelines
 HEAD = 3.1
 BAND = 0.95
 QUESTION = [Run("term", "?"), Run("note", "what is it answered?")]
@@ -207,10 +209,10 @@ class Sequence:
     def remark(self, text, kind="remark"):
         self.row([Run(kind, text)], self.gutter, 0.1)
 
-    def note(self, lifeline, runs):
-        """What happens at a lifeline itself, in a frame over it."""
+    def note(self, lifeline, runs, most=math.inf):
+        """What happens at a lifeline itself, in a frame over it, that takes so much room at most."""
         size = self.size
-        room = (self.width - self.gutter - 1.6 * size) / size
+        room = min(most, (self.width - self.gutter - 1.6 * size) / size)
         lines, widest = flow(runs, room)
         wide, high = (widest + 0.9) * size, (LINE * len(lines) + 0.2) * size
         left = max(self.gutter, min(self.x(lifeline) - 0.7 * size, self.width - 0.6 * size - wide))
@@ -312,7 +314,7 @@ class Sequence:
         runs = [Run("statement", it.said)]
         if it.answer is not None:
             runs += [Run("bad", it.first), Run("reason", self.reason(it))]
-        self.note(CLIENT, runs + (QUESTION if self.is_asked(it) else []))
+        self.note(CLIENT, runs + (QUESTION if self.is_asked(it) else []), max(BESIDE, 1.3 * self.step / self.size))
 
     def draw_call(self, it):
         sender, receiver = MANAGER, COORDINATOR

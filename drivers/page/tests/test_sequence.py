@@ -140,6 +140,10 @@ class Files(unittest.TestCase):
         svg = story(*lines)
         self.assertEqual([it.get("class") for line in (2, 3) for it in call(svg, line).iter(f"{SVG}g")
                           if "message" in it.get("class").split()], [])
+        last_store = max(float(it.get("x1")) for it in svg.iter(f"{SVG}line")
+                         if it.get("class") == "lifeline" and float(it.get("x1")) < 0.8 * float(svg.get("width")))
+        for frame in call(svg, 2).iter(f"{SVG}rect"):
+            self.assertGreater(float(frame.get("x")), last_store, "it is the client's alone")
         for line in (2, 4, 5):
             self.assertIn("UNKNOWN STORE 7", said(call(svg, line)))
             self.assertIn("there are only the stores 0 and 1: ", said(call(svg, line)))
