@@ -160,13 +160,18 @@ class Sequence:
 
     # rows
 
+    def lines(self, runs):
+        return flow(runs, (self.width - self.gutter - 0.6 * self.size) / self.size)
+
+    def start(self, runs, left):
+        """Where a row begins: at `left` where there is room, or else as far to the left as it must."""
+        _, widest = self.lines(runs)
+        return max(self.gutter, min(left, self.width - (0.6 + widest) * self.size))
+
     def row(self, runs, left, height=0.0):
-        """A label at the current height, and where it ends below; it begins at `left` where there is room."""
-        size = self.size
-        room = (self.width - self.gutter - 0.6 * size) / size
-        lines, widest = flow(runs, room)
-        start = max(self.gutter, min(left, self.width - 0.6 * size - widest * size))
-        for line in lines:
+        """A label at the current height, and where it ends below."""
+        size, start = self.size, self.start(runs, left)
+        for line in self.lines(runs)[0]:
             if line:
                 last = line[-1]
                 self.marks.append(element("rect",
@@ -180,11 +185,13 @@ class Sequence:
             self.y += LINE * size
         self.y += height * size
 
-    def message(self, sender, receiver, runs, kind, is_lost=False):
-        """A row with its arrow; one that is lost ends in a cross before the receiver."""
+    def message(self, sender, receiver, runs, kind, is_lost=False, more=()):
+        """A row with its arrow, and more rows between the two; one that is lost ends in a cross before the receiver."""
         size, before = self.size, len(self.marks)
-        left = min(self.x(sender), self.x(receiver))
-        self.row(runs, left + 0.5 * size)
+        rows = [runs, *([line] for line in more)]
+        left = min(min(self.x(sender), self.x(receiver)) + 0.5 * size, *(self.start(line, math.inf) for line in rows))
+        for line in rows:
+            self.row(line, left)
         self.y += ARROW * size
         start, end, way = self.x(sender), self.x(receiver), 1 if self.x(receiver) > self.x(sender) else -1
         if is_lost:
@@ -435,9 +442,8 @@ class Sequence:
         if it.kind != STRANGER and not self.is_file:
             says = f"Cut here: the coordinator crashes after line {line} (STOP)"
             runs.append(Run("cut-sign", "✂", Button("stop", says, line=line)))
-        for more in lines[1:]:
-            self.row([Run("reply", readable_row(more))], self.gutter + self.step)
-        self.message(sender, receiver, runs, "answer fails" if it.is_bad() else "answer")
+        more = [Run("reply", readable_row(line)) for line in lines[1:]]
+        self.message(sender, receiver, runs, "answer fails" if it.is_bad() else "answer", more=more)
 
     # in doubt
 

@@ -42,7 +42,8 @@ def call(svg, line):
 
 
 def said(element):
-    return " ".join("".join(text.itertext()) for text in element.iter(f"{SVG}text"))
+    """Its words, whatever lines they stand in."""
+    return " ".join(" ".join("".join(text.itertext()) for text in element.iter(f"{SVG}text")).split())
 
 
 def line_of(path, text):
@@ -160,6 +161,23 @@ class Files(unittest.TestCase):
                  "AT 3 GET 'k'"]
         self.assertEqual(roles(story(*lines, stores=4)), [0, 0, 0, 1, 0, 0, 0])
         self.assertEqual(roles(story(*lines[:3], "FAIL 2 AFTER 1", *lines[4:], stores=4)), [0, 0, 0, 1, 1, 0, 0])
+
+    def test_an_answer_of_several_lines_stands_in_its_order_above_its_arrow(self):
+        lines = ["BEGIN", "WORK 1 0 GET 'k'", "WORK 1 1 GET 'k'", "PREPARE 1", "SHOW", "AT 1 XA RECOVER"]
+        svg = story(*lines)
+        show, (row, *_) = ["STORE 0", "ROWS 1", "transaction 1, store 0", "STORE 1", "ROWS 1",
+                           "transaction 1, store 1", "UNDECIDED 1", "DECIDED", "CLOSED"], ("c" + 7 * "\\00",)
+        for line, answer in ((5, show), (6, ["ROWS 1"])):
+            message = list(call(svg, line))[-1]
+            labels = [("".join(it.itertext()), it) for it in message.iter(f"{SVG}text")]
+            self.assertEqual([text for text, _ in labels][:len(answer)], answer)
+            heights = [float(it.get("y")) for _, it in labels]
+            self.assertEqual(heights, sorted(set(heights)), "one below the other")
+            self.assertEqual(len({it.get("x") for _, it in labels}), 1, "beside one another")
+            head = next(it.get("d") for it in message.iter(f"{SVG}path"))
+            self.assertGreater(float(head.split("l")[0].split()[1]), heights[-1], "and then their arrow")
+        self.assertGreater(float(labels[-1][1].get("x")), float(svg.get("width")) / 2, "near the other client")
+        self.assertIn(row, labels[-1][0])
 
     def test_what_cant_be_drawn_is_one_line(self):
         for words in (["nothing.calls"], [SCENARIOS[0], "--program", "/nothing"], [SCENARIOS[0], "--program", "/"]):
