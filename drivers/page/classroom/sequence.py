@@ -31,6 +31,8 @@ LINE = 1.24
 ARROW = 0.24        # from a label to its arrow
 BELOW = 0.38        # from an arrow to the next label
 BETWEEN = 0.45      # calls
+MARGIN = 0.6        # at the right of labels
+SIGN = 1.3          # from the sign that removes a line to the right
 BESIDE = 14         # the least width of a frame that leaves the other lifelines
 HEAD = 3.1
 BAND = 0.95
@@ -63,7 +65,7 @@ class Sequence:
         self.gutter = (1.2 if is_file else 1.6) * size + 0.62 * size * len(str(max(1, len(found))))
         count = stores + 3
         self.step = (self.width - self.gutter - 0.4 * size) / count
-        self.y = HEAD * size
+        self.y, self.margin = HEAD * size, MARGIN
         self.below, self.marks = [], []     # what lies below the labels, and these
         # the branches in doubt: from where on, and which place beside one another; and those that were
         self.doubts, self.closed = {}, []
@@ -161,12 +163,12 @@ class Sequence:
     # rows
 
     def lines(self, runs):
-        return flow(runs, (self.width - self.gutter - 0.6 * self.size) / self.size)
+        return flow(runs, (self.width - self.gutter) / self.size - self.margin)
 
     def start(self, runs, left):
         """Where a row begins: at `left` where there is room, or else as far to the left as it must."""
         _, widest = self.lines(runs)
-        return max(self.gutter, min(left, self.width - (0.6 + widest) * self.size))
+        return max(self.gutter, min(left, self.width - (self.margin + widest) * self.size))
 
     def row(self, runs, left, height=0.0):
         """A label at the current height, and where it ends below."""
@@ -219,10 +221,10 @@ class Sequence:
     def note(self, lifeline, runs, most=math.inf):
         """What happens at a lifeline itself, in a frame over it, that takes so much room at most."""
         size = self.size
-        room = min(most, (self.width - self.gutter - 1.6 * size) / size)
+        room = min(most, (self.width - self.gutter) / size - self.margin - 1)
         lines, widest = flow(runs, room)
         wide, high = (widest + 0.9) * size, (LINE * len(lines) + 0.2) * size
-        left = max(self.gutter, min(self.x(lifeline) - 0.7 * size, self.width - 0.6 * size - wide))
+        left = max(self.gutter, min(self.x(lifeline) - 0.7 * size, self.width - self.margin * size - wide))
         self.y += 0.15 * size
         self.marks.append(element("rect", {"class_": "note-box", "x": left, "y": self.y, "width": wide, "height": high,
                                            "rx": 0.25 * size}))
@@ -237,6 +239,7 @@ class Sequence:
 
     def exchange(self, it):
         top, before, size = self.y, len(self.marks), self.size
+        self.margin = SIGN + 0.35 if self.is_removable(it) else MARGIN
         if it.kind in CAPTIONS:
             if it.kind == REMARK and it.said:
                 self.remark(it.said)
@@ -270,14 +273,17 @@ class Sequence:
     def next(self):
         return next((it.place for it in self.found[self.at:] if it.kind not in CAPTIONS), None)
 
+    def is_removable(self, it):
+        return it.answer is None and it.kind not in CAPTIONS and not self.is_file and not self.asked
+
     def number(self, it, top):
         size, number = self.size, it.place + 1
         text = element("text", {"class_": "line-number", "x": self.gutter - 0.5 * size, "y": top + size}, str(number))
         if self.is_file:
             return [text]
         made = [Button("go", f"Run to here: line {number}", line=number).around(text)]
-        if it.answer is None and not self.asked:
-            x = self.width - 1.3 * size
+        if self.is_removable(it):
+            x = self.width - SIGN * size
             cross = element("text", {"class_": "remove-mark label", "x": x, "y": top + size}, "×")
             made.append(Button("remove", f"Remove line {number}", line=number).around(cross))
         return made

@@ -19,6 +19,12 @@ WORDS = ["coordinator", "participant", "vote", "decision", "in doubt", "presumed
 # Of each label and each line number where it lies; and of each its words.
 BOXES = """return [...document.querySelectorAll('#sequence svg .label, #sequence svg .line-number, #sequence svg .head')].map((it) => {
     const box = it.getBBox(); return [box.x, box.y, box.width, box.height, it.textContent]; })"""
+# The lines that can't be removed, since something else takes the click.
+COVERED = """return [...document.querySelectorAll('#sequence svg .remove')].filter((it) => {
+    it.scrollIntoView({ block: 'center' });
+    const box = it.getBoundingClientRect();
+    return !it.contains(document.elementFromPoint(box.x + box.width / 2, box.y + box.height / 2));
+}).map((it) => it.dataset.line)"""
 FONTS = """return [...new Set([...document.querySelectorAll('body *')].filter((it) => it.checkVisibility({ visibilityProperty: true }) &&
     [...it.childNodes].some((node) => node.nodeType === 3 && node.data.trim()) && it.getBoundingClientRect().width > 2)
     .map((it) => `${parseFloat(getComputedStyle(it).fontSize)} ${it.tagName} ${it.className.baseVal ?? it.className} ${it.id}`))]"""
@@ -251,13 +257,18 @@ class Drawn(View):
         self.assertEqual(self.browser.run("return document.documentElement.scrollWidth > innerWidth"), False, where)
 
     def test_no_label_lies_over_another(self):
-        for width, height, stores in ((1280, 800, 2), (1280, 800, 5), (1920, 1080, 5), (390, 844, 5)):
+        for width, height, stores in ((1280, 800, 2), (1280, 800, 5), (1920, 1080, 5), (390, 844, 5), (390, 844, 3)):
             self.sized(width, height)
             for path in SCENARIOS:
-                self.open(calls=path.read_text(), stores=stores)
                 lines = len(path.read_text().splitlines())
-                self.until(lambda lines=lines: self.given() == lines, "all is answered")
-                self.assert_apart((width, stores, path.stem))
+                for at in (0, lines):
+                    self.open(calls=path.read_text(), stores=stores, at=at)
+                    self.until(lambda at=at, lines=lines: self.given() == at and self.count(".call") == lines, "drawn")
+                    self.assert_apart((width, stores, path.stem, at))
+                    self.assertEqual(self.browser.run(COVERED), [], (width, stores, path.stem, at))
+
+    def count(self, css):
+        return len(self.browser.all(f"#sequence {css}"))
 
     def test_the_words_stand_beside_it(self):
         self.open()
