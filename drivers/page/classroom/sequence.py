@@ -65,7 +65,7 @@ class Sequence:
         self.gutter = (1.2 if is_file else 1.6) * size + 0.62 * size * len(str(max(1, len(found))))
         count = stores + 3
         self.step = (self.width - self.gutter - 0.4 * size) / count
-        self.y, self.margin = HEAD * size, MARGIN
+        self.y, self.margin, self.waiting = HEAD * size, MARGIN, ""
         self.below, self.marks = [], []     # what lies below the labels, and these
         # the branches in doubt: from where on, and which place beside one another; and those that were
         self.doubts, self.closed = {}, []
@@ -97,8 +97,7 @@ class Sequence:
             self.remark(f"The lines from {first + MOST_CALLS + 1} on aren't drawn.", "note")
         self.y += 0.6 * self.size
         end = self.y
-        for key in list(self.doubts):
-            self.end_doubt(key, end)
+        self.end_doubts(end)
         if self.alive is not None:
             self.lives.append((self.alive, end))
         foot = self.legend() if self.is_file else []
@@ -207,7 +206,7 @@ class Sequence:
             self.marks.append(element(
                 "path", {"class_": f"head-of {kind}",
                          "d": f"M{end:.1f} {self.y:.1f}l{-way * head:.1f} {-0.34 * size:.1f}v{0.68 * size:.1f}z"}))
-        self.below.append(element("line", {"class_": f"arrow {kind}", "x1": start, "x2": end
+        self.below.append(element("line", {"class_": f"arrow {kind}{self.waiting}", "x1": start, "x2": end
                                            - (0 if is_lost else way * 0.3 * size), "y1": self.y, "y2": self.y}))
         count = self.stores + 3
         made, self.marks = self.marks[before:], self.marks[:before]
@@ -240,6 +239,9 @@ class Sequence:
     def exchange(self, it):
         top, before, size = self.y, len(self.marks), self.size
         self.margin = SIGN + 0.35 if self.is_removable(it) else MARGIN
+        self.waiting = " waiting" if it.answer is None and not self.is_asked(it) else ""
+        if it.answer is None:
+            self.end_doubts(top)  # what comes of a branch behind the cursor isn't known yet
         if it.kind in CAPTIONS:
             if it.kind == REMARK and it.said:
                 self.remark(it.said)
@@ -254,9 +256,8 @@ class Sequence:
         if not self.is_file and it.kind not in CAPTIONS and it.place == self.at - 1 - self.captions_behind():
             self.current = element("rect",
                                    {"class_": "current", "x": 0, "y": top, "width": self.width, "height": self.y - top})
-        kind = " waiting" if it.answer is None and not self.is_asked(it) else ""
         made, self.marks = self.marks[before:], self.marks[:before]
-        attributes = {"class_": f"call {it.kind}{kind}", "data_line": it.place + 1, "data_bottom": self.y,
+        attributes = {"class_": f"call {it.kind}{self.waiting}", "data_line": it.place + 1, "data_bottom": self.y,
                       "data_answer": None if it.answer is None or it.kind in CAPTIONS
                       else "\n".join(map(plain, lines_of(it.answer)))}
         if it.kind not in CAPTIONS:
@@ -465,6 +466,10 @@ class Sequence:
             taken = {beside for (store, _), (_, beside) in self.doubts.items() if store == key[0]}
             beside = next(at for at in range(len(taken) + 1) if at not in taken)
             self.doubts[key] = ended.get((it.place, key[0]), self.y - 0.2 * self.size), beside
+
+    def end_doubts(self, y):
+        for key in list(self.doubts):
+            self.end_doubt(key, y)
 
     def end_doubt(self, key, y):
         since, beside = self.doubts.pop(key)

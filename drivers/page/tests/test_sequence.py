@@ -25,6 +25,15 @@ COVERED = """return [...document.querySelectorAll('#sequence svg .remove')].filt
     const box = it.getBoundingClientRect();
     return !it.contains(document.elementFromPoint(box.x + box.width / 2, box.y + box.height / 2));
 }).map((it) => it.dataset.line)"""
+# The colours of what is answered and of what waits, where the bands end, and where what waits begins.
+WAITING = """const all = (css) => [...document.querySelectorAll(`#sequence svg ${css}`)];
+    const top = Math.min(...all('.call.waiting .behind').map((it) => it.getBBox().y));
+    const colours = (css, name) => [false, true].map((is) => [...new Set(all(css)
+        .filter((it) => (it.getBBox().y >= top) === is).map((it) => getComputedStyle(it)[name]))]);
+    return { top, labels: colours('.call :is(.label, .byte)', 'fill'), arrows: colours('.arrow', 'stroke'),
+        heads: colours('.head-of', 'fill'), paper: getComputedStyle(all('.paper')[0]).fill,
+        opacity: [...new Set(all('.call').map((it) => getComputedStyle(it).opacity))],
+        bands: all('.band').map((it) => it.getBBox().y + it.getBBox().height) };"""
 FONTS = """return [...new Set([...document.querySelectorAll('body *')].filter((it) => it.checkVisibility({ visibilityProperty: true }) &&
     [...it.childNodes].some((node) => node.nodeType === 3 && node.data.trim()) && it.getBoundingClientRect().width > 2)
     .map((it) => `${parseFloat(getComputedStyle(it).fontSize)} ${it.tagName} ${it.className.baseVal ?? it.className} ${it.id}`))]"""
@@ -54,6 +63,17 @@ def said(element):
 
 def line_of(path, text):
     return 1 + path.read_text().splitlines().index(text)
+
+
+def contrast(one, other):
+    """Of two colours, as WCAG 2 has it."""
+    def light(colour):
+        parts = [int(part) / 255 for part in re.findall(r"\d+", colour)[:3]]
+        linear = [part / 12.92 if part <= 0.03928 else ((part + 0.055) / 1.055) ** 2.4 for part in parts]
+        return sum(weight * part for weight, part in zip((0.2126, 0.7152, 0.0722), linear))
+
+    dark, pale = sorted((light(one), light(other)))
+    return (pale + 0.05) / (dark + 0.05)
 
 
 class Files(unittest.TestCase):
@@ -269,6 +289,27 @@ class Drawn(View):
 
     def count(self, css):
         return len(self.browser.all(f"#sequence {css}"))
+
+    def test_what_waits_is_pale_and_nothing_shines_through_it(self):
+        path = next(path for path in SCENARIOS if "crash_after" in path.stem)
+        lines = path.read_text().splitlines()
+        given = 1 + lines.index("PREPARE 1")
+        self.addCleanup(self.browser.driver.execute_cdp_cmd, "Emulation.setEmulatedMedia", {})
+        for scheme in ("light", "dark"):
+            self.browser.driver.execute_cdp_cmd(
+                "Emulation.setEmulatedMedia", {"features": [{"name": "prefers-color-scheme", "value": scheme}]})
+            self.open(calls=path.read_text(), at=given)
+            self.until(lambda: self.given() == given and self.count(".call") == len(lines), "drawn")
+            seen = self.browser.run(WAITING)
+            for part in ("labels", "arrows", "heads"):
+                self.assertEqual(len(seen[part][1]), 1, (scheme, part, "one colour of what waits"))
+                self.assertNotIn(seen[part][1][0], seen[part][0], (scheme, part))
+            self.assertGreaterEqual(contrast(seen["labels"][1][0], seen["paper"]), 4.5, scheme)
+            self.assertEqual(seen["opacity"], ["1"], scheme)
+            self.assertEqual(len(seen["bands"]), 2, "both are in doubt")
+            for bottom in seen["bands"]:
+                self.assertLessEqual(bottom, seen["top"], "they end at the cursor")
+                self.assertGreater(bottom, seen["top"] - 20)
 
     def test_the_words_stand_beside_it(self):
         self.open()
