@@ -127,7 +127,8 @@ def sequence(pool, question):
     words, lines, limits = coordinate_words(question), lines_in(question), pool.limits
     at = number(question, "at", 0, len(lines), len(lines))
     drawing = {"width": number(question, "width", 200, 8000, FILE_WIDTH), "size": number(question, "size", 8, 120, 14),
-               "asked": field(question, "asked", bool, False), "is_file": field(question, "file", bool, False)}
+               "asked": field(question, "asked", bool, False), "is_file": field(question, "file", bool, False),
+               "quiz": field(question, "quiz", bool, False)}
 
     def run(more, text):
         ran = run_once(pool, [*words, *more], text, limits.answer_seconds)

@@ -54,13 +54,15 @@ class Button:
 
 class Sequence:
     """`at` is how many lines were given; `asked` is whether the next one's answer is asked for. Where `is_file`, there
-    are no buttons, and a legend below."""
+    are no buttons, and a legend below. In a quiz a remark is kept back until the call that it stands above is
+    answered."""
 
-    def __init__(self, found, stores, at, width=900, size=14, asked=False, is_file=False):
+    def __init__(self, found, stores, at, width=900, size=14, asked=False, is_file=False, quiz=False):
         self.found, self.stores, self.at, self.asked, self.is_file = found, stores, at, asked, is_file
         self.participants = {it.store for it in found if it.gave_work() or (it.kind == WORK and it.answer is None)}
         if asked and self.next() is not None:
             self.found = found[:self.next() + 1]  # what stands behind it may tell the answer
+        self.kept_back = self.telling_captions() if quiz else set()
         self.width, self.size = max(260, width), size
         self.gutter = (1.2 if is_file else 1.6) * size + 0.62 * size * len(str(max(1, len(found))))
         count = stores + 3
@@ -92,7 +94,8 @@ class Sequence:
         if first:
             self.remark(f"The lines 1 to {first} aren't drawn.", "note")
         for it in drawn:
-            self.exchange(it)
+            if it.place not in self.kept_back:
+                self.exchange(it)
         if first + MOST_CALLS < len(self.found):
             self.remark(f"The lines from {first + MOST_CALLS + 1} on aren't drawn.", "note")
         self.y += 0.6 * self.size
@@ -270,6 +273,13 @@ class Sequence:
         while count < self.at and self.found[self.at - 1 - count].kind in CAPTIONS:
             count += 1
         return count
+
+    def telling_captions(self):
+        """The places of captions that may tell an answer: while a call waits, those directly before the cursor, which
+        stand above that call, and all behind it."""
+        if self.next() is None:
+            return set()
+        return {it.place for it in self.found[self.at - self.captions_behind():] if it.kind in CAPTIONS}
 
     def next(self):
         return next((it.place for it in self.found[self.at:] if it.kind not in CAPTIONS), None)

@@ -243,6 +243,21 @@ class Files(unittest.TestCase):
                         {"lines": lines, "file": 1}, {"lines": "BEGIN"}):
                 self.assertEqual(ask(served.server_port, "sequence", bad)[0], 400)
 
+    def test_in_a_quiz_a_remark_is_kept_back_until_its_call_is_answered(self):
+        lines = ["# one", "BEGIN", "# two", "", "# three", "ABANDON 1", "# four", "BEGIN", "# five"]
+        remarks = ["one", "two", "three", "four", "five"]
+        with room() as served:
+            # by how many lines were given, how many remarks stand above what is answered; at the end all are told
+            for at, told in ((0, 0), (1, 0), (2, 1), (3, 1), (5, 1), (6, 3), (7, 3), (8, 5), (9, 5)):
+                for quiz, asked in ((True, False), (True, True), (False, False)):
+                    status, got = ask(served.server_port, "sequence",
+                                      {"lines": lines, "at": at, "quiz": quiz, "asked": asked})
+                    self.assertEqual(status, 200)
+                    seen = [said(it) for it in ET.fromstring(got["svg"]).iter(f"{SVG}g")
+                            if "remark" in (it.get("class") or "").split()]
+                    self.assertEqual(seen, remarks[:told] if quiz else remarks, (at, quiz, asked))
+            self.assertEqual(ask(served.server_port, "sequence", {"lines": lines, "quiz": 1})[0], 400)
+
     def test_refusals_of_many_lines_dont_hold_the_program_up(self):
         with room() as served:
             status, got = ask(served.server_port, "sequence", {"lines": ["what"] * 3000})
