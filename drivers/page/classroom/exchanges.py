@@ -27,6 +27,7 @@ BAD = re.compile(rb"ERROR|FAULT|NOT STARTED|LOST|NO \d|HAZARD|UNFINISHED|UNRECOV
 NO_WORK = re.compile(rb"ERROR 1064|UNKNOWN|WRONG STAGE|NOT STARTED|LOST")
 ROW = re.compile(rb"(?:WORK[ \t\r]+\d+|AT)[ \t\r]+\d+[ \t\r]+(?:GET|PUT|DEL)[ \t\r]*"
                  rb"('(?:[^'\\]|''|\\.)*'|[^ \t\r,]+).*", re.S | re.I)
+VOTE_ASKED = re.compile(rb"AT[ \t\r]+\d+[ \t\r]+XA[ \t\r]+PREPARE\b", re.I)
 # answers that the program explains where it is asked to be verbose
 EXPLAINED = re.compile(rb"WRONG STAGE|UNKNOWN|ERROR 1064")
 REASON = re.compile(rb"xa_script: line (\d+): (.*)")
@@ -90,6 +91,13 @@ class Exchange:
         if self.kind != WORK or self.answer is None or NO_WORK.match(self.answer):
             return False
         return not self.first.startswith(b"FAULT") or any(one.is_answered for _, made in self.groups for one in made)
+
+    def makes_participant(self):
+        """Whether its store is a participant for its sake, or may be once it is answered: of the coordinator's
+        transaction, or of another manager's that asks by the other client."""
+        if self.kind == STRANGER:
+            return VOTE_ASKED.match(self.said) is not None and not self.is_bad()
+        return self.gave_work() or (self.kind == WORK and self.answer is None)
 
     def ends_transaction(self):
         return self.first.startswith(ENDINGS.get(self.words[0], ()))

@@ -7,7 +7,7 @@ import math
 from pathlib import Path
 from xml.sax.saxutils import escape
 
-from .exchanges import CAPTIONS, CRASH, REMARK, STRANGER, WORK, branch_name, transaction_of
+from .exchanges import CAPTIONS, CRASH, REMARK, STRANGER, branch_name, transaction_of
 from .flow import Run, flow
 from .record_lines import lines_of
 from .svg import element, plain
@@ -59,7 +59,7 @@ class Sequence:
 
     def __init__(self, found, stores, at, width=900, size=14, asked=False, is_file=False, quiz=False):
         self.found, self.stores, self.at, self.asked, self.is_file = found, stores, at, asked, is_file
-        self.participants = {it.store for it in found if it.gave_work() or (it.kind == WORK and it.answer is None)}
+        self.participants = {it.store for it in found if it.makes_participant()}
         if asked and self.next() is not None:
             self.found = found[:self.next() + 1]  # what stands behind it may tell the answer
         self.kept_back = self.telling_captions() if quiz else set()

@@ -187,6 +187,8 @@ class Files(unittest.TestCase):
                  "AT 3 GET 'k'"]
         self.assertEqual(roles(story(*lines, stores=4)), [0, 0, 0, 1, 0, 0, 0])
         self.assertEqual(roles(story(*lines[:3], "FAIL 2 AFTER 1", *lines[4:], stores=4)), [0, 0, 0, 1, 1, 0, 0])
+        other = [f"AT 0 {statement}" for statement in ("XA START 'x'", "PUT 'k','v'", "XA END 'x'", "XA PREPARE 'x'")]
+        self.assertEqual(roles(story(*other, "AT 1 XA PREPARE 'x'")), [0, 0, 1, 0, 0], "another manager's")
 
     def test_an_answer_of_several_lines_stands_in_its_order_above_its_arrow(self):
         lines = ["BEGIN", "WORK 1 0 GET 'k'", "WORK 1 1 GET 'k'", "PREPARE 1", "SHOW", "AT 1 XA RECOVER"]
