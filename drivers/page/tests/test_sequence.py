@@ -311,7 +311,7 @@ class Drawn(View):
         path = next(path for path in SCENARIOS if "crash_after" in path.stem)
         lines = path.read_text().splitlines()
         given = 1 + lines.index("PREPARE 1")
-        self.addCleanup(self.browser.driver.execute_cdp_cmd, "Emulation.setEmulatedMedia", {})
+        self.addCleanup(self.browser.driver.execute_cdp_cmd, "Emulation.setEmulatedMedia", {"features": []})
         for scheme in ("light", "dark"):
             self.browser.driver.execute_cdp_cmd(
                 "Emulation.setEmulatedMedia", {"features": [{"name": "prefers-color-scheme", "value": scheme}]})
