@@ -2,6 +2,7 @@
 in sight on small and large screens."""
 import unittest
 
+from selenium.webdriver.common.action_chains import ActionChains
 from selenium.webdriver.common.keys import Keys
 from support import PAGE, ROOT, says
 from views import View
@@ -80,6 +81,69 @@ class Hall(View):
             self.browser.focus(f"#{view} .tools select")
             self.browser.press(Keys.PAGE_DOWN)
             self.until(lambda: self.given() == 1, "also while a story is chosen")
+
+    def click(self, css):
+        """Clicks by a pointer."""
+        ActionChains(self.browser.driver).move_to_element(self.browser.one(css)).click().perform()
+
+    def focused(self):
+        return self.browser.run("return document.activeElement.dataset.do ?? document.activeElement.tagName")
+
+    def test_a_clickers_space_steps_behind_a_click(self):
+        """What was clicked last isn't pressed again."""
+        lines = "\n".join(f"1 PUT 'k','{at}'" for at in range(6))
+        for view, state, clicks in [
+                ("sessions", {"script": lines}, ['[data-do="back"]', '[data-do="quiz"]', '[data-do="quiz"]',
+                                                 '#given > :nth-child(2) .here', '#pending .remove']),
+                ("commit", {"calls": "BEGIN\n" * 5 + "BEGIN"}, ['[data-do="back"]', '[data-do="quiz"]',
+                                                              '[data-do="quiz"]', '.call[data-line="2"] .button.go'])]:
+            self.at(view, **state, at=3)
+            self.until(lambda: self.given() == 3, "three lines")
+            for css in clicks:
+                self.click(f"#{view} {css}")
+                if css.endswith(("here", "go")):
+                    self.until(lambda: self.given() == 2, "run to there")
+                self.until(lambda: self.focused() == "step", f"Step has the focus behind {css}")
+            self.until(lambda: self.given() == 2, "two lines")
+            self.browser.press(Keys.SPACE)
+            self.until(lambda: self.given() == 3, "a step")
+            self.browser.focus(f'#{view} [data-do="back"]')
+            self.browser.press(Keys.SPACE)
+            self.until(lambda: self.given() == 2, "a key's own button is pressed")
+            self.assertEqual(self.focused(), "back", "and keeps the focus")
+
+    def test_a_clickers_space_steps_behind_what_was_opened(self):
+        for view, story in [("sessions", "#first-stories button"), ("commit", "#first-scenarios button")]:
+            for opened in (self.click, self.browser.push):
+                self.at(view)
+                self.until(lambda story=story: self.browser.all(story), "stories are offered")
+                opened(f"{story}:first-child")
+                self.until(lambda: self.focused() == "step", "Step has the focus")
+                self.browser.press(Keys.SPACE)
+                self.until(lambda: self.given() > 0, "a step")
+        self.browser.push("#own-transfer summary")
+        self.click("#transfer-form .main")
+        self.until(lambda: self.given() == 0 and self.focused() == "step", "the transfer is open")
+        self.browser.press(Keys.SPACE)
+        self.until(lambda: self.given() > 0, "a step in it")
+
+    def test_a_clickers_space_goes_on_behind_race_and_judge(self):
+        self.at("race", script="1 XA START 'a'\n2 XA START 'a'", runs=20, seed=1)
+        self.click("#race-form .main")
+        self.until(lambda: self.browser.text("#race-progress") == "20 of 20 runs", "all runs came back")
+        self.assertEqual(self.focused(), "BODY")
+        self.browser.press(Keys.SPACE)
+        second = '#histories .history:nth-child(2)[aria-pressed="true"]'
+        self.until(lambda: self.browser.all(second), "the next history")
+        self.assertIn("&go=1&", self.browser.run("return location.hash"), "it isn't raced again")
+        self.click("#histories .history:first-child")
+        self.until(lambda: not self.browser.all(second), "the first one is picked")
+        self.browser.press(Keys.SPACE)
+        self.until(lambda: self.browser.all(second), "the next one")
+        self.at("judge", record=RECORD)
+        self.click("#judge-form .main")
+        self.until(lambda: self.browser.all("#picture svg"), "it is judged")
+        self.assertEqual(self.focused(), "BODY")
 
     def test_the_current_line_is_marked(self):
         self.open(script=STORY, at=8)

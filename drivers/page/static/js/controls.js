@@ -41,7 +41,8 @@ export function enable(view, tape) {
   for (const button of view.querySelectorAll("[data-do]")) button.disabled = !able[button.dataset.do];
   if (view.dataset.wants !== "step" || !waits) return;
   delete view.dataset.wants;
-  view.querySelector('[data-do="step"]').focus();
+  // whoever has gone elsewhere meanwhile stays there
+  if (document.activeElement === document.body) view.querySelector('[data-do="step"]').focus();
 }
 
 // A menu is closed by Escape, and by what is done elsewhere.

@@ -21,16 +21,18 @@ export function clicked(event) {
   return event.key === " " && !event.shiftKey && !hasKeys(event) ? "step" : null;
 }
 
-// A list in which a pointer has chosen, or in which the choice was confirmed, leaves the keys to the view: the focus
-// goes to its Step.
+// Leaves the keys to the view that is shown: the focus goes to its Step, or nowhere where it has none.
+function leave(control) {
+  const view = document.querySelector("main:not([hidden])");
+  const step = view?.querySelector('[data-do="step"]');
+  control.blur();
+  if (step?.disabled) view.dataset.wants = "step";
+  else step?.focus({ preventScroll: true });
+}
+
+// A list is left once a pointer has chosen in it, or the choice was confirmed.
 function listenToChoices() {
   let pointed = null;
-  const leave = (select) => {
-    const step = select.closest("main")?.querySelector('[data-do="step"]');
-    select.blur();
-    if (step?.disabled) select.closest("main").dataset.wants = "step";
-    else step?.focus();
-  };
   addEventListener("pointerdown", (event) => { pointed = event.target.closest?.("select"); });
   addEventListener("keydown", (event) => {
     pointed = null;
@@ -43,6 +45,15 @@ function listenToChoices() {
   });
 }
 
+// A button is left once a pointer has clicked it, or else a clicker's Space would press it again. Who pressed it by a
+// key goes on from there, but from a story's, which goes away with the welcome around it.
+function listenToButtons() {
+  addEventListener("click", (event) => {
+    const button = event.target.closest?.("button, [role=button]");
+    if (button && (event.detail > 0 || button.matches(".story"))) leave(button);
+  }, true); // before the button acts, which may give the focus to something else
+}
+
 function setZoom(at) {
   const wanted = Math.max(0, Math.min(ZOOMS.length - 1, at));
   sessionStorage.setItem(KEPT, wanted);
@@ -53,6 +64,7 @@ function setZoom(at) {
 // What zooming or projecting changes is drawn anew by `changed`.
 export function listen(changed) {
   listenToChoices();
+  listenToButtons();
   const kept = Number(sessionStorage.getItem(KEPT) ?? ZOOMS.indexOf(1));
   let zoom = setZoom(Number.isInteger(kept) ? kept : ZOOMS.indexOf(1));
   addEventListener("keydown", (event) => {
