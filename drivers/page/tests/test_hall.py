@@ -244,6 +244,39 @@ class Hall(View):
                 self.browser.type("#sessions .quiz input", guess + Keys.ENTER)
             self.until(lambda said=said: self.browser.text("#sessions .quiz-said").startswith(said), said)
 
+    def remarks(self, *lines):
+        """Which of them are seen."""
+        return [self.browser.one(f'#sessions .caption[data-line="{line}"]').is_displayed() for line in lines]
+
+    def test_a_quiz_hides_remarks_that_wait(self):
+        """Also the one above what is asked, until the answer is told."""
+        self.open(script="# Both.\n1 PUT 'k','v'\n# It is locked.\n2 PUT 'k','w'\n# So it was.\n2 GET 'k'", at=2)
+        self.until(lambda: self.given() == 2, "two lines")
+        self.assertEqual(self.remarks(1, 3, 5), [True, True, True], "without a quiz they are read")
+        self.browser.push('#sessions [data-do="quiz"]')
+        self.assertEqual(self.remarks(1, 3, 5), [True, False, False])
+        self.browser.press(Keys.PAGE_DOWN)
+        self.until(lambda: self.browser.all("#sessions .line.asked"), "it asks")
+        self.assertEqual(self.remarks(1, 3, 5), [True, False, False])
+        self.browser.press(Keys.PAGE_DOWN)
+        self.until(lambda: self.given() == 4, "it is told")
+        self.assertEqual(self.remarks(1, 3, 5), [True, True, False])
+        self.browser.push('#sessions [data-do="quiz"]')
+        self.assertEqual(self.remarks(5), [True], "the quiz is over")
+
+    def test_a_drawing_is_told_of_the_quiz(self):
+        """So that it leaves out the remarks that wait."""
+        self.at("commit", calls="BEGIN\n# It is unknown.\nPREPARE 2", at=1)
+        self.until(lambda: self.given() == 1, "a line")
+        self.browser.run("""window.told = [];
+            const ask = window.fetch;
+            window.fetch = (address, what) => {
+                if (address.endsWith('sequence')) window.told.push(JSON.parse(what.body).quiz);
+                return ask(address, what); };""")
+        for wanted in ([True], [True, False]):
+            self.browser.push('#commit [data-do="quiz"]')
+            self.until(lambda wanted=wanted: self.browser.run("return window.told") == wanted, "it is drawn anew")
+
     def test_what_a_quiz_asks_about_is_in_sight(self):
         self.sized(1280, 800)
         self.open(script=STORY, at=6)

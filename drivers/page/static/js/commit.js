@@ -244,7 +244,8 @@ export class Commit {
   }
 
   question() {
-    return { lines: this.tape.lines, at: this.tape.at, stores: this.stores, asked: this.quiz.asked !== null };
+    return { lines: this.tape.lines, at: this.tape.at, stores: this.stores, quiz: this.quiz.isOn,
+      asked: this.quiz.asked !== null };
   }
 
   answerAt(place) {

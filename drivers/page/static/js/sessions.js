@@ -207,8 +207,8 @@ export class Sessions {
       const place = Number(item.dataset.line) - 1;
       item.classList.toggle("current", place === current);
       item.classList.toggle("asked", place === this.quiz.asked);
-      // it may tell the answer
-      item.classList.toggle("veiled", this.quiz.isOn && place > (this.quiz.next() ?? place) && isCaption(lines[place]));
+      // a remark may tell the answer, also one that stands above its line
+      item.classList.toggle("veiled", this.quiz.isOn && place >= at && isCaption(lines[place]));
       if (place === current) item.setAttribute("aria-current", "step");
       else item.removeAttribute("aria-current");
     }
