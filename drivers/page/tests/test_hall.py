@@ -288,6 +288,36 @@ class Hall(View):
             .map((css) => document.querySelector(css).getBoundingClientRect().bottom)"""
         self.until(lambda: self.browser.run(bottoms)[0] < self.browser.run(bottoms)[1], "all of the line")
 
+    def test_what_a_quiz_of_calls_asks_about_is_in_sight(self):
+        calls = (PAGE / "scenarios/02_a_no_vote.calls").read_text()
+        for size in ((1280, 800), (390, 844)):
+            self.sized(*size)
+            self.at("commit", calls=calls, at=9)
+            self.until(lambda: self.given() == 9, "nine lines")
+            self.browser.push('#commit [data-do="quiz"]')
+            self.browser.press(Keys.PAGE_DOWN)
+            self.until(lambda: "what is it answered?" in self.browser.text("#sequence"), "it asks")
+            edges = """const box = (css) => document.querySelector(css).getBoundingClientRect();
+                const asked = box('#sequence .call[data-line="11"]'), tape = box('#commit .tape');
+                const end = innerWidth > 640 ? box('.lanes-room').bottom : tape.top;
+                return [box('#sequence-heads svg').bottom, asked.top, asked.bottom, end]"""
+            self.until(lambda edges=edges: sorted(self.browser.run(edges)) == self.browser.run(edges),
+                       f"all of it, at {size}")
+
+    def test_what_a_quiz_asks_is_heard(self):
+        for view, state in [("sessions", {"script": "1 PUT 'k','v'"}), ("commit", {"calls": "BEGIN"})]:
+            self.at(view, **state, at=0)
+            said = f'#{view} .quiz-said[aria-live="polite"]'
+            line = next(iter(state.values()))
+            self.browser.push(f'#{view} [data-do="quiz"]')
+            self.browser.press(Keys.PAGE_DOWN)
+            self.until(lambda said=said, line=line: self.browser.text(said).strip() == f"What is line 1, {line}, "
+                       "answered?", "the question")
+            self.assertLessEqual(self.browser.one(said).size["height"], 1, "it is seen beside the box alone")
+            self.browser.press(Keys.PAGE_DOWN)
+            self.until(lambda said=said: self.browser.text(said).startswith("Line 1: "), "the answer")
+            self.assertGreater(self.browser.one(said).size["height"], 1)
+
     def test_the_hint_in_the_box_of_guesses_is_read_to_its_end(self):
         self.sized(1280, 800)
         for view, state in [("sessions", {"script": STORY, "at": 6}), ("commit", {"calls": CALLS, "at": 4})]:

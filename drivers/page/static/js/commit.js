@@ -287,13 +287,14 @@ export class Commit {
     });
   }
 
-  // The last answer is to be seen, and a little of what waits; at the start the first call.
+  // What is asked is to be seen, or else the last answer, and a little of what waits; at the start the first call.
   showCursor() {
     const room = byId("sequence").parentElement;
     const { at, lines } = this.tape;
     const all = byId("sequence").querySelectorAll("[data-line]:is(.call)");
-    const given = [...all].filter((it) => Number(it.dataset.line) <= at).at(-1);
-    if (given) bringIntoView(room, given, at < lines.length ? PEEK : BELOW);
+    const until = this.quiz.asked === null ? at : this.quiz.asked + 1;
+    const given = [...all].filter((it) => Number(it.dataset.line) <= until).at(-1);
+    if (given) bringIntoView(room, given, until === at && at < lines.length ? PEEK : BELOW);
     else room.scrollTop = 0;
   }
 }

@@ -45,8 +45,20 @@ export class Quiz {
     return found < 0 ? null : found;
   }
 
+  // Asks about a line, or nothing any more. Who sees the page reads the question beside the box; who hears it is told.
+  ask(place) {
+    this.asked = place;
+    this.said.classList.toggle("unseen", place !== null);
+    fill(this.said, place === null ? null : this.question());
+  }
+
+  question() {
+    return [`What is line ${this.asked + 1}, `, shown(this.tape.lines[this.asked].trim()), ", answered? "];
+  }
+
   toggle() {
-    Object.assign(this, { isOn: !this.isOn, asked: null, right: 0, count: 0 });
+    Object.assign(this, { isOn: !this.isOn, right: 0, count: 0 });
+    this.ask(null);
     fill(this.said, this.isOn ? "Quiz: each step asks first. Step again, or Show the answer, to see it." : null);
     this.follow();
     this.changed();
@@ -56,9 +68,8 @@ export class Quiz {
     const next = this.next();
     if (!this.isOn || next === null) return this.tape.step();
     if (this.asked === next) return this.reveal(null);
-    this.asked = next;
+    this.ask(next);
     this.input.value = "";
-    fill(this.said);
     this.follow();
     this.changed();
     return null;
@@ -66,7 +77,7 @@ export class Quiz {
 
   async reveal(guess) {
     const place = this.asked;
-    this.asked = null;
+    this.ask(null);
     await this.tape.step();
     const answer = this.answerAt(place);
     if (!answer) return;
@@ -83,12 +94,12 @@ export class Quiz {
 
   // What is asked is the next line, or nothing any more.
   follow() {
-    if (this.asked !== this.next()) this.asked = null;
+    if (this.asked !== null && this.asked !== this.next()) this.ask(null);
     this.toggler?.setAttribute("aria-pressed", String(this.isOn));
     const isShown = this.form.hidden;
     this.form.hidden = this.asked === null;
     if (this.asked === null) return;
-    fill(this.line, `What is line ${this.asked + 1}, `, shown(this.tape.lines[this.asked].trim()), ", answered? ");
+    fill(this.line, this.question());
     if (isShown) this.form.scrollIntoView({ block: "nearest" });
   }
 }
