@@ -22,6 +22,13 @@ IN_SIGHT = """return arguments[0].map((css) => {
 CONTROLS = """return [...document.querySelectorAll(`#${arguments[0]} > .tools > *`)].filter((it) => it.checkVisibility()).map((it) => {
     const box = it.getBoundingClientRect(); return (box.top + box.bottom) / 2; })"""
 
+# How many pixels of a call's upper part are hidden by the heads or the tape of a telephone, or are above the screen.
+OF_CALL = """const box = (css) => document.querySelector(css).getBoundingClientRect();
+    const call = box(`#sequence .call[data-line="${arguments[0]}"]`);
+    const [above, below] = [box('#sequence-heads svg').bottom, box('#commit .tape').top];
+    const bottom = Math.min(call.bottom, call.top + (below - above));
+    return Math.round(Math.max(0, above - call.top, bottom - below));"""
+
 
 class Hall(View):
     view = "sessions"
@@ -209,6 +216,30 @@ class Hall(View):
                     *self.browser.run("""return [document.querySelector(arguments[0]).getBoundingClientRect().bottom,
                     document.querySelector(arguments[1]).closest('.tape').getBoundingClientRect().top + 1]""", *seen),
                     "the tools aren't over it")
+
+    def test_a_step_of_calls_is_in_sight_on_a_telephone(self):
+        """The page moves as a whole there, below the heads and above the tape."""
+        self.sized(390, 844)
+        self.at("commit", calls=CALLS)
+        last = len(CALLS.splitlines())
+        self.until(lambda: self.given() == last, "the end")
+        self.until(lambda: self.browser.run(OF_CALL, last) == 0, "the last call is in sight")
+        self.click('#commit [data-do="start"]')
+        self.until(lambda: self.given() == 0 and self.browser.run(OF_CALL, 1) == 0, "the first call is in sight")
+        places = []
+        while self.given() < last:
+            before = self.given()
+            self.click('#commit [data-do="step"]')
+            self.until(lambda before=before: self.given() > before, "a step")
+            places.append(self.given())
+            self.until(lambda: self.browser.run(OF_CALL, self.given()) == 0, f"line {self.given()} is in sight")
+        for place in reversed(places[:-1]):
+            self.click('#commit [data-do="back"]')
+            self.until(lambda place=place: self.given() == place and self.browser.run(OF_CALL, place) == 0,
+                       f"back at line {place}")
+        self.browser.push("#own-transfer summary")
+        self.browser.push("#transfer-form .main")
+        self.until(lambda: self.given() == 0 and self.browser.run(OF_CALL, 1) == 0, "a transfer is open, and seen")
 
     def test_a_race_by_hand_on_a_telephone(self):
         self.sized(390, 844)

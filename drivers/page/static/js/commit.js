@@ -4,7 +4,7 @@ import { ask, Failure } from "./api.js";
 import { fromText, linesOf, readableValue } from "./bytes.js";
 import { asksStores, isCaption, lastBegun } from "./calls.js";
 import { enable, wire } from "./controls.js";
-import { bringIntoView, byId, el, fill, options, printedInto, shown } from "./dom.js";
+import { bringIntoView, bringStartIntoView, byId, el, fill, options, printedInto, shown } from "./dom.js";
 import { doubtList, legend } from "./doubt.js";
 import { Quiz } from "./quiz.js";
 import * as rules from "./rules.js";
@@ -294,7 +294,8 @@ export class Commit {
     const all = byId("sequence").querySelectorAll("[data-line]:is(.call)");
     const until = this.quiz.asked === null ? at : this.quiz.asked + 1;
     const given = [...all].filter((it) => Number(it.dataset.line) <= until).at(-1);
+    room.style.setProperty("--above", `${byId("sequence-heads").firstElementChild.getBoundingClientRect().height}px`);
     if (given) bringIntoView(room, given, until === at && at < lines.length ? PEEK : BELOW);
-    else room.scrollTop = 0;
+    else bringStartIntoView(room, [all[0], this.view.querySelector(".tools")]);
   }
 }

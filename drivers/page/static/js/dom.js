@@ -57,6 +57,12 @@ export function bringIntoView(room, element, below) {
   } else element.scrollIntoView({ block: "nearest" });
 }
 
+// Moves a room to its start. Where the page moves in its place, it does so until these are seen, the last above all.
+export function bringStartIntoView(room, elements) {
+  room.scrollTop = 0;
+  for (const element of elements) element?.scrollIntoView({ block: "nearest" });
+}
+
 // Moves a room sidewards so that all of an element is seen, where it has room for it.
 export function bringAcross(room, element) {
   const [inner, outer] = [element.getBoundingClientRect(), room.getBoundingClientRect()];

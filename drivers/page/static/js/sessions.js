@@ -5,7 +5,8 @@ import { card, rowLine, rowsOf, xidText } from "./cards.js";
 import { cut, isCaption, lineItem, widestSession } from "./columns.js";
 import { enable, wire } from "./controls.js";
 import {
-  bringAcross, bringIntoView, byId, el, fill, keepingFocus, options, printedInto, remarkOf, sessionClass, shown,
+  bringAcross, bringIntoView, bringStartIntoView, byId, el, fill, keepingFocus, options, printedInto, remarkOf,
+  sessionClass, shown,
 } from "./dom.js";
 import { readShown } from "./listing.js";
 import { Patch } from "./patch.js";
@@ -190,10 +191,7 @@ export class Sessions {
     const last = byId("given").lastElementChild;
     if (this.view.hidden) return;
     if (last) bringIntoView(room, last, byId("entry").offsetHeight + (at < lines.length ? PEEK : 0));
-    else {
-      room.scrollTop = 0;
-      if (lines.length) this.view.querySelector(".tools").scrollIntoView({ block: "nearest" });
-    }
+    else bringStartIntoView(room, lines.length ? [this.view.querySelector(".tools")] : []);
     const asked = this.view.querySelector(".line.asked");
     if (asked) bringIntoView(room, asked, BELOW);
     const spoken = (asked ?? this.view.querySelector(".line.current"))?.querySelector(".cell");
