@@ -62,6 +62,24 @@ class Hall(View):
                 lambda view=view: not [it for it in self.browser.run(FONTS) if it[0] < LEAST],
                 f"all type of {view} is large: " + str([it for it in self.browser.run(FONTS) if it[0] < LEAST][:5]))
 
+    def test_a_blank_view_says_what_to_do_on_a_projector(self):
+        self.sized(1920, 1080)
+        for view, css in [("sessions", "#welcome"), ("race", "#race-welcome"), ("commit", "#commit-welcome"),
+                          ("judge", "#judge-welcome"), ("server", "#server-welcome")]:
+            self.at(view)
+            self.until(lambda css=css: self.browser.one(css).is_displayed(), "it says what to do")
+            self.browser.press("f")
+            self.until(lambda: not self.browser.one("header").is_displayed(), "no tools")
+            self.until(lambda css=css: self.browser.run(IN_SIGHT, [css]) == [True], f"{css} is seen")
+            self.assertEqual([it for it in self.browser.run(FONTS) if it[0] < LEAST], [], view)
+        for view, state, css in [("sessions", {"script": STORY}, "#welcome"),
+                                 ("commit", {"calls": CALLS}, "#commit-welcome")]:
+            self.at(view, **state)
+            self.until(lambda: self.given() > 0, "something is open")
+            self.browser.press("f")
+            self.until(lambda: not self.browser.one("header").is_displayed(), "no tools")
+            self.assertFalse(self.browser.one(css).is_displayed())
+
     def test_zoom(self):
         self.open(script=STORY, at=3)
         size = "return parseFloat(getComputedStyle(document.documentElement).fontSize)"
