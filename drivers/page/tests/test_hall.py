@@ -22,6 +22,7 @@ IN_SIGHT = """return arguments[0].map((css) => {
 CONTROLS = """return [...document.querySelectorAll(`#${arguments[0]} > .tools > *`)].filter((it) => it.checkVisibility()).map((it) => {
     const box = it.getBoundingClientRect(); return (box.top + box.bottom) / 2; })"""
 
+LEFT = "return document.querySelector('#race .left').scrollTop"
 # How many pixels of a call's upper part are hidden by the heads or the tape of a telephone, or are above the screen.
 OF_CALL = """const box = (css) => document.querySelector(css).getBoundingClientRect();
     const call = box(`#sequence .call[data-line="${arguments[0]}"]`);
@@ -435,6 +436,44 @@ class Hall(View):
         self.until(lambda: self.browser.run(down) > 100, "further down")
         self.browser.press(Keys.PAGE_UP)
         self.until(lambda: self.browser.run(down) == 0, "and up")
+
+    def test_a_clicker_keeps_the_marked_history_in_sight(self):
+        """And behind the last one it goes on to the outcomes."""
+        self.sized(1920, 700)
+        self.at("race", script=(PAGE / "races/two_writers.script").read_text(), runs=60, seed=1, go=1)
+        self.until(lambda: self.browser.text("#race-progress") == "60 of 60 runs", "all runs came back")
+        self.until(lambda: self.browser.all("#possible li"), "the outcomes")
+        self.browser.press("f")
+        self.until(lambda: not self.browser.one("header").is_displayed(), "no tools")
+        count = len(self.browser.all("#histories .history"))
+        marked = "#histories .history:nth-child({})[aria-pressed=true]"
+        self.assertEqual(self.browser.run(IN_SIGHT, [f"#histories .history:nth-child({count})"]), [False],
+                         "they are more than the screen holds")
+        down = [(Keys.PAGE_DOWN, at) for at in range(2, count + 1)]
+        up = [(Keys.PAGE_UP, at) for at in range(count - 1, 0, -1)]
+        for key, at in [*down, *up, *down]:
+            self.browser.press(key)
+            self.until(lambda at=at: self.browser.all(marked.format(at)), f"history {at}")
+            self.assertEqual(self.browser.run(IN_SIGHT, [marked.format(at)]), [True], f"history {at} is seen")
+        before = self.browser.run(LEFT)
+        self.browser.press(Keys.PAGE_DOWN)
+        self.until(lambda: self.browser.run(LEFT) > before, "the outcomes below it")
+
+    def test_a_clicker_goes_through_outcomes(self):
+        """Where a script has parts there are no histories to go through."""
+        self.sized(1920, 1080)
+        self.at("race", script="BESIDE\n1 PUT 'k','1'\n1 GET 'k'\n2 PUT 'k','2'\n2 GET 'k'\n3 GET 'k'", runs=5, go=1)
+        self.until(lambda: self.browser.text("#race-progress") == "5 of 5 runs", "all runs came back")
+        self.until(lambda: len(self.browser.all("#possible > li")) > 5, "the outcomes")
+        self.browser.press("f")
+        self.until(lambda: not self.browser.one("header").is_displayed(), "no tools")
+        down = 0
+        for key in (Keys.PAGE_DOWN, Keys.SPACE):
+            self.browser.press(key)
+            self.until(lambda down=down: self.browser.run(LEFT) > down + 100, "further down")
+            down = self.browser.run(LEFT)
+        self.browser.press(Keys.PAGE_UP)
+        self.until(lambda: self.browser.run(LEFT) < down, "and up")
 
     def test_a_quiz_of_two_phase_commit(self):
         self.at("commit", calls=CALLS, at=4)

@@ -49,10 +49,14 @@ export function options(select, groups) {
     el("optgroup", { label: name }, entries.map(([value, text]) => el("option", { value }, text)))));
 }
 
+// Whether a room moves by itself, and not with the page.
+export const moves = (room) =>
+  room.scrollHeight > room.clientHeight && getComputedStyle(room).overflowY !== "visible";
+
 // Moves a room so that an element's bottom is seen, and so much below it; where the room doesn't move by itself, the
 // page does.
 export function bringIntoView(room, element, below) {
-  if (room.scrollHeight > room.clientHeight && getComputedStyle(room).overflowY !== "visible") {
+  if (moves(room)) {
     room.scrollTop += element.getBoundingClientRect().bottom - room.getBoundingClientRect().bottom + below;
   } else element.scrollIntoView({ block: "nearest" });
 }

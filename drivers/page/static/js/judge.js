@@ -5,14 +5,13 @@ import { fromText, linesOf, readable, toText } from "./bytes.js";
 import { byId, el, fill, options, printedInto, sessionClass, shown, shownLines } from "./dom.js";
 import { endingText } from "./ending.js";
 import { drawInto, save } from "./picture.js";
-import { clicked } from "./projector.js";
+import { clicked, scrollOn } from "./projector.js";
 import { follow, titleOf } from "./titles.js";
 import { readVerdict } from "./verdict.js";
 
 // The statuses of a verdict and of a faulty record; the others are faults of the program's.
 const JUDGED = [0, 4, 5, 6, 7];
 const MISUSED = 2;
-const PART = 0.7; // of what is seen of the picture is passed by a clicker's step
 
 const WORDS = {
   LEGAL: () => "LEGAL: an order of the statements explains all that was seen.",
@@ -46,8 +45,7 @@ export class Judge {
     const wanted = byId("judge").hidden || byId("verdict-room").hidden ? null : clicked(event);
     if (!wanted) return;
     event.preventDefault();
-    const room = byId("picture");
-    room.scrollBy({ top: (wanted === "step" ? PART : -PART) * room.clientHeight });
+    scrollOn(byId("picture"), wanted);
   }
 
   offer({ records, judged }) {

@@ -4,6 +4,7 @@ import { byId } from "./dom.js";
 
 const ZOOMS = [0.6, 0.7, 0.8, 0.9, 1, 1.15, 1.3, 1.5, 1.75, 2, 2.5];
 const KEPT = "zoom";
+const PART = 0.7; // of what is seen of a room is passed by a clicker's step
 
 export const isTyping = (event) => Boolean(event.target.closest?.("input, textarea, select"));
 
@@ -19,6 +20,11 @@ export function clicked(event) {
   if (event.key === "PageDown") return "step";
   if (event.key === "PageUp") return "back";
   return event.key === " " && !event.shiftKey && !hasKeys(event) ? "step" : null;
+}
+
+// Moves a room by a clicker's step.
+export function scrollOn(room, wanted) {
+  room.scrollBy({ top: (wanted === "step" ? PART : -PART) * room.clientHeight });
 }
 
 // Leaves the keys to the view that is shown: the focus goes to its Step, or nowhere where it has none.

@@ -2,13 +2,13 @@
 import { whole } from "./address.js";
 import { ask, Failure } from "./api.js";
 import { fromText, linesOf, toText } from "./bytes.js";
-import { byId, cameText, el, fill, keepingFocus, options, printedInto, sessionClass, shown } from "./dom.js";
+import { byId, cameText, el, fill, keepingFocus, moves, options, printedInto, sessionClass, shown } from "./dom.js";
 import { isCaption } from "./columns.js";
 import { endingText } from "./ending.js";
 import { orderOf, readOutcome, tie } from "./outcome.js";
 import { ByHand } from "./by_hand.js";
 import { answersOf, possibleItems, readCame, readPossible } from "./possible.js";
-import { clicked } from "./projector.js";
+import { clicked, scrollOn } from "./projector.js";
 import { partsOf } from "./script_parts.js";
 import { draw } from "./timeline.js";
 import { follow, titleOf } from "./titles.js";
@@ -258,16 +258,27 @@ export class Race {
     this.listOutcomes();
   }
 
-  // A clicker goes from one history to the next, or takes a step back by hand.
+  // A clicker steps by hand, or goes from one history to the next; behind the last one, or without any, it goes on to
+  // the outcomes.
   clickerKey(event) {
     const wanted = byId("race").hidden ? null : clicked(event);
-    if (!wanted) return;
+    if (wanted && (byId("by-hand").hidden ? this.goOn(wanted) : this.stepByHand(wanted))) event.preventDefault();
+  }
+
+  stepByHand(wanted) {
+    if (wanted === "step") return this.byHand.stepOnly();
+    this.byHand.back();
+    return true;
+  }
+
+  goOn(wanted) {
     const all = this.sorted();
-    const at = all.findIndex((it) => it.key === this.picked) + (wanted === "step" ? 1 : -1);
-    if (all[at]) this.choose(all[at]);
-    else if (wanted === "back") this.byHand.back();
-    else if (!all.length && !this.byHand.stepOnly()) return;
-    event.preventDefault();
+    const next = all[all.findIndex((it) => it.key === this.picked) + (wanted === "step" ? 1 : -1)];
+    const room = document.querySelector("#race .left");
+    if (next) this.choose(next);
+    else if (moves(room)) scrollOn(room, wanted);
+    else return false; // the browser moves the page
+    return true;
   }
 
   bar(found, most) {
@@ -289,6 +300,7 @@ export class Race {
     this.named = null;
     this.chosen = true;
     this.pick(found);
+    byId("histories").querySelector('[aria-pressed="true"]').scrollIntoView({ block: "nearest" });
     this.app.keep("race", { ...this.address, history: nameOf(found.key) });
   }
 
