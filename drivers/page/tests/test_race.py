@@ -249,6 +249,30 @@ class Race(View):
         self.browser.push("#hand-again")
         self.until(lambda: len(self.browser.all("#hand-lines .reply")) == 1, "from the start")
 
+    def test_a_race_by_hand_of_another_script_begins_anew(self):
+        self.open(script="1 PUT 'k','1'\n2 GET 'k'", hand="1")
+        self.until(lambda: self.as_printed("#hand-lines .reply") == ["OK"], "a step")
+        self.browser.replace("#race-script", "3 PUT 'j','1'\n4 GET 'j'")
+        self.browser.focus("#runs")
+        self.until(lambda: self.browser.all('#hand-next [data-session="3"]'), "the new script's sessions")
+        self.assertEqual(self.browser.texts("#hand-lines .reply"), [])
+        self.assertRegex(self.browser.run("return location.hash"), r"\?script=3\+PUT.*&hand=0$")
+        self.browser.push('#hand-next [data-session="4"]')
+        self.until(lambda: self.as_printed("#hand-lines .reply") == ["NONE"], "a step in it")
+        self.browser.replace("#runs", "7")
+        self.browser.focus("#capacity")
+        self.assertEqual(self.as_printed("#hand-lines .reply"), ["NONE"], "how often it is raced changes no step")
+        self.assertRegex(self.browser.run("return location.hash"), r"&runs=7&.*&hand=4$")
+
+    def test_a_session_that_is_pressed_behind_another_script_is_the_new_ones(self):
+        """The box of the script loses the focus by the same click."""
+        self.open(script="1 PUT 'k','1'\n2 GET 'k'", hand="0")
+        self.until(lambda: len(self.browser.all("#hand-next .go-next")) == 2, "two sessions can go")
+        self.browser.replace("#race-script", "1 GET 'j'\n2 GET 'k'")
+        self.browser.one('#hand-next [data-session="1"]').click()
+        self.until(lambda: "GET 'j'" in self.browser.text("#by-hand"), "the new script")
+        self.assertNotIn("PUT", self.browser.text("#by-hand"))
+
     def test_a_blank_view_says_what_to_do(self):
         self.open()
         self.assertTrue(self.browser.one("#race-welcome").is_displayed())

@@ -45,16 +45,27 @@ export class Race {
       event.preventDefault();
       this.app.visit("race", this.asked(true));
     });
-    byId("race-form").addEventListener("change", (event) => {
-      if (event.target.id !== "race-example") this.app.keep("race", this.asked(false));
-    });
+    byId("race-form").addEventListener("change", (event) => this.formChanged(event.target.id));
     byId("race-example").addEventListener("change", (event) => this.openExample(event.target.value));
     byId("outcome").addEventListener("change", (event) => this.drawOutcome(Number(event.target.value)));
-    this.byHand = new ByHand(app, (hand) => this.app.keep("race", { ...this.asked(false), hand }));
-    byId("by-hand-begin").addEventListener("click", () => this.app.visit("race", { ...this.asked(false), hand: "0" }));
+    this.byHand = new ByHand(app, (hand) => {
+      this.hand = hand;
+      this.app.keep("race", { ...this.asked(false), hand });
+    });
+    byId("by-hand-begin").addEventListener("click", () => this.beginByHand());
     addEventListener("keydown", (event) => this.clickerKey(event));
     byId("open-order")
       .addEventListener("click", () => this.app.visit("sessions", { script: orderOf(this.drawn).join("\n") }));
+  }
+
+  beginByHand() {
+    this.app.visit("race", { ...this.asked(false), hand: "0" });
+  }
+
+  // The address has what the form says. A race by hand of another script begins anew.
+  formChanged(what) {
+    if (what === "race-script" && this.hand) this.beginByHand();
+    else if (what !== "race-example") this.app.keep("race", { ...this.asked(false), hand: this.hand });
   }
 
   offer(examples) {
@@ -98,6 +109,7 @@ export class Race {
       byId(id).value = whole(state[id], Number(byId(id).min), Number(byId(id).max), plain);
     }
     this.runs = Math.max(this.runs, whole(state.go, 1, 1e9, 0));
+    this.hand = state.hand; // as the address has it, or nothing where it isn't stepped by hand
     if (state.hand) {
       this.clear();
       byId("race-welcome").hidden = true;
