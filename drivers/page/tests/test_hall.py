@@ -1,7 +1,9 @@
 """For a lecture hall: the projector, zoom, a clicker, the marked line, the quiz and the hand-out, and how much of it is
 in sight on small and large screens."""
+import contextlib
 import unittest
 
+from selenium.common.exceptions import StaleElementReferenceException
 from selenium.webdriver.common.action_chains import ActionChains
 from selenium.webdriver.common.keys import Keys
 from support import PAGE, ROOT, says
@@ -10,6 +12,7 @@ from views import View
 STORY = (ROOT / "cases/show/two_phase_commit.script").read_text()
 CALLS = (PAGE / "scenarios/04_crash_after_the_decision.calls").read_text()
 RECORD = (PAGE / "records/dirty_read.record").read_text()
+CLICKS = 5  # so often a click is tried
 LEAST = 28  # pixels of type on a projector of 1920
 # The sizes of the letters that are seen, each with where they stand.
 FONTS = """return [...document.querySelectorAll('body *')].filter((it) => it.checkVisibility({ visibilityProperty: true }) && !it.closest('.unseen') &&
@@ -109,8 +112,12 @@ class Hall(View):
             self.until(lambda: self.given() == 1, "also while a story is chosen")
 
     def click(self, css):
-        """Clicks by a pointer."""
-        ActionChains(self.browser.driver).move_to_element(self.browser.one(css)).click().perform()
+        """Clicks by a pointer. What was drawn anew before the pointer came to it is looked for again."""
+        for _ in range(CLICKS):
+            with contextlib.suppress(StaleElementReferenceException):
+                ActionChains(self.browser.driver).move_to_element(self.browser.one(css)).click().perform()
+                return
+        self.fail(f"{css} goes away again and again")
 
     def focused(self):
         return self.browser.run("return document.activeElement.dataset.do ?? document.activeElement.tagName")
@@ -119,18 +126,17 @@ class Hall(View):
         """What was clicked last isn't pressed again."""
         lines = "\n".join(f"1 PUT 'k','{at}'" for at in range(6))
         for view, state, clicks in [
-                ("sessions", {"script": lines}, ['[data-do="back"]', '[data-do="quiz"]', '[data-do="quiz"]',
-                                                 '#given > :nth-child(2) .here', '#pending .remove']),
-                ("commit", {"calls": "BEGIN\n" * 5 + "BEGIN"}, ['[data-do="back"]', '[data-do="quiz"]',
-                                                              '[data-do="quiz"]', '.call[data-line="2"] .button.go'])]:
-            self.at(view, **state, at=3)
-            self.until(lambda: self.given() == 3, "three lines")
-            for css in clicks:
+                ("sessions", {"script": lines}, [('#given > :nth-child(3) .here', 3), ('[data-do="back"]', 2),
+                                                 ("#pending .remove", 2), *[('[data-do="quiz"]', 2)] * 2]),
+                ("commit", {"calls": "BEGIN\n" * 5 + "BEGIN"}, [('.call[data-line="3"] .button.go', 3),
+                                                              ('[data-do="back"]', 2),
+                                                              *[('[data-do="quiz"]', 2)] * 2])]:
+            self.at(view, **state, at=4)
+            self.until(lambda: self.given() == 4, "four lines")
+            for css, wanted in clicks:
                 self.click(f"#{view} {css}")
-                if css.endswith(("here", "go")):
-                    self.until(lambda: self.given() == 2, "run to there")
+                self.until(lambda wanted=wanted: self.given() == wanted, f"{wanted} lines behind {css}")
                 self.until(lambda: self.focused() == "step", f"Step has the focus behind {css}")
-            self.until(lambda: self.given() == 2, "two lines")
             self.browser.press(Keys.SPACE)
             self.until(lambda: self.given() == 3, "a step")
             self.browser.focus(f'#{view} [data-do="back"]')
