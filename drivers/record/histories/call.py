@@ -138,7 +138,7 @@ class Call:
         return not self.is_branch and self.statement is not None and self.statement.startswith(b"GET ")
 
     def is_unseen(self):
-        """Whether it changes nothing, and nobody saw what it was answered."""
+        """Whether it changes nothing, and nobody saw what it was answered. In a branch even a read locks its row."""
         return (
             self.end == UNKNOWN and self.branch is None and (self.is_read() or self.name in ("recover", "disconnect"))
         )

@@ -115,6 +115,9 @@ class History:
         return b"".join(line + b"\n" for line in self.lines if line is not None)
 
     def begin(self, call, at):
+        if call.is_unseen():
+            self.leave_out(call, "nobody saw what it was answered, and it changes nothing")
+            return
         session = self.seats.take(call, at)
         self.lines.append(b"%d > %s" % (session, call.statement))
         if call.end == UNKNOWN:
@@ -133,13 +136,14 @@ class History:
         """A transaction as a branch, all at its end. One without a known end is left out: nobody uses what it wrote."""
         if call.end == UNKNOWN:
             if begins:
-                self.lines.append(
-                    b"# The %s of line %d is left out: nobody can see whether it was done."
-                    % (call.name.encode(), call.line)
-                )
-                self.seats.let_go(call)
+                self.leave_out(call, "nobody can see whether it was done")
         elif not begins:
             session = self.seats.take(call, at)
             self.lines.append(b"# The %s of line %d, as a branch:" % (call.name.encode(), call.line))
             for statement, answer in call.transaction.branch(self.identifier(call)):
                 self.lines += [b"%d > %s" % (session, statement), b"%d < %s" % (session, answer)]
+
+    def leave_out(self, call, why):
+        """Its session has no branch, so the server's end of it changes nothing either."""
+        self.lines.append(b"# The %s of line %d is left out: %s." % (call.name.encode(), call.line, why.encode()))
+        self.seats.let_go(call)

@@ -44,14 +44,12 @@ class Seats:
 
     def is_over(self, call, now):
         """Whether nobody can see any more what became of a call without an answer: no call is about its row."""
-        return call.is_unseen() or (
-            call.branch is None and bool(call.keys()) and all(self.seen.get(key, -1) < now for key in call.keys())
-        )
+        return all(self.seen.get(key, -1) < now for key in call.keys())
 
     def lose(self, call, place):
         """Its process goes on as a new session."""
         session = self.of.pop(call.process)
-        if call.branch is None and (call.keys() or call.is_unseen()):
+        if call.branch is None and call.keys():
             self.lost.append((session, call, place))
 
     def let_go(self, call):

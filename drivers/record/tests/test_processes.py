@@ -68,14 +68,56 @@ class Processes(Converted):
             *whole(16, "read", [row], [row, None]),
         )
 
-    def test_a_lost_read_leaves_its_session_at_once(self):
+    def test_a_call_that_changes_nothing_and_has_no_answer_is_left_out(self):
+        """Its process goes on as any other, and needs no session for it."""
         for name, value in (("read", ["k"]), ("recover", None), ("disconnect", None), ("txn", [["r", "k", None]])):
-            got = self.record(self.lost(name, value))
-            self.assertEqual(
-                [line for line in got if line.startswith("3 ")][1:],
-                ["3 ? ERROR nobody sees any more whether it was done", "3 > GET 'k'", "3 < NONE"],
-            )
-            self.judged(got, "LEGAL")
+            for end in ((), ((0, "info", name, value),), ((0, "info", name, value, {"error": 2013}),)):
+                text = history(
+                    *whole(0, "write", ["k", 1]), (0, "invoke", name, value), *end, *whole(1, "read", ["k"], ["k", 1])
+                )
+                record, said, status = converted(text)
+                self.assertEqual((said, status), ("", 0))
+                self.assertEqual(
+                    record.splitlines()[3:],
+                    [
+                        f"# The {name} of line 3 is left out: nobody saw what it was answered, and it changes nothing.",
+                        "# Session 2 is process 1.",
+                        "2 > GET 'k'",
+                        "2 < VALUE '1'",
+                    ],
+                )
+        got = self.record(self.lost("read", ["k"]))
+        self.assertEqual([line for line in got if line.startswith("16 ")], ["16 > GET 'k'", "16 < NONE"])
+
+    def test_forty_reads_without_an_answer_make_no_record_longer_or_dearer(self):
+        """Each is of a process of its own, while another one writes and reads."""
+        operations = []
+        for process in range(1, 41):
+            operations += [(process, "invoke", "read", ["k"]), *whole(0, "write", ["k", process])]
+            operations += [(process, "info", "read", None), *whole(0, "read", ["k"], ["k", process])]
+        got = self.record(history(*operations))
+        self.assertEqual(
+            got,
+            [
+                line
+                for value in range(1, 41)
+                for line in (f"1 > PUT 'k','{value}'", "1 < OK", "1 > GET 'k'", f"1 < VALUE '{value}'")
+            ],
+        )
+        self.judged(got, "LEGAL")
+
+    def test_a_read_in_a_branch_may_lock_its_row_also_without_an_answer(self):
+        """So it explains that another one's write was refused, and the record has it."""
+        text = history(
+            *whole(0, "start", "a"),
+            (0, "invoke", "read", ["k"]),
+            (0, "info", "read", ["k"]),
+            (1, "invoke", "write", ["k", 1]),
+            (1, "fail", "write", ["k", 1], {"error": 3572}),
+        )
+        got = self.record(text)
+        self.assertEqual(got[2:], ["1 > GET 'k'", "1 ! LOST", "2 > PUT 'k','1'", "2 < ERROR 3572"])
+        self.judged(got, "LEGAL")
 
     def test_a_lost_write_leaves_its_session_once_its_row_is_looked_at_no_more(self):
         got = self.record(self.lost("write", ["j", 1]))
