@@ -143,6 +143,32 @@ class Call:
             self.end == UNKNOWN and self.branch is None and (self.is_read() or self.name in ("recover", "disconnect"))
         )
 
+    def puts(self):
+        """Its writes of values, as statements."""
+        if self.end == NOTHING:
+            return []
+        found = [step.statement() for step in self.transaction.steps] if self.is_branch else [self.statement]
+        return [statement for statement in found if statement.startswith(b"PUT ")]
+
+    # branches
+
+    def locks(self):
+        """The identifier that it is about, or the rows that it locks, each with whether nobody else may have it."""
+        if self.end == NOTHING or self.is_branch and self.end == UNKNOWN:
+            return {}
+        if isinstance(self.about, tuple):
+            return {self.about: True}
+        shared = self.keys() if self.is_branch or self.branch is not None else ()
+        return {**dict.fromkeys(shared, False), **dict.fromkeys(self.changes(), True)}
+
+    def may_need_an_end(self):
+        """Whether, if it was accepted, no other branch was in its way; of statements about branches only a start."""
+        return self.about is None or isinstance(self.about, bytes) or self.name in ("start", "begin")
+
+    def keeps_the_branch(self):
+        """Whether its session's branch, if it still has it then, is rolled back by the end of its connection."""
+        return bool(self.keys()) or self.name in ("end", "recover", "disconnect")
+
     def meets(self, other):
         """Whether the order of the two may be seen: one writes a row that the other is about, or saw."""
         mine, theirs = (it.changes() if it.end == UNKNOWN else it.keys() for it in (self, other))

@@ -2,6 +2,7 @@
 from collections import defaultdict
 
 from .call import NOTHING, OK, UNKNOWN, Call
+from .ends import ends_of
 from .fault import Fault
 from .operation import CAS, operation_of
 from .seats import Seats
@@ -105,7 +106,14 @@ class History:
             for key in call.keys() if call.end != UNKNOWN or call.is_branch else ():
                 seen[key] = at
         self.seats = Seats(self.lines, seen)
+        self.ends, self.lost = ends_of(self.events), {}
+        due = defaultdict(set)
+        for call, places in self.ends.items():
+            for at in places:
+                due[at].add(call)
         for at, (call, begins) in enumerate(self.events):
+            for lost in sorted(due[at], key=lambda it: it.line):
+                self.end_of(lost, at)
             if call.end != NOTHING and not call.is_branch:
                 (self.begin if begins else self.finish)(call, at)
             elif call.is_branch:
@@ -120,7 +128,9 @@ class History:
             return
         session = self.seats.take(call, at)
         self.lines.append(b"%d > %s" % (session, call.statement))
-        if call.end == UNKNOWN:
+        if call in self.ends:
+            self.lost[call] = self.seats.set_aside(call)
+        elif call.end == UNKNOWN:
             # from its call on nobody knows of the session
             self.lines.append(b"%d ! %s" % (session, b"GONE" if call.is_gone else b"LOST"))
             self.seats.lose(call, len(self.lines) - 1)
@@ -131,6 +141,20 @@ class History:
         session = self.seats.take(call, at)
         answer = call.answer if call.end == OK else [b"ERROR %d" % call.number]
         self.lines += [b"%d < %s" % (session, answer[0]), *answer[1:]]
+
+    def end_of(self, call, at):
+        """What later answers show of a call that has none. Its session is another's then."""
+        session, (over, ended) = self.lost[call], self.ends[call]
+        has_branch = call.branch is not None
+        if at == over:
+            self.lines.append(b"%d ? ERROR a later answer shows that it is over" % session)
+            if has_branch:
+                shown = b"# A later answer shows that the server has ended the branch of session %d:" % session
+                self.lines += [shown, b"%d > DISCONNECT" % session]
+        if at == ended:
+            if has_branch:
+                self.lines.append(b"%d < OK" % session)
+            self.seats.give_back(session)
 
     def branch(self, call, at, begins):
         """A transaction as a branch, all at its end. One without a known end is left out: nobody uses what it wrote."""

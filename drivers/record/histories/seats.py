@@ -52,6 +52,13 @@ class Seats:
         if call.branch is None and call.keys():
             self.lost.append((session, call, place))
 
+    def set_aside(self, call):
+        """The session of a call without an answer. Its process goes on as a new one."""
+        return self.of.pop(call.process)
+
+    def give_back(self, session):
+        self.free.append(session)
+
     def let_go(self, call):
         """A process has nothing open and no branch, and goes on as a new session, if at all."""
         if call.process in self.of:

@@ -52,10 +52,10 @@ class FromHistory(Converted):
     def test_an_unknown_outcome_is_a_lost_client_and_its_process_a_new_session(self):
         text = history((3, "invoke", "write", 1), (4, "invoke", "read", None),
                        (3, "info", "write", 1, {"error": "timeout"}), (4, "ok", "read", None),
-                       (3, "invoke", "read", None), (3, "ok", "read", 1), ("nemesis", "info", "kill", None),
+                       (3, "invoke", "read", None), (3, "ok", "read", None), ("nemesis", "info", "kill", None),
                        (4, "invoke", "write", 2))
         self.assertEqual(self.record(text), ["1 > PUT 'x','1'", "1 ! LOST", "2 > GET 'x'", "2 < NONE", "3 > GET 'x'",
-                                             "3 < VALUE '1'", "2 > PUT 'x','2'", "2 ! LOST"])
+                                             "3 < NONE", "2 > PUT 'x','2'", "2 ! LOST"])
         record, _, _ = converted(text)
         self.assertEqual([line for line in record.splitlines() if line.startswith("#")],
                          ["# Session 1 is process 3.", "# Session 2 is process 4.", "# Session 3 is process 3."])

@@ -3,6 +3,8 @@ import unittest
 
 from support import NO_SESSION, Converted, converted, history
 
+UNSEEN = "nobody sees any more whether it was done"
+
 
 def whole(process, name, value, returned=None):
     return (process, "invoke", name, value), (process, "ok", name, value if returned is None else returned)
@@ -123,7 +125,7 @@ class Processes(Converted):
         got = self.record(self.lost("write", ["j", 1]))
         self.assertEqual(
             [line for line in got if line.startswith("3 ")],
-            ["3 > PUT 'j','1'", "3 ? ERROR nobody sees any more whether it was done", "3 > GET 'k'", "3 < NONE"],
+            ["3 > PUT 'j','1'", f"3 ? ERROR {UNSEEN}", "3 > GET 'k'", "3 < NONE"],
         )
         self.judged(got, "LEGAL")
         self.refused(self.lost("write", ["k", 1]), f"line 33: process 16 would be session 17{NO_SESSION}")
@@ -145,9 +147,9 @@ class Processes(Converted):
                 )
             )
             self.assertEqual(got[0], "1 > PUT 'k','1'")
-            self.assertEqual(
-                got[-5:-2], ["1 ? ERROR nobody sees any more whether it was done", "1 > GET 'j'", "1 < NONE"]
-            )
+            seen_over, unseen = "1 ? ERROR a later answer shows that it is over", f"1 ? ERROR {UNSEEN}"
+            ends = [seen_over, "16 < VALUE '1'"] if seen == 1 else [got[-6], unseen]
+            self.assertEqual(got[-6:-2], [*ends, "1 > GET 'j'", "1 < NONE"])
             self.judged(got, verdict)
 
     def test_a_lost_call_of_a_session_with_a_branch_keeps_it(self):
@@ -170,11 +172,11 @@ class Processes(Converted):
                 *whole(0, "start", "a"),
                 *whole(0, "write", ["k", 1]),
                 (0, "invoke", "read", ["k"]),
-                *whole(1, "write", ["k", 2]),
+                *whole(1, "read", ["k"], ["k", None]),
                 (0, "info", "read", None, {"error": number}),
             )
             got = self.record(text)
-            self.assertEqual(got[4:], ["1 > GET 'k'", f"1 ! {word}", "2 > PUT 'k','2'", "2 < OK"])
+            self.assertEqual(got[4:], ["1 > GET 'k'", f"1 ! {word}", "2 > GET 'k'", "2 < NONE"])
         begun = [*whole(0, "start", "a"), *whole(0, "write", ["k", 1]), *whole(1, "write", ["k", 2])]
         for number, verdict in ((2013, "LEGAL"), (1205, "ILLEGAL line 6")):
             self.judged(

@@ -206,7 +206,8 @@ class Txn(Converted):
             *whole(0, "read", None, 3),
         )
         got = self.record(text)
-        self.assertEqual(got, ["1 > PUT 'x','3'", "1 ! LOST", "2 > GET 'x'", "2 < VALUE '3'"])
+        over = "1 ? ERROR a later answer shows that it is over"
+        self.assertEqual(got, ["1 > PUT 'x','3'", "2 > GET 'x'", over, "2 < VALUE '3'"])
         self.judged(got, "LEGAL")
         two = [["w", "a", 1], ["w", "b", 1]]
         self.refused(
