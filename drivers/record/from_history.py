@@ -21,6 +21,8 @@ from written import write_out  # noqa: E402
 
 def read(path):
     if not path:
+        if sys.stdin is None:  # Python's, where it was closed already when the program began
+            raise Fault("the standard input is closed; give it the history, or name its file")
         return sys.stdin.buffer.read()
     with open(path, "rb") as file:
         return file.read()

@@ -1,9 +1,10 @@
 """Histories of operations as records: what becomes of each operation, what the judge says of it, and which lines are
 refused."""
 import json
+import subprocess
 import unittest
 
-from support import NO_SESSION, Converted, converted, history, says
+from support import COMMAND, NO_SESSION, Converted, converted, history, says
 
 
 class FromHistory(Converted):
@@ -113,6 +114,13 @@ class FromHistory(Converted):
         record, said, status = converted("", "/nowhere")
         self.assertEqual((record, status), ("", 2))
         self.assertIn("/nowhere", said)
+
+    def test_a_standard_input_that_is_closed(self):
+        ran = subprocess.run(["sh", "-c", 'exec "$@" <&-', "sh", *COMMAND], capture_output=True, text=True, timeout=60)
+        self.assertEqual(
+            (ran.returncode, ran.stdout, ran.stderr),
+            (2, "", "from_history: the standard input is closed; give it the history, or name its file\n"),
+        )
 
 
 if __name__ == "__main__":
