@@ -185,6 +185,14 @@ class Command(unittest.TestCase):
                 ran = self.run_it(path)
                 self.assertEqual((ran.returncode, ran.stderr, ran.stdout.decode()), (0, b"", wanted))
 
+    def test_a_call_that_is_not_a_statement_is_a_faulty_line(self):
+        with tempfile.TemporaryDirectory() as folder:
+            record = Path(folder) / "a.record"
+            record.write_bytes(b"1 > SELECT * FROM t\n1 < ERROR 1064\n")
+            ran = self.run_it(record)
+            self.assertEqual((ran.returncode, ran.stderr), (0, b""))
+            self.assertIn("not a statement", "".join(xml.fromstring(ran.stdout).itertext()))
+
     def test_a_page_without_a_verdict_has_no_picture(self):
         with standing_in("echo nothing") as program, room(program) as served:
             self.assertIsNone(ask(served.server_port, "judge", {"record": "1 > GET 'k'\n"})[1]["picture"])
