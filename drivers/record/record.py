@@ -3,7 +3,7 @@
 record.
 
     record.py --socket PATH [--user NAME] [--password WORD] [--database NAME] [--in-turn | --pauses SEED]
-              [--first N] [--timeout SECONDS] [--lose S:N ..] [--cut S:N ..] SCRIPT > RECORD
+              [--first N] [--any-text] [--timeout SECONDS] [--lose S:N ..] [--cut S:N ..] SCRIPT > RECORD
 
 Each session of the script has a thread and a connection of its own. All begin together, and each gives its statements
 in order, as fast as they are answered. The lines of the record stand in the order in which they were seen
@@ -18,6 +18,7 @@ import sys
 import threading
 import time
 
+from statements import first_stranger
 from written import write_out
 
 try:
@@ -283,6 +284,13 @@ def read_script(path):
     return lines
 
 
+def check_statements(lines, path):
+    """A line that isn't a statement is a mistake of who wrote the script, as a rule."""
+    stranger = first_stranger([statement for _, _, statement in lines])
+    if stranger is not None:
+        raise Fault(f"{path}, line {lines[stranger][0]}: not a statement; mend it, or send it as it is by --any-text")
+
+
 def pairs(given, lines, flag):
     """For each session that is to go, after how many statements."""
     found = {}
@@ -393,6 +401,8 @@ def end(sessions):
 def record_of(options):
     """The lines of the record."""
     lines = read_script(options.script)
+    if not options.any_text:
+        check_statements(lines, options.script)
     options.lose, options.cut = pairs(options.lose, lines, "--lose"), pairs(options.cut, lines, "--cut")
     if not re.fullmatch(r"\w+", options.database):
         raise Fault(f"--database {options.database}: not a name of letters, digits and _")
@@ -447,6 +457,7 @@ def main():
                         help="give the script's first N statements in turn, before the sessions begin together")
     manner.add_argument("--pauses", type=int, metavar="SEED", help="have each session pause before each statement, for "
                         "0 to 4 ms, by a generator of this seed")
+    parser.add_argument("--any-text", action="store_true", help="send lines that aren't statements, too")
     parser.add_argument("--timeout", type=seconds_of, metavar="SECONDS",
                         help="an answer that comes later isn't looked at; the session goes on")
     parser.add_argument("--lose", action="append", default=[], metavar="S:N",

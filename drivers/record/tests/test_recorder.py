@@ -1,10 +1,13 @@
 """What the recorder writes for answers, refusals, closed connections and late answers, by a driver that stands in for
 PyMySQL. It needs no server."""
+import os
 import sys
+import tempfile
 import time
 import types
 import unittest
 from pathlib import Path
+from unittest import mock
 
 sys.dont_write_bytecode = True
 sys.path.insert(0, str(Path(__file__).resolve().parent.parent))
@@ -94,6 +97,33 @@ class Recorded(unittest.TestCase):
 
     def test_a_late_answer_is_looked_at_without_a_time_out(self):
         self.assertEqual(self.lines({b"XA END 'a'": 0.03}, b"XA END 'a'")[1], [b"3 > XA END 'a'", b"3 < OK"])
+
+
+class Scripts(unittest.TestCase):
+    """What is said of a script, by a recorder without a server."""
+
+    def said(self, text, any_text=False, program=os.environ["XA_SCRIPT"]):
+        recorder.pymysql = types.SimpleNamespace(MySQLError=MySQLError)
+        with tempfile.TemporaryDirectory() as folder, mock.patch.dict(os.environ, NIGBARU_PROGRAM=str(program)), \
+                mock.patch.object(recorder, "connect", side_effect=MySQLError("none")):
+            script = Path(folder) / "script"
+            script.write_text(text)
+            options = types.SimpleNamespace(script=script, any_text=any_text, lose=[], cut=[], database="d", socket="s")
+            with self.assertRaises(recorder.Fault) as raised:
+                recorder.record_of(options)
+            return str(raised.exception).replace(folder, "")
+
+    def test_a_line_that_is_no_statement_is_named(self):
+        for text in ("SELECT * FROM t", "XA START 'abc", "", "PUT 'k'"):
+            self.assertEqual(
+                self.said(f"# two sessions\n1 XA START 'a'\n\n2 {text}\n1 nothing\n"),
+                "/script, line 4: not a statement; mend it, or send it as it is by --any-text",
+            )
+
+    def test_all_other_lines_are_sent(self):
+        right, wrong, sent = "1 XA START 'a' RESUME\n16 xa recover;\n", "1 SELECT 1\n", "no server answers at s: none"
+        for text, more in ((right, {}), (wrong, {"any_text": True}), (wrong, {"program": "/nowhere"})):
+            self.assertEqual(self.said(text, **more), sent)
 
 
 if __name__ == "__main__":
