@@ -90,6 +90,8 @@ class Branches:
         for at, (call, begins) in enumerate(events):
             for write in over[at]:
                 self.close(write)
+                # it took effect by now, perhaps only since a connection had been closed whose call comes later
+                self.met.update(dict.fromkeys(write.locks(), at))
             if call.end != NOTHING:
                 (self.begin if begins else self.end)(call, at)
 

@@ -117,6 +117,19 @@ class Ends(Converted):
         )
         self.assertEqual(got[2:4], ["1 > GET 'k'", "1 ! GONE"])
 
+    def test_a_lost_write_that_was_read_may_have_needed_that_end(self):
+        """The connection was closed before session 2's write, which the lock of session 1's branch would have refused:
+        that is the only order."""
+        got = self.record(history(
+            *HELD,
+            *lost(1, "write", ["k", 7]),
+            *whole(2, "read", ["k"], ["k", 7]),
+            *lost(0, "end", "a", 2013),
+            *whole(2, "start", "a"),
+        ))
+        self.judged(got, "LEGAL")
+        self.assertIn("1 ! GONE", got)
+
     def test_a_read_of_its_value_shows_that_a_lost_write_is_over(self):
         reads = (*whole(1, "read", ["k"], ["k", None]), *whole(1, "read", ["k"], ["k", 7]))
         operations = (*lost(0, "write", ["k", 7]), *reads)
