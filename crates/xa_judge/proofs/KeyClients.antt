@@ -6,18 +6,25 @@
 --     AreClients, AreParts          the clients of the whole, by those of its parts;  the configurations
 --     chosen_acts, rest_acts        an act of a session whose call belongs to one part is one of the whole
 --     chosen_seen, rest_seen        so is an event of one part
-use Rattle.std.proofs.Common.{◌≡◌, ◌≢◌, ℕ, Bool, true, false, cond, Option, Some, None, List, set, refl}
+use Rattle.std.proofs.Common.{◌≡◌, ◌≢◌, ◌⊎◌, ℕ, Bool, true, false, cond, Option, Some, None, List, set, refl}
 use Rattle.std.proofs.Common.{ap, sym, ◌∙◌, subst, inl, inr}
 use Rattle.std.specs.Prelude.{slice_get}
-use Rattle.std.specs.Option.{option_map}
+use Rattle.std.specs.Option.{option_map, option_map_or, unwrap_or}
 use Rattle.std.proofs.lemmas.Option.{none-some, same_Some, cond_some}
 use Rattle.std.proofs.lemmas.Bool.{false≢true}
-use Rattle.xa_xid.specs.declared.statement.Statement.TheVariants.{Disconnect as DisconnectGiven}
+use Rattle.xa_xid.specs.declared.statement.Statement.TheVariants.{Start, Get, Put, Del, Disconnect as DisconnectGiven}
 use Rattle.xa_server.specs.State.{State}
+use Rattle.xa_server.specs.declared.reply.Reply.TheVariants.{Ok as Accepted, Value, Recovered, Refused}
+use Rattle.xa_server.specs.Locks.{LockLaw}
 use Rattle.xa_server.specs.Step.{after}
+use Rattle.xa_server.proofs.Keeping.{law_after}
 use Rattle.xa_judge.specs.declared.request.Request.{Request}
-use Rattle.xa_judge.specs.declared.request.Request.TheVariants.{Statement as Given}
+use Rattle.xa_judge.specs.declared.request.Request.TheVariants.{Statement as Given, Unread}
+use Rattle.xa_judge.specs.declared.answer.Answer.{Answer}
+use Rattle.xa_judge.specs.declared.answer.Answer.TheVariants.{Reply as Replied, Unread as NotRead}
 use Rattle.xa_judge.specs.declared.event.Seen.{Seen}
+use Rattle.xa_judge.specs.declared.event.Seen.TheVariants.{Ok as SeenOk, Value as SeenValue, Rows as SeenRows}
+use Rattle.xa_judge.specs.declared.event.Seen.TheVariants.{Error as SeenError}
 use Rattle.xa_judge.specs.declared.event.Event.{Event}
 use Rattle.xa_judge.specs.declared.event.Event.TheVariants.{Call, Return, Lost, Unknown}
 use Rattle.xa_judge.specs.declared.client_state.ClientState.{ClientState}
@@ -25,12 +32,15 @@ use Rattle.xa_judge.specs.declared.client_state.ClientState.TheVariants.{Idle, C
 use Rattle.xa_judge.specs.declared.moves.Act.{Act}
 use Rattle.xa_judge.specs.declared.moves.Act.TheVariants.{Statement, Disconnect}
 use Rattle.xa_judge.specs.declared.turn.Turn.{Turn}
-use Rattle.xa_judge.specs.declared.turn.Turn.TheVariants.{Nobody, Chosen, Rest}
+use Rattle.xa_judge.specs.declared.turn.Turn.TheVariants.{Nobody, Chosen, Other, Within, Rest, Ending}
 use Rattle.xa_judge.specs.Explained.{Config, with_client, effect_of, carried_out, disconnected, observed, called}
 use Rattle.xa_judge.specs.Explained.{returned, lost, answered_unknown, shows_answer, answer_to, next_state}
-use Rattle.xa_judge.specs.Keys.{IsFreeRequest, IsOtherRequest, session_of, turn_after, is_chosen, FitsTurn}
+use Rattle.xa_judge.specs.Keys.{IsFreeRequest, IsOtherRequest, IsOnRows, IsOffRows, session_of, turn_after, is_chosen}
+use Rattle.xa_judge.specs.Keys.{FitsTurn, has_none, free_in, is_start, is_ending, turn_in, turns_past, turn_called}
+use Rattle.xa_judge.specs.Keys.{turn_returned, turn_unknown}
 use Rattle.xa_judge.proofs.Places.{same_number, get_written, get_apart}
-use Rattle.xa_judge.proofs.KeyStates.{AreJoined, free_join, other_join}
+use Rattle.xa_judge.proofs.Clean.{OwnsNone, others_none, ended_none}
+use Rattle.xa_judge.proofs.KeyStates.{AreJoined, free_join, other_join, joined_with}
 
 -- two results are missing, or both are there and belong together
 abbrev pub Together : {A B : Type 0} → (A → B → Type 0) → Option A → Option B → Type 0
@@ -175,66 +185,106 @@ effect_is config session Disconnect = by (slice_get config.clients session)
 -- ---- the whole, by its parts
 
 -- a client with an open call of the chosen part
-abbrev pub IsFreeClient : (List ℕ → Bool) → (ℕ → Bool) → ℕ → ClientState → Type 0
-IsFreeClient named free session (Called request) = IsFreeRequest named free session request
-IsFreeClient named free session (Answered answer) = Unit {0}
-IsFreeClient named free session client = ⊥
+abbrev pub IsFreeClient : (List ℕ → Bool) → ClientState → Type 0
+IsFreeClient named (Called request) = IsOnRows named request
+IsFreeClient named (Answered answer) = Unit {0}
+IsFreeClient named client = ⊥
+
+-- the request may be one of a session with this turn
+abbrev pub IsCallOf : Turn → Request → Type 0
+IsCallOf turn request = (has_none turn ≡ true → is_start request ≡ false) × (turn ≡ Ending → is_ending request ≡ true)
 
 -- a client of the other part
-abbrev pub IsOtherClient : (List ℕ → Bool) → (ℕ → Bool) → ℕ → ClientState → Type 0
-IsOtherClient named free session (Called request) = IsOtherRequest named free session request
-IsOtherClient named free session (Gone (Some request)) = IsOtherRequest named free session request
-IsOtherClient named free session client = Unit {0}
+abbrev pub IsOtherClient : (List ℕ → Bool) → Turn → ClientState → Type 0
+IsOtherClient named turn (Called request) = IsOffRows named request × IsCallOf turn request
+IsOtherClient named turn (Gone (Some request)) = (has_none turn ≡ false) × IsOffRows named request
+IsOtherClient named turn client = Unit {0}
 
--- the session's client in the whole, the chosen part and the other one, by the part that its open call belongs to
-abbrev pub AreClients : (List ℕ → Bool) → (ℕ → Bool) → ℕ → Option Turn → Option ClientState → Option ClientState
-    → Option ClientState → Type 0
-AreClients named free session None whole chosen rest = (whole ≡ None) × (chosen ≡ None) × (rest ≡ None)
-AreClients named free session (Some Nobody) whole chosen rest =
-    (whole ≡ Some Idle) × (chosen ≡ Some Idle) × (rest ≡ Some Idle)
-AreClients named free session (Some Chosen) whole chosen rest =
-    (client : ClientState) × IsFreeClient named free session client × (whole ≡ Some client) × (chosen ≡ Some client)
-    × (rest ≡ Some Idle)
-AreClients named free session (Some Rest) whole chosen rest =
-    (client : ClientState) × IsOtherClient named free session client × (whole ≡ Some client) × (chosen ≡ Some Idle)
+-- the session's client in the whole, the chosen part and the other one, if it is idle in the chosen part
+abbrev pub IsRested : (List ℕ → Bool) → Turn → Option ClientState → Option ClientState → Option ClientState → Type 0
+IsRested named turn whole chosen rest =
+    (client : ClientState) × IsOtherClient named turn client × (whole ≡ Some client) × (chosen ≡ Some Idle)
     × (rest ≡ Some client)
 
+-- the session's client in the three, by its turn
+abbrev pub AreClients : (List ℕ → Bool) → Option Turn → Option ClientState → Option ClientState → Option ClientState
+    → Type 0
+AreClients named None whole chosen rest = (whole ≡ None) × (chosen ≡ None) × (rest ≡ None)
+AreClients named (Some Nobody) whole chosen rest = (whole ≡ Some Idle) × (chosen ≡ Some Idle) × (rest ≡ Some Idle)
+AreClients named (Some Chosen) whole chosen rest =
+    (client : ClientState) × IsFreeClient named client × (whole ≡ Some client) × (chosen ≡ Some client)
+    × (rest ≡ Some Idle)
+AreClients named (Some turn) whole chosen rest = IsRested named turn whole chosen rest
+
+-- its open call belongs to the other part, or it may have a branch
+abbrev pub is_rest : Turn → Bool
+is_rest Nobody = false
+is_rest Chosen = false
+is_rest Other = true
+is_rest Within = true
+is_rest Rest = true
+is_rest Ending = true
+
+-- then its clients are told so
+rested : (named : List ℕ → Bool) (turn : Turn) (whole chosen rest : Option ClientState) → is_rest turn ≡ true
+    → AreClients named (Some turn) whole chosen rest → IsRested named turn whole chosen rest
+rested named Nobody whole chosen rest is are = absurd (false≢true is)
+rested named Chosen whole chosen rest is are = absurd (false≢true is)
+rested named Other whole chosen rest is are = are
+rested named Within whole chosen rest is are = are
+rested named Rest whole chosen rest is are = are
+rested named Ending whole chosen rest is are = are
+
+are_rested : (named : List ℕ → Bool) (turn : Turn) (whole chosen rest : Option ClientState) → is_rest turn ≡ true
+    → IsRested named turn whole chosen rest → AreClients named (Some turn) whole chosen rest
+are_rested named Nobody whole chosen rest is are = absurd (false≢true is)
+are_rested named Chosen whole chosen rest is are = absurd (false≢true is)
+are_rested named Other whole chosen rest is are = are
+are_rested named Within whole chosen rest is are = are
+are_rested named Rest whole chosen rest is are = are
+are_rested named Ending whole chosen rest is are = are
+
+-- a session whose call to end its branch was accepted has none
+abbrev pub AreEnded : List Turn → Config → Type 0
+AreEnded turns whole = (session : ℕ) → slice_get turns session ≡ Some Ending
+    → slice_get whole.clients session ≡ Some (Answered (Replied Accepted)) → OwnsNone whole.state session
+
 -- the configurations of the whole, the chosen part and the other one
-pub record AreParts (named : List ℕ → Bool) (free : ℕ → Bool) (turns : List Turn) (whole chosen rest : Config)
-    : Type 0 where
-  pub states : AreJoined named free whole.state chosen.state rest.state
-  pub clients : (session : ℕ) → AreClients named free session (slice_get turns session)
-      (slice_get whole.clients session) (slice_get chosen.clients session) (slice_get rest.clients session)
+pub record AreParts (named : List ℕ → Bool) (turns : List Turn) (whole chosen rest : Config) : Type 0 where
+  pub states : AreJoined named (free_in turns) whole.state chosen.state rest.state
+  pub clients : (session : ℕ) → AreClients named (slice_get turns session) (slice_get whole.clients session)
+      (slice_get chosen.clients session) (slice_get rest.clients session)
+  pub law : LockLaw whole.state
+  pub ended : AreEnded turns whole
 
 -- the same clients, told otherwise
-told : (named : List ℕ → Bool) (free : ℕ → Bool) (session : ℕ) (t u : Option Turn) (a b c x y z : Option ClientState)
-    → t ≡ u → a ≡ x → b ≡ y → c ≡ z
-    → AreClients named free session t a b c → AreClients named free session u x y z
-told named free session t u a b c x y z e f g h are =
-    subst (λ t. AreClients named free session t x y z) e
-    (subst (λ a. AreClients named free session t a y z) f
-    (subst (λ b. AreClients named free session t a b z) g
-    (subst (λ c. AreClients named free session t a b c) h are)))
+told : (named : List ℕ → Bool) (t u : Option Turn) (a b c x y z : Option ClientState)
+    → t ≡ u → a ≡ x → b ≡ y → c ≡ z → AreClients named t a b c → AreClients named u x y z
+told named t u a b c x y z e f g h are =
+    subst (λ t. AreClients named t x y z) e
+    (subst (λ a. AreClients named t a y z) f
+    (subst (λ b. AreClients named t a b z) g
+    (subst (λ c. AreClients named t a b c) h are)))
 
 -- all clients after one session's changed
-clients_set : (named : List ℕ → Bool) (free : ℕ → Bool) (session : ℕ) (turns new_turns : List Turn)
+clients_set : (named : List ℕ → Bool) (session : ℕ) (turns new_turns : List Turn)
     (whole chosen rest new_whole new_chosen new_rest : List ClientState)
-    → ((other : ℕ) → AreClients named free other (slice_get turns other) (slice_get whole other)
-    (slice_get chosen other) (slice_get rest other))
+    → ((other : ℕ) → AreClients named (slice_get turns other) (slice_get whole other) (slice_get chosen other)
+    (slice_get rest other))
     → ((other : ℕ) → session ≢ other → slice_get turns other ≡ slice_get new_turns other)
     → ((other : ℕ) → session ≢ other → slice_get whole other ≡ slice_get new_whole other)
     → ((other : ℕ) → session ≢ other → slice_get chosen other ≡ slice_get new_chosen other)
     → ((other : ℕ) → session ≢ other → slice_get rest other ≡ slice_get new_rest other)
-    → AreClients named free session (slice_get new_turns session) (slice_get new_whole session)
-    (slice_get new_chosen session) (slice_get new_rest session)
-    → (other : ℕ) → AreClients named free other (slice_get new_turns other) (slice_get new_whole other)
+    → AreClients named (slice_get new_turns session) (slice_get new_whole session) (slice_get new_chosen session)
+    (slice_get new_rest session)
+    → (other : ℕ) → AreClients named (slice_get new_turns other) (slice_get new_whole other)
     (slice_get new_chosen other) (slice_get new_rest other)
-clients_set named free session turns new_turns whole chosen rest new_whole new_chosen new_rest were t w c r here other =
+clients_set named session turns new_turns whole chosen rest new_whole new_chosen new_rest were t w c r here other =
     elim (same_number session other) [
-      | inl e ↦ subst (λ n. AreClients named free n (slice_get new_turns n) (slice_get new_whole n)
+      | inl e ↦ subst (λ n. AreClients named (slice_get new_turns n) (slice_get new_whole n)
           (slice_get new_chosen n) (slice_get new_rest n)) e here
-      | inr apart ↦ told named free other _ _ _ _ _ _ _ _ (t other apart) (w other apart) (c other apart)
-          (r other apart) (were other)
+      | inr apart ↦ told named _ _ _ _ _ _ _ _ (t other apart) (w other apart) (c other apart) (r other apart)
+          (were other)
     ]
 
 -- another place isn't written
@@ -243,35 +293,96 @@ aside : {A : Type 0} (xs : List A) (session : ℕ) (x : A) (other : ℕ) → ses
 aside xs session x other apart = sym (get_apart xs session other x apart)
 
 -- an act of a session whose open call belongs to the chosen part
-abbrev pub ChosenTogether : (List ℕ → Bool) → (ℕ → Bool) → List Turn → Config → Config → Config → Type 0
-ChosenTogether named free turns rest whole chosen = AreParts named free turns whole chosen rest
+abbrev pub ChosenTogether : (List ℕ → Bool) → List Turn → Config → Config → Config → Type 0
+ChosenTogether named turns rest whole chosen = AreParts named turns whole chosen rest
 
-abbrev pub RestTogether : (List ℕ → Bool) → (ℕ → Bool) → List Turn → Config → Config → Config → Type 0
-RestTogether named free turns chosen whole rest = AreParts named free turns whole chosen rest
+abbrev pub RestTogether : (List ℕ → Bool) → List Turn → Config → Config → Config → Type 0
+RestTogether named turns chosen whole rest = AreParts named turns whole chosen rest
+
+-- ---- requests of a session with a turn
+
+-- whether it has no branch, by its turn
+free_turn : (turns : List Turn) (session : ℕ) (turn : Turn) → slice_get turns session ≡ Some turn
+    → free_in turns session ≡ has_none turn
+free_turn turns session turn at = ap (λ o. option_map_or has_none o false) at
+
+on_rows : (named : List ℕ → Bool) (free : ℕ → Bool) (session : ℕ) (request : Request) → free session ≡ true
+    → IsOnRows named request → IsFreeRequest named free session request
+on_rows named free session (Given (Get key)) none is = (none, is)
+on_rows named free session (Given (Put key value)) none is = (none, is)
+on_rows named free session (Given (Del key)) none is = (none, is)
+on_rows named free session request none is = absurd is
+
+off_rows : (named : List ℕ → Bool) (free : ℕ → Bool) (session : ℕ) (request : Request)
+    → (is_start request ≡ true → free session ≡ false) → IsOffRows named request
+    → IsOtherRequest named free session request
+off_rows named free session (Given (Get key)) starts is = is
+off_rows named free session (Given (Put key value)) starts is = is
+off_rows named free session (Given (Del key)) starts is = is
+off_rows named free session (Given (Start xid)) starts is = starts refl
+off_rows named free session request starts is = tt
+
+-- a start is of a session that may have a branch
+starts_within : (turns : List Turn) (session : ℕ) (turn : Turn) (request : Request)
+    → slice_get turns session ≡ Some turn → (has_none turn ≡ true → is_start request ≡ false)
+    → is_start request ≡ true → free_in turns session ≡ false
+starts_within turns session turn request at plain starts = free_turn turns session turn at ∙ by (has_none turn) refl
+  where
+    by : (b : Bool) → has_none turn ≡ b → has_none turn ≡ false
+    by true none = absurd (false≢true (sym (plain none) ∙ starts))
+    by false none = none
+
+law_next : (state : State) (session : ℕ) (request : Request) → LockLaw state
+    → LockLaw (next_state state session request)
+law_next state session Unread law = law
+law_next state session (Given statement) law = law_after state session statement law
+
+-- a session that was answered so after a request of its own, and all others
+ended_next : (turns : List Turn) (whole : Config) (session : ℕ) (request : Request) (client next : ClientState)
+    → AreEnded turns whole → slice_get whole.clients session ≡ Some client
+    → (slice_get turns session ≡ Some Ending → next ≡ Answered (Replied Accepted)
+    → OwnsNone (next_state whole.state session request) session)
+    → AreEnded turns (record {
+      state = next_state whole.state session request;
+      clients = set whole.clients session next;
+    })
+ended_next turns whole session request client next ended at own other ending answered =
+    elim (same_number session other) [
+      | inl e ↦ subst (OwnsNone (next_state whole.state session request)) e
+          (own (ap (slice_get turns) e ∙ ending) (same_Some next (Answered (Replied Accepted))
+          (sym (get_written whole.clients session client next at)
+          ∙ ap (slice_get (set whole.clients session next)) e ∙ answered)))
+      | inr apart ↦ others_none whole.state session other request apart
+          (ended other ending (aside whole.clients session next other apart ∙ answered))
+    ]
 
 -- ---- acts
 
-chosen_deed : (named : List ℕ → Bool) (free : ℕ → Bool) (turns : List Turn) (whole chosen rest : Config) (session : ℕ)
-    (act : Act) (client : ClientState) → AreParts named free turns whole chosen rest
+chosen_ending : Some Chosen ≡ Some Ending → ⊥
+chosen_ending e = cc
+
+chosen_deed : (named : List ℕ → Bool) (turns : List Turn) (whole chosen rest : Config) (session : ℕ)
+    (act : Act) (client : ClientState) → AreParts named turns whole chosen rest
     → slice_get turns session ≡ Some Chosen
-    → IsFreeClient named free session client
+    → IsFreeClient named client
     → slice_get whole.clients session ≡ Some client → slice_get chosen.clients session ≡ Some client
     → slice_get rest.clients session ≡ Some Idle
-    → Together (ChosenTogether named free turns rest)
+    → Together (ChosenTogether named turns rest)
     (option_map (done_in whole session) (deed_of session act whole.state (Some client)))
     (option_map (done_in chosen session) (deed_of session act chosen.state (Some client)))
 unfolding deed_of
-chosen_deed named free turns whole chosen rest session Statement (Called request) parts turn is at there idle =
-    let both = free_join named free whole.state chosen.state rest.state session request parts.states is in
+chosen_deed named turns whole chosen rest session Statement (Called request) parts turn is at there idle =
+    let both = free_join named (free_in turns) whole.state chosen.state rest.state session request parts.states
+    (on_rows named (free_in turns) session request (free_turn turns session Chosen turn) is) in
     let next = Answered (answer_to whole.state session request) in
     let same = Answered (answer_to chosen.state session request) in
     record {
       states = both.1;
-      clients = clients_set named free session turns turns whole.clients chosen.clients rest.clients
+      clients = clients_set named session turns turns whole.clients chosen.clients rest.clients
           (set whole.clients session next) (set chosen.clients session same) rest.clients parts.clients
           (λ other apart. refl) (aside whole.clients session next) (aside chosen.clients session same)
           (λ other apart. refl)
-          (subst (λ t. AreClients named free session t (slice_get (set whole.clients session next) session)
+          (subst (λ t. AreClients named t (slice_get (set whole.clients session next) session)
           (slice_get (set chosen.clients session same) session) (slice_get rest.clients session)) (sym turn) (
             next,
             tt,
@@ -279,13 +390,16 @@ chosen_deed named free turns whole chosen rest session Statement (Called request
             get_written chosen.clients session (Called request) same there ∙ ap (λ a. Some (Answered a)) (sym both.0),
             idle,
           ));
+      law = law_next whole.state session request parts.law;
+      ended = ended_next turns whole session request (Called request) next parts.ended at
+          (λ ending accepted. absurd (chosen_ending (sym turn ∙ ending)));
     }
-chosen_deed named free turns whole chosen rest session Disconnect (Called request) parts turn is at there idle = tt
-chosen_deed named free turns whole chosen rest session Statement (Answered answer) parts turn is at there idle = tt
-chosen_deed named free turns whole chosen rest session Disconnect (Answered answer) parts turn is at there idle = tt
-chosen_deed named free turns whole chosen rest session act Idle parts turn is at there idle = absurd is
-chosen_deed named free turns whole chosen rest session act (Gone request) parts turn is at there idle = absurd is
-chosen_deed named free turns whole chosen rest session act Left parts turn is at there idle = absurd is
+chosen_deed named turns whole chosen rest session Disconnect (Called request) parts turn is at there idle = tt
+chosen_deed named turns whole chosen rest session Statement (Answered answer) parts turn is at there idle = tt
+chosen_deed named turns whole chosen rest session Disconnect (Answered answer) parts turn is at there idle = tt
+chosen_deed named turns whole chosen rest session act Idle parts turn is at there idle = absurd is
+chosen_deed named turns whole chosen rest session act (Gone request) parts turn is at there idle = absurd is
+chosen_deed named turns whole chosen rest session act Left parts turn is at there idle = absurd is
 
 -- results that are told otherwise
 pub together_told : {A B : Type 0} (P : A → B → Type 0) (one new : Option A) (other new_other : Option B)
@@ -293,93 +407,122 @@ pub together_told : {A B : Type 0} (P : A → B → Type 0) (one new : Option A)
 together_told P one new other new_other e f both =
     subst (λ o. Together P o new_other) (sym e) (subst (Together P one) (sym f) both)
 
-pub chosen_acts : (named : List ℕ → Bool) (free : ℕ → Bool) (turns : List Turn) (whole chosen rest : Config)
-    (session : ℕ) (act : Act) → AreParts named free turns whole chosen rest
+pub chosen_acts : (named : List ℕ → Bool) (turns : List Turn) (whole chosen rest : Config)
+    (session : ℕ) (act : Act) → AreParts named turns whole chosen rest
     → slice_get turns session ≡ Some Chosen
-    → Together (ChosenTogether named free turns rest) (effect_of whole session act) (effect_of chosen session act)
-chosen_acts named free turns whole chosen rest session act parts turn =
-    let here = subst (λ t. AreClients named free session t (slice_get whole.clients session)
+    → Together (ChosenTogether named turns rest) (effect_of whole session act) (effect_of chosen session act)
+chosen_acts named turns whole chosen rest session act parts turn =
+    let here = subst (λ t. AreClients named t (slice_get whole.clients session)
     (slice_get chosen.clients session) (slice_get rest.clients session)) turn (parts.clients session) in
-    together_told (ChosenTogether named free turns rest) _ _ _ _
+    together_told (ChosenTogether named turns rest) _ _ _ _
     (effect_is whole session act
     ∙ ap (λ o. option_map (done_in whole session) (deed_of session act whole.state o)) here.2)
     (effect_is chosen session act
     ∙ ap (λ o. option_map (done_in chosen session) (deed_of session act chosen.state o)) here.3)
-    (chosen_deed named free turns whole chosen rest session act here.0 parts turn here.1 here.2 here.3 here.4)
+    (chosen_deed named turns whole chosen rest session act here.0 parts turn here.1 here.2 here.3 here.4)
 
--- the whole and the other part after the same deed of a session
-rest_done : (named : List ℕ → Bool) (free : ℕ → Bool) (turns : List Turn) (whole chosen rest : Config) (session : ℕ)
-    (client next same : ClientState) (state beside : State) → AreParts named free turns whole chosen rest
-    → slice_get turns session ≡ Some Rest
+-- the whole and the other part after a request of a session
+rest_done : (named : List ℕ → Bool) (turns : List Turn) (whole chosen rest : Config) (session : ℕ) (turn : Turn)
+    (request : Request) (client next same : ClientState) → AreParts named turns whole chosen rest
+    → slice_get turns session ≡ Some turn → is_rest turn ≡ true
     → slice_get whole.clients session ≡ Some client → slice_get chosen.clients session ≡ Some Idle
     → slice_get rest.clients session ≡ Some client
     → next ≡ same
-    → IsOtherClient named free session next
-    → AreJoined named free state chosen.state beside
-    → AreParts named free turns (record { state = state; clients = set whole.clients session next }) chosen
-    (record { state = beside; clients = set rest.clients session same })
-rest_done named free turns whole chosen rest session client next same state beside parts turn at idle there e is joined =
-    record {
+    → IsOtherClient named turn next
+    → AreJoined named (free_in turns) (next_state whole.state session request) chosen.state
+    (next_state rest.state session request)
+    → (slice_get turns session ≡ Some Ending → next ≡ Answered (Replied Accepted)
+    → OwnsNone (next_state whole.state session request) session)
+    → AreParts named turns
+    (record { state = next_state whole.state session request; clients = set whole.clients session next }) chosen
+    (record { state = next_state rest.state session request; clients = set rest.clients session same })
+rest_done named turns whole chosen rest session turn request client next same parts there_turn rests at idle there e is
+    joined own = record {
       states = joined;
-      clients = clients_set named free session turns turns whole.clients chosen.clients rest.clients
+      clients = clients_set named session turns turns whole.clients chosen.clients rest.clients
           (set whole.clients session next) chosen.clients (set rest.clients session same) parts.clients
           (λ other apart. refl) (aside whole.clients session next) (λ other apart. refl)
           (aside rest.clients session same)
-          (subst (λ t. AreClients named free session t (slice_get (set whole.clients session next) session)
-          (slice_get chosen.clients session) (slice_get (set rest.clients session same) session)) (sym turn) (
+          (subst (λ t. AreClients named t (slice_get (set whole.clients session next) session)
+          (slice_get chosen.clients session) (slice_get (set rest.clients session same) session)) (sym there_turn)
+          (are_rested named turn _ _ _ rests (
             next,
             is,
             get_written whole.clients session client next at,
             idle,
             get_written rest.clients session client same there ∙ ap Some (sym e),
-          ));
+          )));
+      law = law_next whole.state session request parts.law;
+      ended = ended_next turns whole session request client next parts.ended at own;
     }
 
-rest_deed : (named : List ℕ → Bool) (free : ℕ → Bool) (turns : List Turn) (whole chosen rest : Config) (session : ℕ)
-    (act : Act) (client : ClientState) → AreParts named free turns whole chosen rest
-    → slice_get turns session ≡ Some Rest
-    → IsOtherClient named free session client
+-- what is answered
+answer_is : (one other : Answer) → Answered one ≡ Answered other → one ≡ other
+answer_is one other e = cc
+
+gone_answered : (answer : Answer) → Gone None ≡ Answered answer → ⊥
+gone_answered answer e = cc
+
+left_answered : (answer : Answer) → Left ≡ Answered answer → ⊥
+left_answered answer e = cc
+
+rest_deed : (named : List ℕ → Bool) (turns : List Turn) (whole chosen rest : Config) (session : ℕ) (turn : Turn)
+    (act : Act) (client : ClientState) → AreParts named turns whole chosen rest
+    → slice_get turns session ≡ Some turn → is_rest turn ≡ true
+    → IsOtherClient named turn client
     → slice_get whole.clients session ≡ Some client → slice_get chosen.clients session ≡ Some Idle
     → slice_get rest.clients session ≡ Some client
-    → Together (RestTogether named free turns chosen)
+    → Together (RestTogether named turns chosen)
     (option_map (done_in whole session) (deed_of session act whole.state (Some client)))
     (option_map (done_in rest session) (deed_of session act rest.state (Some client)))
 unfolding deed_of
-rest_deed named free turns whole chosen rest session Statement (Called request) parts turn is at idle there =
-    let both = other_join named free whole.state chosen.state rest.state session request parts.states is in
-    rest_done named free turns whole chosen rest session (Called request) _ _ _ _ parts turn at idle there
+rest_deed named turns whole chosen rest session turn Statement (Called request) parts there_turn rests is at idle there =
+    let both = other_join named (free_in turns) whole.state chosen.state rest.state session request parts.states
+    (off_rows named (free_in turns) session request
+    (starts_within turns session turn request there_turn is.1.0) is.0) in
+    rest_done named turns whole chosen rest session turn request (Called request) _ _ parts there_turn rests at idle there
     (ap Answered both.0) tt both.1
-rest_deed named free turns whole chosen rest session Disconnect (Called request) parts turn is at idle there = tt
-rest_deed named free turns whole chosen rest session Statement (Answered answer) parts turn is at idle there = tt
-rest_deed named free turns whole chosen rest session Disconnect (Answered answer) parts turn is at idle there = tt
-rest_deed named free turns whole chosen rest session Statement Idle parts turn is at idle there = tt
-rest_deed named free turns whole chosen rest session Disconnect Idle parts turn is at idle there = tt
-rest_deed named free turns whole chosen rest session Statement (Gone None) parts turn is at idle there = tt
-rest_deed named free turns whole chosen rest session Statement (Gone (Some request)) parts turn is at idle there =
-    let both = other_join named free whole.state chosen.state rest.state session request parts.states is in
-    rest_done named free turns whole chosen rest session (Gone (Some request)) (Gone None) (Gone None) _ _ parts turn
-    at idle there refl tt both.1
-rest_deed named free turns whole chosen rest session Disconnect (Gone request) parts turn is at idle there =
-    let both = other_join named free whole.state chosen.state rest.state session (Given DisconnectGiven)
+    (λ ending accepted. ended_none whole.state session request parts.law
+    (is.1.1 (same_Some turn Ending (sym there_turn ∙ ending)))
+    (answer_is (answer_to whole.state session request) (Replied Accepted) accepted))
+rest_deed named turns whole chosen rest session turn Disconnect (Called request) parts there_turn rests is at idle there =
+    tt
+rest_deed named turns whole chosen rest session turn Statement (Answered answer) parts there_turn rests is at idle
+    there = tt
+rest_deed named turns whole chosen rest session turn Disconnect (Answered answer) parts there_turn rests is at idle
+    there = tt
+rest_deed named turns whole chosen rest session turn Statement Idle parts there_turn rests is at idle there = tt
+rest_deed named turns whole chosen rest session turn Disconnect Idle parts there_turn rests is at idle there = tt
+rest_deed named turns whole chosen rest session turn Statement (Gone None) parts there_turn rests is at idle there = tt
+rest_deed named turns whole chosen rest session turn Statement (Gone (Some request)) parts there_turn rests is at idle
+    there =
+    let both = other_join named (free_in turns) whole.state chosen.state rest.state session request parts.states
+    (off_rows named (free_in turns) session request
+    (λ starts. free_turn turns session turn there_turn ∙ is.0) is.1) in
+    rest_done named turns whole chosen rest session turn request (Gone (Some request)) (Gone None) (Gone None) parts
+    there_turn rests at idle there refl tt both.1
+    (λ ending accepted. absurd (gone_answered (Replied Accepted) accepted))
+rest_deed named turns whole chosen rest session turn Disconnect (Gone request) parts there_turn rests is at idle there =
+    let both = other_join named (free_in turns) whole.state chosen.state rest.state session (Given DisconnectGiven)
     parts.states tt in
-    rest_done named free turns whole chosen rest session (Gone request) Left Left _ _ parts turn at idle there refl tt
-    both.1
-rest_deed named free turns whole chosen rest session Statement Left parts turn is at idle there = tt
-rest_deed named free turns whole chosen rest session Disconnect Left parts turn is at idle there = tt
+    rest_done named turns whole chosen rest session turn (Given DisconnectGiven) (Gone request) Left Left parts there_turn
+    rests at idle there refl tt both.1 (λ ending accepted. absurd (left_answered (Replied Accepted) accepted))
+rest_deed named turns whole chosen rest session turn Statement Left parts there_turn rests is at idle there = tt
+rest_deed named turns whole chosen rest session turn Disconnect Left parts there_turn rests is at idle there = tt
 
-pub rest_acts : (named : List ℕ → Bool) (free : ℕ → Bool) (turns : List Turn) (whole chosen rest : Config)
-    (session : ℕ) (act : Act) → AreParts named free turns whole chosen rest
-    → slice_get turns session ≡ Some Rest
-    → Together (RestTogether named free turns chosen) (effect_of whole session act) (effect_of rest session act)
-rest_acts named free turns whole chosen rest session act parts turn =
-    let here = subst (λ t. AreClients named free session t (slice_get whole.clients session)
-    (slice_get chosen.clients session) (slice_get rest.clients session)) turn (parts.clients session) in
-    together_told (RestTogether named free turns chosen) _ _ _ _
+pub rest_acts : (named : List ℕ → Bool) (turns : List Turn) (whole chosen rest : Config)
+    (session : ℕ) (turn : Turn) (act : Act) → AreParts named turns whole chosen rest
+    → slice_get turns session ≡ Some turn → is_rest turn ≡ true
+    → Together (RestTogether named turns chosen) (effect_of whole session act) (effect_of rest session act)
+rest_acts named turns whole chosen rest session turn act parts there_turn rests =
+    let here = rested named turn _ _ _ rests (subst (λ t. AreClients named t (slice_get whole.clients session)
+    (slice_get chosen.clients session) (slice_get rest.clients session)) there_turn (parts.clients session)) in
+    together_told (RestTogether named turns chosen) _ _ _ _
     (effect_is whole session act
     ∙ ap (λ o. option_map (done_in whole session) (deed_of session act whole.state o)) here.2)
     (effect_is rest session act
     ∙ ap (λ o. option_map (done_in rest session) (deed_of session act rest.state o)) here.4)
-    (rest_deed named free turns whole chosen rest session act here.0 parts turn here.1 here.2 here.3 here.4)
+    (rest_deed named turns whole chosen rest session turn act here.0 parts there_turn rests here.1 here.2 here.3 here.4)
 
 -- a session that isn't there, or is idle, has no act
 pub absent_rests : (config new : Config) (session : ℕ) (act : Act) → slice_get config.clients session ≡ None
@@ -406,47 +549,70 @@ idle_rests config new session act at leads = none-some new (sym (effect_is confi
 
 -- ---- events
 
--- the clients' parts after an event
-abbrev pub turns_past : List Turn → Bool → Event → List Turn
-turns_past turns side event = set turns (session_of event) (turn_after event side)
+-- the turn of a session that is there
+turn_is : (turns : List Turn) (session : ℕ) (turn : Turn) → slice_get turns session ≡ Some turn
+    → turn_in turns session ≡ turn
+turn_is turns session turn at = ap (λ o. unwrap_or o Nobody) at
 
--- no two parts are one
-chosen_nobody : Chosen ≡ Nobody → ⊥
-chosen_nobody e = cc
+-- an open call of the chosen part is one of these
+chosen_is : (turn : Turn) → is_chosen turn ≡ true → turn ≡ Chosen
+chosen_is Nobody is = absurd (false≢true is)
+chosen_is Chosen is = refl
+chosen_is Other is = absurd (false≢true is)
+chosen_is Within is = absurd (false≢true is)
+chosen_is Rest is = absurd (false≢true is)
+chosen_is Ending is = absurd (false≢true is)
 
-rest_nobody : Rest ≡ Nobody → ⊥
-rest_nobody e = cc
+-- where an event of the chosen part may stand
+chosen_turns : (named : List ℕ → Bool) (turn : Turn) (event : Event) → FitsTurn named turn event true
+    → (turn ≡ Nobody) ⊎ (turn ≡ Chosen)
+chosen_turns named turn (Call session request) fits = inl fits.0
+chosen_turns named turn (Return session seen) fits = inr (chosen_is turn fits)
+chosen_turns named turn (Lost session) fits = absurd fits
+chosen_turns named turn (Unknown session) fits = inr (chosen_is turn fits)
 
--- where an event of the chosen part may stand, the whole and the chosen part have the same client
-pub same_chosen : (named : List ℕ → Bool) (free : ℕ → Bool) (session : ℕ) (turn : Turn) (event : Event)
-    (whole chosen rest : Option ClientState) → FitsTurn named free turn event true
-    → AreClients named free session (Some turn) whole chosen rest
+-- there the whole and the chosen part have the same client
+pub same_chosen : (named : List ℕ → Bool) (turn : Turn) (event : Event)
+    (whole chosen rest : Option ClientState) → FitsTurn named turn event true
+    → AreClients named (Some turn) whole chosen rest
     → (client : ClientState) × (whole ≡ Some client) × (chosen ≡ Some client) × (rest ≡ Some Idle)
-same_chosen named free session Nobody event whole chosen rest fits are = (Idle, are.0, are.1, are.2)
-same_chosen named free session Chosen event whole chosen rest fits are = (are.0, are.2, are.3, are.4)
-same_chosen named free session Rest (Call other request) whole chosen rest fits are = absurd (rest_nobody fits.0)
-same_chosen named free session Rest (Return other seen) whole chosen rest fits are = absurd (false≢true fits)
-same_chosen named free session Rest (Lost other) whole chosen rest fits are = absurd fits
-same_chosen named free session Rest (Unknown other) whole chosen rest fits are = absurd (false≢true fits)
+same_chosen named turn event whole chosen rest fits are = elim (chosen_turns named turn event fits) [
+  | inl nobody ↦ by_nobody (subst (λ t. AreClients named (Some t) whole chosen rest) nobody are)
+  | inr is ↦ by_chosen (subst (λ t. AreClients named (Some t) whole chosen rest) is are)
+]
+  where
+    by_nobody : AreClients named (Some Nobody) whole chosen rest
+        → (client : ClientState) × (whole ≡ Some client) × (chosen ≡ Some client) × (rest ≡ Some Idle)
+    by_nobody idle = (Idle, idle.0, idle.1, idle.2)
+
+    by_chosen : AreClients named (Some Chosen) whole chosen rest
+        → (client : ClientState) × (whole ≡ Some client) × (chosen ≡ Some client) × (rest ≡ Some Idle)
+    by_chosen same = (same.0, same.2, same.3, same.4)
 
 -- an event of the other part stands only where no open call belongs to the chosen one
-pub other_turn : (named : List ℕ → Bool) (free : ℕ → Bool) (turn : Turn) (event : Event)
-    → FitsTurn named free turn event false
+pub other_turn : (named : List ℕ → Bool) (turn : Turn) (event : Event) → FitsTurn named turn event false
     → is_chosen turn ≡ false
-other_turn named free turn (Call session request) fits = fits.0
-other_turn named free turn (Return session seen) fits = fits
-other_turn named free turn (Lost session) fits = fits
-other_turn named free turn (Unknown session) fits = fits
+other_turn named turn (Call session request) fits = fits.0
+other_turn named turn (Return session seen) fits = fits
+other_turn named turn (Lost session) fits = fits
+other_turn named turn (Unknown session) fits = fits
+
+-- a session that has no open call and no branch is idle
+abbrev pub IsIdleIf : Turn → ClientState → Type 0
+IsIdleIf turn client = turn ≡ Nobody → client ≡ Idle
 
 -- and then the whole and the other part have the same client
-pub same_rest : (named : List ℕ → Bool) (free : ℕ → Bool) (session : ℕ) (turn : Turn)
-    (whole chosen rest : Option ClientState) → is_chosen turn ≡ false
-    → AreClients named free session (Some turn) whole chosen rest
-    → (client : ClientState) × IsOtherClient named free session client × (whole ≡ Some client) × (chosen ≡ Some Idle)
-    × (rest ≡ Some client)
-same_rest named free session Nobody whole chosen rest not are = (Idle, tt, are.0, are.1, are.2)
-same_rest named free session Chosen whole chosen rest not are = absurd (false≢true (sym not))
-same_rest named free session Rest whole chosen rest not are = are
+pub same_rest : (named : List ℕ → Bool) (turn : Turn) (whole chosen rest : Option ClientState)
+    → is_chosen turn ≡ false
+    → AreClients named (Some turn) whole chosen rest
+    → (client : ClientState) × (IsOtherClient named turn client × IsIdleIf turn client) × (whole ≡ Some client)
+    × (chosen ≡ Some Idle) × (rest ≡ Some client)
+same_rest named Nobody whole chosen rest not are = (Idle, (tt, λ e. refl), are.0, are.1, are.2)
+same_rest named Chosen whole chosen rest not are = absurd (false≢true (sym not))
+same_rest named Other whole chosen rest not are = (are.0, (are.1, λ e. cc), are.2, are.3, are.4)
+same_rest named Within whole chosen rest not are = (are.0, (are.1, λ e. cc), are.2, are.3, are.4)
+same_rest named Rest whole chosen rest not are = (are.0, (are.1, λ e. cc), are.2, are.3, are.4)
+same_rest named Ending whole chosen rest not are = (are.0, (are.1, λ e. cc), are.2, are.3, are.4)
 
 -- after a return its session is idle
 return_idle : (session : ℕ) (seen : Seen) (client next : ClientState)
@@ -459,7 +625,19 @@ return_idle session seen (Answered answer) next is = sym (cond_some (shows_answe
 return_idle session seen (Gone request) next is = absurd (none-some next is)
 return_idle session seen Left next is = absurd (none-some next is)
 
--- and after an answer that isn't known
+-- it was answered what the return shows
+return_shows : (session : ℕ) (seen : Seen) (client next : ClientState)
+    → client_after (Return session seen) (Some client) ≡ Some next
+    → (answer : Answer) × (client ≡ Answered answer) × (shows_answer seen answer ≡ true)
+unfolding client_after
+return_shows session seen Idle next is = absurd (none-some next is)
+return_shows session seen (Called request) next is = absurd (none-some next is)
+return_shows session seen (Answered answer) next is =
+    (answer, refl, (cond_some (shows_answer seen answer) Idle next is).0)
+return_shows session seen (Gone request) next is = absurd (none-some next is)
+return_shows session seen Left next is = absurd (none-some next is)
+
+-- after an answer that isn't known its session is idle
 unknown_idle : (session : ℕ) (client next : ClientState) → client_after (Unknown session) (Some client) ≡ Some next
     → next ≡ Idle
 unfolding client_after
@@ -469,35 +647,40 @@ unknown_idle session (Answered answer) next is = sym (same_Some Idle next is)
 unknown_idle session (Gone request) next is = absurd (none-some next is)
 unknown_idle session Left next is = absurd (none-some next is)
 
--- a call of the other part, and a client that is gone, leave a client of the other part
-call_other : (named : List ℕ → Bool) (free : ℕ → Bool) (session : ℕ) (request : Request) (client next : ClientState)
-    → IsOtherRequest named free session request
+-- a call leaves a client of the other part
+call_other : (named : List ℕ → Bool) (new : Turn) (session : ℕ) (request : Request) (client next : ClientState)
+    → IsOffRows named request → IsCallOf new request → ((client ≡ Idle) ⊎ (has_none new ≡ false))
     → client_after (Call session request) (Some client) ≡ Some next
-    → IsOtherClient named free session next
+    → IsOtherClient named new next
 unfolding client_after
-call_other named free session request Idle next other is =
-    subst (IsOtherClient named free session) (same_Some (Called request) next is) other
-call_other named free session request (Called before) next other is = absurd (none-some next is)
-call_other named free session request (Answered answer) next other is = absurd (none-some next is)
-call_other named free session request (Gone None) next other is =
-    subst (IsOtherClient named free session) (same_Some (Gone (Some request)) next is) other
-call_other named free session request (Gone (Some before)) next other is = absurd (none-some next is)
-call_other named free session request Left next other is =
-    subst (IsOtherClient named free session) (same_Some Left next is) tt
+call_other named new session request Idle next off call idle is =
+    subst (IsOtherClient named new) (same_Some (Called request) next is) (off, call)
+call_other named new session request (Called before) next off call idle is = absurd (none-some next is)
+call_other named new session request (Answered answer) next off call idle is = absurd (none-some next is)
+call_other named new session request (Gone None) next off call (inl idle) is = absurd (gone_idle None idle)
+  where
+    gone_idle : (o : Option Request) → Gone o ≡ Idle → ⊥
+    gone_idle o e = cc
+call_other named new session request (Gone None) next off call (inr within) is =
+    subst (IsOtherClient named new) (same_Some (Gone (Some request)) next is) (within, off)
+call_other named new session request (Gone (Some before)) next off call idle is = absurd (none-some next is)
+call_other named new session request Left next off call idle is =
+    subst (IsOtherClient named new) (same_Some Left next is) tt
 
-lost_other : (named : List ℕ → Bool) (free : ℕ → Bool) (session : ℕ) (client next : ClientState)
-    → IsOtherClient named free session client
+-- and so does a client that is gone
+lost_other : (named : List ℕ → Bool) (turn : Turn) (session : ℕ) (client next : ClientState)
+    → IsOtherClient named turn client
     → client_after (Lost session) (Some client) ≡ Some next
-    → IsOtherClient named free session next
+    → IsOtherClient named Within next
 unfolding client_after
-lost_other named free session Idle next other is =
-    subst (IsOtherClient named free session) (same_Some (Gone None) next is) tt
-lost_other named free session (Called request) next other is =
-    subst (IsOtherClient named free session) (same_Some (Gone (Some request)) next is) other
-lost_other named free session (Answered answer) next other is =
-    subst (IsOtherClient named free session) (same_Some (Gone None) next is) tt
-lost_other named free session (Gone request) next other is = absurd (none-some next is)
-lost_other named free session Left next other is = absurd (none-some next is)
+lost_other named turn session Idle next other is =
+    subst (IsOtherClient named Within) (same_Some (Gone None) next is) tt
+lost_other named turn session (Called request) next other is =
+    subst (IsOtherClient named Within) (same_Some (Gone (Some request)) next is) (refl, other.0)
+lost_other named turn session (Answered answer) next other is =
+    subst (IsOtherClient named Within) (same_Some (Gone None) next is) tt
+lost_other named turn session (Gone request) next other is = absurd (none-some next is)
+lost_other named turn session Left next other is = absurd (none-some next is)
 
 -- an idle session calls
 idle_calls : (session : ℕ) (request : Request) (next : ClientState)
@@ -507,65 +690,299 @@ unfolding client_after
 idle_calls session request next is = same_Some (Called request) next is
 
 -- what an event of the chosen part leaves of its session's clients
-chosen_next : (named : List ℕ → Bool) (free : ℕ → Bool) (turn : Turn) (event : Event) (client next : ClientState)
-    (rest : Option ClientState) → FitsTurn named free turn event true
-    → AreClients named free (session_of event) (Some turn) (Some client) (Some client) rest
+chosen_next : (named : List ℕ → Bool) (turn : Turn) (event : Event) (client next : ClientState)
+    (rest : Option ClientState) → FitsTurn named turn event true
+    → AreClients named (Some turn) (Some client) (Some client) rest
     → client_after event (Some client) ≡ Some next
-    → AreClients named free (session_of event) (Some (turn_after event true)) (Some next) (Some next) rest
-chosen_next named free Nobody (Call session request) client next rest fits are is =
-    let e = idle_calls session request next
-    (ap (client_after (Call session request)) (sym are.0) ∙ is) in
-    (Called request, fits.1, ap Some (sym e), ap Some (sym e), are.2)
-chosen_next named free Chosen (Call session request) client next rest fits are is = absurd (chosen_nobody fits.0)
-chosen_next named free Rest (Call session request) client next rest fits are is = absurd (rest_nobody fits.0)
-chosen_next named free turn (Return session seen) client next rest fits are is =
-    let e = return_idle session seen client next is in (
+    → AreClients named (Some (turn_after turn event true)) (Some next) (Some next) rest
+chosen_next named turn (Call session request) client next rest fits are is =
+    let idle = subst (λ t. AreClients named (Some t) (Some client) (Some client) rest) fits.0 are in
+    let e = idle_calls session request next (ap (client_after (Call session request)) (sym idle.0) ∙ is) in
+    (Called request, fits.1, ap Some (sym e), ap Some (sym e), idle.2)
+chosen_next named turn (Return session seen) client next rest fits are is =
+    let e = return_idle session seen client next is in
+    subst (λ t. AreClients named (Some (turn_returned t seen)) (Some next) (Some next) rest) (sym (chosen_is turn fits)) (
       ap Some e,
       ap Some e,
-      (same_chosen named free session turn (Return session seen) (Some client) (Some client) rest fits are).3,
+      (same_chosen named turn (Return session seen) (Some client) (Some client) rest fits are).3,
     )
-chosen_next named free turn (Lost session) client next rest fits are is = absurd fits
-chosen_next named free turn (Unknown session) client next rest fits are is =
-    let e = unknown_idle session client next is in (
+chosen_next named turn (Lost session) client next rest fits are is = absurd fits
+chosen_next named turn (Unknown session) client next rest fits are is =
+    let e = unknown_idle session client next is in
+    subst (λ t. AreClients named (Some (turn_unknown t)) (Some next) (Some next) rest) (sym (chosen_is turn fits)) (
       ap Some e,
       ap Some e,
-      (same_chosen named free session turn (Unknown session) (Some client) (Some client) rest fits are).3,
+      (same_chosen named turn (Unknown session) (Some client) (Some client) rest fits are).3,
     )
 
--- what an event of the other part leaves of them
-rest_next : (named : List ℕ → Bool) (free : ℕ → Bool) (turn : Turn) (event : Event) (client next : ClientState)
-    (chosen : Option ClientState) → FitsTurn named free turn event false
-    → IsOtherClient named free (session_of event) client
+-- a session has called in the other part
+called_next : (named : List ℕ → Bool) (turn : Turn) (session : ℕ) (request : Request) (client next : ClientState)
+    (chosen : Option ClientState) → is_chosen turn ≡ false → IsOffRows named request → IsIdleIf turn client
+    → chosen ≡ Some Idle
+    → client_after (Call session request) (Some client) ≡ Some next
+    → AreClients named (Some (turn_called turn request)) (Some next) chosen (Some next)
+called_next named turn session request client next chosen not off idle rests is = by turn not idle
+  where
+    within : (b : Bool) → is_ending request ≡ b
+        → AreClients named (Some (cond b Ending Rest)) (Some next) chosen (Some next)
+    within true ends = (
+      next,
+      call_other named Ending session request client next off (λ e. absurd (false≢true e), λ e. ends) (inr refl) is,
+      refl,
+      rests,
+      refl,
+    )
+    within false ends = (
+      next,
+      call_other named Rest session request client next off (λ e. absurd (false≢true e), λ e. cc) (inr refl) is,
+      refl,
+      rests,
+      refl,
+    )
+
+    starting : (b : Bool) → is_start request ≡ b → client ≡ Idle
+        → AreClients named (Some (cond b Rest Other)) (Some next) chosen (Some next)
+    starting true starts at = (
+      next,
+      call_other named Rest session request client next off (λ e. absurd (false≢true e), λ e. cc) (inl at) is,
+      refl,
+      rests,
+      refl,
+    )
+    starting false starts at = (
+      next,
+      call_other named Other session request client next off (λ e. starts, λ e. cc) (inl at) is,
+      refl,
+      rests,
+      refl,
+    )
+
+    by : (t : Turn) → is_chosen t ≡ false → IsIdleIf t client
+        → AreClients named (Some (turn_called t request)) (Some next) chosen (Some next)
+    by Nobody chosen idle_if = starting (is_start request) refl (idle_if refl)
+    by Chosen chosen idle_if = absurd (false≢true (sym chosen))
+    by Other chosen idle_if = within (is_ending request) refl
+    by Within chosen idle_if = within (is_ending request) refl
+    by Rest chosen idle_if = within (is_ending request) refl
+    by Ending chosen idle_if = within (is_ending request) refl
+
+-- a call of the other part has returned, or it isn't known what it returned
+idle_next : (named : List ℕ → Bool) (turn : Turn) (next : ClientState) (chosen : Option ClientState)
+    → (turn ≡ Nobody) ⊎ (turn ≡ Within) → next ≡ Idle → chosen ≡ Some Idle
+    → AreClients named (Some turn) (Some next) chosen (Some next)
+idle_next named turn next chosen (inl nobody) e idle =
+    subst (λ t. AreClients named (Some t) (Some next) chosen (Some next)) (sym nobody) (ap Some e, idle, ap Some e)
+idle_next named turn next chosen (inr within) e idle =
+    subst (λ t. AreClients named (Some t) (Some next) chosen (Some next)) (sym within)
+    (Idle, tt, ap Some e, idle, ap Some e)
+
+returned_turns : (turn : Turn) (seen : Seen) → (turn_returned turn seen ≡ Nobody) ⊎ (turn_returned turn seen ≡ Within)
+returned_turns Nobody seen = inr refl
+returned_turns Chosen seen = inl refl
+returned_turns Other seen = inl refl
+returned_turns Within seen = inr refl
+returned_turns Rest seen = inr refl
+returned_turns Ending SeenOk = inl refl
+returned_turns Ending (SeenValue value) = inr refl
+returned_turns Ending (SeenRows rows) = inr refl
+returned_turns Ending (SeenError numbers) = inr refl
+
+unknown_turns : (turn : Turn) → (turn_unknown turn ≡ Nobody) ⊎ (turn_unknown turn ≡ Within)
+unknown_turns Nobody = inr refl
+unknown_turns Chosen = inl refl
+unknown_turns Other = inl refl
+unknown_turns Within = inr refl
+unknown_turns Rest = inr refl
+unknown_turns Ending = inr refl
+
+-- what an event of the other part leaves of its session's clients
+rest_next : (named : List ℕ → Bool) (turn : Turn) (event : Event) (client next : ClientState)
+    (chosen : Option ClientState) → FitsTurn named turn event false
+    → IsOtherClient named turn client → IsIdleIf turn client
     → chosen ≡ Some Idle
     → client_after event (Some client) ≡ Some next
-    → AreClients named free (session_of event) (Some (turn_after event false)) (Some next) chosen (Some next)
-rest_next named free turn (Call session request) client next chosen fits other idle is =
-    (next, call_other named free session request client next fits.1 is, refl, idle, refl)
-rest_next named free turn (Return session seen) client next chosen fits other idle is =
-    let e = return_idle session seen client next is in (ap Some e, idle, ap Some e)
-rest_next named free turn (Lost session) client next chosen fits other idle is =
-    (next, lost_other named free session client next other is, refl, idle, refl)
-rest_next named free turn (Unknown session) client next chosen fits other idle is =
-    let e = unknown_idle session client next is in (ap Some e, idle, ap Some e)
+    → AreClients named (Some (turn_after turn event false)) (Some next) chosen (Some next)
+rest_next named turn (Call session request) client next chosen fits other idle_if idle is =
+    called_next named turn session request client next chosen fits.0 fits.1 idle_if idle is
+rest_next named turn (Return session seen) client next chosen fits other idle_if idle is =
+    idle_next named (turn_returned turn seen) next chosen (returned_turns turn seen)
+    (return_idle session seen client next is) idle
+rest_next named turn (Lost session) client next chosen fits other idle_if idle is =
+    (next, lost_other named turn session client next other is, refl, idle, refl)
+rest_next named turn (Unknown session) client next chosen fits other idle_if idle is =
+    idle_next named (turn_unknown turn) next chosen (unknown_turns turn) (unknown_idle session client next is) idle
+
+-- ---- who has no branch after an event
+
+-- after an event of the chosen part its session has none, as before
+chosen_none : (named : List ℕ → Bool) (turn : Turn) (event : Event) → FitsTurn named turn event true
+    → has_none turn ≡ true
+chosen_none named turn event fits = elim (chosen_turns named turn event fits) [
+  | inl nobody ↦ ap has_none nobody
+  | inr is ↦ ap has_none is
+]
+
+-- an answer that OK shows
+ok_accepted : (answer : Answer) → shows_answer SeenOk answer ≡ true → answer ≡ Replied Accepted
+ok_accepted (Replied Accepted) is = refl
+ok_accepted (Replied (Value value)) is = absurd (false≢true is)
+ok_accepted (Replied (Recovered xids)) is = absurd (false≢true is)
+ok_accepted (Replied (Refused error)) is = absurd (false≢true is)
+ok_accepted NotRead is = absurd (false≢true is)
+
+-- a call of a session that may have a branch leaves it so
+within_called : (turn : Turn) (request : Request) → is_chosen turn ≡ false
+    → has_none (turn_called turn request) ≡ true → has_none turn ≡ true
+within_called turn request not none = by turn not none
+  where
+    within : (b : Bool) → has_none (cond b Ending Rest) ≡ true → ⊥
+    within true e = false≢true e
+    within false e = false≢true e
+
+    by : (t : Turn) → is_chosen t ≡ false → has_none (turn_called t request) ≡ true → has_none t ≡ true
+    by Nobody chosen e = refl
+    by Chosen chosen e = refl
+    by Other chosen e = refl
+    by Within chosen e = absurd (within (is_ending request) e)
+    by Rest chosen e = absurd (within (is_ending request) e)
+    by Ending chosen e = absurd (within (is_ending request) e)
+
+-- after a return a session has none that had none, or whose call to end its branch was accepted
+returned_none : (turn : Turn) (seen : Seen) (answer : Answer) → shows_answer seen answer ≡ true
+    → has_none (turn_returned turn seen) ≡ true
+    → (has_none turn ≡ true) ⊎ ((turn ≡ Ending) × (answer ≡ Replied Accepted))
+returned_none Nobody seen answer shows none = inl refl
+returned_none Chosen seen answer shows none = inl refl
+returned_none Other seen answer shows none = inl refl
+returned_none Within seen answer shows none = absurd (false≢true none)
+returned_none Rest seen answer shows none = absurd (false≢true none)
+returned_none Ending SeenOk answer shows none = inr (refl, ok_accepted answer shows)
+returned_none Ending (SeenValue value) answer shows none = absurd (false≢true none)
+returned_none Ending (SeenRows rows) answer shows none = absurd (false≢true none)
+returned_none Ending (SeenError numbers) answer shows none = absurd (false≢true none)
+
+unknown_none : (turn : Turn) → has_none (turn_unknown turn) ≡ true → has_none turn ≡ true
+unknown_none Nobody none = refl
+unknown_none Chosen none = refl
+unknown_none Other none = refl
+unknown_none Within none = absurd (false≢true none)
+unknown_none Rest none = absurd (false≢true none)
+unknown_none Ending none = absurd (false≢true none)
+
+-- who has none after an event of the other part had none, or that is known by now
+rest_none : (named : List ℕ → Bool) (turn : Turn) (event : Event) (client next : ClientState)
+    → FitsTurn named turn event false
+    → client_after event (Some client) ≡ Some next
+    → has_none (turn_after turn event false) ≡ true
+    → (has_none turn ≡ true) ⊎ ((turn ≡ Ending) × (client ≡ Answered (Replied Accepted)))
+rest_none named turn (Call session request) client next fits is none = inl (within_called turn request fits.0 none)
+rest_none named turn (Return session seen) client next fits is none =
+    let shown = return_shows session seen client next is in
+    elim (returned_none turn seen shown.0 shown.2 none) [
+      | inl before ↦ inl before
+      | inr ended ↦ inr (ended.0, shown.1 ∙ ap Answered ended.1)
+    ]
+rest_none named turn (Lost session) client next fits is none = absurd (false≢true none)
+rest_none named turn (Unknown session) client next fits is none = inl (unknown_none turn none)
+
+-- a call to end a branch isn't answered at once
+called_unanswered : (session : ℕ) (request : Request) (client : ClientState) (answer : Answer)
+    → client_after (Call session request) (Some client) ≡ Some (Answered answer) → ⊥
+unfolding client_after
+called_unanswered session request Idle answer is = apart (same_Some (Called request) (Answered answer) is)
+  where
+    apart : Called request ≡ Answered answer → ⊥
+    apart e = cc
+called_unanswered session request (Called before) answer is = none-some (Answered answer) is
+called_unanswered session request (Answered other) answer is = none-some (Answered answer) is
+called_unanswered session request (Gone None) answer is = apart (same_Some (Gone (Some request)) (Answered answer) is)
+  where
+    apart : Gone (Some request) ≡ Answered answer → ⊥
+    apart e = cc
+called_unanswered session request (Gone (Some before)) answer is = none-some (Answered answer) is
+called_unanswered session request Left answer is = left_answered answer (same_Some Left (Answered answer) is)
+
+-- and no other event leaves such a call open
+open_by_call : (turn : Turn) (event : Event) (side : Bool) (client next : ClientState) (answer : Answer)
+    → client_after event (Some client) ≡ Some next → turn_after turn event side ≡ Ending → next ≡ Answered answer → ⊥
+open_by_call turn (Call session request) side client next answer is ending answered =
+    called_unanswered session request client answer (is ∙ ap Some answered)
+open_by_call turn (Return session seen) side client next answer is ending answered =
+    elim (returned_turns turn seen) [
+      | inl nobody ↦ apart Nobody (λ e. cc) (sym nobody ∙ ending)
+      | inr within ↦ apart Within (λ e. cc) (sym within ∙ ending)
+    ]
+  where
+    apart : (t : Turn) → (t ≡ Ending → ⊥) → t ≡ Ending → ⊥
+    apart t never e = never e
+open_by_call turn (Lost session) side client next answer is ending answered = apart ending
+  where
+    apart : Within ≡ Ending → ⊥
+    apart e = cc
+open_by_call turn (Unknown session) side client next answer is ending answered =
+    elim (unknown_turns turn) [
+      | inl nobody ↦ apart Nobody (λ e. cc) (sym nobody ∙ ending)
+      | inr within ↦ apart Within (λ e. cc) (sym within ∙ ending)
+    ]
+  where
+    apart : (t : Turn) → (t ≡ Ending → ⊥) → t ≡ Ending → ⊥
+    apart t never e = never e
 
 -- clients after one session's changed in some of the lists
-module _ (named : List ℕ → Bool) (free : ℕ → Bool) (turns : List Turn) (whole chosen rest : Config) (event : Event)
-    (turn : Turn) (parts : AreParts named free turns whole chosen rest)
+module _ (named : List ℕ → Bool) (turns : List Turn) (whole chosen rest : Config) (event : Event)
+    (turn : Turn) (parts : AreParts named turns whole chosen rest)
     (at : slice_get turns (session_of event) ≡ Some turn) where
-  here : AreClients named free (session_of event) (Some turn) (slice_get whole.clients (session_of event))
+  here : AreClients named (Some turn) (slice_get whole.clients (session_of event))
       (slice_get chosen.clients (session_of event)) (slice_get rest.clients (session_of event))
-  here = subst (λ t. AreClients named free (session_of event) t (slice_get whole.clients (session_of event))
+  here = subst (λ t. AreClients named t (slice_get whole.clients (session_of event))
       (slice_get chosen.clients (session_of event)) (slice_get rest.clients (session_of event))) at
       (parts.clients (session_of event))
 
+  -- the turn of its session after the event
+  written : (side : Bool) → slice_get (turns_past turns side event) (session_of event)
+      ≡ Some (turn_after turn event side)
+  written side = get_written turns (session_of event) turn _ at
+      ∙ ap (λ t. Some (turn_after t event side)) (turn_is turns (session_of event) turn at)
+
+  -- who has no branch after the event
+  none_past : (side : Bool)
+      → (has_none (turn_after turn event side) ≡ true → (has_none turn ≡ true) ⊎ OwnsNone whole.state (session_of event))
+      → (other : ℕ) → free_in (turns_past turns side event) other ≡ true
+      → (free_in turns other ≡ true) ⊎ OwnsNone whole.state other
+  none_past side own other none = elim (same_number (session_of event) other) [
+    | inl e ↦ subst (λ n. (free_in turns n ≡ true) ⊎ OwnsNone whole.state n) e
+        (elim (own (sym (free_turn (turns_past turns side event) (session_of event) (turn_after turn event side)
+        (written side)) ∙ ap (free_in (turns_past turns side event)) e ∙ none)) [
+          | inl before ↦ inl (free_turn turns (session_of event) turn at ∙ before)
+          | inr ended ↦ inr ended
+        ])
+    | inr apart ↦ inl (ap (λ o. option_map_or has_none o false) (aside turns (session_of event) _ other apart) ∙ none)
+  ]
+
+  -- whose call to end its branch was accepted
+  ended_past : (side : Bool) (client next : ClientState)
+      → client_after event (Some client) ≡ Some next
+      → slice_get whole.clients (session_of event) ≡ Some client
+      → AreEnded (turns_past turns side event)
+      (record { state = whole.state; clients = set whole.clients (session_of event) next })
+  ended_past side client next is was other ending answered = elim (same_number (session_of event) other) [
+    | inl e ↦ absurd (open_by_call turn event side client next (Replied Accepted) is
+        (same_Some (turn_after turn event side) Ending
+        (sym (written side) ∙ ap (slice_get (turns_past turns side event)) e ∙ ending))
+        (same_Some next (Answered (Replied Accepted)) (sym (get_written whole.clients (session_of event) client next was)
+        ∙ ap (slice_get (set whole.clients (session_of event) next)) e ∙ answered)))
+    | inr apart ↦ parts.ended other (aside turns (session_of event) _ other apart ∙ ending)
+        (aside whole.clients (session_of event) next other apart ∙ answered)
+  ]
+
   -- an event of the chosen part is seen in the whole where it is seen in that part
-  pub chosen_seen : FitsTurn named free turn event true
-      → Together (ChosenTogether named free (turns_past turns true event) rest) (observed whole event)
+  pub chosen_seen : FitsTurn named turn event true
+      → Together (ChosenTogether named (turns_past turns true event) rest) (observed whole event)
       (observed chosen event)
   chosen_seen fits =
       let session = session_of event in
-      let same = same_chosen named free session turn event _ _ _ fits here in
-      together_told (ChosenTogether named free (turns_past turns true event) rest) _ _ _ _
+      let same = same_chosen named turn event _ _ _ fits here in
+      together_told (ChosenTogether named (turns_past turns true event) rest) _ _ _ _
       (observed_is whole event ∙ ap (λ o. option_map (placed whole session) (client_after event o)) same.1)
       (observed_is chosen event ∙ ap (λ o. option_map (placed chosen session) (client_after event o)) same.2)
       (by same (client_after event (Some same.0)) refl)
@@ -574,66 +991,75 @@ module _ (named : List ℕ → Bool) (free : ℕ → Bool) (turns : List Turn) (
           × (slice_get chosen.clients (session_of event) ≡ Some client)
           × (slice_get rest.clients (session_of event) ≡ Some Idle))
           (o : Option ClientState) → client_after event (Some same.0) ≡ o
-          → Together (ChosenTogether named free (turns_past turns true event) rest)
+          → Together (ChosenTogether named (turns_past turns true event) rest)
           (option_map (placed whole (session_of event)) o) (option_map (placed chosen (session_of event)) o)
       by same None is = tt
       by same (Some next) is =
           let session = session_of event in
           let other = slice_get rest.clients session in
-          let old = told named free session (Some turn) (Some turn) (slice_get whole.clients session)
+          let old = told named (Some turn) (Some turn) (slice_get whole.clients session)
           (slice_get chosen.clients session) other (Some same.0) (Some same.0) other refl same.1 same.2 refl here in
-          let new = chosen_next named free turn event same.0 next (slice_get rest.clients session) fits old is in
+          let new = chosen_next named turn event same.0 next (slice_get rest.clients session) fits old is in
           record {
-            states = parts.states;
-            clients = clients_set named free session turns (turns_past turns true event) whole.clients chosen.clients
+            states = joined_with named (free_in turns) (free_in (turns_past turns true event)) whole.state chosen.state
+                rest.state (none_past true (λ e. inl (chosen_none named turn event fits))) parts.states;
+            clients = clients_set named session turns (turns_past turns true event) whole.clients chosen.clients
                 rest.clients (set whole.clients session next) (set chosen.clients session next) rest.clients
-                parts.clients (aside turns session (turn_after event true)) (aside whole.clients session next)
+                parts.clients (aside turns session _) (aside whole.clients session next)
                 (aside chosen.clients session next) (λ other apart. refl)
-                (told named free session (Some (turn_after event true))
+                (told named (Some (turn_after turn event true))
                 (slice_get (turns_past turns true event) session) (Some next) (Some next) other
                 (slice_get (set whole.clients session next) session)
                 (slice_get (set chosen.clients session next) session) other
-                (sym (get_written turns session turn (turn_after event true) at))
+                (sym (written true))
                 (sym (get_written whole.clients session same.0 next same.1))
                 (sym (get_written chosen.clients session same.0 next same.2)) refl new);
+            law = parts.law;
+            ended = ended_past true same.0 next is same.1;
           }
 
   -- and an event of the other part
-  pub rest_seen : FitsTurn named free turn event false
-      → Together (RestTogether named free (turns_past turns false event) chosen) (observed whole event)
+  pub rest_seen : FitsTurn named turn event false
+      → Together (RestTogether named (turns_past turns false event) chosen) (observed whole event)
       (observed rest event)
   rest_seen fits =
       let session = session_of event in
-      let same = same_rest named free session turn _ _ _ (other_turn named free turn event fits) here in
-      together_told (RestTogether named free (turns_past turns false event) chosen) _ _ _ _
+      let same = same_rest named turn _ _ _ (other_turn named turn event fits) here in
+      together_told (RestTogether named (turns_past turns false event) chosen) _ _ _ _
       (observed_is whole event ∙ ap (λ o. option_map (placed whole session) (client_after event o)) same.2)
       (observed_is rest event ∙ ap (λ o. option_map (placed rest session) (client_after event o)) same.4)
       (by same (client_after event (Some same.0)) refl)
     where
-      by : (same : (client : ClientState) × IsOtherClient named free (session_of event) client
+      by : (same : (client : ClientState) × (IsOtherClient named turn client × IsIdleIf turn client)
           × (slice_get whole.clients (session_of event) ≡ Some client)
           × (slice_get chosen.clients (session_of event) ≡ Some Idle)
           × (slice_get rest.clients (session_of event) ≡ Some client))
           (o : Option ClientState) → client_after event (Some same.0) ≡ o
-          → Together (RestTogether named free (turns_past turns false event) chosen)
+          → Together (RestTogether named (turns_past turns false event) chosen)
           (option_map (placed whole (session_of event)) o) (option_map (placed rest (session_of event)) o)
       by same None is = tt
       by same (Some next) is =
           let session = session_of event in
           let other = slice_get chosen.clients session in
-          let new = rest_next named free turn event same.0 next (slice_get chosen.clients session) fits same.1 same.3
-          is in
+          let new = rest_next named turn event same.0 next (slice_get chosen.clients session) fits same.1.0 same.1.1
+          same.3 is in
           record {
-            states = parts.states;
-            clients = clients_set named free session turns (turns_past turns false event) whole.clients chosen.clients
+            states = joined_with named (free_in turns) (free_in (turns_past turns false event)) whole.state chosen.state
+                rest.state (none_past false (λ none. elim (rest_none named turn event same.0 next fits is none) [
+                  | inl before ↦ inl before
+                  | inr ended ↦ inr (parts.ended session (at ∙ ap Some ended.0) (same.2 ∙ ap Some ended.1))
+                ])) parts.states;
+            clients = clients_set named session turns (turns_past turns false event) whole.clients chosen.clients
                 rest.clients (set whole.clients session next) chosen.clients (set rest.clients session next)
-                parts.clients (aside turns session (turn_after event false)) (aside whole.clients session next)
+                parts.clients (aside turns session _) (aside whole.clients session next)
                 (λ other apart. refl) (aside rest.clients session next)
-                (told named free session (Some (turn_after event false))
+                (told named (Some (turn_after turn event false))
                 (slice_get (turns_past turns false event) session) (Some next) other (Some next)
                 (slice_get (set whole.clients session next) session) other
                 (slice_get (set rest.clients session next) session)
-                (sym (get_written turns session turn (turn_after event false) at))
+                (sym (written false))
                 (sym (get_written whole.clients session same.0 next same.2)) refl
                 (sym (get_written rest.clients session same.0 next same.4)) new);
+            law = parts.law;
+            ended = ended_past false same.0 next is same.2;
           }

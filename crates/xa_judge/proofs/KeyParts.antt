@@ -3,7 +3,7 @@
 --     picked_next, picked_end       the events of one part, while they are picked
 --     count_next       how many there are, while they are counted
 use Rattle.std.proofs.Common.{◌≡◌, ◌≢◌, ◌⊎◌, ℕ, ◌+◌, ◌<◌, ◌≤◌, zero, suc, Bool, true, false, Some, List, [], ◌∷◌, ◌++◌}
-use Rattle.std.proofs.Common.{length, take, drop, get_or, set, refl, ap, sym, ◌∙◌, subst, inl, inr, arith}
+use Rattle.std.proofs.Common.{length, take, drop, get_or, refl, ap, sym, ◌∙◌, subst, inl, inr, arith}
 use Rattle.std.proofs.Common.{append_assoc, append-nil, min}
 use mathlib.Core.Bool.{beq}
 use Rattle.std.specs.Prelude.{slice_get}
@@ -13,38 +13,38 @@ use Rattle.std.proofs.lemmas.List.{at_drop_more}
 use Rattle.xa_judge.specs.declared.event.Event.{Event}
 use Rattle.xa_judge.specs.declared.turn.Turn.{Turn}
 use Rattle.xa_judge.proofs.Places.{get_within}
-use Rattle.xa_judge.specs.Keys.{FitsTurn, IsCut, first_turns, session_of, turn_after, picked, count_in}
+use Rattle.xa_judge.specs.Keys.{FitsTurn, IsCut, first_turns, session_of, turns_past, picked, count_in}
 
 -- ---- the parts of events
 
 -- if the rest of the events is cut from these turns on, all are cut
-pub record CutSoFar (named : List ℕ → Bool) (free : ℕ → Bool) (turns : List Turn) (sides : List Bool)
+pub record CutSoFar (named : List ℕ → Bool) (turns : List Turn) (sides : List Bool)
     (events : List Event) (place : ℕ) : Type 0 where
-  pub on : (more : List Bool) → IsCut named free turns more (drop place events)
-      → IsCut named free first_turns (sides ++ more) events
+  pub on : (more : List Bool) → IsCut named turns more (drop place events)
+      → IsCut named first_turns (sides ++ more) events
 
-pub cut_more : (named : List ℕ → Bool) (free : ℕ → Bool) (turns : List Turn) (sides : List Bool) (events : List Event)
-    (place : ℕ) (event : Event) (turn : Turn) (side : Bool) → CutSoFar named free turns sides events place
+pub cut_more : (named : List ℕ → Bool) (turns : List Turn) (sides : List Bool) (events : List Event)
+    (place : ℕ) (event : Event) (turn : Turn) (side : Bool) → CutSoFar named turns sides events place
     → place < length events
     → event ≡ get_or events place event
     → slice_get turns (session_of event) ≡ Some turn
-    → FitsTurn named free turn event side
-    → CutSoFar named free (set turns (session_of event) (turn_after event side)) (sides ++ side ∷ []) events (place + 1)
-cut_more named free turns sides events place event turn side so_far within is at fits = record {
+    → FitsTurn named turn event side
+    → CutSoFar named (turns_past turns side event) (sides ++ side ∷ []) events (place + 1)
+cut_more named turns sides events place event turn side so_far within is at fits = record {
   on = λ more cut.
       let all : drop place events ≡ event ∷ drop (place + 1) events =
       at_drop_more (λ l. l) events place event within ∙ ap (λ e. e ∷ drop (place + 1) events) (sym is) in
-      subst (λ l. IsCut named free first_turns l events) (sym (append_assoc sides (side ∷ []) more))
-      (so_far.on (side ∷ more) (subst (IsCut named free turns (side ∷ more)) (sym all) (turn, at, fits, cut)));
+      subst (λ l. IsCut named first_turns l events) (sym (append_assoc sides (side ∷ []) more))
+      (so_far.on (side ∷ more) (subst (IsCut named turns (side ∷ more)) (sym all) (turn, at, fits, cut)));
 }
 
-pub cut_all : (named : List ℕ → Bool) (free : ℕ → Bool) (turns : List Turn) (sides : List Bool) (events : List Event)
-    (place : ℕ) → CutSoFar named free turns sides events place
+pub cut_all : (named : List ℕ → Bool) (turns : List Turn) (sides : List Bool) (events : List Event)
+    (place : ℕ) → CutSoFar named turns sides events place
     → length events ≤ place
-    → IsCut named free first_turns sides events
-cut_all named free turns sides events place so_far over =
-    subst (λ l. IsCut named free first_turns l events) (append-nil sides)
-    (so_far.on [] (subst (IsCut named free turns []) (sym (dropped events place over)) tt))
+    → IsCut named first_turns sides events
+cut_all named turns sides events place so_far over =
+    subst (λ l. IsCut named first_turns l events) (append-nil sides)
+    (so_far.on [] (subst (IsCut named turns []) (sym (dropped events place over)) tt))
   where
     dropped : (l : List Event) (n : ℕ) → length l ≤ n → drop n l ≡ []
     dropped [] zero le = refl

@@ -11,11 +11,12 @@ use Rattle.xa_judge.specs.declared.moves.Act.{Act}
 use Rattle.xa_judge.specs.declared.moves.Move.{Move}
 use Rattle.xa_judge.specs.declared.moves.Move.TheVariants.{Event as Seeing, Effect}
 use Rattle.xa_judge.specs.declared.turn.Turn.{Turn}
-use Rattle.xa_judge.specs.declared.turn.Turn.TheVariants.{Nobody, Chosen, Rest}
+use Rattle.xa_judge.specs.declared.turn.Turn.TheVariants.{Nobody, Chosen, Other, Within, Rest, Ending}
 use Rattle.xa_judge.specs.Explained.{Config, effect_of, observed, LeadsThrough}
-use Rattle.xa_judge.specs.Keys.{IsCut, turns_after, picked}
+use Rattle.xa_judge.specs.Keys.{IsCut, turns_after, turns_past, picked}
 use Rattle.xa_judge.proofs.KeyClients.{forth, back, AreClients, AreParts, ChosenTogether, RestTogether}
-use Rattle.xa_judge.proofs.KeyClients.{chosen_acts, rest_acts, absent_rests, idle_rests, turns_past, chosen_seen, rest_seen}
+use Rattle.xa_judge.proofs.KeyClients.{chosen_acts, rest_acts, absent_rests, idle_rests, chosen_seen, rest_seen}
+use Rattle.xa_judge.proofs.KeyClients.{is_rest}
 
 -- ---- moves before the next event
 
@@ -66,51 +67,61 @@ split old new event events [] runs = absurd runs
 -- ---- whose act it is
 
 -- the session's clients, where it is known to which part its open call belongs
-pub clients_at : (named : List ℕ → Bool) (free : ℕ → Bool) (turns : List Turn) (whole chosen rest : Config) (session : ℕ)
-    (turn : Option Turn) → AreParts named free turns whole chosen rest
+pub clients_at : (named : List ℕ → Bool) (turns : List Turn) (whole chosen rest : Config) (session : ℕ)
+    (turn : Option Turn) → AreParts named turns whole chosen rest
     → slice_get turns session ≡ turn
-    → AreClients named free session turn (slice_get whole.clients session) (slice_get chosen.clients session)
+    → AreClients named turn (slice_get whole.clients session) (slice_get chosen.clients session)
     (slice_get rest.clients session)
-clients_at named free turns whole chosen rest session turn parts at =
-    subst (λ t. AreClients named free session t (slice_get whole.clients session) (slice_get chosen.clients session)
+clients_at named turns whole chosen rest session turn parts at =
+    subst (λ t. AreClients named t (slice_get whole.clients session) (slice_get chosen.clients session)
     (slice_get rest.clients session)) at (parts.clients session)
 
 -- an act in the chosen part is of a session whose open call belongs to it
-chosen_turn : (named : List ℕ → Bool) (free : ℕ → Bool) (turns : List Turn) (whole chosen rest mid : Config)
-    (session : ℕ) (act : Act) → AreParts named free turns whole chosen rest
+chosen_turn : (named : List ℕ → Bool) (turns : List Turn) (whole chosen rest mid : Config)
+    (session : ℕ) (act : Act) → AreParts named turns whole chosen rest
     → effect_of chosen session act ≡ Some mid
     → slice_get turns session ≡ Some Chosen
-chosen_turn named free turns whole chosen rest mid session act parts leads = by (slice_get turns session) refl
+chosen_turn named turns whole chosen rest mid session act parts leads = by (slice_get turns session) refl
   where
     by : (turn : Option Turn) → slice_get turns session ≡ turn → turn ≡ Some Chosen
     by None at = absurd (absent_rests chosen mid session act
-        (clients_at named free turns whole chosen rest session None parts at).1 leads)
+        (clients_at named turns whole chosen rest session None parts at).1 leads)
     by (Some Nobody) at = absurd (idle_rests chosen mid session act
-        (clients_at named free turns whole chosen rest session (Some Nobody) parts at).1 leads)
+        (clients_at named turns whole chosen rest session (Some Nobody) parts at).1 leads)
     by (Some Chosen) at = refl
+    by (Some Other) at = absurd (idle_rests chosen mid session act
+        (clients_at named turns whole chosen rest session (Some Other) parts at).3 leads)
+    by (Some Within) at = absurd (idle_rests chosen mid session act
+        (clients_at named turns whole chosen rest session (Some Within) parts at).3 leads)
     by (Some Rest) at = absurd (idle_rests chosen mid session act
-        (clients_at named free turns whole chosen rest session (Some Rest) parts at).3 leads)
+        (clients_at named turns whole chosen rest session (Some Rest) parts at).3 leads)
+    by (Some Ending) at = absurd (idle_rests chosen mid session act
+        (clients_at named turns whole chosen rest session (Some Ending) parts at).3 leads)
 
 -- and so it is with the other part
-rest_turn : (named : List ℕ → Bool) (free : ℕ → Bool) (turns : List Turn) (whole chosen rest mid : Config)
-    (session : ℕ) (act : Act) → AreParts named free turns whole chosen rest
+rest_turn : (named : List ℕ → Bool) (turns : List Turn) (whole chosen rest mid : Config)
+    (session : ℕ) (act : Act) → AreParts named turns whole chosen rest
     → effect_of rest session act ≡ Some mid
-    → slice_get turns session ≡ Some Rest
-rest_turn named free turns whole chosen rest mid session act parts leads = by (slice_get turns session) refl
+    → (turn : Turn) × (slice_get turns session ≡ Some turn) × (is_rest turn ≡ true)
+rest_turn named turns whole chosen rest mid session act parts leads = by (slice_get turns session) refl
   where
-    by : (turn : Option Turn) → slice_get turns session ≡ turn → turn ≡ Some Rest
+    by : (found : Option Turn) → slice_get turns session ≡ found
+        → (turn : Turn) × (slice_get turns session ≡ Some turn) × (is_rest turn ≡ true)
     by None at = absurd (absent_rests rest mid session act
-        (clients_at named free turns whole chosen rest session None parts at).2 leads)
+        (clients_at named turns whole chosen rest session None parts at).2 leads)
     by (Some Nobody) at = absurd (idle_rests rest mid session act
-        (clients_at named free turns whole chosen rest session (Some Nobody) parts at).2 leads)
+        (clients_at named turns whole chosen rest session (Some Nobody) parts at).2 leads)
     by (Some Chosen) at = absurd (idle_rests rest mid session act
-        (clients_at named free turns whole chosen rest session (Some Chosen) parts at).4 leads)
-    by (Some Rest) at = refl
+        (clients_at named turns whole chosen rest session (Some Chosen) parts at).4 leads)
+    by (Some Other) at = (Other, at, refl)
+    by (Some Within) at = (Within, at, refl)
+    by (Some Rest) at = (Rest, at, refl)
+    by (Some Ending) at = (Ending, at, refl)
 
 -- ---- from the whole to the parts
 
 -- moves through the parts that the moves through the whole come to
-pub record IsInParts (named : List ℕ → Bool) (free : ℕ → Bool) (turns : List Turn) (chosen rest new : Config)
+pub record IsInParts (named : List ℕ → Bool) (turns : List Turn) (chosen rest new : Config)
     (chosen_events rest_events : List Event) : Type 0 where
   pub chosen_moves : List Move
   pub rest_moves : List Move
@@ -118,40 +129,23 @@ pub record IsInParts (named : List ℕ → Bool) (free : ℕ → Bool) (turns : 
   pub rest_end : Config
   pub chosen_runs : LeadsThrough chosen chosen_events chosen_moves chosen_end
   pub rest_runs : LeadsThrough rest rest_events rest_moves rest_end
-  pub parts : AreParts named free turns new chosen_end rest_end
+  pub parts : AreParts named turns new chosen_end rest_end
 
 -- acts before the next event
-acts_in : (named : List ℕ → Bool) (free : ℕ → Bool) (turns : List Turn) (whole chosen rest new : Config)
-    (acts : List Move) → AreParts named free turns whole chosen rest
+acts_in : (named : List ℕ → Bool) (turns : List Turn) (whole chosen rest new : Config)
+    (acts : List Move) → AreParts named turns whole chosen rest
     → LeadsThrough whole [] acts new
-    → IsInParts named free turns chosen rest new [] []
-acts_in named free turns whole chosen rest new (Effect session act ∷ acts) parts runs =
-    by (λ w c r. acts_in named free turns w c r new acts) (slice_get turns session) refl
+    → IsInParts named turns chosen rest new [] []
+acts_in named turns whole chosen rest new (Effect session act ∷ acts) parts runs =
+    by (λ w c r. acts_in named turns w c r new acts) (slice_get turns session) refl
   where
-    by : ((w c r : Config) → AreParts named free turns w c r → LeadsThrough w [] acts new
-        → IsInParts named free turns c r new [] [])
-        → (turn : Option Turn) → slice_get turns session ≡ turn → IsInParts named free turns chosen rest new [] []
-    by rest_of None at = absurd (absent_rests whole runs.0 session act
-        (clients_at named free turns whole chosen rest session None parts at).0 runs.2)
-    by rest_of (Some Nobody) at = absurd (idle_rests whole runs.0 session act
-        (clients_at named free turns whole chosen rest session (Some Nobody) parts at).0 runs.2)
-    by rest_of (Some Chosen) at =
-        let one = forth (ChosenTogether named free turns rest) (effect_of whole session act)
-        (effect_of chosen session act) runs.0 (chosen_acts named free turns whole chosen rest session act parts at)
-        runs.2 in
-        let more = rest_of runs.0 one.0 rest one.2 runs.3 in
-        record {
-          chosen_moves = Effect session act ∷ more.chosen_moves;
-          rest_moves = more.rest_moves;
-          chosen_end = more.chosen_end;
-          rest_end = more.rest_end;
-          chosen_runs = (one.0, runs.1, one.1, more.chosen_runs);
-          rest_runs = more.rest_runs;
-          parts = more.parts;
-        }
-    by rest_of (Some Rest) at =
-        let one = forth (RestTogether named free turns chosen) (effect_of whole session act)
-        (effect_of rest session act) runs.0 (rest_acts named free turns whole chosen rest session act parts at)
+    rest_act : ((w c r : Config) → AreParts named turns w c r → LeadsThrough w [] acts new
+        → IsInParts named turns c r new [] [])
+        → (turn : Turn) → slice_get turns session ≡ Some turn → is_rest turn ≡ true
+        → IsInParts named turns chosen rest new [] []
+    rest_act rest_of turn at rests =
+        let one = forth (RestTogether named turns chosen) (effect_of whole session act)
+        (effect_of rest session act) runs.0 (rest_acts named turns whole chosen rest session turn act parts at rests)
         runs.2 in
         let more = rest_of runs.0 chosen one.0 one.2 runs.3 in
         record {
@@ -163,36 +157,62 @@ acts_in named free turns whole chosen rest new (Effect session act ∷ acts) par
           rest_runs = (one.0, runs.1, one.1, more.rest_runs);
           parts = more.parts;
         }
-acts_in named free turns whole chosen rest new (Seeing ∷ acts) parts runs = absurd runs
-acts_in named free turns whole chosen rest new [] parts runs = record {
+
+    by : ((w c r : Config) → AreParts named turns w c r → LeadsThrough w [] acts new
+        → IsInParts named turns c r new [] [])
+        → (turn : Option Turn) → slice_get turns session ≡ turn → IsInParts named turns chosen rest new [] []
+    by rest_of None at = absurd (absent_rests whole runs.0 session act
+        (clients_at named turns whole chosen rest session None parts at).0 runs.2)
+    by rest_of (Some Nobody) at = absurd (idle_rests whole runs.0 session act
+        (clients_at named turns whole chosen rest session (Some Nobody) parts at).0 runs.2)
+    by rest_of (Some Chosen) at =
+        let one = forth (ChosenTogether named turns rest) (effect_of whole session act)
+        (effect_of chosen session act) runs.0 (chosen_acts named turns whole chosen rest session act parts at)
+        runs.2 in
+        let more = rest_of runs.0 one.0 rest one.2 runs.3 in
+        record {
+          chosen_moves = Effect session act ∷ more.chosen_moves;
+          rest_moves = more.rest_moves;
+          chosen_end = more.chosen_end;
+          rest_end = more.rest_end;
+          chosen_runs = (one.0, runs.1, one.1, more.chosen_runs);
+          rest_runs = more.rest_runs;
+          parts = more.parts;
+        }
+    by rest_of (Some Other) at = rest_act rest_of Other at refl
+    by rest_of (Some Within) at = rest_act rest_of Within at refl
+    by rest_of (Some Rest) at = rest_act rest_of Rest at refl
+    by rest_of (Some Ending) at = rest_act rest_of Ending at refl
+acts_in named turns whole chosen rest new (Seeing ∷ acts) parts runs = absurd runs
+acts_in named turns whole chosen rest new [] parts runs = record {
   chosen_moves = [];
   rest_moves = [];
   chosen_end = chosen;
   rest_end = rest;
   chosen_runs = refl;
   rest_runs = refl;
-  parts = subst (λ c. AreParts named free turns c chosen rest) (sym runs) parts;
+  parts = subst (λ c. AreParts named turns c chosen rest) (sym runs) parts;
 }
 
 -- moves through the whole lead through each part as well
-pub in_parts : (named : List ℕ → Bool) (free : ℕ → Bool) (turns : List Turn) (whole chosen rest new : Config)
-    (sides : List Bool) (events : List Event) (moves : List Move) → IsCut named free turns sides events
-    → AreParts named free turns whole chosen rest
+pub in_parts : (named : List ℕ → Bool) (turns : List Turn) (whole chosen rest new : Config)
+    (sides : List Bool) (events : List Event) (moves : List Move) → IsCut named turns sides events
+    → AreParts named turns whole chosen rest
     → LeadsThrough whole events moves new
-    → IsInParts named free (turns_after turns sides events) chosen rest new (picked true sides events)
+    → IsInParts named (turns_after turns sides events) chosen rest new (picked true sides events)
     (picked false sides events)
-in_parts named free turns whole chosen rest new [] [] moves cut parts runs =
-    acts_in named free turns whole chosen rest new moves parts runs
-in_parts named free turns whole chosen rest new [] (event ∷ events) moves cut parts runs = absurd cut
-in_parts named free turns whole chosen rest new (side ∷ sides) [] moves cut parts runs = absurd cut
-in_parts named free turns whole chosen rest new (true ∷ sides) (event ∷ events) moves cut parts runs =
+in_parts named turns whole chosen rest new [] [] moves cut parts runs =
+    acts_in named turns whole chosen rest new moves parts runs
+in_parts named turns whole chosen rest new [] (event ∷ events) moves cut parts runs = absurd cut
+in_parts named turns whole chosen rest new (side ∷ sides) [] moves cut parts runs = absurd cut
+in_parts named turns whole chosen rest new (true ∷ sides) (event ∷ events) moves cut parts runs =
     let s = split whole new event events moves runs in
-    let before = acts_in named free turns whole chosen rest s.mid s.acts parts s.leads in
-    let seen = forth (ChosenTogether named free (turns_past turns true event) before.rest_end) (observed s.mid event)
+    let before = acts_in named turns whole chosen rest s.mid s.acts parts s.leads in
+    let seen = forth (ChosenTogether named (turns_past turns true event) before.rest_end) (observed s.mid event)
     (observed before.chosen_end event) s.next
-    (chosen_seen named free turns s.mid before.chosen_end before.rest_end event cut.0 before.parts cut.1 cut.2)
+    (chosen_seen named turns s.mid before.chosen_end before.rest_end event cut.0 before.parts cut.1 cut.2)
     s.sees in
-    let more = in_parts named free (turns_past turns true event) s.next seen.0 before.rest_end new sides events s.moves
+    let more = in_parts named (turns_past turns true event) s.next seen.0 before.rest_end new sides events s.moves
     cut.3 seen.2 s.runs in
     record {
       chosen_moves = before.chosen_moves ++ Seeing ∷ more.chosen_moves;
@@ -205,14 +225,14 @@ in_parts named free turns whole chosen rest new (true ∷ sides) (event ∷ even
           more.rest_moves before.rest_runs more.rest_runs;
       parts = more.parts;
     }
-in_parts named free turns whole chosen rest new (false ∷ sides) (event ∷ events) moves cut parts runs =
+in_parts named turns whole chosen rest new (false ∷ sides) (event ∷ events) moves cut parts runs =
     let s = split whole new event events moves runs in
-    let before = acts_in named free turns whole chosen rest s.mid s.acts parts s.leads in
-    let seen = forth (RestTogether named free (turns_past turns false event) before.chosen_end) (observed s.mid event)
+    let before = acts_in named turns whole chosen rest s.mid s.acts parts s.leads in
+    let seen = forth (RestTogether named (turns_past turns false event) before.chosen_end) (observed s.mid event)
     (observed before.rest_end event) s.next
-    (rest_seen named free turns s.mid before.chosen_end before.rest_end event cut.0 before.parts cut.1 cut.2)
+    (rest_seen named turns s.mid before.chosen_end before.rest_end event cut.0 before.parts cut.1 cut.2)
     s.sees in
-    let more = in_parts named free (turns_past turns false event) s.next before.chosen_end seen.0 new sides events
+    let more = in_parts named (turns_past turns false event) s.next before.chosen_end seen.0 new sides events
     s.moves cut.3 seen.2 s.runs in
     record {
       chosen_moves = before.chosen_moves ++ more.chosen_moves;
@@ -229,90 +249,90 @@ in_parts named free turns whole chosen rest new (false ∷ sides) (event ∷ eve
 -- ---- from the parts to the whole
 
 -- moves through the whole that the moves through its parts come to
-pub record IsWhole (named : List ℕ → Bool) (free : ℕ → Bool) (turns : List Turn) (whole chosen_end rest_end : Config)
+pub record IsWhole (named : List ℕ → Bool) (turns : List Turn) (whole chosen_end rest_end : Config)
     (events : List Event) : Type 0 where
   pub moves : List Move
   pub end : Config
   pub runs : LeadsThrough whole events moves end
-  pub parts : AreParts named free turns end chosen_end rest_end
+  pub parts : AreParts named turns end chosen_end rest_end
 
 -- acts of the chosen part before its next event
-chosen_first : (named : List ℕ → Bool) (free : ℕ → Bool) (turns : List Turn) (whole chosen rest new : Config)
-    (acts : List Move) → AreParts named free turns whole chosen rest
+chosen_first : (named : List ℕ → Bool) (turns : List Turn) (whole chosen rest new : Config)
+    (acts : List Move) → AreParts named turns whole chosen rest
     → LeadsThrough chosen [] acts new
-    → IsWhole named free turns whole new rest []
-chosen_first named free turns whole chosen rest new (Effect session act ∷ acts) parts runs =
-    let turn = chosen_turn named free turns whole chosen rest runs.0 session act parts runs.2 in
-    let one = back (ChosenTogether named free turns rest) (effect_of whole session act) (effect_of chosen session act)
-    runs.0 (chosen_acts named free turns whole chosen rest session act parts turn) runs.2 in
-    let more = chosen_first named free turns one.0 runs.0 rest new acts one.2 runs.3 in
+    → IsWhole named turns whole new rest []
+chosen_first named turns whole chosen rest new (Effect session act ∷ acts) parts runs =
+    let turn = chosen_turn named turns whole chosen rest runs.0 session act parts runs.2 in
+    let one = back (ChosenTogether named turns rest) (effect_of whole session act) (effect_of chosen session act)
+    runs.0 (chosen_acts named turns whole chosen rest session act parts turn) runs.2 in
+    let more = chosen_first named turns one.0 runs.0 rest new acts one.2 runs.3 in
     record {
       moves = Effect session act ∷ more.moves;
       end = more.end;
       runs = (one.0, runs.1, one.1, more.runs);
       parts = more.parts;
     }
-chosen_first named free turns whole chosen rest new (Seeing ∷ acts) parts runs = absurd runs
-chosen_first named free turns whole chosen rest new [] parts runs = record {
+chosen_first named turns whole chosen rest new (Seeing ∷ acts) parts runs = absurd runs
+chosen_first named turns whole chosen rest new [] parts runs = record {
   moves = [];
   end = whole;
   runs = refl;
-  parts = subst (λ c. AreParts named free turns whole c rest) (sym runs) parts;
+  parts = subst (λ c. AreParts named turns whole c rest) (sym runs) parts;
 }
 
 -- and of the other part
-rest_first : (named : List ℕ → Bool) (free : ℕ → Bool) (turns : List Turn) (whole chosen rest new : Config)
-    (acts : List Move) → AreParts named free turns whole chosen rest
+rest_first : (named : List ℕ → Bool) (turns : List Turn) (whole chosen rest new : Config)
+    (acts : List Move) → AreParts named turns whole chosen rest
     → LeadsThrough rest [] acts new
-    → IsWhole named free turns whole chosen new []
-rest_first named free turns whole chosen rest new (Effect session act ∷ acts) parts runs =
-    let turn = rest_turn named free turns whole chosen rest runs.0 session act parts runs.2 in
-    let one = back (RestTogether named free turns chosen) (effect_of whole session act) (effect_of rest session act)
-    runs.0 (rest_acts named free turns whole chosen rest session act parts turn) runs.2 in
-    let more = rest_first named free turns one.0 chosen runs.0 new acts one.2 runs.3 in
+    → IsWhole named turns whole chosen new []
+rest_first named turns whole chosen rest new (Effect session act ∷ acts) parts runs =
+    let turn = rest_turn named turns whole chosen rest runs.0 session act parts runs.2 in
+    let one = back (RestTogether named turns chosen) (effect_of whole session act) (effect_of rest session act)
+    runs.0 (rest_acts named turns whole chosen rest session turn.0 act parts turn.1 turn.2) runs.2 in
+    let more = rest_first named turns one.0 chosen runs.0 new acts one.2 runs.3 in
     record {
       moves = Effect session act ∷ more.moves;
       end = more.end;
       runs = (one.0, runs.1, one.1, more.runs);
       parts = more.parts;
     }
-rest_first named free turns whole chosen rest new (Seeing ∷ acts) parts runs = absurd runs
-rest_first named free turns whole chosen rest new [] parts runs = record {
+rest_first named turns whole chosen rest new (Seeing ∷ acts) parts runs = absurd runs
+rest_first named turns whole chosen rest new [] parts runs = record {
   moves = [];
   end = whole;
   runs = refl;
-  parts = subst (λ c. AreParts named free turns whole chosen c) (sym runs) parts;
+  parts = subst (λ c. AreParts named turns whole chosen c) (sym runs) parts;
 }
 
 -- moves through both parts lead through the whole
-pub whole_of : (named : List ℕ → Bool) (free : ℕ → Bool) (turns : List Turn)
+pub whole_of : (named : List ℕ → Bool) (turns : List Turn)
     (whole chosen rest chosen_end rest_end : Config) (sides : List Bool) (events : List Event)
-    (chosen_moves rest_moves : List Move) → IsCut named free turns sides events
-    → AreParts named free turns whole chosen rest
+    (chosen_moves rest_moves : List Move) → IsCut named turns sides events
+    → AreParts named turns whole chosen rest
     → LeadsThrough chosen (picked true sides events) chosen_moves chosen_end
     → LeadsThrough rest (picked false sides events) rest_moves rest_end
-    → IsWhole named free (turns_after turns sides events) whole chosen_end rest_end events
-whole_of named free turns whole chosen rest chosen_end rest_end [] [] chosen_moves rest_moves cut parts runs others =
-    let one = chosen_first named free turns whole chosen rest chosen_end chosen_moves parts runs in
-    let two = rest_first named free turns one.end chosen_end rest rest_end rest_moves one.parts others in
+    → IsWhole named (turns_after turns sides events) whole chosen_end rest_end events
+whole_of named turns whole chosen rest chosen_end rest_end [] [] chosen_moves rest_moves cut parts runs others =
+    let one = chosen_first named turns whole chosen rest chosen_end chosen_moves parts runs in
+    let two = rest_first named turns one.end chosen_end rest rest_end rest_moves one.parts others in
     record {
       moves = one.moves ++ two.moves;
       end = two.end;
       runs = first_then whole one.end two.end [] one.moves two.moves one.runs two.runs;
       parts = two.parts;
     }
-whole_of named free turns whole chosen rest chosen_end rest_end [] (event ∷ events) chosen_moves rest_moves cut parts
+whole_of named turns whole chosen rest chosen_end rest_end [] (event ∷ events) chosen_moves rest_moves cut parts
     runs others = absurd cut
-whole_of named free turns whole chosen rest chosen_end rest_end (side ∷ sides) [] chosen_moves rest_moves cut parts
+whole_of named turns whole chosen rest chosen_end rest_end (side ∷ sides) [] chosen_moves rest_moves cut parts
     runs others = absurd cut
-whole_of named free turns whole chosen rest chosen_end rest_end (true ∷ sides) (event ∷ events) chosen_moves rest_moves
+whole_of named turns whole chosen rest chosen_end rest_end (true ∷ sides) (event ∷ events) chosen_moves rest_moves
     cut parts runs others =
     let s = split chosen chosen_end event (picked true sides events) chosen_moves runs in
-    let before = chosen_first named free turns whole chosen rest s.mid s.acts parts s.leads in
-    let seen = back (ChosenTogether named free (turns_past turns true event) rest) (observed before.end event)
+    let before = chosen_first named turns whole chosen rest s.mid s.acts parts s.leads in
+    let seen = back (ChosenTogether named (turns_past turns true event) rest) (observed before.end event)
     (observed s.mid event) s.next
-    (chosen_seen named free turns before.end s.mid rest event cut.0 before.parts cut.1 cut.2) s.sees in
-    let more = whole_of named free (turns_past turns true event) seen.0 s.next rest chosen_end rest_end sides events
+    (chosen_seen named turns before.end s.mid rest event cut.0 before.parts cut.1 cut.2) s.sees in
+    let more = whole_of named (turns_past turns true event) seen.0 s.next rest chosen_end rest_end sides events
     s.moves rest_moves cut.3 seen.2 s.runs others in
     record {
       moves = before.moves ++ Seeing ∷ more.moves;
@@ -321,14 +341,14 @@ whole_of named free turns whole chosen rest chosen_end rest_end (true ∷ sides)
           (seen.0, seen.1, more.runs);
       parts = more.parts;
     }
-whole_of named free turns whole chosen rest chosen_end rest_end (false ∷ sides) (event ∷ events) chosen_moves rest_moves
+whole_of named turns whole chosen rest chosen_end rest_end (false ∷ sides) (event ∷ events) chosen_moves rest_moves
     cut parts runs others =
     let s = split rest rest_end event (picked false sides events) rest_moves others in
-    let before = rest_first named free turns whole chosen rest s.mid s.acts parts s.leads in
-    let seen = back (RestTogether named free (turns_past turns false event) chosen) (observed before.end event)
+    let before = rest_first named turns whole chosen rest s.mid s.acts parts s.leads in
+    let seen = back (RestTogether named (turns_past turns false event) chosen) (observed before.end event)
     (observed s.mid event) s.next
-    (rest_seen named free turns before.end chosen s.mid event cut.0 before.parts cut.1 cut.2) s.sees in
-    let more = whole_of named free (turns_past turns false event) seen.0 chosen s.next chosen_end rest_end sides events
+    (rest_seen named turns before.end chosen s.mid event cut.0 before.parts cut.1 cut.2) s.sees in
+    let more = whole_of named (turns_past turns false event) seen.0 chosen s.next chosen_end rest_end sides events
     chosen_moves s.moves cut.3 seen.2 runs s.runs in
     record {
       moves = before.moves ++ Seeing ∷ more.moves;

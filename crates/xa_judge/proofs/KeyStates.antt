@@ -5,8 +5,8 @@
 --     free_get, free_put, free_del      what a free session reads and writes
 --     free_join, other_join       a request of one part is answered there as in the whole, and leaves them so
 --     none_apart, none_listed     a state without branches
---     joined_first                before all events
-use Rattle.std.proofs.Common.{◌≡◌, ℕ, List, [], ◌∷◌, refl, ap, sym, ◌∙◌, subst, Bool, true, false, inl, inr}
+--     joined_first, joined_with   before all events;  if other sessions count as those that have no branch
+use Rattle.std.proofs.Common.{◌≡◌, ◌⊎◌, ℕ, ◌==◌, List, [], ◌∷◌, refl, ap, sym, ◌∙◌, subst, Bool, true, false, inl, inr}
 use Rattle.std.specs.Prelude.{Option, Some, None, cond, not, is_some, ◌&&◌, ◌||◌, map as map_list}
 use Rattle.std.specs.List.{list_any}
 use Rattle.std.specs.Option.{option_map, option_map_or, option_and_then}
@@ -44,6 +44,7 @@ use Rattle.xa_judge.specs.declared.answer.Answer.TheVariants.{Reply as Replied}
 use Rattle.xa_judge.specs.Explained.{answer_to, next_state}
 use Rattle.xa_judge.specs.Near.{AreNear, ReadsNamed}
 use Rattle.xa_judge.specs.Keys.{IsFreeRequest, IsOtherRequest, IsApartBranch, IsApartAt, IsApart, HasNoBranch}
+use Rattle.xa_judge.proofs.Clean.{OwnsNone, same_test}
 use Rattle.xa_judge.proofs.NearStates.{near_answer, near_next, near_put, near_del, near_refl}
 
 -- ---- what a request of the other part does to branches
@@ -182,7 +183,7 @@ apart_after named free state session Unread other was = was
 apart_after named free state session (Given statement) other was =
     statement_apart named free state session statement other was
 
--- ---- what follows for the sessions that never have a branch, and for the chosen rows
+-- ---- what follows for the sessions that have no branch, and for the chosen rows
 
 -- such a session has nothing open
 pub free_of : (named : List ℕ → Bool) (free : ℕ → Bool) (state : State) (session : ℕ) → IsApart named free state
@@ -361,12 +362,13 @@ free_del state session key free nobody = (
 abbrev pub unnamed : (List ℕ → Bool) → List ℕ → Bool
 unnamed named key = not (named key)
 
--- the whole has the branches and the other rows of the other part, and the chosen rows of the chosen part
+-- the whole has the branches and the other rows of the other part, and the chosen rows of the chosen part, which has no
+-- branch
 pub record AreJoined (named : List ℕ → Bool) (free : ℕ → Bool) (whole chosen rest : State) : Type 0 where
   pub near : AreNear (unnamed named) whole rest
   pub rows : (key : List ℕ) → named key ≡ true → committed_value whole key ≡ committed_value chosen key
   pub apart : IsApart named free whole
-  pub chosen_apart : IsApart named free chosen
+  pub none : HasNoBranch chosen
 
 -- one write of two lists of rows that agree at the chosen keys
 same_write : (named : List ℕ → Bool) (key : List ℕ) (write : Write) (left right : map.FinMap bytes_cmp Text)
@@ -394,8 +396,13 @@ join_write named free whole chosen rest new other_new key write joined is was ne
       ∙ same_write named key write whole.rows chosen.rows joined.rows other named_so
       ∙ sym (ap (λ (s : State). committed_value s other) was);
   apart = subst (IsApart named free) (sym is) joined.apart;
-  chosen_apart = subst (IsApart named free) (sym was) joined.chosen_apart;
+  none = subst HasNoBranch (sym was) joined.none;
 }
+
+-- where there is no branch, that is so of every branch
+pub none_apart : (named : List ℕ → Bool) (free : ℕ → Bool) (state : State) → HasNoBranch state
+    → IsApart named free state
+none_apart named free state none xid = subst (IsApartAt named free) (sym (none xid)) tt
 
 -- a request of the chosen part is answered there as in the whole, and leaves the states so
 pub free_join : (named : List ℕ → Bool) (free : ℕ → Bool) (whole chosen rest : State) (session : ℕ) (request : Request)
@@ -405,7 +412,7 @@ pub free_join : (named : List ℕ → Bool) (free : ℕ → Bool) (whole chosen 
     × AreJoined named free (next_state whole session request) (next_state chosen session request) rest
 free_join named free whole chosen rest session (Given (Get key)) joined is =
     let one = free_get whole session key (free_of named free whole session joined.apart is.0) in
-    let other = free_get chosen session key (free_of named free chosen session joined.chosen_apart is.0) in (
+    let other = free_get chosen session key (free_of named free chosen session (none_apart named free chosen joined.none) is.0) in (
       ap Replied (one.0 ∙ ap Value (joined.rows key is.1) ∙ sym other.0),
       subst (λ s. AreJoined named free s (after chosen session (Get key)) rest) (sym one.1)
           (subst (λ s. AreJoined named free whole s rest) (sym other.1) joined),
@@ -413,8 +420,8 @@ free_join named free whole chosen rest session (Given (Get key)) joined is =
 free_join named free whole chosen rest session (Given (Put key value)) joined is =
     let nothing = free_of named free whole session joined.apart is.0 in
     let one = free_put whole session key value nothing (unheld named free whole key joined.apart is.1) in
-    let other = free_put chosen session key value (free_of named free chosen session joined.chosen_apart is.0)
-    (unheld named free chosen key joined.chosen_apart is.1) in (
+    let other = free_put chosen session key value (free_of named free chosen session (none_apart named free chosen joined.none) is.0)
+    (unheld named free chosen key (none_apart named free chosen joined.none) is.1) in (
       ap Replied (one.0 ∙ sym other.0),
       join_write named free whole chosen rest _ _ key (Some value) joined one.1 other.1
           (near_put (unnamed named) whole rest session key value joined.near nothing (ap not is.1)),
@@ -422,8 +429,8 @@ free_join named free whole chosen rest session (Given (Put key value)) joined is
 free_join named free whole chosen rest session (Given (Del key)) joined is =
     let nothing = free_of named free whole session joined.apart is.0 in
     let one = free_del whole session key nothing (unheld named free whole key joined.apart is.1) in
-    let other = free_del chosen session key (free_of named free chosen session joined.chosen_apart is.0)
-    (unheld named free chosen key joined.chosen_apart is.1) in (
+    let other = free_del chosen session key (free_of named free chosen session (none_apart named free chosen joined.none) is.0)
+    (unheld named free chosen key (none_apart named free chosen joined.none) is.1) in (
       ap Replied (one.0 ∙ sym other.0),
       join_write named free whole chosen rest _ _ key None joined one.1 other.1
           (near_del (unnamed named) whole rest session key joined.near nothing (ap not is.1)),
@@ -450,14 +457,9 @@ other_join named free whole chosen rest session request joined other = (
     near = near_next (unnamed named) whole rest session request joined.near;
     rows = λ key is. rows_after named free whole session request key other joined.apart is ∙ joined.rows key is;
     apart = apart_after named free whole session request other joined.apart;
-    chosen_apart = joined.chosen_apart;
+    none = joined.none;
   },
 )
-
--- where there is no branch, that is so of every branch
-pub none_apart : (named : List ℕ → Bool) (free : ℕ → Bool) (state : State) → HasNoBranch state
-    → IsApart named free state
-none_apart named free state none xid = subst (IsApartAt named free) (sym (none xid)) tt
 
 -- a state whose branches are an empty list has none
 pub none_listed : (state : State) → branches_of state ≡ [] → HasNoBranch state
@@ -472,11 +474,41 @@ none_listed state none xid = get-entries state.branches xid ∙ by (map.entries 
     by (entry ∷ entries) e = some entry (map_list entry_of entries) e
 
 -- before all events
-pub joined_first : (named : List ℕ → Bool) (free : ℕ → Bool) (base : State) → IsApart named free base
+pub joined_first : (named : List ℕ → Bool) (free : ℕ → Bool) (base : State) → HasNoBranch base
     → AreJoined named free base base base
-joined_first named free base are = record {
+joined_first named free base none = record {
   near = near_refl (unnamed named) base;
   rows = λ key is. refl;
-  apart = are;
-  chosen_apart = are;
+  apart = none_apart named free base none;
+  none = none;
 }
+
+-- if other sessions count as those that have no branch, of which that is so
+pub joined_with : (named : List ℕ → Bool) (free more : ℕ → Bool) (whole chosen rest : State)
+    → ((session : ℕ) → more session ≡ true → (free session ≡ true) ⊎ OwnsNone whole session)
+    → AreJoined named free whole chosen rest → AreJoined named more whole chosen rest
+joined_with named free more whole chosen rest has joined = record {
+  near = joined.near;
+  rows = joined.rows;
+  apart = λ xid. by xid (map.get whole.branches xid) refl (joined.apart xid);
+  none = joined.none;
+}
+  where
+    owned : (found : Option Branch) (branch : Branch) (session : ℕ) → found ≡ Some branch
+        → branch.owner ≡ Some session
+        → option_map_or (λ owner. owner == session) (option_and_then (λ (b : Branch). b.owner) found) false ≡ true
+    owned found branch session at is =
+        ap (λ f. option_map_or (λ owner. owner == session) (option_and_then (λ (b : Branch). b.owner) f) false) at
+        ∙ ap (λ o. option_map_or (λ owner. owner == session) o false) is ∙ same_test session
+
+    by : (xid : Xid) (found : Option Branch) → map.get whole.branches xid ≡ found → IsApartAt named free found
+        → IsApartAt named more found
+    by xid None at was = tt
+    by xid (Some branch) at was = record {
+      owner = λ session is e. elim (has session is) [
+        | inl before ↦ was.owner session before e
+        | inr none ↦ none xid (owned (map.get whole.branches xid) branch session at e)
+      ];
+      writes = was.writes;
+      locks = was.locks;
+    }

@@ -25,31 +25,42 @@ use Rattle.xa_judge.specs.declared.moves.Move.TheVariants.{Event as Seeing, Effe
 use Rattle.xa_judge.specs.declared.verdict.Verdict.{Verdict}
 use Rattle.xa_judge.specs.declared.verdict.Verdict.TheVariants.{Legal as LegalBy, Illegal as IllegalAt}
 use Rattle.xa_judge.specs.declared.turn.Turn.{Turn}
-use Rattle.xa_judge.specs.declared.turn.Turn.TheVariants.{Nobody}
+use Rattle.xa_judge.specs.declared.turn.Turn.TheVariants.{Nobody, Ending}
 use Rattle.xa_judge.specs.Explained.{Config, opening_config, LeadsThrough, Explained}
-use Rattle.xa_judge.specs.Keys.{FitsTurn, first_turns, IsCut, turns_after, picked, count_in, session_of, IsApart}
-use Rattle.xa_judge.specs.Keys.{HasNoBranch}
+use Rattle.xa_judge.specs.Keys.{FitsTurn, first_turns, free_in, IsCut, turns_after, turns_past, picked, count_in}
+use Rattle.xa_judge.specs.Keys.{session_of, HasNoBranch}
 use Rattle.xa_judge.specs.Verdicts.{IsRefuted, CouldBe, AreAllAnswers, IsVerdict}
 use Rattle.xa_judge.proofs.Places.{get_within}
-use Rattle.xa_judge.proofs.KeyStates.{joined_first, none_apart}
-use Rattle.xa_judge.proofs.KeyClients.{AreClients, AreParts, turns_past, same_chosen, same_rest}
+use Rattle.xa_judge.proofs.Clean.{law_none}
+use Rattle.xa_judge.proofs.KeyStates.{joined_first}
+use Rattle.xa_judge.proofs.KeyClients.{AreClients, AreParts, same_chosen, same_rest}
 use Rattle.xa_judge.proofs.KeyRuns.{clients_at, in_parts, whole_of}
 
 -- ---- before all events
 
-clients_first : (named : List ℕ → Bool) (free : ℕ → Bool) (count session at : ℕ)
-    → AreClients named free session (slice_get (replicate count Nobody) at) (slice_get (replicate count Idle) at)
+clients_first : (named : List ℕ → Bool) (count at : ℕ)
+    → AreClients named (slice_get (replicate count Nobody) at) (slice_get (replicate count Idle) at)
     (slice_get (replicate count Idle) at) (slice_get (replicate count Idle) at)
-clients_first named free zero session at = (refl, refl, refl)
-clients_first named free (suc count) session zero = (refl, refl, refl)
-clients_first named free (suc count) session (suc at) = clients_first named free count session at
+clients_first named zero at = (refl, refl, refl)
+clients_first named (suc count) zero = (refl, refl, refl)
+clients_first named (suc count) (suc at) = clients_first named count at
 
-pub parts_first : (named : List ℕ → Bool) (free : ℕ → Bool) (base : State) → IsApart named free base
-    → AreParts named free first_turns (opening_config base) (opening_config base) (opening_config base)
+none_ends : (count at : ℕ) → slice_get (replicate count Nobody) at ≡ Some Ending → ⊥
+none_ends zero at e = none-some Ending e
+none_ends (suc count) zero e = apart e
+  where
+    apart : Some Nobody ≡ Some Ending → ⊥
+    apart e = cc
+none_ends (suc count) (suc at) e = none_ends count at e
+
+pub parts_first : (named : List ℕ → Bool) (base : State) → HasNoBranch base
+    → AreParts named first_turns (opening_config base) (opening_config base) (opening_config base)
 unfolding opening_config first_turns
-parts_first named free base apart = record {
-  states = joined_first named free base apart;
-  clients = λ session. clients_first named free 17 session session;
+parts_first named base none = record {
+  states = joined_first named (free_in first_turns) base none;
+  clients = λ session. clients_first named 17 session;
+  law = law_none base none;
+  ended = λ session ending answered xid e. absurd (none_ends 17 session ending);
 }
 
 -- ---- places
@@ -62,35 +73,35 @@ module _ {A : Type 0} where
   within_of (y ∷ xs) (suc i) x at = omega (arith, within_of xs i x at)
 
 -- the first events are cut likewise
-pub cut_take : (named : List ℕ → Bool) (free : ℕ → Bool) (turns : List Turn) (count : ℕ) (sides : List Bool)
-    (events : List Event) → IsCut named free turns sides events
-    → IsCut named free turns (take count sides) (take count events)
-cut_take named free turns zero sides events cut = tt
-cut_take named free turns (suc count) [] [] cut = tt
-cut_take named free turns (suc count) [] (event ∷ events) cut = absurd cut
-cut_take named free turns (suc count) (side ∷ sides) [] cut = absurd cut
-cut_take named free turns (suc count) (side ∷ sides) (event ∷ events) cut =
-    (cut.0, cut.1, cut.2, cut_take named free (turns_past turns side event) count sides events cut.3)
+pub cut_take : (named : List ℕ → Bool) (turns : List Turn) (count : ℕ) (sides : List Bool)
+    (events : List Event) → IsCut named turns sides events
+    → IsCut named turns (take count sides) (take count events)
+cut_take named turns zero sides events cut = tt
+cut_take named turns (suc count) [] [] cut = tt
+cut_take named turns (suc count) [] (event ∷ events) cut = absurd cut
+cut_take named turns (suc count) (side ∷ sides) [] cut = absurd cut
+cut_take named turns (suc count) (side ∷ sides) (event ∷ events) cut =
+    (cut.0, cut.1, cut.2, cut_take named (turns_past turns side event) count sides events cut.3)
 
 -- an event fits where it stands
-pub cut_at : (named : List ℕ → Bool) (free : ℕ → Bool) (turns : List Turn) (place : ℕ) (sides : List Bool)
-    (events : List Event) (side : Bool) (event : Event) → IsCut named free turns sides events
+pub cut_at : (named : List ℕ → Bool) (turns : List Turn) (place : ℕ) (sides : List Bool)
+    (events : List Event) (side : Bool) (event : Event) → IsCut named turns sides events
     → slice_get sides place ≡ Some side → slice_get events place ≡ Some event
     → (turn : Turn) × (slice_get (turns_after turns (take place sides) (take place events)) (session_of event)
-    ≡ Some turn) × FitsTurn named free turn event side
-cut_at named free turns place [] [] side event cut at there = absurd (none-some side at)
-cut_at named free turns place [] (first ∷ events) side event cut at there = absurd cut
-cut_at named free turns place (one ∷ sides) [] side event cut at there = absurd cut
-cut_at named free turns zero (one ∷ sides) (first ∷ events) side event cut at there =
+    ≡ Some turn) × FitsTurn named turn event side
+cut_at named turns place [] [] side event cut at there = absurd (none-some side at)
+cut_at named turns place [] (first ∷ events) side event cut at there = absurd cut
+cut_at named turns place (one ∷ sides) [] side event cut at there = absurd cut
+cut_at named turns zero (one ∷ sides) (first ∷ events) side event cut at there =
     let P : Event → Type 0 = λ e. (turn : Turn) × (slice_get turns (session_of e) ≡ Some turn)
-    × FitsTurn named free turn e side in
+    × FitsTurn named turn e side in
     subst P (same_Some first event there) (
       cut.0,
       cut.1,
-      subst (λ s. FitsTurn named free cut.0 first s) (same_Some one side at) cut.2,
+      subst (λ s. FitsTurn named cut.0 first s) (same_Some one side at) cut.2,
     )
-cut_at named free turns (suc place) (one ∷ sides) (first ∷ events) side event cut at there =
-    cut_at named free (turns_past turns one first) place sides events side event cut.3 at there
+cut_at named turns (suc place) (one ∷ sides) (first ∷ events) side event cut at there =
+    cut_at named (turns_past turns one first) place sides events side event cut.3 at there
 
 -- the events of a part among the first ones are the first ones of the part
 pub picked_take : (wanted : Bool) (count : ℕ) (sides : List Bool) (events : List Event)
@@ -135,89 +146,89 @@ count_more false (suc place) (true ∷ sides) at = count_more false place sides 
 count_more false (suc place) (false ∷ sides) at = ap suc (count_more false place sides at)
 
 -- the event at a place of the record, and at its place in its part
-pub picked_at : (named : List ℕ → Bool) (free : ℕ → Bool) (turns : List Turn) (wanted : Bool) (place : ℕ)
-    (sides : List Bool) (events : List Event) → IsCut named free turns sides events
+pub picked_at : (named : List ℕ → Bool) (turns : List Turn) (wanted : Bool) (place : ℕ)
+    (sides : List Bool) (events : List Event) → IsCut named turns sides events
     → slice_get sides place ≡ Some wanted
     → slice_get (picked wanted sides events) (count_in wanted (take place sides)) ≡ slice_get events place
-picked_at named free turns wanted place [] events cut at = absurd (none-some wanted at)
-picked_at named free turns wanted place (side ∷ sides) [] cut at = absurd cut
-picked_at named free turns true zero (true ∷ sides) (event ∷ events) cut at = refl
-picked_at named free turns true zero (false ∷ sides) (event ∷ events) cut at =
+picked_at named turns wanted place [] events cut at = absurd (none-some wanted at)
+picked_at named turns wanted place (side ∷ sides) [] cut at = absurd cut
+picked_at named turns true zero (true ∷ sides) (event ∷ events) cut at = refl
+picked_at named turns true zero (false ∷ sides) (event ∷ events) cut at =
     absurd (false≢true (same_Some false true at))
-picked_at named free turns false zero (true ∷ sides) (event ∷ events) cut at =
+picked_at named turns false zero (true ∷ sides) (event ∷ events) cut at =
     absurd (false≢true (sym (same_Some true false at)))
-picked_at named free turns false zero (false ∷ sides) (event ∷ events) cut at = refl
-picked_at named free turns true (suc place) (true ∷ sides) (event ∷ events) cut at =
-    picked_at named free (turns_past turns true event) true place sides events cut.3 at
-picked_at named free turns true (suc place) (false ∷ sides) (event ∷ events) cut at =
-    picked_at named free (turns_past turns false event) true place sides events cut.3 at
-picked_at named free turns false (suc place) (true ∷ sides) (event ∷ events) cut at =
-    picked_at named free (turns_past turns true event) false place sides events cut.3 at
-picked_at named free turns false (suc place) (false ∷ sides) (event ∷ events) cut at =
-    picked_at named free (turns_past turns false event) false place sides events cut.3 at
+picked_at named turns false zero (false ∷ sides) (event ∷ events) cut at = refl
+picked_at named turns true (suc place) (true ∷ sides) (event ∷ events) cut at =
+    picked_at named (turns_past turns true event) true place sides events cut.3 at
+picked_at named turns true (suc place) (false ∷ sides) (event ∷ events) cut at =
+    picked_at named (turns_past turns false event) true place sides events cut.3 at
+picked_at named turns false (suc place) (true ∷ sides) (event ∷ events) cut at =
+    picked_at named (turns_past turns true event) false place sides events cut.3 at
+picked_at named turns false (suc place) (false ∷ sides) (event ∷ events) cut at =
+    picked_at named (turns_past turns false event) false place sides events cut.3 at
 
 -- ---- explained
 
 -- what is explained in both parts is explained
-pub whole_explained : (named : List ℕ → Bool) (free : ℕ → Bool) (base : State) (sides : List Bool)
-    (events : List Event) → IsApart named free base
-    → IsCut named free first_turns sides events
+pub whole_explained : (named : List ℕ → Bool) (base : State) (sides : List Bool)
+    (events : List Event) → HasNoBranch base
+    → IsCut named first_turns sides events
     → Explained base (picked true sides events) → Explained base (picked false sides events)
     → Explained base events
-whole_explained named free base sides events apart cut chosen rest =
-    let found = whole_of named free first_turns (opening_config base) (opening_config base) (opening_config base)
-    chosen.1 rest.1 sides events chosen.0 rest.0 cut (parts_first named free base apart) chosen.2 rest.2 in
+whole_explained named base sides events apart cut chosen rest =
+    let found = whole_of named first_turns (opening_config base) (opening_config base) (opening_config base)
+    chosen.1 rest.1 sides events chosen.0 rest.0 cut (parts_first named base apart) chosen.2 rest.2 in
     (found.moves, found.end, found.runs)
 
 -- what is explained is explained in each part
-pub part_explained : (named : List ℕ → Bool) (free : ℕ → Bool) (base : State) (sides : List Bool)
-    (events : List Event) (wanted : Bool) → IsApart named free base
-    → IsCut named free first_turns sides events
+pub part_explained : (named : List ℕ → Bool) (base : State) (sides : List Bool)
+    (events : List Event) (wanted : Bool) → HasNoBranch base
+    → IsCut named first_turns sides events
     → Explained base events → Explained base (picked wanted sides events)
-part_explained named free base sides events true apart cut explained =
-    let found = in_parts named free first_turns (opening_config base) (opening_config base) (opening_config base)
-    explained.1 sides events explained.0 cut (parts_first named free base apart) explained.2 in
+part_explained named base sides events true apart cut explained =
+    let found = in_parts named first_turns (opening_config base) (opening_config base) (opening_config base)
+    explained.1 sides events explained.0 cut (parts_first named base apart) explained.2 in
     (found.chosen_moves, found.chosen_end, found.chosen_runs)
-part_explained named free base sides events false apart cut explained =
-    let found = in_parts named free first_turns (opening_config base) (opening_config base) (opening_config base)
-    explained.1 sides events explained.0 cut (parts_first named free base apart) explained.2 in
+part_explained named base sides events false apart cut explained =
+    let found = in_parts named first_turns (opening_config base) (opening_config base) (opening_config base)
+    explained.1 sides events explained.0 cut (parts_first named base apart) explained.2 in
     (found.rest_moves, found.rest_end, found.rest_runs)
 
-both_explained : (named : List ℕ → Bool) (free : ℕ → Bool) (base : State) (sides : List Bool) (events : List Event)
-    (wanted : Bool) → IsApart named free base
-    → IsCut named free first_turns sides events
+both_explained : (named : List ℕ → Bool) (base : State) (sides : List Bool) (events : List Event)
+    (wanted : Bool) → HasNoBranch base
+    → IsCut named first_turns sides events
     → Explained base (picked wanted sides events) → Explained base (picked (not wanted) sides events)
     → Explained base events
-both_explained named free base sides events true apart cut part other =
-    whole_explained named free base sides events apart cut part other
-both_explained named free base sides events false apart cut part other =
-    whole_explained named free base sides events apart cut other part
+both_explained named base sides events true apart cut part other =
+    whole_explained named base sides events apart cut part other
+both_explained named base sides events false apart cut part other =
+    whole_explained named base sides events apart cut other part
 
 -- what is refuted in a part is refuted at its place in the record, if the other part is explained up to there
-pub refuted_part : (named : List ℕ → Bool) (free : ℕ → Bool) (base : State) (sides : List Bool) (events : List Event)
-    (wanted : Bool) (place : ℕ) → IsApart named free base
-    → IsCut named free first_turns sides events
+pub refuted_part : (named : List ℕ → Bool) (base : State) (sides : List Bool) (events : List Event)
+    (wanted : Bool) (place : ℕ) → HasNoBranch base
+    → IsCut named first_turns sides events
     → slice_get sides place ≡ Some wanted
     → IsRefuted base (picked wanted sides events) (count_in wanted (take place sides))
     → Explained base (picked (not wanted) (take place sides) (take place events))
     → IsRefuted base events place
-refuted_part named free base sides events wanted place apart cut at is other =
+refuted_part named base sides events wanted place apart cut at is other =
     let there = get_within (picked wanted sides events) (count_in wanted (take place sides)) is.within in
     let more : place + 1 ≡ suc place = omega arith in
     let count : count_in wanted (take (suc place) sides) ≡ count_in wanted (take place sides) + 1 =
     count_more wanted place sides at ∙ omega arith in
     record {
       within = within_of events place there.0
-          (sym (picked_at named free first_turns wanted place sides events cut at) ∙ there.1);
-      before = both_explained named free base (take place sides) (take place events) wanted apart
-          (cut_take named free first_turns place sides events cut)
+          (sym (picked_at named first_turns wanted place sides events cut at) ∙ there.1);
+      before = both_explained named base (take place sides) (take place events) wanted apart
+          (cut_take named first_turns place sides events cut)
           (subst (Explained base) (sym (picked_take wanted place sides events)) is.before) other;
       refuted = λ explained. is.refuted (subst (λ n. Explained base (take n (picked wanted sides events))) count
           (subst (Explained base) (picked_take wanted (suc place) sides events)
-          (part_explained named free base (take (suc place) sides) (take (suc place) events) wanted apart
-          (cut_take named free first_turns (suc place) sides events cut)
+          (part_explained named base (take (suc place) sides) (take (suc place) events) wanted apart
+          (cut_take named first_turns (suc place) sides events cut)
           (subst (λ n. Explained base (take n events)) more explained))));
-      whole = λ explained. is.whole (part_explained named free base sides events wanted apart cut explained);
+      whole = λ explained. is.whole (part_explained named base sides events wanted apart cut explained);
     }
 
 -- ---- answers
@@ -228,37 +239,37 @@ part_of true chosen rest = chosen
 part_of false chosen rest = rest
 
 -- where a call of a part returns, the whole and this part have the same client
-same_client : (named : List ℕ → Bool) (free : ℕ → Bool) (turns : List Turn) (whole chosen rest : Config)
-    (session : ℕ) (seen : Seen) (turn : Turn) (wanted : Bool) → AreParts named free turns whole chosen rest
+same_client : (named : List ℕ → Bool) (turns : List Turn) (whole chosen rest : Config)
+    (session : ℕ) (seen : Seen) (turn : Turn) (wanted : Bool) → AreParts named turns whole chosen rest
     → slice_get turns session ≡ Some turn
-    → FitsTurn named free turn (Return session seen) wanted
+    → FitsTurn named turn (Return session seen) wanted
     → slice_get whole.clients session ≡ slice_get ((part_of wanted chosen rest).clients) session
-same_client named free turns whole chosen rest session seen turn true parts at fits =
-    let same = same_chosen named free session turn (Return session seen) _ _ _ fits
-    (clients_at named free turns whole chosen rest session (Some turn) parts at) in
+same_client named turns whole chosen rest session seen turn true parts at fits =
+    let same = same_chosen named turn (Return session seen) _ _ _ fits
+    (clients_at named turns whole chosen rest session (Some turn) parts at) in
     same.1 ∙ sym same.2
-same_client named free turns whole chosen rest session seen turn false parts at fits =
-    let same = same_rest named free session turn _ _ _ fits
-    (clients_at named free turns whole chosen rest session (Some turn) parts at) in
+same_client named turns whole chosen rest session seen turn false parts at fits =
+    let same = same_rest named turn _ _ _ fits
+    (clients_at named turns whole chosen rest session (Some turn) parts at) in
     same.2 ∙ sym same.4
 
 -- where an answer could be in a part, it could be in the record
-could_whole : (named : List ℕ → Bool) (free : ℕ → Bool) (base : State) (sides : List Bool) (events : List Event)
-    (wanted : Bool) (place : ℕ) (answer : Answer) → IsApart named free base
-    → IsCut named free first_turns sides events
+could_whole : (named : List ℕ → Bool) (base : State) (sides : List Bool) (events : List Event)
+    (wanted : Bool) (place : ℕ) (answer : Answer) → HasNoBranch base
+    → IsCut named first_turns sides events
     → slice_get sides place ≡ Some wanted
     → Explained base (picked (not wanted) (take place sides) (take place events))
     → CouldBe base (picked wanted sides events) (count_in wanted (take place sides)) answer
     → CouldBe base events place answer
-could_whole named free base sides events true place answer apart cut at other could =
-    let returns = sym (picked_at named free first_turns true place sides events cut at) ∙ could.returns in
+could_whole named base sides events true place answer apart cut at other could =
+    let returns = sym (picked_at named first_turns true place sides events cut at) ∙ could.returns in
     let open_config = opening_config base in
-    let found = whole_of named free first_turns open_config open_config open_config could.after.config other.1
+    let found = whole_of named first_turns open_config open_config open_config could.after.config other.1
     (take place sides) (take place events) could.after.reached.moves other.0
-    (cut_take named free first_turns place sides events cut) (parts_first named free base apart)
+    (cut_take named first_turns place sides events cut) (parts_first named base apart)
     (subst (λ l. LeadsThrough open_config l could.after.reached.moves could.after.config)
     (sym (picked_take true place sides events)) could.after.reached.runs) other.2 in
-    let turn = cut_at named free first_turns place sides events true (Return could.session could.seen) cut at returns in
+    let turn = cut_at named first_turns place sides events true (Return could.session could.seen) cut at returns in
     record {
       session = could.session;
       seen = could.seen;
@@ -266,19 +277,19 @@ could_whole named free base sides events true place answer apart cut at other co
       after = record {
         config = found.end;
         reached = record { moves = found.moves; runs = found.runs };
-        answered = same_client named free _ found.end could.after.config other.1 could.session could.seen turn.0 true
+        answered = same_client named _ found.end could.after.config other.1 could.session could.seen turn.0 true
             found.parts turn.1 turn.2 ∙ could.after.answered;
       };
     }
-could_whole named free base sides events false place answer apart cut at other could =
-    let returns = sym (picked_at named free first_turns false place sides events cut at) ∙ could.returns in
+could_whole named base sides events false place answer apart cut at other could =
+    let returns = sym (picked_at named first_turns false place sides events cut at) ∙ could.returns in
     let open_config = opening_config base in
-    let found = whole_of named free first_turns open_config open_config open_config other.1 could.after.config
+    let found = whole_of named first_turns open_config open_config open_config other.1 could.after.config
     (take place sides) (take place events) other.0 could.after.reached.moves
-    (cut_take named free first_turns place sides events cut) (parts_first named free base apart) other.2
+    (cut_take named first_turns place sides events cut) (parts_first named base apart) other.2
     (subst (λ l. LeadsThrough open_config l could.after.reached.moves could.after.config)
     (sym (picked_take false place sides events)) could.after.reached.runs) in
-    let turn = cut_at named free first_turns place sides events false (Return could.session could.seen) cut at
+    let turn = cut_at named first_turns place sides events false (Return could.session could.seen) cut at
     returns in
     record {
       session = could.session;
@@ -287,30 +298,30 @@ could_whole named free base sides events false place answer apart cut at other c
       after = record {
         config = found.end;
         reached = record { moves = found.moves; runs = found.runs };
-        answered = same_client named free _ found.end other.1 could.after.config could.session could.seen turn.0 false
+        answered = same_client named _ found.end other.1 could.after.config could.session could.seen turn.0 false
             found.parts turn.1 turn.2 ∙ could.after.answered;
       };
     }
 
 -- and where it could be in the record, it could be in the part
-could_part : (named : List ℕ → Bool) (free : ℕ → Bool) (base : State) (sides : List Bool) (events : List Event)
-    (wanted : Bool) (place : ℕ) (answer : Answer) → IsApart named free base
-    → IsCut named free first_turns sides events
+could_part : (named : List ℕ → Bool) (base : State) (sides : List Bool) (events : List Event)
+    (wanted : Bool) (place : ℕ) (answer : Answer) → HasNoBranch base
+    → IsCut named first_turns sides events
     → slice_get sides place ≡ Some wanted
     → CouldBe base events place answer
     → CouldBe base (picked wanted sides events) (count_in wanted (take place sides)) answer
-could_part named free base sides events true place answer apart cut at could =
+could_part named base sides events true place answer apart cut at could =
     let open_config = opening_config base in
-    let found = in_parts named free first_turns open_config open_config open_config could.after.config
+    let found = in_parts named first_turns open_config open_config open_config could.after.config
     (take place sides) (take place events) could.after.reached.moves
-    (cut_take named free first_turns place sides events cut) (parts_first named free base apart)
+    (cut_take named first_turns place sides events cut) (parts_first named base apart)
     could.after.reached.runs in
-    let turn = cut_at named free first_turns place sides events true (Return could.session could.seen) cut at
+    let turn = cut_at named first_turns place sides events true (Return could.session could.seen) cut at
     could.returns in
     record {
       session = could.session;
       seen = could.seen;
-      returns = picked_at named free first_turns true place sides events cut at ∙ could.returns;
+      returns = picked_at named first_turns true place sides events cut at ∙ could.returns;
       after = record {
         config = found.chosen_end;
         reached = record {
@@ -318,22 +329,22 @@ could_part named free base sides events true place answer apart cut at could =
           runs = subst (λ l. LeadsThrough open_config l found.chosen_moves found.chosen_end)
               (picked_take true place sides events) found.chosen_runs;
         };
-        answered = sym (same_client named free _ could.after.config found.chosen_end found.rest_end could.session
+        answered = sym (same_client named _ could.after.config found.chosen_end found.rest_end could.session
             could.seen turn.0 true found.parts turn.1 turn.2) ∙ could.after.answered;
       };
     }
-could_part named free base sides events false place answer apart cut at could =
+could_part named base sides events false place answer apart cut at could =
     let open_config = opening_config base in
-    let found = in_parts named free first_turns open_config open_config open_config could.after.config
+    let found = in_parts named first_turns open_config open_config open_config could.after.config
     (take place sides) (take place events) could.after.reached.moves
-    (cut_take named free first_turns place sides events cut) (parts_first named free base apart)
+    (cut_take named first_turns place sides events cut) (parts_first named base apart)
     could.after.reached.runs in
-    let turn = cut_at named free first_turns place sides events false (Return could.session could.seen) cut at
+    let turn = cut_at named first_turns place sides events false (Return could.session could.seen) cut at
     could.returns in
     record {
       session = could.session;
       seen = could.seen;
-      returns = picked_at named free first_turns false place sides events cut at ∙ could.returns;
+      returns = picked_at named first_turns false place sides events cut at ∙ could.returns;
       after = record {
         config = found.rest_end;
         reached = record {
@@ -341,23 +352,23 @@ could_part named free base sides events false place answer apart cut at could =
           runs = subst (λ l. LeadsThrough open_config l found.rest_moves found.rest_end)
               (picked_take false place sides events) found.rest_runs;
         };
-        answered = sym (same_client named free _ could.after.config found.chosen_end found.rest_end could.session
+        answered = sym (same_client named _ could.after.config found.chosen_end found.rest_end could.session
             could.seen turn.0 false found.parts turn.1 turn.2) ∙ could.after.answered;
       };
     }
 
 -- the answers in the record are those in the part
-pub answers_part : (named : List ℕ → Bool) (free : ℕ → Bool) (base : State) (sides : List Bool) (events : List Event)
-    (wanted : Bool) (place : ℕ) (answers : List Answer) → IsApart named free base
-    → IsCut named free first_turns sides events
+pub answers_part : (named : List ℕ → Bool) (base : State) (sides : List Bool) (events : List Event)
+    (wanted : Bool) (place : ℕ) (answers : List Answer) → HasNoBranch base
+    → IsCut named first_turns sides events
     → slice_get sides place ≡ Some wanted
     → Explained base (picked (not wanted) (take place sides) (take place events))
     → AreAllAnswers base (picked wanted sides events) (count_in wanted (take place sides)) answers
     → AreAllAnswers base events place answers
-answers_part named free base sides events wanted place answers apart cut at other are = record {
-  each = λ k answer below. could_whole named free base sides events wanted place (slice_index_or answers k answer)
+answers_part named base sides events wanted place answers apart cut at other are = record {
+  each = λ k answer below. could_whole named base sides events wanted place (slice_index_or answers k answer)
       apart cut at other (are.each k answer below);
-  all = λ answer could. are.all answer (could_part named free base sides events wanted place answer apart cut at
+  all = λ answer could. are.all answer (could_part named base sides events wanted place answer apart cut at
       could);
 }
 
@@ -392,26 +403,25 @@ taken_twice (suc few) (suc many) [] le = refl
 taken_twice (suc few) (suc many) (x ∷ xs) le = ap (λ l. x ∷ l) (taken_twice few many xs (omega arith))
 
 -- an illegal part makes the record illegal, if the other part is explained up to there
-pub illegal_part : (named : List ℕ → Bool) (free : ℕ → Bool) (base : State) (sides : List Bool) (events : List Event)
+pub illegal_part : (named : List ℕ → Bool) (base : State) (sides : List Bool) (events : List Event)
     (wanted : Bool) (index place explained limit : ℕ) (answers : Vec Answer Global) → HasNoBranch base
-    → IsCut named free first_turns sides events
+    → IsCut named first_turns sides events
     → slice_get sides place ≡ Some wanted
     → count_in wanted (take place sides) ≡ index
     → count_in (not wanted) (take place sides) ≤ explained
     → IsVerdict base (picked wanted sides events) limit (IllegalAt index answers)
     → Explained base (take explained (picked (not wanted) sides events))
     → IsVerdict base events limit (IllegalAt place answers)
-illegal_part named free base sides events wanted index place explained limit answers none cut at count few is other =
-    let apart = none_apart named free base none in
+illegal_part named base sides events wanted index place explained limit answers none cut at count few is other =
     let beside : Explained base (picked (not wanted) (take place sides) (take place events)) =
     subst (Explained base) (sym (picked_take (not wanted) place sides events))
     (subst (Explained base) (taken_twice (count_in (not wanted) (take place sides)) explained
     (picked (not wanted) sides events) few)
     (explained_take base (take explained (picked (not wanted) sides events)) (count_in (not wanted) (take place sides))
     other)) in (
-      refuted_part named free base sides events wanted place apart cut at
+      refuted_part named base sides events wanted place none cut at
           (subst (IsRefuted base (picked wanted sides events)) (sym count) is.0) beside,
-      answers_part named free base sides events wanted place answers.items apart cut at beside
+      answers_part named base sides events wanted place answers.items none cut at beside
           (subst (λ i. AreAllAnswers base (picked wanted sides events) i answers.items) (sym count) is.1),
     )
 

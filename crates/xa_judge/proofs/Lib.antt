@@ -14,6 +14,7 @@ pub mod NearRuns
 pub mod Loaded
 pub mod NearVerdicts
 pub mod Told
+pub mod Clean
 pub mod KeyStates
 pub mod KeyClients
 pub mod KeyRuns

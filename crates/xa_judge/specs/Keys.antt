@@ -1,9 +1,10 @@
 -- Free statements on some rows, judged apart from the rest of a record.
--- A record is cut in two. One part is all GET, PUT and DEL of the chosen rows, by sessions that never have a branch, with
+-- A record is cut in two. One part is all GET, PUT and DEL of the chosen rows, by sessions that have no branch then, with
 -- what they returned. The other part is the rest. Nothing in the rest touches the chosen rows.
 --     IsFreeRequest, IsOtherRequest      a request may stand in the one part;  in the other
 --     session_of           whose event it is
---     turn_after           to which part the open call of its session belongs after an event
+--     has_none, free_in    a session has no branch, by its turn;  the sessions that have none
+--     turn_after, turns_past      a session's turn after an event;  all turns
 --     FitsTurn             an event may stand in this part
 --     IsCut                so do all events, each in its part
 --     turns_after          to which parts the sessions' open calls belong after the events
@@ -11,20 +12,22 @@
 --     count_in             how many they are
 --     IsPlaceIn            the place in the record of an event of one part
 use Rattle.std.specs.Prelude.{◌≡◌, ℕ, suc, Bool, true, false, Some, List, [], ◌∷◌, slice_get, slice_set, replicate}
-use Rattle.std.specs.Prelude.{◌≢◌, Option, None}
-use Rattle.std.specs.Option.{unwrap_or}
+use Rattle.std.specs.Prelude.{◌≢◌, Option, None, cond}
+use Rattle.std.specs.Option.{unwrap_or, option_map_or}
 use Rattle.std.specs.FinMap as map
 use Rattle.xa_xid.specs.declared.xid.Xid.{Xid}
-use Rattle.xa_xid.specs.declared.statement.Statement.TheVariants.{Start, Get, Put, Del}
+use Rattle.xa_xid.specs.declared.statement.Statement.TheVariants.{Start, Prepare, Commit, Rollback, Get, Put, Del, Disconnect}
 use Rattle.xa_server.specs.State.{Branch, State}
 use Rattle.xa_judge.specs.declared.request.Request.{Request}
 use Rattle.xa_judge.specs.declared.request.Request.TheVariants.{Statement as Given}
+use Rattle.xa_judge.specs.declared.event.Seen.{Seen}
+use Rattle.xa_judge.specs.declared.event.Seen.TheVariants.{Ok as SeenOk}
 use Rattle.xa_judge.specs.declared.event.Event.{Event}
 use Rattle.xa_judge.specs.declared.event.Event.TheVariants.{Call, Return, Lost, Unknown}
 use Rattle.xa_judge.specs.declared.turn.Turn.{Turn}
-use Rattle.xa_judge.specs.declared.turn.Turn.TheVariants.{Nobody, Chosen, Rest}
+use Rattle.xa_judge.specs.declared.turn.Turn.TheVariants.{Nobody, Chosen, Other, Within, Rest, Ending}
 
--- a statement on a chosen row, by a session that never has a branch
+-- a statement on a chosen row, by a session that has no branch
 abbrev pub IsFreeRequest : (List ℕ → Bool) → (ℕ → Bool) → ℕ → Request → Type 0
 IsFreeRequest named free session (Given (Get key)) = (free session ≡ true) × (named key ≡ true)
 IsFreeRequest named free session (Given (Put key value)) = (free session ≡ true) × (named key ≡ true)
@@ -39,9 +42,19 @@ IsOtherRequest named free session (Given (Del key)) = named key ≡ false
 IsOtherRequest named free session (Given (Start xid)) = free session ≡ false
 IsOtherRequest named free session request = Unit {0}
 
--- the sessions that never have a branch, by their numbers
-abbrev pub free_in : List Bool → ℕ → Bool
-free_in frees session = unwrap_or (slice_get frees session) false
+-- a statement on a chosen row
+abbrev pub IsOnRows : (List ℕ → Bool) → Request → Type 0
+IsOnRows named (Given (Get key)) = named key ≡ true
+IsOnRows named (Given (Put key value)) = named key ≡ true
+IsOnRows named (Given (Del key)) = named key ≡ true
+IsOnRows named request = ⊥
+
+-- a request that names no chosen row
+abbrev pub IsOffRows : (List ℕ → Bool) → Request → Type 0
+IsOffRows named (Given (Get key)) = named key ≡ false
+IsOffRows named (Given (Put key value)) = named key ≡ false
+IsOffRows named (Given (Del key)) = named key ≡ false
+IsOffRows named request = Unit {0}
 
 -- whose event it is
 abbrev pub session_of : Event → ℕ
@@ -50,51 +63,105 @@ session_of (Return session seen) = session
 session_of (Lost session) = session
 session_of (Unknown session) = session
 
+-- the session has no branch
+abbrev pub has_none : Turn → Bool
+has_none Nobody = true
+has_none Chosen = true
+has_none Other = true
+has_none Within = false
+has_none Rest = false
+has_none Ending = false
+
+-- the sessions that have none, by their numbers
+abbrev pub free_in : List Turn → ℕ → Bool
+free_in turns session = option_map_or has_none (slice_get turns session) false
+
+-- the request may start a branch
+abbrev pub is_start : Request → Bool
+is_start (Given (Start xid)) = true
+is_start request = false
+
+-- once it is accepted, its session has no branch
+abbrev pub is_ending : Request → Bool
+is_ending (Given (Prepare xid)) = true
+is_ending (Given (Commit xid one_phase)) = true
+is_ending (Given (Rollback xid)) = true
+is_ending (Given Disconnect) = true
+is_ending request = false
+
+-- a session has called, in the other part
+abbrev pub turn_called : Turn → Request → Turn
+turn_called Nobody request = cond (is_start request) Rest Other
+turn_called turn request = cond (is_ending request) Ending Rest
+
+-- its call has returned
+abbrev pub turn_returned : Turn → Seen → Turn
+turn_returned Chosen seen = Nobody
+turn_returned Other seen = Nobody
+turn_returned Ending SeenOk = Nobody
+turn_returned turn seen = Within
+
+-- or nobody knows what it returned
+abbrev pub turn_unknown : Turn → Turn
+turn_unknown Chosen = Nobody
+turn_unknown Other = Nobody
+turn_unknown turn = Within
+
 -- to which part the open call of its session belongs after an event of the chosen part, or of the other
-abbrev pub turn_after : Event → Bool → Turn
-turn_after (Call session request) true = Chosen
-turn_after (Call session request) false = Rest
-turn_after (Return session seen) side = Nobody
-turn_after (Lost session) side = Rest
-turn_after (Unknown session) side = Nobody
+abbrev pub turn_after : Turn → Event → Bool → Turn
+turn_after turn (Call session request) true = Chosen
+turn_after turn (Call session request) false = turn_called turn request
+turn_after turn (Return session seen) side = turn_returned turn seen
+turn_after turn (Lost session) side = Within
+turn_after turn (Unknown session) side = turn_unknown turn
 
 -- the open call belongs to the chosen part
 abbrev pub is_chosen : Turn → Bool
 is_chosen Nobody = false
 is_chosen Chosen = true
+is_chosen Other = false
+is_chosen Within = false
 is_chosen Rest = false
+is_chosen Ending = false
 
 -- a statement on this row may stand in the chosen part, or in the other
-abbrev pub FitsRow : (List ℕ → Bool) → (ℕ → Bool) → Turn → ℕ → List ℕ → Bool → Type 0
-FitsRow named free turn session key true = (turn ≡ Nobody) × ((free session ≡ true) × (named key ≡ true))
-FitsRow named free turn session key false = (is_chosen turn ≡ false) × (named key ≡ false)
+abbrev pub FitsRow : (List ℕ → Bool) → Turn → List ℕ → Bool → Type 0
+FitsRow named turn key true = (turn ≡ Nobody) × (named key ≡ true)
+FitsRow named turn key false = (is_chosen turn ≡ false) × (named key ≡ false)
 
 -- the event may stand in the chosen part, or in the other
-abbrev pub FitsTurn : (List ℕ → Bool) → (ℕ → Bool) → Turn → Event → Bool → Type 0
-FitsTurn named free turn (Call session request) true = (turn ≡ Nobody) × IsFreeRequest named free session request
-FitsTurn named free turn (Call session request) false =
-    (is_chosen turn ≡ false) × IsOtherRequest named free session request
-FitsTurn named free turn (Lost session) true = ⊥
-FitsTurn named free turn (Lost session) false = is_chosen turn ≡ false
-FitsTurn named free turn (Return session seen) side = is_chosen turn ≡ side
-FitsTurn named free turn (Unknown session) side = is_chosen turn ≡ side
+abbrev pub FitsTurn : (List ℕ → Bool) → Turn → Event → Bool → Type 0
+FitsTurn named turn (Call session request) true = (turn ≡ Nobody) × IsOnRows named request
+FitsTurn named turn (Call session request) false = (is_chosen turn ≡ false) × IsOffRows named request
+FitsTurn named turn (Lost session) true = ⊥
+FitsTurn named turn (Lost session) false = is_chosen turn ≡ false
+FitsTurn named turn (Return session seen) side = is_chosen turn ≡ side
+FitsTurn named turn (Unknown session) side = is_chosen turn ≡ side
+
+-- the turn of a session that is there
+abbrev pub turn_in : List Turn → ℕ → Turn
+turn_in turns session = unwrap_or (slice_get turns session) Nobody
+
+-- the turns after an event
+abbrev pub turns_past : List Turn → Bool → Event → List Turn
+turns_past turns side event =
+    slice_set turns (session_of event) (turn_after (turn_in turns (session_of event)) event side)
 
 -- before all events
 unfoldable pub first_turns : List Turn
 first_turns = replicate 17 Nobody
 
 -- each event may stand in its part; true stands for the chosen one
-abbrev pub IsCut : (List ℕ → Bool) → (ℕ → Bool) → List Turn → List Bool → List Event → Type 0
-IsCut named free turns [] [] = Unit {0}
-IsCut named free turns (side ∷ sides) (event ∷ events) =
-    (turn : Turn) × (slice_get turns (session_of event) ≡ Some turn) × FitsTurn named free turn event side
-    × IsCut named free (slice_set turns (session_of event) (turn_after event side)) sides events
-IsCut named free turns sides events = ⊥
+abbrev pub IsCut : (List ℕ → Bool) → List Turn → List Bool → List Event → Type 0
+IsCut named turns [] [] = Unit {0}
+IsCut named turns (side ∷ sides) (event ∷ events) =
+    (turn : Turn) × (slice_get turns (session_of event) ≡ Some turn) × FitsTurn named turn event side
+    × IsCut named (turns_past turns side event) sides events
+IsCut named turns sides events = ⊥
 
 -- to which parts the sessions' open calls belong after the events
 abbrev pub turns_after : List Turn → List Bool → List Event → List Turn
-turns_after turns (side ∷ sides) (event ∷ events) =
-    turns_after (slice_set turns (session_of event) (turn_after event side)) sides events
+turns_after turns (side ∷ sides) (event ∷ events) = turns_after (turns_past turns side event) sides events
 turns_after turns sides events = turns
 
 -- the events of one part
@@ -113,7 +180,7 @@ count_in true (false ∷ sides) = count_in true sides
 count_in false (true ∷ sides) = count_in false sides
 count_in false (false ∷ sides) = suc (count_in false sides)
 
--- the branch has nothing of the chosen rows, and its owner is none of the sessions that never have a branch
+-- the branch has nothing of the chosen rows, and its owner is none of the sessions that have none
 pub record IsApartBranch (named : List ℕ → Bool) (free : ℕ → Bool) (branch : Branch) : Type 0 where
   pub owner : (session : ℕ) → free session ≡ true → branch.owner ≢ Some session
   pub writes : (key : List ℕ) → named key ≡ true → map.get branch.writes key ≡ None

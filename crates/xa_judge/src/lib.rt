@@ -35,6 +35,7 @@ mod foreseeing;
 mod foreseen;
 mod foreseen_event;
 mod foresight;
+mod free_rows;
 mod frontier;
 mod halving;
 mod hints;

@@ -1,13 +1,15 @@
 //! Cuts a record in two: free statements on some rows, and the rest.
 //!
-//! A session that never has a branch reads and writes a row at once. If all calls that name a row are of such
-//! sessions, and no branch of the base holds it, nothing else depends on the row.
+//! A session that has no branch reads and writes a row at once. If all calls that name a row are of sessions that have
+//! none then, nothing else depends on the row.
 ghost use Rattle.std.specs.Prelude.{◌≡◌, ◌≤◌, true, take, length, slice_get, IfOk, IfSome, option_copied};
-ghost use Rattle.xa_judge.specs.Keys.{free_in, is_chosen as is_chosen_turn, turn_after, FitsRow, FitsTurn};
+ghost use Rattle.xa_judge.specs.Keys.{is_chosen as is_chosen_turn, is_start as is_start_of, is_ending as is_ending_of};
+ghost use Rattle.xa_judge.specs.Keys.{turn_called as called_turn, turn_returned as returned_turn, turn_unknown};
+ghost use Rattle.xa_judge.specs.Keys.{turn_after, FitsRow, FitsTurn};
 ghost use Rattle.xa_judge.specs.Keys.{first_turns, IsCut, picked, count_in};
 ghost use Rattle.xa_judge.specs.Near.{named_in};
 
-use crate::event::Event;
+use crate::event::{Event, Seen};
 use crate::hints::session_of;
 use crate::moves::Move;
 use crate::request::Request;
@@ -16,16 +18,6 @@ use std::alloc::Global;
 use std::collections::BTreeSet;
 use xa_xid::{Key, NoMemory, SessionNo, Statement};
 
-/// Whether the session never has a branch.
-fn is_free(frees: &[bool], session: SessionNo) -> bool
-    ensures { result ≡ free_in frees.now session }
-{
-    match frees.get(session.get() as usize) {
-        Some(free) => *free,
-        None => false,
-    }
-}
-
 /// Whether the open call belongs to the chosen part.
 fn is_chosen(turn: Turn) -> bool
     ensures { result ≡ is_chosen_turn turn }
@@ -33,37 +25,33 @@ fn is_chosen(turn: Turn) -> bool
     match turn {
         Turn::Nobody => false,
         Turn::Chosen => true,
+        Turn::Other => false,
+        Turn::Within => false,
         Turn::Rest => false,
+        Turn::Ending => false,
     }
 }
 
-/// Whether the session has no open call.
-fn is_nobody(turn: Turn) -> bool
+/// Returns whether the session has no open call and no branch.
+pub fn is_nobody(turn: Turn) -> bool
     ensures { result ≡ true → turn ≡ Turn.Nobody }
 {
     match turn {
         Turn::Nobody => true,
         Turn::Chosen => false,
+        Turn::Other => false,
+        Turn::Within => false,
         Turn::Rest => false,
+        Turn::Ending => false,
     }
 }
 
 /// The part of a statement on a row, if it may stand in one.
-fn part_of_row(
-    keys: &BTreeSet<Key>,
-    frees: &[bool],
-    turn: Turn,
-    session: SessionNo,
-    key: &Key,
-) -> Option<bool>
-    ensures { IfSome result (λ side. FitsRow (named_in keys.now) (free_in frees.now) turn session key.now side) }
+fn part_of_row(keys: &BTreeSet<Key>, turn: Turn, key: &Key) -> Option<bool>
+    ensures { IfSome result (λ side. FitsRow (named_in keys.now) turn key.now side) }
 {
     if keys.contains(key) {
-        if is_nobody(turn) && is_free(frees, session) {
-            Some(true)
-        } else {
-            None
-        }
+        if is_nobody(turn) { Some(true) } else { None }
     } else if is_chosen(turn) {
         None
     } else {
@@ -74,58 +62,142 @@ fn part_of_row(
 /// The part of a call, if it may stand in one.
 fn part_of_call(
     keys: &BTreeSet<Key>,
-    frees: &[bool],
     turn: Turn,
     session: SessionNo,
     request: &Request,
 ) -> Option<bool>
-    ensures { IfSome result
-        (λ side. FitsTurn (named_in keys.now) (free_in frees.now) turn (Event.Call session request.now) side) }
+    ensures { IfSome result (λ side. FitsTurn (named_in keys.now) turn (Event.Call session request.now) side) }
 {
+    let _session = session;
     match request {
-        Request::Statement(Statement::Get(key)) => part_of_row(keys, frees, turn, session, key),
-        Request::Statement(Statement::Put(key, _)) => part_of_row(keys, frees, turn, session, key),
-        Request::Statement(Statement::Del(key)) => part_of_row(keys, frees, turn, session, key),
-        Request::Statement(Statement::Start(_)) => {
-            if is_free(frees, session) || is_chosen(turn) {
-                None
-            } else {
-                Some(false)
-            }
-        }
+        Request::Statement(Statement::Get(key)) => part_of_row(keys, turn, key),
+        Request::Statement(Statement::Put(key, _)) => part_of_row(keys, turn, key),
+        Request::Statement(Statement::Del(key)) => part_of_row(keys, turn, key),
         _ => { if is_chosen(turn) { None } else { Some(false) } }
     }
 }
 
 /// The part of an event, if it may stand in one.
-fn part_of(keys: &BTreeSet<Key>, frees: &[bool], turn: Turn, event: &Event) -> Option<bool>
-    ensures { IfSome result (λ side. FitsTurn (named_in keys.now) (free_in frees.now) turn event.now side) }
+fn part_of(keys: &BTreeSet<Key>, turn: Turn, event: &Event) -> Option<bool>
+    ensures { IfSome result (λ side. FitsTurn (named_in keys.now) turn event.now side) }
 {
     match event {
-        Event::Call(session, request) => {
-            part_of_call(keys, frees, turn, *session, request.request())
-        }
+        Event::Call(session, request) => part_of_call(keys, turn, *session, request.request()),
         Event::Return(_, _) => Some(is_chosen(turn)),
         Event::Lost(_) => { if is_chosen(turn) { None } else { Some(false) } }
         Event::Unknown(_) => Some(is_chosen(turn)),
     }
 }
 
-/// To which part the open call of the event's session belongs after it.
-fn turn_past(event: &Event, side: bool) -> Turn
-    ensures { result ≡ turn_after event.now side }
+/// Whether the request may start a branch.
+fn is_start(request: &Request) -> bool
+    ensures { result ≡ is_start_of request.now }
 {
-    match event {
-        Event::Call(_, _) => { if side { Turn::Chosen } else { Turn::Rest } }
-        Event::Return(_, _) => Turn::Nobody,
-        Event::Lost(_) => Turn::Rest,
-        Event::Unknown(_) => Turn::Nobody,
+    matches!(request, Request::Statement(Statement::Start(_)))
+}
+
+/// Whether its session has no branch once the request is accepted.
+fn is_ending(request: &Request) -> bool
+    ensures { result ≡ is_ending_of request.now }
+{
+    match request {
+        Request::Statement(Statement::Prepare(_)) => true,
+        Request::Statement(Statement::Commit { .. }) => true,
+        Request::Statement(Statement::Rollback(_)) => true,
+        Request::Statement(Statement::Disconnect) => true,
+        _ => false,
     }
 }
 
-/// No session has an open call.
+/// The turn of a session that may have a branch, once it has called.
+fn turn_within(request: &Request) -> Turn
+    ensures { result ≡ called_turn Turn.Within request.now }
+{
+    if is_ending(request) {
+        Turn::Ending
+    } else {
+        Turn::Rest
+    }
+}
+
+/// The turn of a session that has called in the other part.
+fn turn_called(turn: Turn, request: &Request) -> Turn
+    ensures { result ≡ called_turn turn request.now }
+{
+    match turn {
+        Turn::Nobody => {
+            if is_start(request) {
+                Turn::Rest
+            } else {
+                Turn::Other
+            }
+        }
+        Turn::Chosen => turn_within(request),
+        Turn::Other => turn_within(request),
+        Turn::Within => turn_within(request),
+        Turn::Rest => turn_within(request),
+        Turn::Ending => turn_within(request),
+    }
+}
+
+/// The turn of a session whose call has returned.
+fn turn_returned(turn: Turn, seen: &Seen) -> Turn
+    ensures { result ≡ returned_turn turn seen.now }
+{
+    match turn {
+        Turn::Nobody => Turn::Within,
+        Turn::Chosen => Turn::Nobody,
+        Turn::Other => Turn::Nobody,
+        Turn::Within => Turn::Within,
+        Turn::Rest => Turn::Within,
+        Turn::Ending => {
+            match seen {
+                Seen::Ok => Turn::Nobody,
+                Seen::Value(_) => Turn::Within,
+                Seen::Rows(_) => Turn::Within,
+                Seen::Error(_) => Turn::Within,
+            }
+        }
+    }
+}
+
+/// The turn of a session whose call returned nobody knows what.
+fn turn_unheard(turn: Turn) -> Turn
+    ensures { result ≡ turn_unknown turn }
+{
+    match turn {
+        Turn::Nobody => Turn::Within,
+        Turn::Chosen => Turn::Nobody,
+        Turn::Other => Turn::Nobody,
+        Turn::Within => Turn::Within,
+        Turn::Rest => Turn::Within,
+        Turn::Ending => Turn::Within,
+    }
+}
+
+/// Returns to which part the open call of the event's session belongs after it.
+pub fn turn_past(turn: Turn, event: &Event, side: bool) -> Turn
+    ensures { result ≡ turn_after turn event.now side }
+{
+    match event {
+        Event::Call(_, request) => {
+            if side {
+                Turn::Chosen
+            } else {
+                turn_called(turn, request.request())
+            }
+        }
+        Event::Return(_, seen) => turn_returned(turn, seen.seen()),
+        Event::Lost(_) => Turn::Within,
+        Event::Unknown(_) => turn_unheard(turn),
+    }
+}
+
+/// Returns turns of sessions that have no open call and no branch.
+///
+/// May return `NoMemory`.
 #[tactic(auto, unfolding(crate::specs::Keys::first_turns))]
-fn nobody(alloc: Global) -> Result<Vec<Turn>, NoMemory>
+pub fn nobody(alloc: Global) -> Result<Vec<Turn>, NoMemory>
     ensures { IfOk result (λ turns. turns.items ≡ first_turns) }
 {
     let mut turns = Vec::new(alloc);
@@ -135,18 +207,17 @@ fn nobody(alloc: Global) -> Result<Vec<Turn>, NoMemory>
     Ok(turns)
 }
 
-/// Returns the part of each event: `true` for statements on rows with these keys, by sessions that never have
-/// a branch. Or None, if the record can't be cut so.
+/// Returns the part of each event: `true` for statements on rows with these keys, by sessions that have no branch
+/// then. Or None, if the record can't be cut so.
 ///
 /// May return `NoMemory`.
 pub fn sides_of(
     alloc: Global,
     keys: &BTreeSet<Key>,
-    frees: &[bool],
     events: &[Event],
 ) -> Result<Option<Vec<bool>>, NoMemory>
     ensures { IfOk result (λ found. IfSome found
-        (λ sides. IsCut (named_in keys.now) (free_in frees.now) first_turns sides.items events.now)) }
+        (λ sides. IsCut (named_in keys.now) first_turns sides.items events.now)) }
 {
     let mut turns = nobody(alloc)?;
     let mut sides = Vec::new(alloc);
@@ -155,10 +226,10 @@ pub fn sides_of(
         let Some(turn) = turns.get(place) else {
             return Ok(None);
         };
-        let Some(side) = part_of(keys, frees, *turn, event) else {
+        let Some(side) = part_of(keys, *turn, event) else {
             return Ok(None);
         };
-        turns[place] = turn_past(event, side);
+        turns[place] = turn_past(*turn, event, side);
         sides.push(side)?;
     }
     Ok(Some(sides))

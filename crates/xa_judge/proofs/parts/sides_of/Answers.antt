@@ -1,7 +1,9 @@
 use Rattle.std.proofs.Common.{◌≡◌, ℕ, ◌+◌, ◌<◌, List, [], ◌∷◌, ◌++◌, Bool, Some, length, get_or, ap, sym, ◌∙◌, subst, arith}
 use Rattle.std.specs.Prelude.{slice_get, slice_set}
+use Rattle.std.specs.Option.{unwrap_or}
 use Rattle.xa_judge.specs.declared.turn.Turn.{Turn}
-use Rattle.xa_judge.specs.Keys.{free_in, session_of, turn_after}
+use Rattle.xa_judge.specs.declared.turn.Turn.TheVariants.{Nobody}
+use Rattle.xa_judge.specs.Keys.{session_of, turn_after, turn_in, turns_past}
 use Rattle.xa_judge.specs.Near.{named_in}
 use Rattle.xa_judge.proofs.Places.{stands_at}
 use Rattle.xa_judge.proofs.KeyParts.{CutSoFar, cut_more, cut_all}
@@ -19,7 +21,6 @@ loop-event-preserved c =
     let event = c.event-item.result in
     let turns = c.loop-event.turns.items in
     let named = named_in c.args.keys.now in
-    let free = free_in c.args.frees.now in
     let side = c.in-Some-part_of.side in
     let index = c.loop-event.event-index in
     let sides : List Bool = c.loop-event.sides.items ++ side ∷ [] in
@@ -27,16 +28,17 @@ loop-event-preserved c =
     let at : slice_get turns (session_of event) ≡ Some c.in-Some.turn.now =
     found turns c.deref.result.now c.get-place.result (session_of event) c.in-Some.turn.now c.deref.ensures.value
     place_is c.in-Some.ensures.lookup.3.0 c.in-Some.ensures.lookup.1 in
-    let next : CutSoFar named free (slice_set turns (session_of event) (turn_after event side)) sides events (index + 1) =
-    cut_more named free turns c.loop-event.sides.items events index event c.in-Some.turn.now side c.loop-event.invariant
+    let turn : turn_in turns (session_of event) ≡ c.in-Some.turn.now = ap (λ o. unwrap_or o Nobody) at in
+    let next : CutSoFar named (turns_past turns side event) sides events (index + 1) =
+    cut_more named turns c.loop-event.sides.items events index event c.in-Some.turn.now side c.loop-event.invariant
     c.loop-event-test.true c.event-item.is at c.in-Some-part_of.ensures in
-    subst (λ l. CutSoFar named free (slice_set turns c.get-place.result c.turn_past.result) l events (index + 1))
+    subst (λ l. CutSoFar named (slice_set turns c.get-place.result c.turn_past.result) l events (index + 1))
     (sym c.in_ok-push.ensures.items)
-    (subst (λ p. CutSoFar named free (slice_set turns p c.turn_past.result) sides events (index + 1)) (sym place_is)
-    (subst (λ t. CutSoFar named free (slice_set turns (session_of event) t) sides events (index + 1))
-    (sym c.turn_past.ensures) next))
+    (subst (λ p. CutSoFar named (slice_set turns p c.turn_past.result) sides events (index + 1)) (sym place_is)
+    (subst (λ t. CutSoFar named (slice_set turns (session_of event) t) sides events (index + 1))
+    (ap (λ t. turn_after t event side) turn ∙ sym c.turn_past.ensures) next))
 
 pub returns : goal.returns
-returns c = cut_all (named_in c.args.keys.now) (free_in c.args.frees.now) c.loop-event.turns.items
+returns c = cut_all (named_in c.args.keys.now) c.loop-event.turns.items
     c.loop-event.sides.items c.args.events.now c.loop-event.event-index c.loop-event.invariant
     (omega (arith, c.loop-event-test.false))

@@ -1,0 +1,222 @@
+-- Sessions that have no branch.
+--     others_none        another session's request gives it none
+--     ended_none         nor has it one once a request is accepted that ends it
+--     law_none           a state without branches keeps the law
+use Rattle.std.proofs.Common.{◌≡◌, ◌≢◌, ◌==◌, arith, ℕ, Bool, true, false, Option, Some, None, ap, sym, ◌∙◌, refl, inl, inr}
+use Rattle.std.specs.Prelude.{is_some, cond}
+use Rattle.std.specs.Option.{option_map, option_map_or, option_and_then}
+use Rattle.std.specs.FinMap as map
+use Rattle.std.proofs.lemmas.Bool.Decides.{nat_tests}
+use Rattle.std.proofs.lemmas.Bool.{false≢true}
+use mathlib.Core.Bool.{true≢false}
+use Rattle.xa_xid.specs.declared.xid.Xid.{Xid}
+use Rattle.xa_xid.specs.Xid.{same_xid}
+use Rattle.xa_xid.proofs.Orders.{xids_total, exact_xids}
+use Rattle.xa_xid.specs.declared.statement.Statement.{Statement}
+use Rattle.xa_xid.specs.declared.statement.Statement.TheVariants.{Start, End, Prepare, Commit, Rollback, Recover}
+use Rattle.xa_xid.specs.declared.statement.Statement.TheVariants.{Unsupported, Get, Put, Del, Disconnect}
+use Rattle.xa_server.specs.declared.branch.Phase.{Phase}
+use Rattle.xa_server.specs.declared.branch.Phase.TheVariants.{Active as PhaseActive, Idle as PhaseIdle}
+use Rattle.xa_server.specs.declared.branch.Phase.TheVariants.{Prepared as PhasePrepared}
+use Rattle.xa_server.specs.declared.association.Association.{Association}
+use Rattle.xa_server.specs.declared.association.Association.TheVariants.{Free, Active, Idle}
+use Rattle.xa_server.specs.declared.reply.Reply.TheVariants.{Ok as Accepted}
+use Rattle.xa_server.specs.State.{Branch, State, owns, phase_at, is_prepared_phase, association_in, association_of}
+use Rattle.xa_server.specs.Locks.{LockLaw, is_exclusive}
+use Rattle.xa_server.specs.Replies.{table, reply_to}
+use Rattle.xa_server.specs.Step.{is_refused}
+use Rattle.xa_server.proofs.Maps.{same_itself}
+use Rattle.xa_server.proofs.Index.{not_none}
+use Rattle.xa_server.proofs.Accepted.{own_is}
+use Rattle.xa_server.proofs.Changes.{detached, branch_after, effect-branch, outcome}
+use Rattle.xa_server.proofs.Others.{is_owned, IsOwn, IsStarted, own_association, known_owned, own_found, nobodys}
+use Rattle.xa_server.proofs.Others.{accepted_prepare_own, owned_before}
+use Rattle.xa_judge.specs.declared.request.Request.{Request}
+use Rattle.xa_judge.specs.declared.request.Request.TheVariants.{Statement as Given, Unread}
+use Rattle.xa_judge.specs.declared.answer.Answer.TheVariants.{Reply as Replied}
+use Rattle.xa_judge.specs.Explained.{answer_to, next_state}
+use Rattle.xa_judge.specs.Keys.{is_ending, HasNoBranch}
+
+-- the session owns no branch
+abbrev pub OwnsNone : State → ℕ → Type 0
+OwnsNone state session = (xid : Xid) → owns state session xid ≡ true → ⊥
+
+-- nothing is open
+abbrev is_none_open : Association → Bool
+is_none_open Free = true
+is_none_open (Active own) = false
+is_none_open (Idle own) = false
+
+-- a session that owns a branch has it open
+owner_open : (state : State) (session : ℕ) (xid : Xid) → LockLaw state → owns state session xid ≡ true
+    → is_none_open (association_of state session) ≡ false
+unfolding association_of is_owned
+owner_open state session xid law e =
+    ap (λ own. is_none_open (option_map_or (λ xid. association_in (phase_at state xid) xid) own Free))
+    (own_found state session xid e (λ other f. law.one_branch session xid other e f))
+    ∙ by (phase_at state xid) refl
+  where
+    nothing : (found : Option Branch) → is_some found ≡ true → option_map (λ (b : Branch). b.phase) found ≡ None
+        → is_none_open (association_in None xid) ≡ false
+    nothing None there none = absurd (true≢false (sym there))
+    nothing (Some branch) there none = not_none branch.phase (sym none)
+
+    by : (phase : Option Phase) → phase_at state xid ≡ phase → is_none_open (association_in phase xid) ≡ false
+    by None is = nothing (map.get state.branches xid) (known_owned session (map.get state.branches xid) e) is
+    by (Some PhaseActive) is = refl
+    by (Some PhaseIdle) is = refl
+    by (Some PhasePrepared) is =
+        absurd (true≢false (sym e ∙ nobodys state session xid law
+        (ap (λ phase. option_map_or is_prepared_phase phase false) is)))
+
+-- ---- other sessions' requests
+
+-- what a session owns after a request of another one, it owned before
+pub others_none : (state : State) (session other : ℕ) (request : Request) → session ≢ other → OwnsNone state other
+    → OwnsNone (next_state state session request) other
+unfolding is_owned
+others_none state session other Unread apart none = none
+others_none state session other (Given statement) apart none = elim (outcome state session statement) [
+  | inl refused ↦ λ xid e. none xid (sym (ap (λ s. owns s other xid) refused.1) ∙ e)
+  | inr done ↦ λ xid e. elim (owned_before session other (association_of state session) statement xid
+      (map.get state.branches xid)
+      (sym (ap (is_owned other) (effect-branch state session (association_of state session) statement xid))
+      ∙ sym (ap (λ s. owns s other xid) done.1) ∙ e)) [
+        | inl before ↦ none xid before
+        | inr started ↦ absurd (apart started.1)
+      ]
+]
+
+-- ---- a session's own requests
+
+-- a branch that is gone, or has no owner, isn't the session's
+gone_unowned : (session : ℕ) → is_owned session None ≡ true → ⊥
+unfolding is_owned
+gone_unowned session e = true≢false (sym e)
+
+detached_unowned : (session : ℕ) (found : Option Branch) → is_owned session (option_map detached found) ≡ true → ⊥
+unfolding is_owned detached
+detached_unowned session None e = true≢false (sym e)
+detached_unowned session (Some branch) e = true≢false (sym e)
+
+-- a statement that changes the branch of its identifier so that the session doesn't own it, where that was the only one
+only_that : (session : ℕ) (at xid : Xid) (new found : Option Branch) → at ≡ xid
+    → (is_owned session new ≡ true → ⊥)
+    → is_owned session (cond (same_xid at xid) new found) ≡ true → ⊥
+only_that session at xid new found same not e =
+    not (ap (λ b. is_owned session (cond b new found))
+    (sym (ap (λ x. same_xid x xid) same ∙ same_itself xids_total exact_xids xid)) ∙ e)
+
+-- what an accepted XA COMMIT or XA ROLLBACK is of, if the session has something open
+committed_own : (state : State) (session : ℕ) (association : Association) (xid at : Xid) (one_phase : Bool)
+    → IsOwn state session association → is_none_open association ≡ false
+    → is_refused (table state association (Commit xid one_phase)) ≡ false → owns state session xid ≡ true
+unfolding table
+committed_own state session Free xid at one_phase own held e = absurd (true≢false held)
+committed_own state session (Active associated) xid at false own held e = absurd (true≢false e)
+committed_own state session (Active associated) xid at true own held e = absurd (true≢false e)
+committed_own state session (Idle associated) xid at false own held e = absurd (true≢false e)
+committed_own state session (Idle associated) xid at true own held e =
+    ap (owns state session) (own_is xid associated _ e) ∙ own
+
+rolled_own : (state : State) (session : ℕ) (association : Association) (xid at : Xid)
+    → IsOwn state session association → is_none_open association ≡ false
+    → is_refused (table state association (Rollback xid)) ≡ false → owns state session xid ≡ true
+unfolding table
+rolled_own state session Free xid at own held e = absurd (true≢false held)
+rolled_own state session (Active associated) xid at own held e = absurd (true≢false e)
+rolled_own state session (Idle associated) xid at own held e =
+    ap (owns state session) (own_is xid associated _ e) ∙ own
+
+-- what a session that disconnects had open
+left_own : (state : State) (session : ℕ) (association : Association) (at : Xid) (found : Option Branch) → LockLaw state
+    → IsOwn state session association → is_none_open association ≡ false → owns state session at ≡ true
+    → is_owned session (branch_after session association Disconnect at found) ≡ true → ⊥
+unfolding branch_after
+left_own state session Free at found law own held before e = absurd (true≢false held)
+left_own state session (Active associated) at found law own held before e =
+    only_that session at associated None found (law.one_branch session at associated before own) (gone_unowned session) e
+left_own state session (Idle associated) at found law own held before e =
+    only_that session at associated None found (law.one_branch session at associated before own) (gone_unowned session) e
+
+-- once such a statement is accepted, the session owns none of the branches that it owned
+ended_at : (state : State) (session : ℕ) (statement : Statement) (at : Xid) → LockLaw state
+    → is_ending (Given statement) ≡ true
+    → is_refused (table state (association_of state session) statement) ≡ false
+    → owns state session at ≡ true
+    → is_owned session (branch_after session (association_of state session) statement at (map.get state.branches at))
+    ≡ true → ⊥
+unfolding branch_after
+ended_at state session (Prepare xid) at law ends accepted before e =
+    let found = map.get state.branches at in
+    let own = accepted_prepare_own state session (association_of state session) xid (own_association state session)
+    accepted in
+    only_that session at xid (option_map detached found) found (law.one_branch session at xid before own)
+    (detached_unowned session found) e
+ended_at state session (Commit xid one_phase) at law ends accepted before e =
+    let own = committed_own state session (association_of state session) xid at one_phase
+    (own_association state session) (owner_open state session at law before) accepted in
+    only_that session at xid None (map.get state.branches at) (law.one_branch session at xid before own)
+    (gone_unowned session) e
+ended_at state session (Rollback xid) at law ends accepted before e =
+    let own = rolled_own state session (association_of state session) xid at (own_association state session)
+    (owner_open state session at law before) accepted in
+    only_that session at xid None (map.get state.branches at) (law.one_branch session at xid before own)
+    (gone_unowned session) e
+ended_at state session Disconnect at law ends accepted before e =
+    left_own state session (association_of state session) at (map.get state.branches at) law
+    (own_association state session) (owner_open state session at law before) before e
+ended_at state session (Start xid) at law ends accepted before e = absurd (true≢false (sym ends))
+ended_at state session (End xid) at law ends accepted before e = absurd (true≢false (sym ends))
+ended_at state session (Recover convert) at law ends accepted before e = absurd (true≢false (sym ends))
+ended_at state session Unsupported at law ends accepted before e = absurd (true≢false (sym ends))
+ended_at state session (Get key) at law ends accepted before e = absurd (true≢false (sym ends))
+ended_at state session (Put key value) at law ends accepted before e = absurd (true≢false (sym ends))
+ended_at state session (Del key) at law ends accepted before e = absurd (true≢false (sym ends))
+
+-- a start isn't an end
+start_ends : (session : ℕ) (statement : Statement) (at : Xid) → is_ending (Given statement) ≡ true
+    → IsStarted session session statement at → ⊥
+start_ends session statement at ends started =
+    true≢false (sym (ap (λ s. is_ending (Given s)) (sym started.0) ∙ ends))
+
+-- a request that ends its session's branch, once it is accepted
+pub ended_none : (state : State) (session : ℕ) (request : Request) → LockLaw state → is_ending request ≡ true
+    → answer_to state session request ≡ Replied Accepted
+    → OwnsNone (next_state state session request) session
+unfolding is_owned
+ended_none state session Unread law ends accepted = absurd (true≢false (sym ends))
+ended_none state session (Given statement) law ends accepted = elim (outcome state session statement) [
+  | inl refused ↦ absurd (true≢false (sym refused.0 ∙ ap is_refused (replied accepted)))
+  | inr done ↦ λ xid e.
+      let later : is_owned session (branch_after session (association_of state session) statement xid
+      (map.get state.branches xid)) ≡ true =
+      sym (ap (is_owned session) (effect-branch state session (association_of state session) statement xid))
+      ∙ sym (ap (λ s. owns s session xid) done.1) ∙ e in
+      elim (owned_before session session (association_of state session) statement xid (map.get state.branches xid) later) [
+        | inl before ↦ ended_at state session statement xid law ends done.0 before later
+        | inr started ↦ start_ends session statement xid ends started
+      ]
+]
+  where
+    replied : Replied (reply_to state session statement) ≡ Replied Accepted → reply_to state session statement ≡ Accepted
+    replied e = cc
+
+-- ---- no branch at all
+
+-- a state without branches keeps the law
+pub law_none : (state : State) → HasNoBranch state → LockLaw state
+law_none state none = record {
+  one_holder = λ xid other key e f. absurd (false≢true (sym (ap (λ (found : Option Branch).
+      is_exclusive (option_and_then (λ (b : Branch). map.get b.locks key) found)) (none xid)) ∙ e));
+  one_branch = λ session xid other e f. absurd (false≢true (sym (ap (λ (found : Option Branch).
+      option_map_or (λ owner. owner == session) (option_and_then (λ (b : Branch). b.owner) found) false) (none xid)) ∙ e));
+  detached = λ xid e. ap (option_and_then (λ (b : Branch). b.owner)) (none xid);
+  attached = λ xid e f. absurd (false≢true (sym (ap is_some (none xid)) ∙ e));
+  held_writes = λ xid key e. absurd (false≢true (sym (ap (λ (found : Option Branch).
+      is_some (option_and_then (λ (b : Branch). map.get b.writes key) found)) (none xid)) ∙ e));
+}
+
+-- a number is equal to itself by the test
+pub same_test : (n : ℕ) → (n == n) ≡ true
+same_test n = grind (arith, nat_tests)

@@ -1,0 +1,67 @@
+//! Finds the rows that only sessions without a branch call for.
+
+use crate::event::Event;
+use crate::hints::{last_call, session_of};
+use crate::loading::key_called;
+use crate::parts::{is_nobody, nobody, turn_past};
+use crate::turn::Turn;
+use std::alloc::Global;
+use std::collections::BTreeSet;
+use xa_xid::{Key, NoMemory, SessionNo};
+
+/// The row that the session's last call before this place names, if it names one.
+fn key_before(events: &[Event], place: usize, session: SessionNo) -> Option<&Key> {
+    let (first, _) = events.split_at(place.min(events.len()));
+    match first.get(last_call(first, session)) {
+        None => None,
+        Some(call) => key_called(call),
+    }
+}
+
+/// The row whose call a lost client leaves open: such a call may take effect at any time from then on.
+fn key_left(events: &[Event], place: usize, turn: Turn) -> Option<&Key> {
+    match events.get(place) {
+        Some(Event::Lost(session)) => {
+            if matches!(turn, Turn::Other) {
+                key_before(events, place, *session)
+            } else {
+                None
+            }
+        }
+        _ => None,
+    }
+}
+
+/// Returns the keys that only sessions without a branch call for, ascending.
+///
+/// May return `NoMemory`.
+pub fn free_keys(alloc: Global, events: &[Event]) -> Result<Vec<Key>, NoMemory> {
+    let mut turns = nobody(alloc)?;
+    let mut called = BTreeSet::new(alloc);
+    let mut bound = BTreeSet::new(alloc);
+    for place in 0..events.len() {
+        let event = &events[place];
+        let number = session_of(event).get() as usize;
+        let Some(turn) = turns.get(number) else {
+            return Ok(Vec::new(alloc));
+        };
+        let turn = *turn;
+        if let Some(key) = key_called(event) {
+            called.insert(key.copy())?;
+            if !is_nobody(turn) {
+                bound.insert(key.copy())?;
+            }
+        }
+        if let Some(key) = key_left(events, place, turn) {
+            bound.insert(key.copy())?;
+        }
+        turns[number] = turn_past(turn, event, false);
+    }
+    let mut keys = Vec::new(alloc);
+    for key in &called {
+        if !bound.contains(key) {
+            keys.push(key.copy())?;
+        }
+    }
+    Ok(keys)
+}
