@@ -3,7 +3,8 @@
 --     KeepsWatch      what a load of a word leaves of a pass
 --     Sees, Checks, Reads, Finds, Drafts, Exchanges      the steps, each by its word, its operands, the pass before,
 --                                                        what was found and the pass after
--- Here `h` is a pass's view: what a seat of the log knows of that pass.
+-- Here `h` is a pass's view: what a seat of the log knows of that pass. A ring keeps in its `turn` how the pass reads:
+-- `Without` it reads no cell, `Won` it reads one, `Fresh` it reads one that is another entry's by now.
 use Rattle.std.specs.Prelude.{◌≡◌, ◌≢◌, ◌<◌, ◌≤◌, ◌+◌, ◌-◌, ℕ, List, [], ◌∷◌, ◌++◌, length, take, slice_get}
 use Rattle.std.specs.Prelude.{slice_index, Some}
 use mathlib.Core.Option.{Option, none, some}
@@ -124,7 +125,8 @@ Checks word old found new =
     → found ≡ name_at old.sessions place entry.session
     → watched_word old ≡ word → watched_name old ≡ found → old.turn ≢ Fresh)
 
--- a load of a word of the cell that the pass reads: it is the entry's, or the pass knows that the cell is another's
+-- a load of one of the 23 words of the cell that the pass reads: it is the entry's, or the pass knows that the cell is
+-- another's
 abbrev pub Reads : ℕ → PassView → ℕ → PassView → Type 0
 Reads word old found new =
     (word ≢ 0) × KeepsWatch old new

@@ -355,8 +355,10 @@ fn hears_of_two_laps(
     added && asleep && heard && misses(log, slow, 6) && reads(log, slow, 7, one, 7)
 }
 
-/// Whether a spare that has seen more than a pass keeps that when the pass tells it less. The pass appends then, after
-/// it heard the rest.
+/// Whether a spare that has seen more than a pass keeps that when the pass tells it less.
+///
+/// Before, the log has 11 entries, and all three have seen them. `fast` adds the twelfth; `slow` hears of it from the
+/// spare, and adds the thirteenth.
 fn keeps_the_longer(
     log: &RingLog,
     fast: &mut RingPass,

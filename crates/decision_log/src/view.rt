@@ -3,13 +3,14 @@
 use crate::Known;
 use std::collections::LinkedList;
 
-/// Whether a pass has the turn. In a log that has no turn, no pass has it.
+/// Whether a pass has the turn. In a chain, which has no turn, no pass has it; a ring keeps here how a pass reads a cell.
 pub enum Turn {
-    /// Another pass has the turn, or none has.
+    /// Another pass has the turn, or none has. In a ring: the pass reads no cell.
     Without,
-    /// The pass has the turn, and hasn't looked since it took it.
+    /// The pass has the turn, and hasn't looked since it took it. In a ring: it reads a cell, whose entry is there.
     Won,
-    /// The pass has the turn, and has looked since it took it. What it has seen is the whole history.
+    /// The pass has the turn, and has looked since it took it. What it has seen is the whole history. In a ring: it
+    /// reads a cell that is another entry's by now.
     Fresh,
 }
 

@@ -375,7 +375,3 @@ followed_then state session statement old new law later accepted followed set at
     by false is =
         followed at ∙ sym ((others_left state law session at statement
         (λ same. true≢false (sym (eq-eqb at session (sym same)) ∙ is))).own)
-
--- what is known of owners stays right if a statement changes nothing, because it was refused
-pub followed_still : (state new : State) (owned : Owned) → new ≡ state → IsFollowed owned state → IsFollowed owned new
-followed_still state new owned same followed at = followed at ∙ ap (λ s. own_xid s at) (sym same)

@@ -1,5 +1,5 @@
 -- What an audit of histories comes to. Every rule here is the project's own: docs/HISTORIES.md#audits.
---     history_bytes, history_reads     the greatest length of a history;  the greatest number of reads
+--     history_bytes     the greatest length of a history
 --     IsAuditOf         what is kept of these histories
 --     ended_of          how an audit of global transactions ends
 --     IsAudited         an audit of these histories ends so, and this is written for it
@@ -24,11 +24,6 @@ use Rattle.xa_audit.specs.Written.{text_in}
 -- 16 MiB, as for a record
 abbrev pub history_bytes : ℕ
 history_bytes = 16777216
-
--- a reader that gives one byte at a time needs one read for each and one more; twice as many are ample, and a bound has
--- reading end
-abbrev pub history_reads : ℕ
-history_reads = 33554432
 
 -- how many histories there are, their lines that aren't read, and, if each is read, their branches
 pub record IsAuditOf (histories : List (List ℕ)) (audit : Audit) : Type 0 where

@@ -4,7 +4,7 @@ ghost use Rattle.std.specs.Prelude.{OnErr, Err};
 ghost use Rattle.std.specs.Io.KnownBytes.{IsAtEnd, Consumes};
 ghost use Rattle.xa_lines.specs.Calls.{HasReadAll, StopsReading, HasWritten, StopsWriting};
 ghost use Rattle.xa_lines.specs.Transcript.{ConsumesMoreThan, IsOfReading};
-ghost use Rattle.xa_audit.specs.Audits.{history_bytes, history_reads, IsAuditOf, IsAudited, AppendsAudit};
+ghost use Rattle.xa_audit.specs.Audits.{history_bytes, IsAuditOf, IsAudited, AppendsAudit};
 ghost use Rattle.xa_audit.specs.Audits.{AppendsAuditPrefix, AfterAuditFault};
 
 use crate::audit::Audit;

@@ -25,17 +25,6 @@ pub record IsListed (participants : Participants) (place : ℕ) (stores : List �
   pub participate : All (λ store. takes_part participants store ≡ true) stores
   pub short : length stores ≤ place
 
--- before the first store none is listed
-pub listed_none : (participants : Participants) → IsListed participants 0 []
-listed_none participants =
-    record {
-      below = All-nil (λ store. store < 0);
-      ascending = tt;
-      participate = All-nil
-          (λ store. takes_part participants store ≡ true);
-      short = omega arith;
-    }
-
 -- the loop over stores: one that isn't listed
 pub listed_skip : (participants : Participants) (place : ℕ) (stores : List ℕ) → IsListed participants place stores
     → IsListed participants (place + 1) stores

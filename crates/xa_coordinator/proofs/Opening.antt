@@ -38,11 +38,6 @@ pub working_kept : (old new : List (Option OpenBranch)) (store number : ℕ) →
 unfolding has_working_branch
 working_kept old new store number same = ap (works_for number) same
 
--- before the first store everything that is open is as before
-pub keeps_none : (participants : Participants) (branches : List (Option OpenBranch)) (place : ℕ)
-    → KeepsOpen participants place branches branches
-keeps_none participants branches place = record { apart = λ store out. refl; behind = λ store from. refl }
-
 -- what is as before up to a store is so up to each later one that wasn't spoken to
 pub keeps_farther : (participants : Participants) (place farther : ℕ) (old new : List (Option OpenBranch))
     → place ≤ farther

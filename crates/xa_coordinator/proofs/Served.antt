@@ -50,10 +50,6 @@ whole_taken count xs is = take_all count xs (omega (arith, is))
 pub starts : (base : State) → state_after base [] ≡ base
 starts base = state_after-nil base
 
--- a session that has seen nothing has no entry of its own among what it has seen
-pub none_seen : (session : ℕ) (watch : Watch) → watch.seen ≡ 0 → HasSeenOwn session watch []
-none_seen session watch is = record { within = omega (arith, is); own = ap (λ n. entries_of session (take n [])) is }
-
 -- all entries of an empty history have entered
 pub none_entered : (base : State) → AllEntered base []
 none_entered base = record { entered = λ place entry is. absurd (cc); two = λ place entry is. absurd (cc) }

@@ -1,7 +1,9 @@
 //! The second phase: finishing the branches of a transaction.
 //!
 //! Of the contracts' clauses, `count` says that there are as many stores, `elsewhere` that what is open stays in
-//! stores that weren't spoken to, and `cut` what is open in the store at which the call ended, if one failed.
+//! stores that weren't spoken to, and `cut` what is open in the store at which the call ended, if one failed. `frame`
+//! says that no other store changes and `marks` that no other branch's mark does; `closed` how a branch ends, if the
+//! call succeeds, `stopped` what a failed call leaves, and `unsaid` that the branch is then as before, or ended.
 ghost use Rattle.std.specs.Prelude.{◌≡◌, ◌<◌, List, false, OnOk, OnErr, IfErr, vec_len};
 ghost use Rattle.xa_coordinator.specs.Agreement.{Agrees};
 ghost use Rattle.xa_coordinator.specs.Decisions.{is_decided};

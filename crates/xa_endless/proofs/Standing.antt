@@ -1,12 +1,12 @@
 -- A replica that stands for a prefix: at the beginning, after one entry more, and in longer histories.
-use Rattle.std.proofs.Common.{◌≡◌, ◌≤◌, ◌+◌, List, length, Some, ◌∙◌}
+use Rattle.std.proofs.Common.{◌≡◌, ◌+◌, List, Some}
 use Rattle.std.specs.Prelude.{slice_get}
 use Rattle.xa_words.specs.Entry.{Entry}
 use Rattle.xa_server.specs.State.{no_state}
 use Rattle.xa_server.specs.Step.{after}
 use Rattle.decision_log.specs.History.{Begins}
 use Rattle.xa_session.specs.Replay.{Stands as StandsFrom}
-use Rattle.xa_session.proofs.Replaying.{state_at-begins, stands_first as first_from, stands_next as next_from}
+use Rattle.xa_session.proofs.Replaying.{stands_first as first_from, stands_next as next_from}
 use Rattle.xa_session.proofs.Replaying.{stands_longer as longer_from}
 use Rattle.xa_endless.specs.Replicas.{Stands, kept_of}
 use Rattle.xa_endless.specs.declared.replica.Replica.{Replica}
@@ -36,12 +36,3 @@ pub stands_longer : (seen longer : List Entry) (replica : Replica) → Begins se
     → Stands longer replica
 stands_longer seen longer replica begins stands =
     to longer replica (longer_from no_state seen longer (kept_of replica) begins (from seen replica stands))
-
--- in a history that begins a longer one, if the replica has replayed no more of it
-pub stands_shorter : (seen longer : List Entry) (replica : Replica) → Begins seen longer
-    → replica.replayed ≤ length seen → Stands longer replica
-    → Stands seen replica
-stands_shorter seen longer replica begins within stands = record {
-  within = within;
-  state = stands.state ∙ state_at-begins no_state seen longer replica.replayed begins within;
-}

@@ -2,7 +2,8 @@
 --     others_none        another session's request gives it none
 --     ended_none         nor has it one once a request is accepted that ends it
 --     law_none           a state without branches keeps the law
-use Rattle.std.proofs.Common.{◌≡◌, ◌≢◌, ◌==◌, arith, ℕ, Bool, true, false, Option, Some, None, ap, sym, ◌∙◌, refl, inl, inr}
+use Rattle.std.proofs.Common.{◌≡◌, ◌≢◌, ◌==◌, arith, ℕ, Bool, true, false, Option, Some, None, ap, sym, ◌∙◌}
+use Rattle.std.proofs.Common.{inl, inr}
 use Rattle.std.specs.Prelude.{is_some, cond}
 use Rattle.std.specs.Option.{option_map, option_map_or, option_and_then}
 use Rattle.std.specs.FinMap as map
@@ -15,21 +16,18 @@ use Rattle.xa_xid.proofs.Orders.{xids_total, exact_xids}
 use Rattle.xa_xid.specs.declared.statement.Statement.{Statement}
 use Rattle.xa_xid.specs.declared.statement.Statement.TheVariants.{Start, End, Prepare, Commit, Rollback, Recover}
 use Rattle.xa_xid.specs.declared.statement.Statement.TheVariants.{Unsupported, Get, Put, Del, Disconnect}
-use Rattle.xa_server.specs.declared.branch.Phase.{Phase}
-use Rattle.xa_server.specs.declared.branch.Phase.TheVariants.{Active as PhaseActive, Idle as PhaseIdle}
-use Rattle.xa_server.specs.declared.branch.Phase.TheVariants.{Prepared as PhasePrepared}
 use Rattle.xa_server.specs.declared.association.Association.{Association}
 use Rattle.xa_server.specs.declared.association.Association.TheVariants.{Free, Active, Idle}
 use Rattle.xa_server.specs.declared.reply.Reply.TheVariants.{Ok as Accepted}
-use Rattle.xa_server.specs.State.{Branch, State, owns, phase_at, is_prepared_phase, association_in, association_of}
+use Rattle.xa_server.specs.State.{Branch, State, owns, association_of}
 use Rattle.xa_server.specs.Locks.{LockLaw, is_exclusive}
 use Rattle.xa_server.specs.Replies.{table, reply_to}
 use Rattle.xa_server.specs.Step.{is_refused}
 use Rattle.xa_server.proofs.Maps.{same_itself}
-use Rattle.xa_server.proofs.Index.{not_none}
+use Rattle.xa_server.proofs.Keeping.{is_free, owner_associated}
 use Rattle.xa_server.proofs.Accepted.{own_is}
 use Rattle.xa_server.proofs.Changes.{detached, branch_after, effect-branch, outcome}
-use Rattle.xa_server.proofs.Others.{is_owned, IsOwn, IsStarted, own_association, known_owned, own_found, nobodys}
+use Rattle.xa_server.proofs.Others.{is_owned, IsOwn, IsStarted, own_association}
 use Rattle.xa_server.proofs.Others.{accepted_prepare_own, owned_before}
 use Rattle.xa_judge.specs.declared.request.Request.{Request}
 use Rattle.xa_judge.specs.declared.request.Request.TheVariants.{Statement as Given, Unread}
@@ -40,34 +38,6 @@ use Rattle.xa_judge.specs.Keys.{is_ending, HasNoBranch}
 -- the session owns no branch
 abbrev pub OwnsNone : State → ℕ → Type 0
 OwnsNone state session = (xid : Xid) → owns state session xid ≡ true → ⊥
-
--- nothing is open
-abbrev is_none_open : Association → Bool
-is_none_open Free = true
-is_none_open (Active own) = false
-is_none_open (Idle own) = false
-
--- a session that owns a branch has it open
-owner_open : (state : State) (session : ℕ) (xid : Xid) → LockLaw state → owns state session xid ≡ true
-    → is_none_open (association_of state session) ≡ false
-unfolding association_of is_owned
-owner_open state session xid law e =
-    ap (λ own. is_none_open (option_map_or (λ xid. association_in (phase_at state xid) xid) own Free))
-    (own_found state session xid e (λ other f. law.one_branch session xid other e f))
-    ∙ by (phase_at state xid) refl
-  where
-    nothing : (found : Option Branch) → is_some found ≡ true → option_map (λ (b : Branch). b.phase) found ≡ None
-        → is_none_open (association_in None xid) ≡ false
-    nothing None there none = absurd (true≢false (sym there))
-    nothing (Some branch) there none = not_none branch.phase (sym none)
-
-    by : (phase : Option Phase) → phase_at state xid ≡ phase → is_none_open (association_in phase xid) ≡ false
-    by None is = nothing (map.get state.branches xid) (known_owned session (map.get state.branches xid) e) is
-    by (Some PhaseActive) is = refl
-    by (Some PhaseIdle) is = refl
-    by (Some PhasePrepared) is =
-        absurd (true≢false (sym e ∙ nobodys state session xid law
-        (ap (λ phase. option_map_or is_prepared_phase phase false) is)))
 
 -- ---- other sessions' requests
 
@@ -109,9 +79,9 @@ only_that session at xid new found same not e =
 
 -- what an accepted XA COMMIT or XA ROLLBACK is of, if the session has something open
 committed_own : (state : State) (session : ℕ) (association : Association) (xid at : Xid) (one_phase : Bool)
-    → IsOwn state session association → is_none_open association ≡ false
+    → IsOwn state session association → is_free association ≡ false
     → is_refused (table state association (Commit xid one_phase)) ≡ false → owns state session xid ≡ true
-unfolding table
+unfolding table is_free
 committed_own state session Free xid at one_phase own held e = absurd (true≢false held)
 committed_own state session (Active associated) xid at false own held e = absurd (true≢false e)
 committed_own state session (Active associated) xid at true own held e = absurd (true≢false e)
@@ -120,9 +90,9 @@ committed_own state session (Idle associated) xid at true own held e =
     ap (owns state session) (own_is xid associated _ e) ∙ own
 
 rolled_own : (state : State) (session : ℕ) (association : Association) (xid at : Xid)
-    → IsOwn state session association → is_none_open association ≡ false
+    → IsOwn state session association → is_free association ≡ false
     → is_refused (table state association (Rollback xid)) ≡ false → owns state session xid ≡ true
-unfolding table
+unfolding table is_free
 rolled_own state session Free xid at own held e = absurd (true≢false held)
 rolled_own state session (Active associated) xid at own held e = absurd (true≢false e)
 rolled_own state session (Idle associated) xid at own held e =
@@ -130,14 +100,16 @@ rolled_own state session (Idle associated) xid at own held e =
 
 -- what a session that disconnects had open
 left_own : (state : State) (session : ℕ) (association : Association) (at : Xid) (found : Option Branch) → LockLaw state
-    → IsOwn state session association → is_none_open association ≡ false → owns state session at ≡ true
+    → IsOwn state session association → is_free association ≡ false → owns state session at ≡ true
     → is_owned session (branch_after session association Disconnect at found) ≡ true → ⊥
-unfolding branch_after
+unfolding branch_after is_free
 left_own state session Free at found law own held before e = absurd (true≢false held)
 left_own state session (Active associated) at found law own held before e =
-    only_that session at associated None found (law.one_branch session at associated before own) (gone_unowned session) e
+    only_that session at associated None found (law.one_branch session at associated before own)
+    (gone_unowned session) e
 left_own state session (Idle associated) at found law own held before e =
-    only_that session at associated None found (law.one_branch session at associated before own) (gone_unowned session) e
+    only_that session at associated None found (law.one_branch session at associated before own)
+    (gone_unowned session) e
 
 -- once such a statement is accepted, the session owns none of the branches that it owned
 ended_at : (state : State) (session : ℕ) (statement : Statement) (at : Xid) → LockLaw state
@@ -155,17 +127,17 @@ ended_at state session (Prepare xid) at law ends accepted before e =
     (detached_unowned session found) e
 ended_at state session (Commit xid one_phase) at law ends accepted before e =
     let own = committed_own state session (association_of state session) xid at one_phase
-    (own_association state session) (owner_open state session at law before) accepted in
+    (own_association state session) (owner_associated state session at law before) accepted in
     only_that session at xid None (map.get state.branches at) (law.one_branch session at xid before own)
     (gone_unowned session) e
 ended_at state session (Rollback xid) at law ends accepted before e =
     let own = rolled_own state session (association_of state session) xid at (own_association state session)
-    (owner_open state session at law before) accepted in
+    (owner_associated state session at law before) accepted in
     only_that session at xid None (map.get state.branches at) (law.one_branch session at xid before own)
     (gone_unowned session) e
 ended_at state session Disconnect at law ends accepted before e =
     left_own state session (association_of state session) at (map.get state.branches at) law
-    (own_association state session) (owner_open state session at law before) before e
+    (own_association state session) (owner_associated state session at law before) before e
 ended_at state session (Start xid) at law ends accepted before e = absurd (true≢false (sym ends))
 ended_at state session (End xid) at law ends accepted before e = absurd (true≢false (sym ends))
 ended_at state session (Recover convert) at law ends accepted before e = absurd (true≢false (sym ends))
@@ -193,13 +165,15 @@ ended_none state session (Given statement) law ends accepted = elim (outcome sta
       (map.get state.branches xid)) ≡ true =
       sym (ap (is_owned session) (effect-branch state session (association_of state session) statement xid))
       ∙ sym (ap (λ s. owns s session xid) done.1) ∙ e in
-      elim (owned_before session session (association_of state session) statement xid (map.get state.branches xid) later) [
+      elim (owned_before session session (association_of state session) statement xid (map.get state.branches xid)
+      later) [
         | inl before ↦ ended_at state session statement xid law ends done.0 before later
         | inr started ↦ start_ends session statement xid ends started
       ]
 ]
   where
-    replied : Replied (reply_to state session statement) ≡ Replied Accepted → reply_to state session statement ≡ Accepted
+    replied : Replied (reply_to state session statement) ≡ Replied Accepted
+        → reply_to state session statement ≡ Accepted
     replied e = cc
 
 -- ---- no branch at all
@@ -210,7 +184,8 @@ law_none state none = record {
   one_holder = λ xid other key e f. absurd (false≢true (sym (ap (λ (found : Option Branch).
       is_exclusive (option_and_then (λ (b : Branch). map.get b.locks key) found)) (none xid)) ∙ e));
   one_branch = λ session xid other e f. absurd (false≢true (sym (ap (λ (found : Option Branch).
-      option_map_or (λ owner. owner == session) (option_and_then (λ (b : Branch). b.owner) found) false) (none xid)) ∙ e));
+      option_map_or (λ owner. owner == session) (option_and_then (λ (b : Branch). b.owner) found) false)
+      (none xid)) ∙ e));
   detached = λ xid e. ap (option_and_then (λ (b : Branch). b.owner)) (none xid);
   attached = λ xid e f. absurd (false≢true (sym (ap is_some (none xid)) ∙ e));
   held_writes = λ xid key e. absurd (false≢true (sym (ap (λ (found : Option Branch).

@@ -1,7 +1,7 @@
 -- What a move of one part of a record does in the whole, and the other way round.
 --     Together                      two results are missing, or both are there and belong together
---     client_after, deed_of         what an event makes of its session's client;  what an act makes of the state and the
---                                   client
+--     client_after, deed_of         what an event makes of its session's client;  what an act makes of the state and
+--                                   the client
 --     observed_is, effect_is        that is all that they do
 --     AreClients, AreParts          the clients of the whole, by those of its parts;  the configurations
 --     chosen_acts, rest_acts        an act of a session whose call belongs to one part is one of the whole
@@ -476,16 +476,19 @@ rest_deed : (named : List ℕ → Bool) (turns : List Turn) (whole chosen rest :
     (option_map (done_in whole session) (deed_of session act whole.state (Some client)))
     (option_map (done_in rest session) (deed_of session act rest.state (Some client)))
 unfolding deed_of
-rest_deed named turns whole chosen rest session turn Statement (Called request) parts there_turn rests is at idle there =
+rest_deed named turns whole chosen rest session turn Statement (Called request) parts there_turn rests is at idle
+    there =
     let both = other_join named (free_in turns) whole.state chosen.state rest.state session request parts.states
     (off_rows named (free_in turns) session request
     (starts_within turns session turn request there_turn is.1.0) is.0) in
-    rest_done named turns whole chosen rest session turn request (Called request) _ _ parts there_turn rests at idle there
+    rest_done named turns whole chosen rest session turn request (Called request) _ _ parts there_turn rests at idle
+    there
     (ap Answered both.0) tt both.1
     (λ ending accepted. ended_none whole.state session request parts.law
     (is.1.1 (same_Some turn Ending (sym there_turn ∙ ending)))
     (answer_is (answer_to whole.state session request) (Replied Accepted) accepted))
-rest_deed named turns whole chosen rest session turn Disconnect (Called request) parts there_turn rests is at idle there =
+rest_deed named turns whole chosen rest session turn Disconnect (Called request) parts there_turn rests is at idle
+    there =
     tt
 rest_deed named turns whole chosen rest session turn Statement (Answered answer) parts there_turn rests is at idle
     there = tt
@@ -505,7 +508,8 @@ rest_deed named turns whole chosen rest session turn Statement (Gone (Some reque
 rest_deed named turns whole chosen rest session turn Disconnect (Gone request) parts there_turn rests is at idle there =
     let both = other_join named (free_in turns) whole.state chosen.state rest.state session (Given DisconnectGiven)
     parts.states tt in
-    rest_done named turns whole chosen rest session turn (Given DisconnectGiven) (Gone request) Left Left parts there_turn
+    rest_done named turns whole chosen rest session turn (Given DisconnectGiven) (Gone request) Left Left parts
+    there_turn
     rests at idle there refl tt both.1 (λ ending accepted. absurd (left_answered (Replied Accepted) accepted))
 rest_deed named turns whole chosen rest session turn Statement Left parts there_turn rests is at idle there = tt
 rest_deed named turns whole chosen rest session turn Disconnect Left parts there_turn rests is at idle there = tt
@@ -701,7 +705,8 @@ chosen_next named turn (Call session request) client next rest fits are is =
     (Called request, fits.1, ap Some (sym e), ap Some (sym e), idle.2)
 chosen_next named turn (Return session seen) client next rest fits are is =
     let e = return_idle session seen client next is in
-    subst (λ t. AreClients named (Some (turn_returned t seen)) (Some next) (Some next) rest) (sym (chosen_is turn fits)) (
+    subst (λ t. AreClients named (Some (turn_returned t seen)) (Some next) (Some next) rest)
+    (sym (chosen_is turn fits)) (
       ap Some e,
       ap Some e,
       (same_chosen named turn (Return session seen) (Some client) (Some client) rest fits are).3,
@@ -946,7 +951,8 @@ module _ (named : List ℕ → Bool) (turns : List Turn) (whole chosen rest : Co
 
   -- who has no branch after the event
   none_past : (side : Bool)
-      → (has_none (turn_after turn event side) ≡ true → (has_none turn ≡ true) ⊎ OwnsNone whole.state (session_of event))
+      → (has_none (turn_after turn event side) ≡ true
+      → (has_none turn ≡ true) ⊎ OwnsNone whole.state (session_of event))
       → (other : ℕ) → free_in (turns_past turns side event) other ≡ true
       → (free_in turns other ≡ true) ⊎ OwnsNone whole.state other
   none_past side own other none = elim (same_number (session_of event) other) [
@@ -969,7 +975,8 @@ module _ (named : List ℕ → Bool) (turns : List Turn) (whole chosen rest : Co
     | inl e ↦ absurd (open_by_call turn event side client next (Replied Accepted) is
         (same_Some (turn_after turn event side) Ending
         (sym (written side) ∙ ap (slice_get (turns_past turns side event)) e ∙ ending))
-        (same_Some next (Answered (Replied Accepted)) (sym (get_written whole.clients (session_of event) client next was)
+        (same_Some next (Answered (Replied Accepted))
+        (sym (get_written whole.clients (session_of event) client next was)
         ∙ ap (slice_get (set whole.clients (session_of event) next)) e ∙ answered)))
     | inr apart ↦ parts.ended other (aside turns (session_of event) _ other apart ∙ ending)
         (aside whole.clients (session_of event) next other apart ∙ answered)

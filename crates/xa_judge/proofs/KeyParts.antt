@@ -113,7 +113,8 @@ pub picked_next : (wanted d : Bool) (place : ℕ) (sides : List Bool) (event : E
     → place < length sides → place < length events
     → event ≡ get_or events place event
     → part ++ picked wanted (drop place sides) (drop place events) ≡ picked wanted sides events
-    → ((get_or sides place d ≡ wanted) → (part ++ event ∷ []) ++ picked wanted (drop (place + 1) sides) (drop (place + 1) events)
+    → ((get_or sides place d ≡ wanted)
+    → (part ++ event ∷ []) ++ picked wanted (drop (place + 1) sides) (drop (place + 1) events)
     ≡ picked wanted sides events)
     × ((get_or sides place d ≢ wanted) → part ++ picked wanted (drop (place + 1) sides) (drop (place + 1) events)
     ≡ picked wanted sides events)

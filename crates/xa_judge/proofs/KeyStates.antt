@@ -290,7 +290,8 @@ effect_rows named free state session association (Start xid) key other are is = 
 effect_rows named free state session association (End xid) key other are is =
     ap (λ rows. map.get rows key) (changed_rows state xid (λ branch. record branch { phase = PhaseIdle }))
 effect_rows named free state session association (Prepare xid) key other are is =
-    ap (λ rows. map.get rows key) (changed_rows state xid (λ branch. record branch { phase = PhasePrepared; owner = None }))
+    ap (λ rows. map.get rows key)
+    (changed_rows state xid (λ branch. record branch { phase = PhasePrepared; owner = None }))
 effect_rows named free state session association (Commit xid one_phase) key other are is =
     committed_rows named free state xid key are is
 effect_rows named free state session association (Rollback xid) key other are is = refl
@@ -412,7 +413,8 @@ pub free_join : (named : List ℕ → Bool) (free : ℕ → Bool) (whole chosen 
     × AreJoined named free (next_state whole session request) (next_state chosen session request) rest
 free_join named free whole chosen rest session (Given (Get key)) joined is =
     let one = free_get whole session key (free_of named free whole session joined.apart is.0) in
-    let other = free_get chosen session key (free_of named free chosen session (none_apart named free chosen joined.none) is.0) in (
+    let other = free_get chosen session key
+    (free_of named free chosen session (none_apart named free chosen joined.none) is.0) in (
       ap Replied (one.0 ∙ ap Value (joined.rows key is.1) ∙ sym other.0),
       subst (λ s. AreJoined named free s (after chosen session (Get key)) rest) (sym one.1)
           (subst (λ s. AreJoined named free whole s rest) (sym other.1) joined),
@@ -420,7 +422,8 @@ free_join named free whole chosen rest session (Given (Get key)) joined is =
 free_join named free whole chosen rest session (Given (Put key value)) joined is =
     let nothing = free_of named free whole session joined.apart is.0 in
     let one = free_put whole session key value nothing (unheld named free whole key joined.apart is.1) in
-    let other = free_put chosen session key value (free_of named free chosen session (none_apart named free chosen joined.none) is.0)
+    let other = free_put chosen session key value
+    (free_of named free chosen session (none_apart named free chosen joined.none) is.0)
     (unheld named free chosen key (none_apart named free chosen joined.none) is.1) in (
       ap Replied (one.0 ∙ sym other.0),
       join_write named free whole chosen rest _ _ key (Some value) joined one.1 other.1
@@ -429,7 +432,8 @@ free_join named free whole chosen rest session (Given (Put key value)) joined is
 free_join named free whole chosen rest session (Given (Del key)) joined is =
     let nothing = free_of named free whole session joined.apart is.0 in
     let one = free_del whole session key nothing (unheld named free whole key joined.apart is.1) in
-    let other = free_del chosen session key (free_of named free chosen session (none_apart named free chosen joined.none) is.0)
+    let other = free_del chosen session key
+    (free_of named free chosen session (none_apart named free chosen joined.none) is.0)
     (unheld named free chosen key (none_apart named free chosen joined.none) is.1) in (
       ap Replied (one.0 ∙ sym other.0),
       join_write named free whole chosen rest _ _ key None joined one.1 other.1

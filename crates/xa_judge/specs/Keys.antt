@@ -1,6 +1,6 @@
 -- Free statements on some rows, judged apart from the rest of a record.
--- A record is cut in two. One part is all GET, PUT and DEL of the chosen rows, by sessions that have no branch then, with
--- what they returned. The other part is the rest. Nothing in the rest touches the chosen rows.
+-- A record is cut in two. One part is all GET, PUT and DEL of the chosen rows, by sessions that have no branch then,
+-- with what they returned. The other part is the rest. Nothing in the rest touches the chosen rows.
 --     IsFreeRequest, IsOtherRequest      a request may stand in the one part;  in the other
 --     session_of           whose event it is
 --     has_none, free_in    a session has no branch, by its turn;  the sessions that have none
@@ -16,7 +16,8 @@ use Rattle.std.specs.Prelude.{◌≢◌, Option, None, cond}
 use Rattle.std.specs.Option.{unwrap_or, option_map_or}
 use Rattle.std.specs.FinMap as map
 use Rattle.xa_xid.specs.declared.xid.Xid.{Xid}
-use Rattle.xa_xid.specs.declared.statement.Statement.TheVariants.{Start, Prepare, Commit, Rollback, Get, Put, Del, Disconnect}
+use Rattle.xa_xid.specs.declared.statement.Statement.TheVariants.{Start, Prepare, Commit, Rollback}
+use Rattle.xa_xid.specs.declared.statement.Statement.TheVariants.{Get, Put, Del, Disconnect}
 use Rattle.xa_server.specs.State.{Branch, State}
 use Rattle.xa_judge.specs.declared.request.Request.{Request}
 use Rattle.xa_judge.specs.declared.request.Request.TheVariants.{Statement as Given}

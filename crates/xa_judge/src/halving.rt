@@ -83,8 +83,8 @@ fn halved(
     Ok(Some(high))
 }
 
-/// Returns the place of the first event after which nothing is left, if no more is known than the events up to there tell:
-/// it is one of those from `least` to `most`.
+/// Returns the place of the first event after which nothing is left, if no more is known than the events up to there
+/// tell: it is one of those from `least` to `most`.
 ///
 /// What is known of calls that return by then is the same up to any of these places. So events before the first other
 /// call are gone through once.

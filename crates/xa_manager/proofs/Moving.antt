@@ -71,11 +71,6 @@ stage_put stages number other was stage is = by (number == 0) (other == 0) refl 
           )
     ]
 
--- the transaction isn't over
-IsOpenStage : Stage → Type 0
-IsOpenStage Over = ⊥
-IsOpenStage stage = Unit {0}
-
 -- a transaction that isn't over came to this stage, and statements of this kind were added
 pub record Acts (kind : ℕ → Statement → Type 0) (number : ℕ) (was stage : Stage) (old new : Managing) : Type 0 where
   pub stores : new.stores ≡ old.stores

@@ -64,17 +64,6 @@ fails_snoc from (x ∷ xs) limit =
     ∙ ap (λ (n : ℕ). fails_from (from + 1) xs ++ Fail n limit ∷ [])
     (let e : from + 1 + length xs ≡ from + length (x ∷ xs) = grind (arith, common_steps) in e))
 
--- a run from a fresh manager, of calls behind others
-pub run_then : (stores : ℕ) (calls later : List Call) (responses : List Response) (mid last : Managing)
-    → HasCarried stores calls mid
-    → CarriesOut mid later responses last → HasCarried stores (calls ++ later) last
-run_then stores calls later responses mid last before carried = record {
-  first = before.first;
-  fresh = before.fresh;
-  responses = before.responses ++ responses;
-  carried = carried_then before.first mid last calls later before.responses responses before.carried carried;
-}
-
 -- among no calls none is FAIL
 pub fails_none : fails_from 0 [] ≡ []
 unfolding fails_from
@@ -147,12 +136,6 @@ pub if_ok_map : {A E : Type 0} (P Q : A → Type 0) (result : Result A E) → ((
     → IfOk result Q
 if_ok_map P Q (Ok a) more is = more a is
 if_ok_map P Q (Err e) more is = is
-
--- one call that was answered is a run of one call
-pub one_carried : (old new : Managing) (call : Call) (response : Response) → IsAnswered old call response new
-    → CarriesOut old (call ∷ []) (response ∷ []) new
-one_carried old new call response answered =
-    carried_more old old new [] (call ∷ []) [] call response none_yet answered refl
 
 -- the calls from a place on, cut after one, are the call there
 pub line_alone : (calls : List Call) (place : ℕ) (call : Call) → place < length calls → call ≡ get_or calls place call

@@ -1,9 +1,9 @@
 -- How far transactions have come, in a list.
-use Rattle.std.proofs.Common.{◌≡◌, ◌≢◌, ◌≤◌, ℕ, ◌<◌, ◌+◌, ◌-◌, ◌⊎◌, List, [], ◌∷◌, ◌++◌, zero, suc, length, take}
-use Rattle.std.proofs.Common.{length-append, arith, sym, refl, ap, subst}
+use Rattle.std.proofs.Common.{◌≡◌, ◌≢◌, ◌≤◌, ℕ, ◌<◌, ◌+◌, ◌-◌, ◌⊎◌, List, [], ◌∷◌, ◌++◌, zero, suc, length}
+use Rattle.std.proofs.Common.{arith, sym, refl, ap, subst}
 use Rattle.std.proofs.Common.{◌∙◌, inl, inr, Some, None, Bool, true, false, cond}
 use Rattle.std.proofs.lemmas.Bool.{eqb-false, eqb-true}
-use Rattle.std.proofs.Math.Seq.{set-append_seam, take-append_seam}
+use Rattle.std.proofs.Math.Seq.{set-append_seam}
 use Rattle.std.specs.Prelude.{◌==◌, slice_get, slice_set}
 use Rattle.std.proofs.lemmas.List.{set_past, length-set}
 use Rattle.std.proofs.lemmas.Bool.Decides.{eqb_tells}
@@ -162,13 +162,6 @@ with_stage-last stages before after number is = by (number == 0) refl
     by false some =
         let place : number - 1 ≡ length stages = omega arith in
         ap (λ at. slice_set (stages ++ before ∷ []) at after) place ∙ set-append_seam stages before [] after
-
--- a list of stages without its last one is the list before that one was appended
-pub take-last : (stages : List Stage) (last : Stage) → take (length (stages ++ last ∷ []) - 1) (stages ++ last ∷ [])
-    ≡ stages
-take-last stages last =
-    let count : length (stages ++ last ∷ []) - 1 ≡ length stages = omega (arith, length-append stages (last ∷ [])) in
-    ap (λ n. take n (stages ++ last ∷ [])) count ∙ take-append_seam stages (last ∷ [])
 
 -- each transaction that is kept was begun under its number, over so many stores
 abbrev pub Kept : ℕ → List Stage → Type 0

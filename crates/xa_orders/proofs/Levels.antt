@@ -207,16 +207,6 @@ halfway_done lines front way list half = record {
     by new (inl any) = any_left (λ one. (session : ℕ) × IsTurn lines session one new) front (way ∷ []) any
     by new (inr own) = any_push (λ one. (session : ℕ) × IsTurn lines session one new) front way (own.0, own.2)
 
--- no ways lead to no ways with a turn more
-pub next_none : (lines : List Told) (list : List Way) → list ≡ [] → IsNextOf lines [] list
-next_none lines list none =
-    subst (IsNextOf lines []) (sym none)
-    (record {
-      each = All-nil (λ new. ⊥);
-      all = All-nil (λ way. Covers lines 17 way []);
-      ascending = tt;
-    })
-
 -- a way with one turn more than a way that is reached is reached with one turn more
 reached_more : (lines : List Told) (base : Config) (count session : ℕ) (way new : Way) → IsReached lines base count way
     → IsTurn lines session way new

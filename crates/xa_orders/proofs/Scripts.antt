@@ -50,11 +50,6 @@ pub sessions_end : (order : List ℕ) (index : ℕ) → length order ≤ index �
 unfolding sessions_text
 sessions_end order index past = ap sessions_text (drop_all index order past)
 
--- the text of no sessions is empty
-pub sessions_none : sessions_text [] ≡ []
-unfolding sessions_text
-sessions_none = refl
-
 -- the loop over outcomes: the text of one more is written
 pub outcomes_step : (outcomes : List Outcome) (index number : ℕ) (one : Outcome) (whole out more : List ℕ)
     → index < length outcomes

@@ -4,8 +4,8 @@
 //! of parts that are there, later ones first: all of them, a half, and so on down to single ones. Short windows are
 //! tried again while that helps.
 //!
-//! The call that returns on the ILLEGAL line stays. If that line shows a value, one of the calls that write it stays too,
-//! and for each branch that it shows one of those that prepare it: without them any value would be ILLEGAL there.
+//! The call that returns on the ILLEGAL line stays. If that line shows a value, one of the calls that write it stays
+//! too, and for each branch that it shows one of those that prepare it: without them any value would be ILLEGAL there.
 
 use crate::line_event::NumberedEvent;
 use crate::part::{Belongs, Standing};

@@ -5,7 +5,8 @@ ghost use Rattle.json.specs.Json.{no_members};
 ghost use Rattle.json.specs.Token.{key, string, number};
 ghost use Rattle.json.specs.Tree.{json_tokens, members_tokens};
 ghost use Rattle.xa_lines.specs.Script.{lines_of};
-ghost use Rattle.xa_record.specs.Forms.{text_value, texts_value, with_could_be, with_exchange, with_reason, with_smaller};
+ghost use Rattle.xa_record.specs.Forms.{text_value, texts_value, with_could_be, with_exchange, with_reason};
+ghost use Rattle.xa_record.specs.Forms.{with_smaller};
 ghost use Rattle.xa_record.specs.Forms.{report_members, json_text as text_of_report};
 ghost use Rattle.xa_record.specs.Kept.{reason_kept, grounds_kept, report_kept};
 

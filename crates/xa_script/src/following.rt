@@ -12,8 +12,8 @@ use xa_record::{Allowance, Asked, Form, Outcome, judge_text_from};
 use xa_server::Server;
 use xa_xid::NoMemory;
 
-/// A reader of a record. Whenever its writer pauses, the lines that have come are judged, and the standard error is told
-/// once no order explains them.
+/// A reader of a record. Whenever its writer pauses, the lines that have come are judged, and the standard error is
+/// told once no order explains them.
 #[derive(Drop)]
 pub struct Following<'r, I: Read, R> {
     /// What is read.

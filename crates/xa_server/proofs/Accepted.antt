@@ -49,11 +49,6 @@ open_association state session = by (own_xid state session)
     by None = tt
     by (Some xid) = in_phase state (phase_at state xid) xid refl
 
--- a session's association is one with a branch that is open, or free
-pub open_as : (state : State) (session : ℕ) (association : Association) → association ≡ association_of state session
-    → IsOpen state association
-open_as state session association is = subst (IsOpen state) (sym is) (open_association state session)
-
 -- a branch that has a phase is there
 known_found : (found : Option Branch) (phase : Phase) → option_map (λ (b : Branch). b.phase) found ≡ Some phase
     → is_some found ≡ true

@@ -26,20 +26,9 @@ use Rattle.xa_server.proofs.Steps.{share_there, share_others}
 unfoldable pub use Rattle.xa_server.proofs.Whole.{longer}
 use Rattle.xa_server.proofs.Whole.{whole_more, whole_row, changed_at}
 
--- the branch's record with a key more among those that it holds
-pub longer-is : (key : List ℕ) (branch : BranchRecord)
-    → longer key branch ≡ record branch { held = branch.held ++ key ∷ [] }
-unfolding longer
-longer-is key branch = refl
-
 -- the branch's record without the last key that it holds
 unfoldable pub shorter : BranchRecord → BranchRecord
 shorter branch = record branch { held = without_last branch.held }
-
--- the branch's record without the last of the keys that it holds
-pub shorter-is : (branch : BranchRecord) → shorter branch ≡ record branch { held = without_last branch.held }
-unfolding shorter
-shorter-is branch = refl
 
 -- a list with one more behind it, without its last, is the list
 front_of : (keys : List (List ℕ)) (key : List ℕ) → without_last (keys ++ key ∷ []) ≡ keys

@@ -176,13 +176,13 @@ sound_after state session (Idle own) associated Disconnect accepted at sound =
 -- ---- one branch for a session
 
 -- the session has no branch open
-is_free : Association → Bool
+unfoldable pub is_free : Association → Bool
 is_free Free = true
 is_free (Active own) = false
 is_free (Idle own) = false
 
 -- a session that owns a branch isn't free
-owner_associated : (state : State) (session : ℕ) (xid : Xid) → LockLaw state → owns state session xid ≡ true
+pub owner_associated : (state : State) (session : ℕ) (xid : Xid) → LockLaw state → owns state session xid ≡ true
     → is_free (association_of state session) ≡ false
 unfolding association_of is_owned is_free
 owner_associated state session xid law e =

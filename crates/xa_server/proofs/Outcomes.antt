@@ -1,8 +1,5 @@
 -- Facts that hold of one outcome of a call.
-use Rattle.std.proofs.Common.{◌≡◌, sym, true, false}
-use mathlib.Core.Bool.{true≢false}
 use Rattle.std.specs.Prelude.{Result, Ok, Err, OnOk, OnErr, IfOk}
-use Rattle.std.specs.Result.{is_err}
 
 -- what follows from an Ok and from an Err follows from a result
 pub either_way : {T E : Type 0} (r : Result T E) {P Q C : Type 0} → OnOk r P → OnErr r Q → (P → C) → (Q → C) → C
@@ -18,16 +15,6 @@ on_ok (Err e) p f = p
 pub on_err : {T E : Type 0} (r : Result T E) {P Q : Type 0} → OnErr r P → (P → Q) → OnErr r Q
 on_err (Ok x) p f = p
 on_err (Err e) p f = f p
-
--- what holds at `Ok`, where it is `Ok`
-pub at_ok : {T E : Type 0} (r : Result T E) {P : Type 0} → false ≡ is_err r → OnOk r P → P
-at_ok (Ok x) e p = p
-at_ok (Err x) e p = absurd (true≢false (sym e))
-
--- what holds at `Err`, where it is `Err`
-pub at_err : {T E : Type 0} (r : Result T E) {P : Type 0} → true ≡ is_err r → OnErr r P → P
-at_err (Ok x) e p = absurd (true≢false e)
-at_err (Err x) e p = p
 
 -- what follows from something that holds of the value at `Ok` holds of it
 pub if_ok : {T E : Type 0} (r : Result T E) {P Q : T → Type 0} → IfOk r P → ((x : T) → P x → Q x) → IfOk r Q

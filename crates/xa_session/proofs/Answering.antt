@@ -10,11 +10,11 @@ use Rattle.xa_server.specs.State.{State, association_of}
 use Rattle.xa_server.specs.Replies.{reply_to}
 use Rattle.xa_server.specs.Step.{enters, may_enter, is_refused, may_take_memory}
 use Rattle.decision_log.specs.History.{Begins}
-use Rattle.decision_log.specs.Calls.{Looked, IsAdded, IsOvertaken, IsBusy}
+use Rattle.decision_log.specs.Calls.{Looked, IsAdded}
 use Rattle.decision_log.specs.declared.known.Known.{Known}
 use Rattle.decision_log.proofs.Histories.{begins_itself, begins_append, begins_through, length_begins}
-use Rattle.xa_session.specs.Replay.{state_after, state_at}
-use Rattle.xa_session.specs.Answer.{entry_of, AnswersAt, Advances, IsAnswered, IsUnanswered, IsFull, IsKept, Fails}
+use Rattle.xa_session.specs.Replay.{state_at}
+use Rattle.xa_session.specs.Answer.{entry_of, Advances, IsAnswered, IsUnanswered, IsKept, Fails}
 use Rattle.xa_session.specs.declared.answer.Answer.{Answer}
 use Rattle.xa_session.specs.declared.replica.Replica.{Replica}
 use Rattle.xa_session.specs.declared.fault.Fault.{Fault}
@@ -22,7 +22,7 @@ use Rattle.xa_session.specs.declared.fault.Fault.TheVariants.{Overtaken, Full, N
 use Rattle.xa_server.specs.declared.reply.Reply.TheVariants.{Ok as Accepted}
 use Rattle.xa_xid.specs.declared.statement.Statement.TheVariants.{Disconnect}
 use Rattle.xa_session.proofs.Entering.{disconnect_accepted}
-use Rattle.xa_session.proofs.Replaying.{state_at-begins, state_at-whole}
+use Rattle.xa_session.proofs.Replaying.{state_at-begins}
 
 -- the entry that was put behind a history stands at its end
 pub slice_get-last : (xs : List Entry) (entry : Entry) → slice_get (xs ++ entry ∷ []) (length xs) ≡ Some entry
@@ -171,54 +171,6 @@ kept_entered base statement answer entry mid new replica server session replayed
     (ap (λ s. may_take_memory s new.number statement) there
     ∙ ap (λ n. may_take_memory server n statement) (added.number ∙ sym number) ∙ m)) kept
 
--- a look that isn't followed by an answer adds nothing
-pub unanswered_looked : (old new : Known) → Looked old new → IsUnanswered old new
-unanswered_looked old new looked = record { advances = advances_looked old new looked; mine = looked.mine }
-
--- two steps of a session, neither of which is answered, add nothing together
-pub unanswered_through : (old mid new : Known) → IsUnanswered old mid → IsUnanswered mid new → IsUnanswered old new
-unanswered_through old mid new first second =
-    record { advances = advances_through old mid new first.advances second.advances; mine = second.mine ∙ first.mine }
-
--- an attempt that another client got ahead of, with a look before it
-pub fails_overtaken : (front : ℕ) (old mid new : Known) → Looked old mid → IsOvertaken front mid new
-    → IsOvertaken front old new
-fails_overtaken front old mid new looked lost = record {
-  number = lost.number ∙ looked.number;
-  seen = begins_through old.seen mid.seen new.seen looked.seen lost.seen;
-  longer = omega (arith, length_begins old.seen mid.seen looked.seen, lost.longer);
-  front = lost.front;
-  mine = lost.mine ∙ looked.mine;
-  looks = omega arith;
-  tries = omega arith;
-}
-
--- an attempt whose reply would enter, in a log that is full
-pub fails_full : (base : State) (capacity : ℕ) (statement : Statement) (answer : Answer) (old new : Known)
-    → Looked old new
-    → IsReply base statement answer true new → length new.seen ≡ capacity → IsFull base capacity statement old new
-fails_full base capacity statement answer old new looked is full = record {
-  unanswered = unanswered_looked old new looked;
-  enters =
-      ap (λ s. enters s old.number statement) (sym (state_at-whole base new.seen))
-      ∙ ap (λ n. enters (state_at base new.seen (length new.seen)) n statement) (sym looked.number) ∙ sym is.enters_is;
-  full = full;
-}
-
--- an attempt that found another client at work
-pub fails_busy : (old mid new : Known) → Looked old mid → IsBusy mid new → IsUnanswered old new
-fails_busy old mid new looked busy = record {
-  advances = record {
-    number = busy.number ∙ looked.number;
-    seen = subst (λ list. Begins old.seen list) (sym busy.seen) looked.seen;
-    looks = omega arith;
-    tries = omega arith;
-  };
-  mine = busy.mine ∙ looked.mine;
-}
-
--- tries one after another
-
 -- so an attempt that fails, for whatever reason, adds nothing
 pub fails_unanswered : (turns : Bool) (capacity : ℕ) (base : State) (statement : Statement) (fault : Fault)
     (old new : Known)
@@ -239,40 +191,6 @@ unanswered_itself known =
           { number = refl; seen = begins_itself known.seen; looks = omega arith; tries = omega arith };
       mine = refl;
     }
-
--- an answer after attempts that failed is an answer to the statement
-pub then_answered : (base : State) (statement : Statement) (answer : Answer) (old mid new : Known)
-    → IsUnanswered old mid
-    → IsAnswered base statement answer mid new → IsAnswered base statement answer old new
-then_answered base statement answer old mid new first is =
-    let number : mid.number ≡ old.number = first.advances.number in
-    let Enters : ℕ → Bool → Type 0 = λ n b. enters (state_at base new.seen answer.place) n statement ≡ b in
-    record {
-      advances = advances_through old mid new first.advances is.advances;
-      looked = omega (arith, first.advances.looks, is.looked);
-      not_before = omega (arith, length_begins old.seen mid.seen first.advances.seen, is.not_before);
-      at = subst (λ n. AnswersAt base new.seen n statement answer.place answer.reply) number is.at;
-      entered = λ entering.
-          let added = is.entered (subst (λ n. Enters n true) (sym number) entering) in
-          record {
-            seen = added.seen ∙ ap (λ n. take answer.place new.seen ++ entry_of n statement ∷ []) number;
-            mine = added.mine ∙ ap (λ n. mid.mine ++ entry_of n statement ∷ []) number
-                ∙ ap (λ list. list ++ entry_of old.number statement ∷ []) first.mine;
-          };
-      outside = λ other.
-          let stays = is.outside (subst (λ n. Enters n false) (sym number) other) in
-          record { whole = stays.whole; mine = stays.mine ∙ first.mine };
-    }
-
--- a log that is full after attempts that failed is full for the statement
-pub then_full : (base : State) (capacity : ℕ) (statement : Statement) (old mid new : Known) → IsUnanswered old mid
-    → IsFull base capacity statement mid new
-    → IsFull base capacity statement old new
-then_full base capacity statement old mid new first is = record {
-  unanswered = unanswered_through old mid new first is.unanswered;
-  enters = subst (λ n. enters (state_after base new.seen) n statement ≡ true) first.advances.number is.enters;
-  full = is.full;
-}
 
 -- an answer to DISCONNECT is Ok
 pub disconnected : (base : State) (answer : Answer) (old new : Known) → IsAnswered base Disconnect answer old new

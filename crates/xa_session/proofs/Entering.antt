@@ -1,8 +1,5 @@
 -- A statement that enters makes an entry, DISCONNECT is accepted, and XA RECOVER is answered a list and doesn't enter.
-use Rattle.std.proofs.Common.{◌≡◌, ℕ, Bool, true, false, if◌then◌else◌, ◌&&◌, not, refl, subst, sym, Option, Some, None}
-use Rattle.std.proofs.Common.{rules}
-use Rattle.std.specs.Option.{IsSome}
-use Rattle.xa_words.specs.Entry.{Entry}
+use Rattle.std.proofs.Common.{◌≡◌, ℕ, Bool, true, false, ◌&&◌, not, refl}
 use Rattle.xa_xid.specs.declared.statement.Statement.{Statement}
 use Rattle.xa_xid.specs.declared.statement.Statement.TheVariants.{Start, End, Prepare, Commit, Rollback, Recover}
 use Rattle.xa_xid.specs.declared.statement.Statement.TheVariants.{Unsupported, Get, Put, Del, Disconnect}
@@ -79,15 +76,3 @@ recover_reply state session convert = by (association_of state session)
     by Free = refl
     by (Active own) = refl
     by (Idle own) = refl
-
--- an entry is made where it may be
-pub is_made : (makes : Bool) (found : Option Entry) (entry : Entry) → found ≡ (if makes then Some entry else None)
-    → makes ≡ true → IsSome found
-is_made true found entry is makes = let P : Option Entry → Type 0 = λ o. IsSome o in subst P (sym is) (search rules)
-is_made false found entry is makes = absurd (cc)
-
--- the entry that was made is the statement's
-pub made_entry : (makes : Bool) (found : Option Entry) (entry made : Entry)
-    → found ≡ (if makes then Some entry else None) → found ≡ Some made → made ≡ entry
-made_entry true found entry made is was = cc
-made_entry false found entry made is was = absurd (cc)

@@ -19,7 +19,8 @@ returns-then-given c =
     let all : (answer : Answer) → IsAnswerAfter base (take c.args.place c.args.events.now) session answer
     → Contains answers answer =
     λ answer after. c.requires.all answer (subst (λ l. IsAnswerAfter base l session answer) (sym first) after) in
-    illegal_return base c.args.events.now c.args.place session c.args.seen.now answers c.requires.within c.requires.returns
+    illegal_return base c.args.events.now c.args.place session c.args.seen.now answers c.requires.within
+    c.requires.returns
     some
     (subst (λ l. All (IsAnswerAfter base l session) answers) first
     (subst (λ l. All (IsAnswerAfter base c.args.first.now session) l) c.as_slice-2.ensures.value
