@@ -26,7 +26,7 @@ pub moved_else : (home : ℕ → ℕ) (number id n : ℕ) → n ≢ number → m
 unfolding moved
 moved_else home number id n apart = rw (ne_eqb n number apart) refl
 
--- the last of a list that got longer, and where it stands
+-- an element of a list that got one longer was in it before, or is the new one, at its end
 pub at_end : {A : Type 0} (xs : List A) (a b : A) (j : ℕ) → get_elem? (xs ++ a ∷ []) j ≡ some b
     → (get_elem? xs j ≡ some b) ⊎ ((j ≡ length xs) × (a ≡ b))
 at_end [] a b zero e = inr (refl, some-injective a b e)

@@ -62,7 +62,7 @@ pub record MeetsFirst (old new : Known) : Type 0 where
   pub tries : new.tries ≡ old.tries
 
 -- the second of two that meet: it has seen all that the first has, and the entries of the first's number there are the
--- first's own
+-- first's own; it has seen more than before only if the first had
 pub record MeetsSecond (other old new : Known) : Type 0 where
   pub number : new.number ≡ old.number
   pub seen : Begins old.seen new.seen

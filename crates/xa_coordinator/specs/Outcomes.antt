@@ -62,7 +62,8 @@ IsClosed true statement xid old new = AddsEach (End xid ∷ statement ∷ []) ol
 unfoldable pub lists_store : List ℕ → ℕ → Bool
 lists_store stores store = list_any (nat_eq store) stores
 
--- a participant's branch was finished, or wasn't known there; another store's session is as it was
+-- a participant's branch was finished, or wasn't known there if the store is listed; another store's session is as it
+-- was
 abbrev pub Settles : (ends : Bool) → Statement → Xid → (takes_part listed : Bool) → SessionView → SessionView → Type 0
 Settles ends statement xid false listed old new = new ≡ old
 Settles ends statement xid true false old new = IsClosed ends statement xid old new
@@ -102,7 +103,8 @@ branch_of transaction store = branch_xid transaction.name.items transaction.numb
 abbrev pub ends_in : List (Option OpenBranch) → Transaction → Closing → ℕ → Bool
 ends_in branches transaction closing store = ends_first closing (has_working_branch branches store transaction.number)
 
--- the branch of a store was finished, or wasn't known there, if the store takes part
+-- the branch of a store that takes part was finished, or wasn't known there if the store is listed; any other store's
+-- session is as it was
 abbrev pub SettlesIn : List (Option OpenBranch) → Transaction → Closing → ℕ → (listed : Bool) → SessionView
     → SessionView → Type 0
 SettlesIn branches transaction closing store listed =

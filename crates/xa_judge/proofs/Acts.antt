@@ -40,9 +40,11 @@ pub record ActsAs (old : Config) (session : ℕ) (act : Act) (new : Config) : Ty
   pub closed : (answer : Answer) (one : Request) → client answer ≡ Called one → ⊥
   pub gone : (answer : Answer) (one : Request) → client answer ≡ Gone (Some one) → ⊥
 
+-- two calls that are the same are of the same request
 same_call : (one two : Request) → Some (Called one) ≡ Some (Called two) → one ≡ two
 same_call one two e = cc
 
+-- whatever an act leads to, it leads to in that way
 pub acts_as : (old new : Config) (session : ℕ) (act : Act) → effect_of old session act ≡ Some new
     → ActsAs old session act new
 unfolding effect_of carried_out disconnected
@@ -160,8 +162,10 @@ asked_acts hints old new session act asked leads =
     (a.client (answer_to old.state session a.request)) asked a.found
     (a.closed (answer_to old.state session a.request)) (a.gone (answer_to old.state session a.request)))
 
+-- an answered call isn't an open one
 pub answered_called : (answer : Answer) (request : Request) → Answered answer ≡ Called request → ⊥
 answered_called answer request e = cc
 
+-- an answered call isn't one whose client is gone
 pub answered_gone : (answer : Answer) (request : Request) → Answered answer ≡ Gone (Some request) → ⊥
 answered_gone answer request e = cc

@@ -59,11 +59,12 @@ others_none state session other (Given statement) apart none = elim (outcome sta
 
 -- ---- a session's own requests
 
--- a branch that is gone, or has no owner, isn't the session's
+-- a branch that is gone isn't the session's
 gone_unowned : (session : ℕ) → is_owned session None ≡ true → ⊥
 unfolding is_owned
 gone_unowned session e = true≢false (sym e)
 
+-- a branch that has no owner any more isn't the session's
 detached_unowned : (session : ℕ) (found : Option Branch) → is_owned session (option_map detached found) ≡ true → ⊥
 unfolding is_owned detached
 detached_unowned session None e = true≢false (sym e)
@@ -77,7 +78,7 @@ only_that session at xid new found same not e =
     not (ap (λ b. is_owned session (cond b new found))
     (sym (ap (λ x. same_xid x xid) same ∙ same_itself xids_total exact_xids xid)) ∙ e)
 
--- what an accepted XA COMMIT or XA ROLLBACK is of, if the session has something open
+-- an XA COMMIT that is accepted of a session that has something open names the branch that the session owns
 committed_own : (state : State) (session : ℕ) (association : Association) (xid at : Xid) (one_phase : Bool)
     → IsOwn state session association → is_free association ≡ false
     → is_refused (table state association (Commit xid one_phase)) ≡ false → owns state session xid ≡ true
@@ -89,6 +90,7 @@ committed_own state session (Idle associated) xid at false own held e = absurd (
 committed_own state session (Idle associated) xid at true own held e =
     ap (owns state session) (own_is xid associated _ e) ∙ own
 
+-- an XA ROLLBACK that is accepted of a session that has something open names the branch that the session owns
 rolled_own : (state : State) (session : ℕ) (association : Association) (xid at : Xid)
     → IsOwn state session association → is_free association ≡ false
     → is_refused (table state association (Rollback xid)) ≡ false → owns state session xid ≡ true
@@ -98,7 +100,7 @@ rolled_own state session (Active associated) xid at own held e = absurd (true≢
 rolled_own state session (Idle associated) xid at own held e =
     ap (owns state session) (own_is xid associated _ e) ∙ own
 
--- what a session that disconnects had open
+-- a session that disconnects doesn't own the branch any more that it owned
 left_own : (state : State) (session : ℕ) (association : Association) (at : Xid) (found : Option Branch) → LockLaw state
     → IsOwn state session association → is_free association ≡ false → owns state session at ≡ true
     → is_owned session (branch_after session association Disconnect at found) ≡ true → ⊥

@@ -63,6 +63,7 @@ fact_apart : (hints : List Hint) (session other : ℕ) (hint : Hint) → session
     → fact_of (set hints session hint) other ≡ fact_of hints other
 fact_apart hints session other hint apart = ap (λ o. unwrap_or o no_hint) (get_apart hints session other hint apart)
 
+-- a hint about one session leaves what is known of another
 hint_apart : (hints : List Hint) (session other : ℕ) (hint : Hint) → session ≢ other
     → hint_of (set hints session hint) other ≡ hint_of hints other
 hint_apart hints session other hint apart = ap (λ (h : Hint). h.seen) (fact_apart hints session other hint apart)
@@ -262,6 +263,7 @@ abbrev pub SeesAlike : List Hint → Hint → Config → Event → Config → Ty
 SeesAlike hints hint kept event next = (new : Config) × (observed kept event ≡ Some new)
     × AreAlike (set hints (session_in event) hint) next new
 
+-- where the session's client is kept as it is, what is kept sees the event as well
 equal_sees : (hints : List Hint) (hint : Hint) (run kept next : Config) (event : Event)
     → AreAlike hints run kept → NotesCall hints hint event → observed run event ≡ Some next
     → slice_get run.clients (session_in event) ≡ slice_get kept.clients (session_in event)
@@ -277,6 +279,7 @@ equal_sees hints hint run kept next event are notes sees same =
           (noted_event hints hint run next event s.next are.asked notes sees s.is s.before s.found)),
     )
 
+-- where what is kept is ahead of the order, it sees the event as well
 ahead_sees : (hints : List Hint) (hint : Hint) (run kept next : Config) (event : Event)
     → AreAlike hints run kept → FitsHints hints event → observed run event ≡ Some next
     → IsAheadAt (hint_of hints (session_in event)) run.state (session_in event)
@@ -345,6 +348,7 @@ behind_sees hints hint run kept next (Unknown session) are fits sees behind = (
       behind.kept (idle_shut hint)),
 )
 
+-- whatever is kept of a configuration sees its next event as well
 pub alike_sees : (hints : List Hint) (hint : Hint) (run kept next : Config) (event : Event)
     → AreAlike hints run kept → FitsHints hints event → NotesCall hints hint event → observed run event ≡ Some next
     → SeesAlike hints hint kept event next
@@ -359,6 +363,7 @@ alike_sees hints hint run kept next event are fits notes sees = by (are.clients 
 
 -- ---- an order that can't go on past a return
 
+-- an order that can't go on past a return can't after an act either
 pub dead_acts : (hints : List Hint) (run next : Config) (session : ℕ) (act : Act) → IsDead hints run
     → effect_of run session act ≡ Some next → IsDead hints next
 dead_acts hints run next session act dead leads =
@@ -385,6 +390,7 @@ dead_acts hints run next session act dead leads =
         → Some c ≡ Some (Answered dead.answer) → ⊥
     by c un is = answered c un (same_Some c (Answered dead.answer) is)
 
+-- an order that can't go on past a return can't after an event either
 pub dead_sees : (hints : List Hint) (hint : Hint) (run next : Config) (event : Event) → IsDead hints run
     → FitsHints hints event → observed run event ≡ Some next
     → IsDead (set hints (session_in event) hint) next

@@ -1,7 +1,7 @@
 -- Lists of what is kept where later returns are known.
---     left_past             an order that can't go on past a return, past an event
---     goes_closed           past an event, from a closed list
---     goes_called           past a call or a loss, from any list
+--     left_past             an order that can't go on past a return can't after an event either
+--     goes_closed           an order is followed past an event, from a closed list
+--     goes_called           past a call or a loss it is, from any list
 use Rattle.std.proofs.Common.{◌≡◌, ℕ, false, Option, Some, None, List, [], ◌∷◌, set, map, zero, suc, refl, ap}
 use Rattle.std.proofs.Common.{sym, ◌∙◌, inl}
 use Rattle.std.proofs.Common.{inr}
@@ -25,7 +25,7 @@ use Rattle.xa_judge.proofs.Waits.{later, session_in, CanWait}
 use Rattle.xa_judge.proofs.ForeseenSteps.{alike_acts}
 use Rattle.xa_judge.proofs.ForeseenEvents.{alike_sees, dead_acts, dead_sees}
 
--- an order that can't go on past a return, past an event
+-- an order that can't go on past a return can't after an event either
 pub left_past : (hints : List Hint) (hint : Hint) (event : Event) (run end : Config) (more : List Event)
     (moves : List Move) → IsDead hints run → FitsHints hints event → LeadsThrough run (event ∷ more) moves end
     → IsLeft (set hints (session_in event) hint) more end
@@ -39,7 +39,7 @@ left_past hints hint event run end more (Seeing ∷ moves) dead fits runs = reco
 }
 left_past hints hint event run end more [] dead fits runs = absurd runs
 
--- the event itself
+-- where an order sees the event, so does what is kept in its place, and the order is followed from what that leads to
 pub seen_from : (hints : List Hint) (hint : Hint) (event : Event) (old new : Config → Type 0)
     (kept run next end : Config) (more : List Event) (moves : List Move) → old kept → AreAlike hints run kept
     → FitsHints hints event → NotesCall hints hint event
@@ -58,7 +58,8 @@ seen_from hints hint event old new kept run next end more moves there alike fits
       runs = runs;
     }
 
--- past an event, from a closed list
+-- an order that is followed in a closed list is followed past its next event in the next list, unless it can't go on
+-- past a return: its acts before the event lead to what is in the list already
 pub goes_closed : (hints : List Hint) (hint : Hint) (event : Event) (old new : Config → Type 0)
     (kept run end : Config) (more : List Event) (moves : List Move) → IsClosedFor hints None old → old kept
     → AreAlike hints run kept → FitsHints hints event → NotesCall hints hint event
@@ -80,7 +81,7 @@ goes_closed hints hint event old new kept run end more (Seeing ∷ moves) closed
     inl (seen_from hints hint event old new kept run runs.0 end more moves there alike fits notes seen runs.1 runs.2)
 goes_closed hints hint event old new kept run end more [] closed there alike fits notes seen runs = absurd runs
 
--- whose client isn't gone with an open call in what is kept, isn't so on the way
+-- if in what is kept the session's client isn't gone with an open call, it isn't in the order's configuration
 pub unheard_alike : (hint : Hint) (run kept : Config) (session : ℕ)
     → IsAlikeAt hint run.state session (slice_get run.clients session) (slice_get kept.clients session)
     → has_unheard kept session ≡ false → has_unheard run session ≡ false
@@ -91,7 +92,7 @@ unheard_alike hint run kept session (inr (inl ahead)) is = elim ahead.way [
   | inr given ↦ ap unheard_so given.1
 ]
 
--- past a call, from any list: no act has to come before it
+-- past a call or a loss, before which no act has to come, an order is followed from any list
 pub goes_called : (hints : List Hint) (hint : Hint) (event : Event) (old new : Config → Type 0)
     (kept run end : Config) (more : List Event) (moves : List Move) → old kept
     → AreAlike hints run kept → FitsHints hints event → NotesCall hints hint event
@@ -119,12 +120,13 @@ answer_kept hints run kept session c alike none heard at = by (alike.clients ses
 
 -- ---- places of returns
 
--- one place more is known
+-- to set an element and then map is to map and then set its image
 set_mapped : {A B : Type 0} (f : A → B) (xs : List A) (i : ℕ) (a : A) → map f (set xs i a) ≡ set (map f xs) i (f a)
 set_mapped f [] i a = refl
 set_mapped f (x ∷ xs) zero a = refl
 set_mapped f (x ∷ xs) (suc i) a = ap (λ l. f x ∷ l) (set_mapped f xs i a)
 
+-- one place more is known: so is one hint more
 pub hints_set : (events : List Event) (places : List OpenCall) (session : ℕ) (place : OpenCall)
     → hints_of events (set places session place) ≡ set (hints_of events places) session (hint_in events place)
 hints_set events places session place = set_mapped (hint_in events) places session place

@@ -195,6 +195,7 @@ seen_answered hints hint session seen old new kept run end more moves there alik
       | inr given ↦ first (ap answered_so given.1)
     ]
 
+-- a truth value is true or false
 either : (b : Bool) → (b ≡ true) ⊎ (b ≡ false)
 either true = inl refl
 either false = inr refl

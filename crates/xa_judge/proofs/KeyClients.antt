@@ -57,6 +57,7 @@ forth P None (Some y) x both is = absurd both
 forth P (Some a) None x both is = absurd both
 forth P (Some a) (Some y) x both is = (y, refl, subst (λ c. P c y) (same_Some a x is) both)
 
+-- where the other is there, so is the one
 pub back : {A B : Type 0} (P : A → B → Type 0) (one : Option A) (other : Option B) (y : B) → Together P one other
     → other ≡ Some y
     → (x : A) × (one ≡ Some x) × P x y
@@ -216,7 +217,7 @@ AreClients named (Some Chosen) whole chosen rest =
     × (rest ≡ Some Idle)
 AreClients named (Some turn) whole chosen rest = IsRested named turn whole chosen rest
 
--- its open call belongs to the other part, or it may have a branch
+-- by its turn, the session's open call belongs to the other part, or the session may have a branch
 abbrev pub is_rest : Turn → Bool
 is_rest Nobody = false
 is_rest Chosen = false
@@ -225,7 +226,7 @@ is_rest Within = true
 is_rest Rest = true
 is_rest Ending = true
 
--- then its clients are told so
+-- by such a turn, the session is idle in the chosen part, and its client in the other part is that in the whole
 rested : (named : List ℕ → Bool) (turn : Turn) (whole chosen rest : Option ClientState) → is_rest turn ≡ true
     → AreClients named (Some turn) whole chosen rest → IsRested named turn whole chosen rest
 rested named Nobody whole chosen rest is are = absurd (false≢true is)
@@ -235,6 +236,7 @@ rested named Within whole chosen rest is are = are
 rested named Rest whole chosen rest is are = are
 rested named Ending whole chosen rest is are = are
 
+-- `rested`, the other way round
 are_rested : (named : List ℕ → Bool) (turn : Turn) (whole chosen rest : Option ClientState) → is_rest turn ≡ true
     → IsRested named turn whole chosen rest → AreClients named (Some turn) whole chosen rest
 are_rested named Nobody whole chosen rest is are = absurd (false≢true is)
@@ -306,6 +308,7 @@ free_turn : (turns : List Turn) (session : ℕ) (turn : Turn) → slice_get turn
     → free_in turns session ≡ has_none turn
 free_turn turns session turn at = ap (λ o. option_map_or has_none o false) at
 
+-- a request on rows of a session without a branch is one of the chosen part
 on_rows : (named : List ℕ → Bool) (free : ℕ → Bool) (session : ℕ) (request : Request) → free session ≡ true
     → IsOnRows named request → IsFreeRequest named free session request
 on_rows named free session (Given (Get key)) none is = (none, is)
@@ -313,6 +316,7 @@ on_rows named free session (Given (Put key value)) none is = (none, is)
 on_rows named free session (Given (Del key)) none is = (none, is)
 on_rows named free session request none is = absurd is
 
+-- a request off these rows is one of the other part, if a start is of a session that may have a branch
 off_rows : (named : List ℕ → Bool) (free : ℕ → Bool) (session : ℕ) (request : Request)
     → (is_start request ≡ true → free session ≡ false) → IsOffRows named request
     → IsOtherRequest named free session request
@@ -332,6 +336,7 @@ starts_within turns session turn request at plain starts = free_turn turns sessi
     by true none = absurd (false≢true (sym (plain none) ∙ starts))
     by false none = none
 
+-- a request keeps the lock law
 law_next : (state : State) (session : ℕ) (request : Request) → LockLaw state
     → LockLaw (next_state state session request)
 law_next state session Unread law = law
@@ -358,6 +363,7 @@ ended_next turns whole session request client next ended at own other ending ans
 
 -- ---- acts
 
+-- the turn Chosen isn't Ending
 chosen_ending : Some Chosen ≡ Some Ending → ⊥
 chosen_ending e = cc
 
@@ -460,9 +466,11 @@ rest_done named turns whole chosen rest session turn request client next same pa
 answer_is : (one other : Answer) → Answered one ≡ Answered other → one ≡ other
 answer_is one other e = cc
 
+-- a client that is gone has no answer
 gone_answered : (answer : Answer) → Gone None ≡ Answered answer → ⊥
 gone_answered answer e = cc
 
+-- a client that has left has no answer
 left_answered : (answer : Answer) → Left ≡ Answered answer → ⊥
 left_answered answer e = cc
 
@@ -540,6 +548,7 @@ absent_rests config new session act at leads = none-some new (sym (effect_is con
     nothing Statement = refl
     nothing Disconnect = refl
 
+-- an idle session has no act
 pub idle_rests : (config new : Config) (session : ℕ) (act : Act) → slice_get config.clients session ≡ Some Idle
     → effect_of config session act ≡ Some new → ⊥
 unfolding deed_of
@@ -781,6 +790,7 @@ idle_next named turn next chosen (inr within) e idle =
     subst (λ t. AreClients named (Some t) (Some next) chosen (Some next)) (sym within)
     (Idle, tt, ap Some e, idle, ap Some e)
 
+-- after a return the session has no open call, and it has no branch or may have one
 returned_turns : (turn : Turn) (seen : Seen) → (turn_returned turn seen ≡ Nobody) ⊎ (turn_returned turn seen ≡ Within)
 returned_turns Nobody seen = inr refl
 returned_turns Chosen seen = inl refl
@@ -792,6 +802,7 @@ returned_turns Ending (SeenValue value) = inr refl
 returned_turns Ending (SeenRows rows) = inr refl
 returned_turns Ending (SeenError numbers) = inr refl
 
+-- after a return whose answer isn't known the session has no open call, and it has no branch or may have one
 unknown_turns : (turn : Turn) → (turn_unknown turn ≡ Nobody) ⊎ (turn_unknown turn ≡ Within)
 unknown_turns Nobody = inr refl
 unknown_turns Chosen = inl refl
@@ -866,6 +877,7 @@ returned_none Ending (SeenValue value) answer shows none = absurd (false≢true 
 returned_none Ending (SeenRows rows) answer shows none = absurd (false≢true none)
 returned_none Ending (SeenError numbers) answer shows none = absurd (false≢true none)
 
+-- after a return whose answer isn't known a session has no branch only if it had none
 unknown_none : (turn : Turn) → has_none (turn_unknown turn) ≡ true → has_none turn ≡ true
 unknown_none Nobody none = refl
 unknown_none Chosen none = refl

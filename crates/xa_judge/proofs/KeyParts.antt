@@ -23,6 +23,7 @@ pub record CutSoFar (named : List ℕ → Bool) (turns : List Turn) (sides : Lis
   pub on : (more : List Bool) → IsCut named turns more (drop place events)
       → IsCut named first_turns (sides ++ more) events
 
+-- the cut of the events so far goes on with one event more, by its turn and side
 pub cut_more : (named : List ℕ → Bool) (turns : List Turn) (sides : List Bool) (events : List Event)
     (place : ℕ) (event : Event) (turn : Turn) (side : Bool) → CutSoFar named turns sides events place
     → place < length events
@@ -38,6 +39,7 @@ cut_more named turns sides events place event turn side so_far within is at fits
       (so_far.on (side ∷ more) (subst (IsCut named turns (side ∷ more)) (sym all) (turn, at, fits, cut)));
 }
 
+-- once no event is left, all are cut
 pub cut_all : (named : List ℕ → Bool) (turns : List Turn) (sides : List Bool) (events : List Event)
     (place : ℕ) → CutSoFar named turns sides events place
     → length events ≤ place
@@ -61,12 +63,14 @@ same_side true false is = absurd (false≢true is)
 same_side false true is = absurd (false≢true is)
 same_side false false is = refl
 
+-- sides of which the test says that they differ do differ
 pub other_side : (left right : Bool) → beq left right ≡ false → left ≢ right
 other_side true true is = absurd (false≢true (sym is))
 other_side true false is = λ e. false≢true (sym e)
 other_side false true is = λ e. false≢true e
 other_side false false is = absurd (false≢true (sym is))
 
+-- an event on the wanted side is picked
 pub picked_in : (wanted side : Bool) (sides : List Bool) (event : Event) (events : List Event) → side ≡ wanted
     → picked wanted (side ∷ sides) (event ∷ events) ≡ event ∷ picked wanted sides events
 picked_in true true sides event events is = refl
@@ -74,6 +78,7 @@ picked_in true false sides event events is = absurd (false≢true is)
 picked_in false true sides event events is = absurd (false≢true (sym is))
 picked_in false false sides event events is = refl
 
+-- an event on the other side isn't
 pub picked_out : (wanted side : Bool) (sides : List Bool) (event : Event) (events : List Event) → side ≢ wanted
     → picked wanted (side ∷ sides) (event ∷ events) ≡ picked wanted sides events
 picked_out true true sides event events is = absurd (is refl)
@@ -81,6 +86,7 @@ picked_out true false sides event events is = refl
 picked_out false true sides event events is = refl
 picked_out false false sides event events is = absurd (is refl)
 
+-- among no events none is picked
 picked_none : (wanted : Bool) (sides : List Bool) → picked wanted sides [] ≡ []
 picked_none true [] = refl
 picked_none false [] = refl
@@ -89,6 +95,7 @@ picked_none true (false ∷ sides) = refl
 picked_none false (true ∷ sides) = refl
 picked_none false (false ∷ sides) = refl
 
+-- without sides nothing is picked
 none_picked : (wanted : Bool) (events : List Event) → picked wanted [] events ≡ []
 none_picked true events = refl
 none_picked false events = refl
@@ -135,6 +142,7 @@ picked_next wanted d place sides event events part in_sides in_events there so_f
 
 -- ---- how many there are
 
+-- the count of the first sides goes on with the side at the next place
 count_in_here : (wanted side : Bool) (place : ℕ) (sides : List Bool) → slice_get sides place ≡ Some side
     → count_in wanted (take (suc place) sides)
     ≡ count_in wanted (take place sides) + count_in wanted (side ∷ [])
@@ -153,12 +161,14 @@ count_in_here false side (suc place) (true ∷ sides) at = count_in_here false s
 count_in_here false side (suc place) (false ∷ sides) at =
     ap suc (count_in_here false side place sides at) ∙ omega arith
 
+-- a wanted side counts as one
 one_in : (wanted side : Bool) → side ≡ wanted → count_in wanted (side ∷ []) ≡ 1
 one_in true true is = refl
 one_in true false is = absurd (false≢true is)
 one_in false true is = absurd (false≢true (sym is))
 one_in false false is = refl
 
+-- any other side doesn't count
 one_out : (wanted side : Bool) → side ≢ wanted → count_in wanted (side ∷ []) ≡ 0
 one_out true true is = absurd (is refl)
 one_out true false is = refl

@@ -57,6 +57,7 @@ unlike named key other unnamed is = elim (same_or_apart bytes_total exact_texts 
   | inr apart ↦ apart
 ]
 
+-- if both of two branches are apart, the chosen one is
 either_apart : (named : List ℕ → Bool) (free : ℕ → Bool) (b : Bool) (one other : Option Branch)
     → IsApartAt named free one → IsApartAt named free other → IsApartAt named free (cond b one other)
 either_apart named free true one other is was = is
@@ -69,6 +70,7 @@ changed_apart : (named : List ℕ → Bool) (free : ℕ → Bool) (change : Bran
 changed_apart named free change None keeps was = tt
 changed_apart named free change (Some branch) keeps was = keeps branch was
 
+-- a branch that was just started is apart, if its session isn't one without a branch
 start_apart : (named : List ℕ → Bool) (free : ℕ → Bool) (session : ℕ) → free session ≡ false
     → IsApartBranch named free (started_by session)
 start_apart named free session not_free = record {
@@ -80,6 +82,7 @@ start_apart named free session not_free = record {
     same_owner : (left right : ℕ) → Some left ≡ Some right → left ≡ right
     same_owner left right e = cc
 
+-- a branch that was apart is apart once it shares a row that isn't named
 lock_apart : (named : List ℕ → Bool) (free : ℕ → Bool) (key : List ℕ) (branch : Branch) → named key ≡ false
     → IsApartBranch named free branch → IsApartBranch named free (with_lock key branch)
 lock_apart named free key branch unnamed was = record {
@@ -94,6 +97,7 @@ lock_apart named free key branch unnamed was = record {
     by false other is = get_inserted_apart bytes_total exact_texts branch.locks key Shared other
         (unlike named other key unnamed is) ∙ was.locks other is
 
+-- a branch that was apart is apart once it writes a row that isn't named
 write_apart : (named : List ℕ → Bool) (free : ℕ → Bool) (key : List ℕ) (write : Write) (branch : Branch)
     → named key ≡ false → IsApartBranch named free branch → IsApartBranch named free (with_own_write key write branch)
 write_apart named free key write branch unnamed was = record {
@@ -104,6 +108,7 @@ write_apart named free key write branch unnamed was = record {
       (unlike named other key unnamed is) ∙ was.locks other is;
 }
 
+-- a branch that was apart is apart once it has no owner
 detached_apart : (named : List ℕ → Bool) (free : ℕ → Bool) (branch : Branch) → IsApartBranch named free branch
     → IsApartBranch named free (detached branch)
 unfolding detached
@@ -116,11 +121,13 @@ detached_apart named free branch was = record {
     not_owned : (session : ℕ) → ◌≡◌ {A = Option ℕ} None (Some session) → ⊥
     not_owned session e = cc
 
+-- a branch that was apart is apart once it is IDLE
 idle_apart : (named : List ℕ → Bool) (free : ℕ → Bool) (branch : Branch) → IsApartBranch named free branch
     → IsApartBranch named free (idle branch)
 unfolding idle
 idle_apart named free branch was = record { owner = was.owner; writes = was.writes; locks = was.locks }
 
+-- after a statement of the other part a branch is apart as it was
 branch_apart : (named : List ℕ → Bool) (free : ℕ → Bool) (session : ℕ) (association : Association)
     (statement : Statement) (at : Xid) (found : Option Branch)
     → IsOtherRequest named free session (Given statement)
@@ -176,6 +183,7 @@ statement_apart named free state session statement other was = elim (outcome sta
       (was xid)))
 ]
 
+-- after a request of the other part all branches are apart
 pub apart_after : (named : List ℕ → Bool) (free : ℕ → Bool) (state : State) (session : ℕ) (request : Request)
     → IsOtherRequest named free session request
     → IsApart named free state → IsApart named free (next_state state session request)
@@ -203,6 +211,7 @@ free_of named free state session are is =
     by None at e = not_owned e
     by (Some branch) at e = at.owner session is e
 
+-- a test that fails for each element fails for the list
 none_any : (p : Xid → Bool) (xs : List Xid) → ((x : Xid) → p x ≡ false) → list_any p xs ≡ false
 none_any p [] none = refl
 none_any p (x ∷ xs) none = ap (λ b. b || list_any p xs) (none x) ∙ none_any p xs none
@@ -246,6 +255,7 @@ unwritten key (write ∷ writes) rows none =
     by rest true is none = something none
     by rest false is none = aside write.1 (with_writes writes rows) is ∙ rest none
 
+-- a change of a branch leaves the committed values
 changed_rows : (state : State) (xid : Xid) (change : Branch → Branch)
     → (with_changed state xid change).rows ≡ state.rows
 changed_rows state xid change = by (map.get state.branches xid)
@@ -255,6 +265,7 @@ changed_rows state xid change = by (map.get state.branches xid)
     by None = refl
     by (Some branch) = refl
 
+-- a commit of a branch that is apart leaves the values of named rows
 committed_rows : (named : List ℕ → Bool) (free : ℕ → Bool) (state : State) (xid : Xid) (key : List ℕ)
     → IsApart named free state → named key ≡ true
     → committed_value (committed state xid) key ≡ committed_value state key
@@ -269,6 +280,7 @@ committed_rows named free state xid key are is = by (map.get state.branches xid)
     by (Some branch) at = unwritten key (map.entries branch.writes) state.rows
         (sym (get-entries branch.writes key) ∙ at.writes key is)
 
+-- a write of a row that isn't named leaves the values of named rows
 written_rows : (named : List ℕ → Bool) (state : State) (association : Association) (other key : List ℕ)
     (write : Write) → named other ≡ false → named key ≡ true
     → committed_value (row_written state association other write) key ≡ committed_value state key
@@ -280,6 +292,7 @@ written_rows named state (Active own) other key write unnamed is =
     ap (λ rows. map.get rows key) (changed_rows state own (with_own_write other write))
 written_rows named state (Idle own) other key write unnamed is = refl
 
+-- a statement of the other part leaves the values of named rows
 effect_rows : (named : List ℕ → Bool) (free : ℕ → Bool) (state : State) (session : ℕ) (association : Association)
     (statement : Statement) (key : List ℕ)
     → IsOtherRequest named free session (Given statement)
@@ -345,6 +358,7 @@ free_put state session key value free nobody = (
       (record state { rows = with_write key (Some value) state.rows })) nobody,
 )
 
+-- a session that is free deletes a row at once that nobody holds
 pub free_del : (state : State) (session : ℕ) (key : List ℕ) → association_of state session ≡ Free
     → is_held_against state Free key ≡ false
     → (reply_to state session (Del key) ≡ Accepted)

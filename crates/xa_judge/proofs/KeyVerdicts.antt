@@ -38,6 +38,7 @@ use Rattle.xa_judge.proofs.KeyRuns.{clients_at, in_parts, whole_of}
 
 -- ---- before all events
 
+-- before all events each session is idle everywhere
 clients_first : (named : List ℕ → Bool) (count at : ℕ)
     → AreClients named (slice_get (replicate count Nobody) at) (slice_get (replicate count Idle) at)
     (slice_get (replicate count Idle) at) (slice_get (replicate count Idle) at)
@@ -45,6 +46,7 @@ clients_first named zero at = (refl, refl, refl)
 clients_first named (suc count) zero = (refl, refl, refl)
 clients_first named (suc count) (suc at) = clients_first named count at
 
+-- before all events no session's call ends its branch
 none_ends : (count at : ℕ) → slice_get (replicate count Nobody) at ≡ Some Ending → ⊥
 none_ends zero at e = none-some Ending e
 none_ends (suc count) zero e = apart e
@@ -53,6 +55,7 @@ none_ends (suc count) zero e = apart e
     apart e = cc
 none_ends (suc count) (suc at) e = none_ends count at e
 
+-- before all events the parts stand to the whole as they should, if the base has no branch
 pub parts_first : (named : List ℕ → Bool) (base : State) → HasNoBranch base
     → AreParts named first_turns (opening_config base) (opening_config base) (opening_config base)
 unfolding opening_config first_turns

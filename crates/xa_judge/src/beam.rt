@@ -210,7 +210,8 @@ impl<'a> Beam<'a> {
         self.look_on(session)
     }
 
-    /// Whether a call of a session whose client is gone may be in the way of the event.
+    /// Whether in some configuration the session's client is gone with a call that may still take effect. Until that
+    /// call has, or a `DISCONNECT` in place of it, the session can't be seen to call again.
     fn is_unheard(&self, session: SessionNo) -> bool {
         self.known.iter().any(|one| one.has_unheard(session))
     }

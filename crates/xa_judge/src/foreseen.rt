@@ -283,6 +283,7 @@ fn legal_by(
 ) -> Result<Option<Verdict>, NoMemory>
     ensures { IfOk result (λ found. IfSome found (IsVerdict base.now events.now limit)) }
 {
+    // Only the contract names the limit: LEGAL doesn't depend on it.
     let _limit = limit;
     if front.known.is_empty() {
         return Ok(None);

@@ -230,6 +230,7 @@ fn legal_behind(
     ensures verdict { IfOk result (λ found. IfSome found (IsVerdict base.now events.now limit)) }
     ensures whole { IfOk result (λ found. IfSome found (λ verdict. seen_for events.now verdict ≡ length events.now)) }
 {
+    // Only the contract names the limit: LEGAL doesn't depend on it.
     let _limit = limit;
     let mut moves = moves_alone(alloc, first)?;
     moves.extend_from_slice(later)?;

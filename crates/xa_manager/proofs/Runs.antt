@@ -52,7 +52,7 @@ carried_then old mid new calls later responses more before (one_more cs rs m so_
     (carried_more old m n (calls ++ cs) ((calls ++ cs) ++ call ∷ []) (responses ++ rs) call response
     (carried_then old mid m calls cs responses rs before so_far) answered refl)
 
--- the calls FAIL for several stores and for one more
+-- one limit more makes one call FAIL more, for the next store
 pub fails_snoc : (from : ℕ) (limits : List ℕ) (limit : ℕ)
     → fails_from from (limits ++ limit ∷ []) ≡ fails_from from limits ++ Fail (from + length limits) limit ∷ []
 unfolding fails_from
@@ -64,7 +64,7 @@ fails_snoc from (x ∷ xs) limit =
     ∙ ap (λ (n : ℕ). fails_from (from + 1) xs ++ Fail n limit ∷ [])
     (let e : from + 1 + length xs ≡ from + length (x ∷ xs) = grind (arith, common_steps) in e))
 
--- among no calls none is FAIL
+-- no limits make no call FAIL
 pub fails_none : fails_from 0 [] ≡ []
 unfolding fails_from
 fails_none = refl

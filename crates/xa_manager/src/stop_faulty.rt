@@ -28,7 +28,7 @@ fn is_refusal(response: &Response) -> bool
     }
 }
 
-/// Appends why the line of this number is refused.
+/// Appends `LINE`, the number, and why the line of this number is refused. Only other answers show `decisions`.
 fn push_cause(
     faults: &mut Vec<u8>,
     alloc: Global,
@@ -47,7 +47,7 @@ fn push_cause(
     Ok(())
 }
 
-/// Appends the line of this number, if it is refused.
+/// Appends why the line of this number is refused, or nothing if it isn't.
 fn push_fault(
     faults: &mut Vec<u8>,
     alloc: Global,
@@ -64,7 +64,7 @@ fn push_fault(
     }
 }
 
-/// Carries a call out, and appends the line of this number if it is refused.
+/// Carries out the call on the line of this number, and appends why it is refused, if it is.
 fn carry_line<R: Wait>(
     rt: &R,
     alloc: Global,

@@ -1,8 +1,8 @@
--- The number by which ways are told apart: if two numbers differ, so do the places to which the ways have come.
+-- The number by which ways are told apart: if two numbers differ, so do the configurations to which the ways have come.
 -- Every rule here is the project's own.
 --     with_word              a number after one more word
 --     with_text .. with_key  a number after one more thing of that kind
---     mark                   a place's number; the keys are those of the rows that lines write
+--     mark                   a configuration's number; the keys are those of the rows that lines write
 use Rattle.std.specs.Prelude.{ℕ, ◌+◌, ◌*◌, ◌/◌, ◌%◌, ◌^◌, Option, Some, None, List, length, fold, bit_xor}
 use Rattle.xa_xid.specs.Xid.{Text}
 use Rattle.xa_server.specs.State.{State, committed_value}
@@ -27,6 +27,6 @@ with_value number (Some text) = with_text (with_word number 1) text.items
 abbrev pub with_key : State → ℕ → List ℕ → ℕ
 with_key state number key = with_value number (committed_value state key)
 
--- a place's number: made of what the lines were answered, and of the committed values of these rows
+-- a configuration's number: made of what the lines were answered, and of the committed values of these rows
 unfoldable pub mark : List (List ℕ) → Config → ℕ
 mark keys config = fold (with_key config.state) (fold with_text 0 config.answers) keys

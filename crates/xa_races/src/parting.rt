@@ -23,7 +23,7 @@ pub(crate) struct Parts {
     pub(crate) added: Vec<Vec<Added>>,
 }
 
-/// Splits what the threads returned.
+/// Splits what the threads returned. Faults are left out: `first_fault` was asked for them before.
 pub(crate) fn part(alloc: Global, raced: Vec<Raced>) -> Result<Parts, NoMemory>
     ensures sessions { IfOk result (λ parts. parts.sessions.items ≡ map (λ one. one.session) raced.items) }
     ensures answers { IfOk result (λ parts. parts.answers.items ≡ map (λ one. one.said.answers) raced.items) }

@@ -22,14 +22,17 @@ use Rattle.xa_record.specs.Replaying.{HasNoFeed, joined, IsFit}
 pub both : (one two : Bool) → one ≡ true → two ≡ true → (one && two) ≡ true
 both one two first second = ap (λ b. b && two) first ∙ second
 
+-- of two tests that hold together the first holds
 pub both_first : (one two : Bool) → (one && two) ≡ true → one ≡ true
 both_first true two is = refl
 both_first false two is = is
 
+-- of two tests that hold together the second holds
 pub both_second : (one two : Bool) → (one && two) ≡ true → two ≡ true
 both_second true two is = is
 both_second false two is = absurd (cc)
 
+-- a test whose negation holds fails
 not_so : (test : Bool) → not test ≡ true → test ≡ false
 not_so true is = sym is
 not_so false is = refl

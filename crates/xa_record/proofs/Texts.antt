@@ -31,7 +31,7 @@ with_answers-more answers index answer within at =
     ap texts_of (take_more answers index answer within ∙ ap (λ x. take index answers ++ x ∷ []) (sym at))
     ∙ with_answers-append [] (take index answers) (answer ∷ [])
 
--- keys that are told apart by their bytes alone are put in where these are
+-- a key is put in among keys in the order of their bytes where its bytes are put in among theirs
 inserted : {A : Type 0} (bytes : A → List ℕ) (keys : List A) (key : A)
     → map bytes (insert_key (λ x y. bytes_cmp (bytes x) (bytes y)) keys key)
     ≡ insert_key bytes_cmp (map bytes keys) (bytes key)

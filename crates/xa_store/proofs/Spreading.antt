@@ -69,7 +69,8 @@ zip_unmapped K f (a ∷ xs) (b ∷ ys) zip = (zip.0, zip_unmapped K f xs ys zip.
 
 -- a list and another, element by element
 
--- what holds of pairs and then of their images holds place by place
+-- if K of two elements gives Q of the first and the second's image, lists that K relates place by place are related by
+-- Q once the second is mapped
 pub zip_mapped : {A B C : Type 0} (K : A → B → Type 0) (Q : A → C → Type 0) (f : B → C)
     → ((a : A) (b : B) → K a b → Q a (f b)) → (xs : List A) (ys : List B)
     → AllZip K xs ys → AllZip Q xs (map f ys)
