@@ -87,6 +87,7 @@ pub keyless : (p : Ptr) (h : Option Chair.the_row.Denot) → Keyless (holds p h)
 keyless p None = λ _. tt
 keyless p (Some x) = (lies Chair.the_row sent p x, frees.frees the_heap (bare (lone Chair.the_row.mir)) p)
 
+-- a box of a chair in memory of the global allocator, as the steps on boxes take it
 abbrev pub E : Bx
 E = record {
   row = Chair.the_row;

@@ -7,7 +7,7 @@ use Rattle.xa_xid.specs.declared.xid.Xid.{Xid}
 use Rattle.nigbaru_c.specs.declared.xid_part.XidPart.{XidPart}
 use Rattle.nigbaru_c.specs.Telling.{IsLaid}
 
--- if the identifiers so far are laid out, and one more is at the next place, they all are
+-- with the identifier at a place laid out, all up to it are, if those before it were
 pub laid_more : (xids : List Xid) (parts : List XidPart) (i : ℕ) (v : XidPart) → i < length parts
     → ((d : Xid) → IsLaid (get_or xids i d) v)
     → ((k : ℕ) (d : Xid) (e : XidPart) → k < i → IsLaid (get_or xids k d) (get_or parts k e))
@@ -20,7 +20,7 @@ laid_more xids parts i v within new old k d e below =
     (λ other. subst (λ (part : XidPart). IsLaid (get_or xids k d) part) (sym (get_or-set_other parts i k v e other))
     (old k d e (omega (arith, below, other))))
 
--- what stands behind that place is as it was at first
+-- what stands behind a place is still as it was at first after a write there
 pub kept_more : (parts first : List XidPart) (i : ℕ) (v : XidPart)
     → ((k : ℕ) (e : XidPart) → i ≤ k → get_or parts k e ≡ get_or first k e)
     → (k : ℕ) (e : XidPart) → i + 1 ≤ k → get_or (set parts i v) k e ≡ get_or first k e

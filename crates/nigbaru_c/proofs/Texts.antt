@@ -9,11 +9,11 @@ use Rattle.xa_xid.specs.declared.statement.Statement.TheVariants.{Start, End, Pr
 use Rattle.xa_xid.specs.declared.statement.Statement.TheVariants.{Unsupported, Get, Put, Del, Disconnect}
 use Rattle.xa_statement.specs.Canonical.{statement_text}
 
--- a text that has bytes in front of it has bytes
+-- a text of two parts has a byte if the first part has one
 some_before : (front back : List ℕ) → 1 ≤ length front → 1 ≤ length (front ++ back)
 some_before front back some = omega (arith, some, length-append front back)
 
--- the text of a statement that may be an entry has bytes
+-- the text of a statement that may be logged has at least one byte
 pub some_text : (statement : Statement) → IsTrue (may_be_entry statement) → 1 ≤ length (statement_text statement)
 unfolding statement_text
 some_text (Start xid) is = some_before (codes "XA START ") (xid_text xid) (omega arith)

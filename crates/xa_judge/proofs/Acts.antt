@@ -1,6 +1,6 @@
 -- What an act does: a request is carried out, and its session isn't open any more.
---     ActsAs, acts_as     the request, and what becomes of the client
---     asked_acts          what is open was called for, also after an act
+--     ActsAs, acts_as              the request, and what becomes of the client
+--     asked_closed, asked_acts     what is open was called for, also once one client is no more;  and after an act
 use Rattle.std.proofs.Common.{◌≡◌, ◌⊎◌, ℕ, Option, Some, None, List, set, refl, ap, sym, ◌∙◌, subst, inl, inr}
 use Rattle.std.specs.Prelude.{slice_get}
 use Rattle.std.proofs.lemmas.Option.{none-some, same_Some}
@@ -40,11 +40,11 @@ pub record ActsAs (old : Config) (session : ℕ) (act : Act) (new : Config) : Ty
   pub closed : (answer : Answer) (one : Request) → client answer ≡ Called one → ⊥
   pub gone : (answer : Answer) (one : Request) → client answer ≡ Gone (Some one) → ⊥
 
--- two calls that are the same are of the same request
+-- clients that wait for the same call have called for the same request
 same_call : (one two : Request) → Some (Called one) ≡ Some (Called two) → one ≡ two
 same_call one two e = cc
 
--- whatever an act leads to, it leads to in that way
+-- so it is with each act that takes effect
 pub acts_as : (old new : Config) (session : ℕ) (act : Act) → effect_of old session act ≡ Some new
     → ActsAs old session act new
 unfolding effect_of carried_out disconnected
@@ -162,10 +162,10 @@ asked_acts hints old new session act asked leads =
     (a.client (answer_to old.state session a.request)) asked a.found
     (a.closed (answer_to old.state session a.request)) (a.gone (answer_to old.state session a.request)))
 
--- an answered call isn't an open one
+-- an answered client isn't one with an open call
 pub answered_called : (answer : Answer) (request : Request) → Answered answer ≡ Called request → ⊥
 answered_called answer request e = cc
 
--- an answered call isn't one whose client is gone
+-- nor is it one that is gone with an open call
 pub answered_gone : (answer : Answer) (request : Request) → Answered answer ≡ Gone (Some request) → ⊥
 answered_gone answer request e = cc

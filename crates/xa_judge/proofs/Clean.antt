@@ -1,7 +1,8 @@
 -- Sessions that have no branch.
---     others_none        another session's request gives it none
---     ended_none         nor has it one once a request is accepted that ends it
---     law_none           a state without branches keeps the law
+--     OwnsNone        a session owns no branch
+--     others_none     another session's request gives it none
+--     ended_none      nor has it one once a request is accepted that ends it
+--     law_none        a state without branches keeps the law
 use Rattle.std.proofs.Common.{◌≡◌, ◌≢◌, ◌==◌, arith, ℕ, Bool, true, false, Option, Some, None, ap, sym, ◌∙◌}
 use Rattle.std.proofs.Common.{inl, inr}
 use Rattle.std.specs.Prelude.{is_some, cond}
@@ -64,7 +65,7 @@ gone_unowned : (session : ℕ) → is_owned session None ≡ true → ⊥
 unfolding is_owned
 gone_unowned session e = true≢false (sym e)
 
--- a branch that has no owner any more isn't the session's
+-- a detached branch isn't the session's, nor is one that isn't there
 detached_unowned : (session : ℕ) (found : Option Branch) → is_owned session (option_map detached found) ≡ true → ⊥
 unfolding is_owned detached
 detached_unowned session None e = true≢false (sym e)
@@ -78,7 +79,7 @@ only_that session at xid new found same not e =
     not (ap (λ b. is_owned session (cond b new found))
     (sym (ap (λ x. same_xid x xid) same ∙ same_itself xids_total exact_xids xid)) ∙ e)
 
--- an XA COMMIT that is accepted of a session that has something open names the branch that the session owns
+-- a session that has something open owns the branch of its XA COMMIT, unless that is refused
 committed_own : (state : State) (session : ℕ) (association : Association) (xid at : Xid) (one_phase : Bool)
     → IsOwn state session association → is_free association ≡ false
     → is_refused (table state association (Commit xid one_phase)) ≡ false → owns state session xid ≡ true
@@ -90,7 +91,7 @@ committed_own state session (Idle associated) xid at false own held e = absurd (
 committed_own state session (Idle associated) xid at true own held e =
     ap (owns state session) (own_is xid associated _ e) ∙ own
 
--- an XA ROLLBACK that is accepted of a session that has something open names the branch that the session owns
+-- a session that has something open owns the branch of its XA ROLLBACK, unless that is refused
 rolled_own : (state : State) (session : ℕ) (association : Association) (xid at : Xid)
     → IsOwn state session association → is_free association ≡ false
     → is_refused (table state association (Rollback xid)) ≡ false → owns state session xid ≡ true

@@ -1,7 +1,12 @@
 -- Statements of two sessions that don't touch the same branch nor the same row commute.
---     untouched             a branch that a statement of another session doesn't name is as it was
---     held_alike            whether a row is held against a session, in two states
---     reply_same            a statement has the same reply in both states
+--     untouched                    a branch that a statement of another session doesn't name is as it was
+--     held_alike, locked_alike     whether a row is held against a session, in two states;  exclusively
+--     IsAsked, reply_same          a statement has the same reply in both states
+--     written, effect-row          what a statement's effect leaves of a row's committed value
+--     commutes                     both orders of two statements lead to the same state
+--     by_row, by_ending            the statements that name a row;  those that end a branch
+--     is_about                     a step of a session's own branch is about that alone, and is accepted
+--     Commutes, step_commutes      a step and a statement that is clear of it come to the same in any order
 use Rattle.std.proofs.Common.{◌≡◌, ◌≢◌, ◌⊎◌, ℕ, Bool, true, false, cond, not, ◌&&◌, ◌||◌, [], ◌∷◌, Option, Some, None}
 use Rattle.std.proofs.Common.{List, refl, ap, sym}
 use Rattle.std.proofs.Common.{◌∙◌, subst, inl, inr}
@@ -50,12 +55,12 @@ use Rattle.xa_server.proofs.Listing.{prepared_ascend, prepared_exactly}
 use Rattle.xa_server.proofs.Others.{IsOwn, own_association, others_left}
 use Rattle.xa_server.specs.Laws.{LeavesSession}
 
--- a choice whose test fails is the second value
+-- where a test fails, what was there stays
 apart_same : {A : Type 0} (b : Bool) (new old : A) → b ≡ false → cond b new old ≡ old
 apart_same true new old e = absurd (false≢true (sym e))
 apart_same false new old e = refl
 
--- a statement that doesn't touch the branch leaves it
+-- the effect of a statement leaves a branch that it doesn't name and that its session hasn't open
 branch_kept : (session : ℕ) (association : Association) (statement : Statement) (xid : Xid) (found : Option Branch)
     → Avoids statement xid → IsBeside association xid → branch_after session association statement xid found ≡ found
 unfolding branch_after
@@ -112,7 +117,7 @@ beside_unowned state session xid none = by (association_of state session) refl
 abbrev pub HoldAlike : State → State → List ℕ → Type 0
 HoldAlike old new key = (xid : Xid) → lock_at new xid key ≡ lock_at old xid key
 
--- a branch that holds a row is there
+-- a branch that holds a row is among the state's branches
 holds_known : (state : State) (xid : Xid) (key : List ℕ) → holds state xid key ≡ true
     → list_any (same_xid xid) (map.keys state.branches) ≡ true
 holds_known state xid key e = sym (contains_key-keys state.branches xid) ∙ by (map.get state.branches xid) e
@@ -135,7 +140,7 @@ exclusive_held : (o : Option _) → is_exclusive o ≡ true → is_some o ≡ tr
 exclusive_held None e = absurd (false≢true e)
 exclusive_held (Some mode) e = refl
 
--- whether a row is held against a session is the same in two states whose branches hold it alike
+-- if the branches hold the row alike in both states, one that isn't the session's own holds it in both or in neither
 pub held_alike : (old new : State) (association : Association) (key : List ℕ) → HoldAlike old new key
     → is_held_against new association key ≡ is_held_against old association key
 unfolding is_held_against
@@ -146,7 +151,7 @@ held_alike old new association key alike =
     (any_alike old new key _ _ (λ xid. ap (λ o. is_another association xid && is_some o) (sym (alike xid)))
     (λ xid e. ap is_some (alike xid) ∙ (both _ _ e).1))
 
--- whether a row is locked against a session is the same in two states whose branches hold it alike
+-- and such a one holds it exclusively in both or in neither
 pub locked_alike : (old new : State) (association : Association) (key : List ℕ) → HoldAlike old new key
     → is_locked_against new association key ≡ is_locked_against old association key
 unfolding is_locked_against
@@ -168,19 +173,19 @@ pub record IsAsked (old new : State) (session : ℕ) (statement : Statement) : T
   pub value : (key : List ℕ) → statement ≡ Get key → committed_value new key ≡ committed_value old key
   pub held : (key : List ℕ) → key_of statement ≡ Some key → HoldAlike old new key
 
--- whether an identifier is known depends on its branch alone
+-- a branch that is the same in both states is known in both or in neither
 known_same : (old new : State) (xid : Xid) → map.get new.branches xid ≡ map.get old.branches xid
     → is_known new xid ≡ is_known old xid
 known_same old new xid same = ap is_some same
 
--- whether an identifier's branch is prepared depends on that branch alone
+-- and it is PREPARED in both or in neither
 prepared_same : (old new : State) (xid : Xid) → map.get new.branches xid ≡ map.get old.branches xid
     → is_prepared new xid ≡ is_prepared old xid
 prepared_same old new xid same =
     ap (λ (found : Option Branch). option_map_or is_prepared_phase (option_map (λ (b : Branch). b.phase) found) false)
     same
 
--- the table's reply is the same in both states, if what it depends on is
+-- if what the reply depends on is the same in both states, so is the reply that the table has
 table_same : (old new : State) (session : ℕ) (statement : Statement) → IsAsked old new session statement
     → (a : Association) → association_of old session ≡ a → table new a statement ≡ table old a statement
 unfolding table
@@ -247,7 +252,7 @@ written state Free (Put other value) key found = cond (eq_by_cmp bytes_cmp key o
 written state Free (Del other) key found = cond (eq_by_cmp bytes_cmp key other) None found
 written state association statement key found = found
 
--- the commit of a branch leaves each row that the branch wrote with that write, and any other row as it was
+-- once a branch is committed, a row has the value that the branch wrote to it, or else the one that it had
 committed_row : (state : State) (xid : Xid) (key : List ℕ)
     → map.get (committed state xid).rows key ≡ unwrap_or (write_at state xid key) (map.get state.rows key)
 unfolding committed
@@ -261,7 +266,7 @@ committed_row state xid key = by (map.get state.branches xid) refl
     by (Some branch) e = get-with_writes (map.entries branch.writes) state.rows key
         ∙ ap (λ write. unwrap_or write (map.get state.rows key)) (sym (get-entries branch.writes key))
 
--- a change of a branch leaves the committed values
+-- changing a branch leaves the committed value of each row
 changed_row : (state : State) (xid : Xid) (change : Branch → Branch) (key : List ℕ)
     → map.get (with_changed state xid change).rows key ≡ map.get state.rows key
 changed_row state xid change key = by (map.get state.branches xid)
@@ -272,7 +277,7 @@ changed_row state xid change key = by (map.get state.branches xid)
     by None = refl
     by (Some branch) = refl
 
--- what an accepted statement leaves of a committed value, by the value before
+-- the effect of a statement leaves of a row's committed value what `written` says
 pub effect-row : (state : State) (session : ℕ) (association : Association) (statement : Statement) (key : List ℕ)
     → map.get (effect state session association statement).rows key
     ≡ written state association statement key (map.get state.rows key)
@@ -408,7 +413,7 @@ commutes state session other one two xid about avoids beside asked_one asked_two
 
 -- ---- steps of a branch
 
--- two identifiers that differ in one order differ in the other
+-- two identifiers that differ do so in either order
 away : (xid other : Xid) → same_xid other xid ≡ false → same_xid xid other ≡ false
 away xid other apart = elim (same_or_apart xids_total exact_xids xid other) [
   | inl is ↦ absurd (false≢true (sym apart ∙ ap (λ x. same_xid x xid) (sym is) ∙ itself xid))
@@ -467,7 +472,7 @@ may_beside : (state : State) (session : ℕ) (xid other : Xid) → MayEnd state 
 may_beside state session xid other (inl free) apart = subst (λ a. IsBeside a other) (sym free.0) tt
 may_beside state session xid other (inr own) apart = subst (λ a. IsBeside a other) (sym own) apart
 
--- a step of a branch is about this branch alone
+-- a step of the session's own branch is about that branch alone, and is accepted
 pub is_about : (state : State) (session : ℕ) (statement : Statement) (xid : Xid) (rows : List (List ℕ))
     → IsOwnStep state session statement xid rows → IsAbout state session statement xid
 unfolding reply_to table
@@ -564,7 +569,7 @@ not_theirs state session other statement xid rows law apart step = by (owns stat
     by true e = absurd (against step e)
     by false e = e
 
--- two keys that differ in one order differ in the other
+-- two keys that differ do so in either order
 pub away_key : (key other : List ℕ) → eq_by_cmp bytes_cmp key other ≡ false → eq_by_cmp bytes_cmp other key ≡ false
 away_key key other apart = elim (same_or_apart bytes_total exact_texts other key) [
   | inl is ↦ absurd (false≢true (sym apart ∙ ap (λ k. eq_by_cmp bytes_cmp k other) (sym is)
@@ -574,17 +579,17 @@ away_key key other apart = elim (same_or_apart bytes_total exact_texts other key
 
 -- ---- who holds a row that no statement names
 
--- how the branch that was found holds the row
+-- how a branch holds the row, if there is the branch and it holds it
 lock_in : List ℕ → Option Branch → Option LockMode
 lock_in key found = option_and_then (λ (b : Branch). map.get b.locks key) found
 
--- if neither of two branches holds a row, the chosen one doesn't
+-- if neither of two branches holds the row, nor does the one of them that a test picks
 either_none : (key : List ℕ) (b : Bool) (new old : Option Branch) → lock_in key new ≡ None → lock_in key old ≡ None
     → lock_in key (cond b new old) ≡ None
 either_none key true new old one two = one
 either_none key false new old one two = two
 
--- a change that leaves a row unheld leaves it so in the branch that was found
+-- a branch that doesn't hold the row doesn't hold it after a change that gives it to no branch
 mapped_none : (key : List ℕ) (change : Branch → Branch) (found : Option Branch)
     → ((b : Branch) → map.get b.locks key ≡ None → map.get (change b).locks key ≡ None)
     → lock_in key found ≡ None → lock_in key (option_map change found) ≡ None
@@ -592,7 +597,7 @@ unfolding lock_in
 mapped_none key change None keeps none = refl
 mapped_none key change (Some branch) keeps none = keeps branch none
 
--- a branch that shares another row doesn't hold this one for that
+-- sharing a row gives a branch no other one
 shares_none : (key other : List ℕ) → eq_by_cmp bytes_cmp key other ≡ false → (b : Branch)
     → map.get b.locks key ≡ None → map.get (with_lock other b).locks key ≡ None
 shares_none key other apart b none = by (map.contains_key b.locks other)
@@ -610,13 +615,13 @@ shared_apart key other apart b = by (map.contains_key b.locks other)
     by true = refl
     by false = get_inserted_apart bytes_total exact_texts b.locks other Shared key apart
 
--- a branch that writes another row doesn't hold this one for that
+-- writing a row gives a branch no other one
 writes_none : (key other : List ℕ) (write : Write) → eq_by_cmp bytes_cmp key other ≡ false → (b : Branch)
     → map.get b.locks key ≡ None → map.get (with_own_write other write b).locks key ≡ None
 writes_none key other write apart b none =
     get_inserted_apart bytes_total exact_texts b.locks other Exclusive key apart ∙ none
 
--- a branch that doesn't hold a row doesn't after a statement that doesn't name the row
+-- the effect of a statement that doesn't name a row gives the row to no branch
 lock_none : (session : ℕ) (a : Association) (statement : Statement) (at : Xid) (found : Option Branch) (key : List ℕ)
     → ((other : List ℕ) → key_of statement ≡ Some other → eq_by_cmp bytes_cmp key other ≡ false)
     → lock_in key found ≡ None → lock_in key (branch_after session a statement at found) ≡ None
@@ -843,7 +848,7 @@ step_row state session statement xid rows (finishes ending may accepted held) =
 
 -- ---- lists of prepared branches
 
--- two identifiers aren't each below the other
+-- of two identifiers at most one is below the other
 less_apart : (x y : Xid) → xid_cmp x y ≡ Less → xid_cmp y x ≡ Less → ⊥
 less_apart x y one two =
     greater_less (sym (ap ordering_reverse two) ∙ sym (xids_total.antisymm x y) ∙ one)
@@ -872,7 +877,7 @@ in_front z x xs has = elim (same_or_apart xids_total exact_xids z x) [
   | inr apart ↦ inr (sym (ap (λ b. b || list_any (same_xid z) xs) apart) ∙ has)
 ]
 
--- one of two tests holds if the second does
+-- a test or a true one is true
 or_true : (b : Bool) → (b || true) ≡ true
 or_true true = refl
 or_true false = refl
@@ -1020,25 +1025,25 @@ record IsTheirs (state : State) (session : ℕ) (statement : Statement) (xid : X
   pub own : (other : Xid) → association_of state session ≡ Active other → other ≡ xid
   pub listed : (convert : Bool) → statement ≡ Recover convert → ⊥
 
--- an association that is ACTIVE names one branch
+-- a session has no more than one branch open and ACTIVE
 same_active : (xid other : Xid) → Active xid ≡ Active other → other ≡ xid
 same_active xid other e = cc
 
--- a free session has no ACTIVE branch
+-- a session with nothing open has no ACTIVE branch open
 free_active : (other : Xid) → Free ≡ Active other → ⊥
 free_active other e = cc
 
--- a session with an IDLE branch has no ACTIVE one
+-- nor has one that has ended its work on its branch
 idle_active : (xid other : Xid) → Idle xid ≡ Active other → ⊥
 idle_active xid other e = cc
 
--- a session that may end a branch has no ACTIVE one
+-- a session that may end a branch has no ACTIVE branch open
 may_active : (state : State) (session : ℕ) (xid other : Xid) → MayEnd state session xid
     → association_of state session ≡ Active other → ⊥
 may_active state session xid other (inl free) e = free_active other (sym free.0 ∙ e)
 may_active state session xid other (inr own) e = idle_active xid other (sym own ∙ e)
 
--- whatever a step names, and whatever its session has open, is its branch
+-- so it is with each step of the session's own branch, and none is an XA RECOVER
 theirs : (state : State) (session : ℕ) (statement : Statement) (xid : Xid) (rows : List (List ℕ))
     → IsOwnStep state session statement xid rows → IsTheirs state session statement xid
 theirs state session statement xid rows (starts is free new) = record {
@@ -1271,7 +1276,7 @@ pub record Commutes (state : State) (session other : ℕ) (one two : Statement) 
   pub same : after (after state other two) session one ≡ after (after state session one) other two
   pub still : IsOwnStep (after state other two) session one xid rows
 
--- a step of a branch and a clear statement of another session lead to the same state in both orders
+-- so it is with each step and each statement of another session that is clear of it, where the lock law holds
 pub step_commutes : (state : State) (session other : ℕ) (one two : Statement) (xid : Xid) (rows : List (List ℕ))
     → LockLaw state → session ≢ other → IsOwnStep state session one xid rows → IsClearOf one two xid rows
     → Commutes state session other one two xid rows

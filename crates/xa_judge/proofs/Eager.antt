@@ -1,6 +1,10 @@
 -- A step of a session's branch that no other session has to do with until it returns takes effect at once.
---     exchanged        an act of another session may come after the step
---     goes_first       so it may come first of all moves
+--     exchanged                            an act of another session may come after the step
+--     seen_later, event_clear              so may an event of one;  what is open after it is still clear of the step
+--     goes_first                           so it may come first of all moves
+--     steps_first, steps_none              in what is kept the step is taken;  or that stays as it is
+--     goes_stepped, goes_same              orders go on from a list in which each has taken it;  or none has
+--     StepsBoth, steps_more, steps_end     a loop in which each of a list takes its step
 use Rattle.std.proofs.Common.{◌≡◌, ◌≢◌, ◌⊎◌, ℕ, false, Option, Some, None, List, [], ◌∷◌, set, refl, ap, sym, ◌∙◌}
 use Rattle.std.proofs.Common.{subst, inl, inr}
 use Rattle.std.specs.Prelude.{slice_get}
@@ -46,6 +50,7 @@ use Rattle.std.proofs.Common.{◌++◌, arith}
 
 -- ---- two requests
 
+-- the step and a request of another session come to the same in any order, and the step is still one after the request
 record RequestsCommute (state : State) (session other : ℕ) (one : Statement) (two : Request) (xid : Xid)
     (rows : List (List ℕ)) : Type 0 where
   pub first : answer_to (next_state state other two) session (Given one) ≡ answer_to state session (Given one)
@@ -54,6 +59,7 @@ record RequestsCommute (state : State) (session other : ℕ) (one : Statement) (
       ≡ next_state (next_state state session (Given one)) other two
   pub still : IsOwnStep (next_state state other two) session one xid rows
 
+-- so it is with each request of another session that is clear of the step, where the lock law holds
 requests_commute : (state : State) (session other : ℕ) (one : Statement) (two : Request) (xid : Xid)
     (rows : List (List ℕ)) → LockLaw state
     → session ≢ other → IsOwnStep state session one xid rows → IsClearRequest one two xid rows
@@ -346,6 +352,8 @@ act_clear run mid session other act one xid rows clear leads = λ at request apa
 
 -- ---- the step comes first
 
+-- if what is open, or is called for until the step's call returns, is clear of the step, it may come first of all moves
+-- through the events: to an end where who was answered is answered so
 pub goes_first : (run end : Config) (session : ℕ) (one : Statement) (xid : Xid) (rows : List (List ℕ))
     (more : List Event) (moves : List Move)
     → LockLaw run.state → slice_get run.clients session ≡ Some (Called (Given one))
@@ -531,6 +539,7 @@ abbrev pub StepsBoth : List Hint → List Event → List Configuration → List 
 StepsBoth hints more first rest list = (kept : Config) → Has first kept
     → Has rest kept ⊎ ((other : Config) × Has list other × IsSteppedFor hints more kept other)
 
+-- one round of that loop: the last configuration is taken off, and the one after its step is added unless it is there
 pub steps_more : (hints : List Hint) (more : List Event) (first known rest list new : List Configuration)
     (one added : Configuration) → known ≡ rest ++ one ∷ [] → AddsUnlessThere list added new
     → IsSteppedFor hints more (config_of one) (config_of added)
@@ -547,6 +556,7 @@ steps_more hints more first known rest list new one added parts adds here has = 
   | inr done ↦ inr (done.0, still_has list new done.0 (adds_one list new added adds) done.1, done.2)
 ]
 
+-- at its end nothing is to come: of each configuration the step is there
 pub steps_end : (hints : List Hint) (more : List Event) (first rest list : List Configuration) → rest ≡ []
     → StepsBoth hints more first rest list → (kept : Config) → Has first kept
     → (other : Config) × Has list other × IsSteppedFor hints more kept other

@@ -1,6 +1,10 @@
 -- One event more, where later returns are known.
---     advance_closed     before a return or an unknown answer, all allowed acts may come
---     advance_open       before a call or a loss none has to
+--     advance_closed               before a return or an unknown answer, all allowed acts may come
+--     advance_open, needs_none     before a call or a loss none has to;  which calls these are
+--     answers_end, all_after       each answer that a session can have after all events is kept
+--     goes_never                   a return is noted of a call of which none was
+--     goes_first, goes_last        before all events;  after all events
+--     goes_shortened               common first moves are taken out
 use Rattle.std.proofs.Common.{◌≡◌, ℕ, false, Option, Some, None, List, [], ◌∷◌, ◌++◌, set, length, take}
 use Rattle.std.proofs.Common.{refl, ap, subst, sym, ◌∙◌, inl, inr, arith, append-nil}
 use Rattle.std.specs.Prelude.{slice_get}
@@ -181,6 +185,7 @@ alike_never hints number hint run kept alike unseen heard asked was at = record 
     at_it session is (inr (inl ahead)) = absurd (none-some ahead.seen (sym unseen ∙ ahead.hinted))
     at_it session is (inr (inr behind)) = absurd (false≢true (sym heard ∙ behind.never))
 
+-- an order that couldn't go on past a return can't once more is noted of a call of which no return is known
 dead_never : (hints : List Hint) (number : ℕ) (hint : Hint) (run : Config) → (fact_of hints number).seen ≡ None
     → IsDead hints run → IsDead (set hints number hint) run
 dead_never hints number hint run unseen dead = record {
@@ -196,6 +201,7 @@ dead_never hints number hint run unseen dead = record {
   hidden = dead.hidden;
 }
 
+-- orders go on alike once a return is noted of a call of which none was
 pub goes_never : (events : List Event) (places : List OpenCall) (number : ℕ) (old entry : OpenCall)
     → slice_get places number ≡ Some old → old.returns ≡ None → entry.call ≡ old.call
     → (known : List Configuration) (more : List Event) (end : Config)

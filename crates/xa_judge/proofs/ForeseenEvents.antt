@@ -1,6 +1,8 @@
 -- What is kept where later returns are known sees what an order sees.
---     alike_sees             an event
---     dead_acts, dead_sees   an order that can't go on past a return stays so
+--     saw                      an event changes its own client alone
+--     same_client              one client goes on alike on the way and in what is kept
+--     alike_sees               an event
+--     dead_acts, dead_sees     an order that can't go on past a return stays so
 use Rattle.std.proofs.Common.{◌≡◌, ◌≢◌, ℕ, true, false, cond, Option, Some, None, List, set, refl, ap, sym, ◌∙◌}
 use Rattle.std.proofs.Common.{subst, inl, inr}
 use Rattle.std.specs.Prelude.{slice_get}
@@ -58,12 +60,12 @@ saw old new (Return session seen) is = (saw_return (slice_get old.clients sessio
 saw old new (Lost session) is = saw_lost (slice_get old.clients session) old new session refl is
 saw old new (Unknown session) is = saw_unknown (slice_get old.clients session) old new session refl is
 
--- what is known of the call of another session
+-- once one session's hint is set, what is known of the call of another one stays so
 fact_apart : (hints : List Hint) (session other : ℕ) (hint : Hint) → session ≢ other
     → fact_of (set hints session hint) other ≡ fact_of hints other
 fact_apart hints session other hint apart = ap (λ o. unwrap_or o no_hint) (get_apart hints session other hint apart)
 
--- a hint about one session leaves what is known of another
+-- and so does what that call returns
 hint_apart : (hints : List Hint) (session other : ℕ) (hint : Hint) → session ≢ other
     → hint_of (set hints session hint) other ≡ hint_of hints other
 hint_apart hints session other hint apart = ap (λ (h : Hint). h.seen) (fact_apart hints session other hint apart)
@@ -263,7 +265,7 @@ abbrev pub SeesAlike : List Hint → Hint → Config → Event → Config → Ty
 SeesAlike hints hint kept event next = (new : Config) × (observed kept event ≡ Some new)
     × AreAlike (set hints (session_in event) hint) next new
 
--- where the session's client is kept as it is, what is kept sees the event as well
+-- where the session of the event is as far in what is kept as on the way, what is kept sees the event as well
 equal_sees : (hints : List Hint) (hint : Hint) (run kept next : Config) (event : Event)
     → AreAlike hints run kept → NotesCall hints hint event → observed run event ≡ Some next
     → slice_get run.clients (session_in event) ≡ slice_get kept.clients (session_in event)
@@ -279,7 +281,7 @@ equal_sees hints hint run kept next event are notes sees same =
           (noted_event hints hint run next event s.next are.asked notes sees s.is s.before s.found)),
     )
 
--- where what is kept is ahead of the order, it sees the event as well
+-- so it does where it is ahead, if the event fits what is known
 ahead_sees : (hints : List Hint) (hint : Hint) (run kept next : Config) (event : Event)
     → AreAlike hints run kept → FitsHints hints event → observed run event ≡ Some next
     → IsAheadAt (hint_of hints (session_in event)) run.state (session_in event)
@@ -348,7 +350,7 @@ behind_sees hints hint run kept next (Unknown session) are fits sees behind = (
       behind.kept (idle_shut hint)),
 )
 
--- whatever is kept of a configuration sees its next event as well
+-- whatever event an order sees, what is kept of it sees, if the event fits what is known and its call is noted
 pub alike_sees : (hints : List Hint) (hint : Hint) (run kept next : Config) (event : Event)
     → AreAlike hints run kept → FitsHints hints event → NotesCall hints hint event → observed run event ≡ Some next
     → SeesAlike hints hint kept event next
@@ -363,7 +365,7 @@ alike_sees hints hint run kept next event are fits notes sees = by (are.clients 
 
 -- ---- an order that can't go on past a return
 
--- an order that can't go on past a return can't after an act either
+-- it stays so after an act
 pub dead_acts : (hints : List Hint) (run next : Config) (session : ℕ) (act : Act) → IsDead hints run
     → effect_of run session act ≡ Some next → IsDead hints next
 dead_acts hints run next session act dead leads =
@@ -390,7 +392,7 @@ dead_acts hints run next session act dead leads =
         → Some c ≡ Some (Answered dead.answer) → ⊥
     by c un is = answered c un (same_Some c (Answered dead.answer) is)
 
--- an order that can't go on past a return can't after an event either
+-- and after an event that fits what is known
 pub dead_sees : (hints : List Hint) (hint : Hint) (run next : Config) (event : Event) → IsDead hints run
     → FitsHints hints event → observed run event ≡ Some next
     → IsDead (set hints (session_in event) hint) next

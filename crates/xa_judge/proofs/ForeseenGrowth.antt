@@ -1,7 +1,10 @@
 -- Lists of configurations, as they grow.
---     extends_none, extends_more, still_at, still_has      a list has more at its end
---     adds_one           a configuration is added
---     next_added         what an act leads to is added
+--     extends_none, extends_more, still_at, still_has     a list has more at its end
+--     adds_one                                            a configuration is added
+--     next_added, both_added                              what an act leads to is added;  what both of a session do
+--     expanded_more, closed_more, closed_all              the next session;  the next place;  all of them
+--     seen_added, unseen                                  what an event leads to is added;  or it can't be seen
+--     SeesBothFor, sees_more, sees_end                    a loop in which each of a list sees an event
 use Rattle.std.proofs.Common.{◌≡◌, ◌⊎◌, ℕ, false, Option, Some, None, List, [], ◌∷◌, ◌++◌, ap, sym, ◌∙◌, subst, inl}
 use Rattle.std.proofs.Common.{inr}
 use Rattle.std.proofs.Common.{◌+◌, ◌<◌, length, arith, append_assoc, append-nil}
@@ -27,7 +30,7 @@ use Rattle.xa_judge.proofs.Growth.{has_more, has_added}
 pub extends_none : (list : List Configuration) → ExtendsBy list list
 extends_none list = ([], sym (append-nil list))
 
--- a list that extends one which extends another extends that one too
+-- a list that is extended twice is extended
 pub extends_more : (old mid new : List Configuration) → ExtendsBy old mid → ExtendsBy mid new → ExtendsBy old new
 extends_more old mid new first then =
     (first.0 ++ then.0, then.1 ∙ ap (λ l. l ++ then.0) first.1 ∙ append_assoc old first.0 then.0)
@@ -38,11 +41,11 @@ pub still_at : (old new : List Configuration) (place : ℕ) (one : Configuration
 still_at old new place one grows at =
     subst (λ l. slice_get l place ≡ Some one) (sym grows.1) (get_front old grows.0 place one at)
 
--- what a list has, one that extends it has
+-- a configuration of a list is in each list that extends it
 pub still_has : (old new : List Configuration) (one : Config) → ExtendsBy old new → Has old one → Has new one
 still_has old new one grows has = subst (λ l. Has l one) (sym grows.1) (has_more old grows.0 one has)
 
--- a list to which one is added unless it is there is extended
+-- a list with one configuration added unless it is there extends the old one
 pub adds_one : (old new : List Configuration) (one : Configuration) → AddsUnlessThere old one new → ExtendsBy old new
 adds_one old new one (inl there) = ([], there.1 ∙ sym (append-nil old))
 adds_one old new one (inr more) = (one ∷ [], more)
@@ -95,7 +98,7 @@ expanded_more hints number one mid new grows before here = λ session below is. 
       subst (λ n. HasNextFor hints one n new) e (here (subst IsSession (sym e) is))
 ]
 
--- if a list has what acts lead to from a configuration, one that extends it has that too
+-- a list that has what sessions below a number lead to still has it once extended
 expanded_still : (hints : List Hint) (count : ℕ) (one : Config) (old new : List Configuration)
     → ExtendsBy old new → IsExpandedFor hints count one old → IsExpandedFor hints count one new
 expanded_still hints count one old new grows is = λ session below its act next leads allowed.
@@ -163,7 +166,7 @@ abbrev pub SeesBothFor : List Hint → Event → List Configuration → List Con
 SeesBothFor hints event first rest list = (one next : Config) → Has first one → observed one event ≡ Some next
     → Has rest one ⊎ ((other : Config) × Has list other × ReplacesFor hints next other)
 
--- the loop's step: what the event leads to from one configuration more is there
+-- one round of that loop: the last configuration is taken off, and what the event leads to from it is there
 pub sees_more : (hints : List Hint) (event : Event) (first known rest list new : List Configuration)
     (one : Configuration) → known ≡ rest ++ one ∷ [] → ExtendsBy list new
     → ((next : Config) → observed (config_of one) event ≡ Some next

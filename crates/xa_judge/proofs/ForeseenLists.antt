@@ -1,7 +1,10 @@
 -- Lists of what is kept where later returns are known.
---     left_past             an order that can't go on past a return can't after an event either
---     goes_closed           an order is followed past an event, from a closed list
---     goes_called           past a call or a loss it is, from any list
+--     left_past                           an order that can't go on past a return, past an event
+--     seen_from                           the event itself
+--     goes_closed                         past an event, from a closed list
+--     goes_called                         past a call or a loss, from any list
+--     answer_kept                         the answer of a session of whose call nothing is known
+--     hints_set, unknown_at, noted_at     what is known of open calls, by their places
 use Rattle.std.proofs.Common.{◌≡◌, ℕ, false, Option, Some, None, List, [], ◌∷◌, set, map, zero, suc, refl, ap}
 use Rattle.std.proofs.Common.{sym, ◌∙◌, inl}
 use Rattle.std.proofs.Common.{inr}
@@ -120,13 +123,13 @@ answer_kept hints run kept session c alike none heard at = by (alike.clients ses
 
 -- ---- places of returns
 
--- to set an element and then map is to map and then set its image
+-- a list that is written at a place and mapped is the mapped list, written there
 set_mapped : {A B : Type 0} (f : A → B) (xs : List A) (i : ℕ) (a : A) → map f (set xs i a) ≡ set (map f xs) i (f a)
 set_mapped f [] i a = refl
 set_mapped f (x ∷ xs) zero a = refl
 set_mapped f (x ∷ xs) (suc i) a = ap (λ l. f x ∷ l) (set_mapped f xs i a)
 
--- one place more is known: so is one hint more
+-- to write a session's places is to write what is known of its call
 pub hints_set : (events : List Event) (places : List OpenCall) (session : ℕ) (place : OpenCall)
     → hints_of events (set places session place) ≡ set (hints_of events places) session (hint_in events place)
 hints_set events places session place = set_mapped (hint_in events) places session place

@@ -53,6 +53,7 @@ record Shown (config : Config) (session : ℕ) (seen : Seen) (answer : Answer) (
   pub shown : shows_answer seen answer ≡ true
   pub idle : next ≡ with_client config session Idle
 
+-- so it is with each return that is seen of a session that was answered
 shown_at : (config next : Config) (session : ℕ) (seen : Seen) (answer : Answer)
     → slice_get config.clients session ≡ Some (Answered answer)
     → observed config (Return session seen) ≡ Some next → Shown config session seen answer next
@@ -62,12 +63,13 @@ shown_at config next session seen answer at sees =
     (sym (ap (λ o. returned o config session seen) at) ∙ sees) in
     record { shown = is.0; idle = sym is.1 }
 
--- the call takes effect, and it is quiet: the state is as it was
+-- the session's open call takes effect: the state is the one after its request, and the session is answered
 record Quietly (run next : Config) (session : ℕ) (request : Request) : Type 0 where
   pub at : slice_get next.clients session ≡ Some (Answered (answer_to run.state session request))
   pub is : next ≡ with_client (record run { state = next_state run.state session request }) session
       (Answered (answer_to run.state session request))
 
+-- so it is with each act of a session whose call is open
 quietly : (run next : Config) (session : ℕ) (act : Act) (request : Request)
     → slice_get run.clients session ≡ Some (Called request) → effect_of run session act ≡ Some next
     → Quietly run next session request
@@ -195,7 +197,7 @@ seen_answered hints hint session seen old new kept run end more moves there alik
       | inr given ↦ first (ap answered_so given.1)
     ]
 
--- a truth value is true or false
+-- a test holds or fails
 either : (b : Bool) → (b ≡ true) ⊎ (b ≡ false)
 either true = inl refl
 either false = inr refl

@@ -1,6 +1,12 @@
 -- What is kept where later returns are known follows the moves of an order.
---     quiet_keeps          a quiet request changes nothing
---     alike_acts           an act of a session
+--     quiet_keeps, still_quiet_for     a quiet request changes nothing;  and stays quiet after other sessions' acts
+--     Keeps, act_keeps                 an act keeps the lock law, and what other sessions have open
+--     both_act                         the same act on the way and in what is kept
+--     answered_rests                   an answered call doesn't act
+--     Foresees, alike_acts             an act of a session
+--     alike_settles, settles_one       a call takes effect at once in what is kept
+--     told_none                        a session whose XA END is refused since it has no branch
+--     alike_first                      before all events
 use Rattle.std.proofs.Common.{◌≡◌, ◌≢◌, ◌⊎◌, ◌||◌, ℕ, Bool, true, false, Option, Some, None, List, set, refl, ap, sym}
 use Rattle.std.proofs.Common.{◌∙◌, subst}
 use Rattle.std.proofs.Common.{inl, inr}
@@ -61,26 +67,26 @@ error_refuses state session statement numbers = by (reply_to state session state
     by (Recovered xids) shown = absurd (false≢true shown)
     by (Refused error) shown = refl
 
--- the state stays, whether or not the reply is a refusal
+-- where a statement changes nothing the state is left as it was, refused or not
 either_same : (reply : Reply) (state : State) → unless_refused reply state state ≡ state
 either_same Accepted state = refl
 either_same (Value value) state = refl
 either_same (Recovered xids) state = refl
 either_same (Refused error) state = refl
 
--- XA RECOVER leaves the state
+-- XA RECOVER leaves the state as it was
 listing_keeps : (state : State) (session : ℕ) (convert : Bool) → after state session (Recover convert) ≡ state
 unfolding after effect
 listing_keeps state session convert = either_same (reply_to state session (Recover convert)) state
 
--- DISCONNECT of a session that is free leaves the state
+-- DISCONNECT of a session with nothing open leaves the state as it was
 free_leaves : (state : State) (session : ℕ) → association_of state session ≡ Free
     → after state session Disconnect ≡ state
 unfolding reply_to table effect after
 free_leaves state session free =
     ap (λ a. unless_refused (table state a Disconnect) state (effect state session a Disconnect)) free
 
--- a quiet request leaves the state
+-- a quiet request leaves the state as it was
 quiet_same : (state : State) (session : ℕ) (request : Request) → IsQuiet state session request
     → next_state state session request ≡ state
 quiet_same state session (Given (Recover convert)) quiet = listing_keeps state session convert
@@ -88,7 +94,7 @@ quiet_same state session (Given (Get key)) quiet = (free_get state session key q
 quiet_same state session (Given Disconnect) quiet = free_leaves state session quiet
 quiet_same state session request quiet = absurd quiet
 
--- a request whose answer shows an error leaves the state
+-- so does one whose answer is shown by a return of an error
 error_keeps : (state : State) (session : ℕ) (request : Request) (numbers : _)
     → shows_answer (SeenError numbers) (answer_to state session request) ≡ true
     → next_state state session request ≡ state
@@ -96,7 +102,7 @@ error_keeps state session (Given statement) numbers shown =
     refused_leaves state session statement (error_refuses state session statement numbers shown)
 error_keeps state session Unread numbers shown = refl
 
--- a request that is quiet for a return leaves the state, if the return shows its answer
+-- a request that is quiet for a return leaves the state as it was, if the return shows its answer
 pub quiet_keeps : (state : State) (session : ℕ) (request : Request) (seen : Seen)
     → IsQuietFor state session request seen
     → shows_answer seen (answer_to state session request) ≡ true → next_state state session request ≡ state
@@ -113,7 +119,7 @@ still_quiet old new session (Given (Get key)) leaves quiet = leaves.association 
 still_quiet old new session (Given Disconnect) leaves quiet = leaves.association ∙ quiet
 still_quiet old new session request leaves quiet = absurd quiet
 
--- what another session does leaves it quiet for the return
+-- and quiet for a return
 pub still_quiet_for : (old new : State) (session : ℕ) (request : Request) (seen : Seen) → LeavesSession old new session
     → IsQuietFor old session request seen → IsQuietFor new session request seen
 still_quiet_for old new session request (SeenError numbers) leaves quiet = quiet
@@ -124,7 +130,7 @@ still_quiet_for old new session request (SeenRows rows) leaves quiet = still_qui
 
 -- ---- the state after an act
 
--- a state leaves what the session has open in itself
+-- in a state that stays as it is, what a session has open stays
 leaves_same : (state : State) (session : ℕ) → LeavesSession state state session
 leaves_same state session = record { own = refl; association = refl; phase = λ xid e. refl; branch = λ xid e. refl }
 
@@ -133,7 +139,7 @@ pub record Keeps (old new : State) (session : ℕ) : Type 0 where
   pub law : LockLaw new
   pub others : (other : ℕ) → session ≢ other → LeavesSession old new other
 
--- a request keeps the lock law, and what other sessions have open
+-- so it is after a request of the session, if the lock law held
 request_keeps : (state : State) (session : ℕ) (request : Request) → LockLaw state
     → Keeps state (next_state state session request) session
 request_keeps state session (Given statement) law = record {
@@ -142,7 +148,7 @@ request_keeps state session (Given statement) law = record {
 }
 request_keeps state session Unread law = record { law = law; others = λ other apart. leaves_same state other }
 
--- an act keeps the lock law, and what other sessions have open
+-- and after an act of the session
 pub act_keeps : (old new : Config) (session : ℕ) (act : Act) → LockLaw old.state → effect_of old session act ≡ Some new
     → Keeps old.state new.state session
 unfolding effect_of carried_out disconnected
@@ -355,7 +361,7 @@ if_seen hints kept session seen hinted fits = record {
   counts = λ request never unseen at. absurd (none-some seen (sym unseen ∙ hinted));
 }
 
--- an association that is free is Free
+-- a session that passes the test has nothing open
 freed : (a : Association) → is_free a ≡ true → a ≡ Free
 freed Free e = refl
 freed (Active xid) e = absurd (false≢true e)
@@ -584,7 +590,8 @@ alike_acts hints run kept next session act are leads = by (are.clients session)
 
 -- ---- a quiet request takes effect at once
 
--- what a quiet request leads to in what is kept stays in place of the order's configuration
+-- what is kept of an order is still kept of it once a call takes effect there, whose request is quiet for the return
+-- that is known of it, and whose answer this return shows
 pub alike_settles : (hints : List Hint) (run kept : Config) (session : ℕ) (request : Request) (seen : Seen)
     (new : Config)
     → AreAlike hints run kept → hint_of hints session ≡ Some seen
@@ -666,7 +673,7 @@ pub settles_one : (hints : List Hint) (run kept new : Config) (session : ℕ) (s
 settles_one hints run kept new session seen are hinted can leads =
     alike_settles hints run kept session can.request seen new are hinted can.at can.quiet can.shown leads
 
--- in a list of idle clients each is idle
+-- in a list of idle clients each one is idle
 all_idle : (n session : ℕ) (c : ClientState) → slice_get (replicate n Idle) session ≡ Some c → c ≡ Idle
 all_idle zero session c is = absurd (none-some c is)
 all_idle (suc n) zero c is = sym (same_Some Idle c is)

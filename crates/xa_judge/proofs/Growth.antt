@@ -1,4 +1,9 @@
 -- Lists of configurations that grow.
+--     has_more, has_still, still_there        what a list has is in one that grew out of it, at its place
+--     has_added, has_kept                     a configuration is added unless it is there
+--     grows_none, grows_more, grows_added     a list grows
+--     reaches_effect, reaches_event           what an effect leads to is reached;  what an event does
+--     all_added, all_at                       what holds of each of a list
 use Rattle.std.proofs.Common.{◌≡◌, ℕ, Some, List, [], ◌∷◌, ◌++◌, ap, sym, ◌∙◌, subst, inl, inr, append_assoc}
 use Rattle.std.proofs.Common.{append-nil}
 use Rattle.std.specs.Prelude.{slice_get}

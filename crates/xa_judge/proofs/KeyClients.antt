@@ -1,11 +1,13 @@
 -- What a move of one part of a record does in the whole, and the other way round.
---     Together                      two results are missing, or both are there and belong together
---     client_after, deed_of         what an event makes of its session's client;  what an act makes of the state and
---                                   the client
---     observed_is, effect_is        that is all that they do
---     AreClients, AreParts          the clients of the whole, by those of its parts;  the configurations
---     chosen_acts, rest_acts        an act of a session whose call belongs to one part is one of the whole
---     chosen_seen, rest_seen        so is an event of one part
+--     Together, forth, back        two results are missing, or both are there and belong together
+--     client_after, deed_of        what an event makes of its session's client;  what an act makes of the state and
+--                                  the client
+--     observed_is, effect_is       that is all that they do
+--     AreClients, AreParts         the clients of the whole, by those of its parts;  the configurations
+--     chosen_acts, rest_acts       an act of a session whose call belongs to one part is one of the whole
+--     chosen_seen, rest_seen       so is an event of one part
+--     absent_rests, idle_rests     a session that isn't there, or is idle, has no act
+--     same_chosen, same_rest       where an event may stand in one part, the whole has the client of that part
 use Rattle.std.proofs.Common.{◌≡◌, ◌≢◌, ◌⊎◌, ℕ, Bool, true, false, cond, Option, Some, None, List, set, refl}
 use Rattle.std.proofs.Common.{ap, sym, ◌∙◌, subst, inl, inr}
 use Rattle.std.specs.Prelude.{slice_get}
@@ -57,7 +59,7 @@ forth P None (Some y) x both is = absurd both
 forth P (Some a) None x both is = absurd both
 forth P (Some a) (Some y) x both is = (y, refl, subst (λ c. P c y) (same_Some a x is) both)
 
--- where the other is there, so is the one
+-- and where the other is there, so is the one
 pub back : {A B : Type 0} (P : A → B → Type 0) (one : Option A) (other : Option B) (y : B) → Together P one other
     → other ≡ Some y
     → (x : A) × (one ≡ Some x) × P x y
@@ -236,7 +238,7 @@ rested named Within whole chosen rest is are = are
 rested named Rest whole chosen rest is are = are
 rested named Ending whole chosen rest is are = are
 
--- `rested`, the other way round
+-- and the other way round: clients that are told so are those of a session with such a turn
 are_rested : (named : List ℕ → Bool) (turn : Turn) (whole chosen rest : Option ClientState) → is_rest turn ≡ true
     → IsRested named turn whole chosen rest → AreClients named (Some turn) whole chosen rest
 are_rested named Nobody whole chosen rest is are = absurd (false≢true is)
@@ -294,10 +296,11 @@ aside : {A : Type 0} (xs : List A) (session : ℕ) (x : A) (other : ℕ) → ses
     → slice_get xs other ≡ slice_get (set xs session x) other
 aside xs session x other apart = sym (get_apart xs session other x apart)
 
--- an act of a session whose open call belongs to the chosen part
+-- the whole and the chosen part, beside the other part, which stays
 abbrev pub ChosenTogether : (List ℕ → Bool) → List Turn → Config → Config → Config → Type 0
 ChosenTogether named turns rest whole chosen = AreParts named turns whole chosen rest
 
+-- the whole and the other part, beside the chosen part, which stays
 abbrev pub RestTogether : (List ℕ → Bool) → List Turn → Config → Config → Config → Type 0
 RestTogether named turns chosen whole rest = AreParts named turns whole chosen rest
 
@@ -308,7 +311,7 @@ free_turn : (turns : List Turn) (session : ℕ) (turn : Turn) → slice_get turn
     → free_in turns session ≡ has_none turn
 free_turn turns session turn at = ap (λ o. option_map_or has_none o false) at
 
--- a request on rows of a session without a branch is one of the chosen part
+-- a statement on a chosen row may stand in the chosen part if its session has no branch
 on_rows : (named : List ℕ → Bool) (free : ℕ → Bool) (session : ℕ) (request : Request) → free session ≡ true
     → IsOnRows named request → IsFreeRequest named free session request
 on_rows named free session (Given (Get key)) none is = (none, is)
@@ -316,7 +319,7 @@ on_rows named free session (Given (Put key value)) none is = (none, is)
 on_rows named free session (Given (Del key)) none is = (none, is)
 on_rows named free session request none is = absurd is
 
--- a request off these rows is one of the other part, if a start is of a session that may have a branch
+-- a request that names no chosen row may stand in the other part if it starts no branch, or its session may have one
 off_rows : (named : List ℕ → Bool) (free : ℕ → Bool) (session : ℕ) (request : Request)
     → (is_start request ≡ true → free session ≡ false) → IsOffRows named request
     → IsOtherRequest named free session request
@@ -363,10 +366,12 @@ ended_next turns whole session request client next ended at own other ending ans
 
 -- ---- acts
 
--- the turn Chosen isn't Ending
+-- no turn is both Chosen and Ending
 chosen_ending : Some Chosen ≡ Some Ending → ⊥
 chosen_ending e = cc
 
+-- where the open call of a session is in the chosen part, its act leads from the whole and from that part to parts, or
+-- from neither; here by what it makes of the state and of the client
 chosen_deed : (named : List ℕ → Bool) (turns : List Turn) (whole chosen rest : Config) (session : ℕ)
     (act : Act) (client : ClientState) → AreParts named turns whole chosen rest
     → slice_get turns session ≡ Some Chosen
@@ -413,6 +418,8 @@ pub together_told : {A B : Type 0} (P : A → B → Type 0) (one new : Option A)
 together_told P one new other new_other e f both =
     subst (λ o. Together P o new_other) (sym e) (subst (Together P one) (sym f) both)
 
+-- an act of a session whose open call is in the chosen part can take effect in the whole and in that part, or in
+-- neither, and leads to parts again
 pub chosen_acts : (named : List ℕ → Bool) (turns : List Turn) (whole chosen rest : Config)
     (session : ℕ) (act : Act) → AreParts named turns whole chosen rest
     → slice_get turns session ≡ Some Chosen
@@ -466,14 +473,16 @@ rest_done named turns whole chosen rest session turn request client next same pa
 answer_is : (one other : Answer) → Answered one ≡ Answered other → one ≡ other
 answer_is one other e = cc
 
--- a client that is gone has no answer
+-- a client that is gone isn't answered
 gone_answered : (answer : Answer) → Gone None ≡ Answered answer → ⊥
 gone_answered answer e = cc
 
--- a client that has left has no answer
+-- nor is one whose DISCONNECT took effect
 left_answered : (answer : Answer) → Left ≡ Answered answer → ⊥
 left_answered answer e = cc
 
+-- where the open call of a session is in the other part, or it may have a branch, its act leads from the whole and from
+-- that part to parts, or from neither
 rest_deed : (named : List ℕ → Bool) (turns : List Turn) (whole chosen rest : Config) (session : ℕ) (turn : Turn)
     (act : Act) (client : ClientState) → AreParts named turns whole chosen rest
     → slice_get turns session ≡ Some turn → is_rest turn ≡ true
@@ -522,6 +531,8 @@ rest_deed named turns whole chosen rest session turn Disconnect (Gone request) p
 rest_deed named turns whole chosen rest session turn Statement Left parts there_turn rests is at idle there = tt
 rest_deed named turns whole chosen rest session turn Disconnect Left parts there_turn rests is at idle there = tt
 
+-- an act of a session whose open call is in the other part, or that may have a branch, can take effect in the whole and
+-- in that part, or in neither, and leads to parts again
 pub rest_acts : (named : List ℕ → Bool) (turns : List Turn) (whole chosen rest : Config)
     (session : ℕ) (turn : Turn) (act : Act) → AreParts named turns whole chosen rest
     → slice_get turns session ≡ Some turn → is_rest turn ≡ true
@@ -536,7 +547,7 @@ rest_acts named turns whole chosen rest session turn act parts there_turn rests 
     ∙ ap (λ o. option_map (done_in rest session) (deed_of session act rest.state o)) here.4)
     (rest_deed named turns whole chosen rest session turn act here.0 parts there_turn rests here.1 here.2 here.3 here.4)
 
--- a session that isn't there, or is idle, has no act
+-- a session that isn't there has no act
 pub absent_rests : (config new : Config) (session : ℕ) (act : Act) → slice_get config.clients session ≡ None
     → effect_of config session act ≡ Some new → ⊥
 unfolding deed_of
@@ -548,7 +559,7 @@ absent_rests config new session act at leads = none-some new (sym (effect_is con
     nothing Statement = refl
     nothing Disconnect = refl
 
--- an idle session has no act
+-- nor has one that is idle
 pub idle_rests : (config new : Config) (session : ℕ) (act : Act) → slice_get config.clients session ≡ Some Idle
     → effect_of config session act ≡ Some new → ⊥
 unfolding deed_of
@@ -790,7 +801,7 @@ idle_next named turn next chosen (inr within) e idle =
     subst (λ t. AreClients named (Some t) (Some next) chosen (Some next)) (sym within)
     (Idle, tt, ap Some e, idle, ap Some e)
 
--- after a return the session has no open call, and it has no branch or may have one
+-- after a return its session's turn is Nobody or Within
 returned_turns : (turn : Turn) (seen : Seen) → (turn_returned turn seen ≡ Nobody) ⊎ (turn_returned turn seen ≡ Within)
 returned_turns Nobody seen = inr refl
 returned_turns Chosen seen = inl refl
@@ -802,7 +813,7 @@ returned_turns Ending (SeenValue value) = inr refl
 returned_turns Ending (SeenRows rows) = inr refl
 returned_turns Ending (SeenError numbers) = inr refl
 
--- after a return whose answer isn't known the session has no open call, and it has no branch or may have one
+-- so it is after an answer that isn't known
 unknown_turns : (turn : Turn) → (turn_unknown turn ≡ Nobody) ⊎ (turn_unknown turn ≡ Within)
 unknown_turns Nobody = inr refl
 unknown_turns Chosen = inl refl
@@ -877,7 +888,7 @@ returned_none Ending (SeenValue value) answer shows none = absurd (false≢true 
 returned_none Ending (SeenRows rows) answer shows none = absurd (false≢true none)
 returned_none Ending (SeenError numbers) answer shows none = absurd (false≢true none)
 
--- after a return whose answer isn't known a session has no branch only if it had none
+-- after an answer that isn't known only a session has no branch that had none
 unknown_none : (turn : Turn) → has_none (turn_unknown turn) ≡ true → has_none turn ≡ true
 unknown_none Nobody none = refl
 unknown_none Chosen none = refl

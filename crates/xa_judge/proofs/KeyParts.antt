@@ -1,7 +1,7 @@
 -- Lists that are cut, event by event.
---     CutSoFar, cut_more, cut_all      the parts of events, while they are found one after another
---     picked_next, picked_end       the events of one part, while they are picked
---     count_next       how many there are, while they are counted
+--     CutSoFar, cut_more, cut_all              the parts of events, while they are found one after another
+--     picked_next, picked_past, picked_end     the events of one part, while they are picked
+--     count_next                               how many there are, while they are counted
 use Rattle.std.proofs.Common.{◌≡◌, ◌≢◌, ◌⊎◌, ℕ, ◌+◌, ◌<◌, ◌≤◌, zero, suc, Bool, true, false, Some, List, [], ◌∷◌, ◌++◌}
 use Rattle.std.proofs.Common.{length, take, drop, get_or, refl, ap, sym, ◌∙◌, subst, inl, inr, arith}
 use Rattle.std.proofs.Common.{append_assoc, append-nil, min}
@@ -23,7 +23,7 @@ pub record CutSoFar (named : List ℕ → Bool) (turns : List Turn) (sides : Lis
   pub on : (more : List Bool) → IsCut named turns more (drop place events)
       → IsCut named first_turns (sides ++ more) events
 
--- the cut of the events so far goes on with one event more, by its turn and side
+-- one event more is cut, in a part in which it may stand by its session's turn
 pub cut_more : (named : List ℕ → Bool) (turns : List Turn) (sides : List Bool) (events : List Event)
     (place : ℕ) (event : Event) (turn : Turn) (side : Bool) → CutSoFar named turns sides events place
     → place < length events
@@ -39,7 +39,7 @@ cut_more named turns sides events place event turn side so_far within is at fits
       (so_far.on (side ∷ more) (subst (IsCut named turns (side ∷ more)) (sym all) (turn, at, fits, cut)));
 }
 
--- once no event is left, all are cut
+-- once none is left, all events are cut
 pub cut_all : (named : List ℕ → Bool) (turns : List Turn) (sides : List Bool) (events : List Event)
     (place : ℕ) → CutSoFar named turns sides events place
     → length events ≤ place
@@ -56,21 +56,21 @@ cut_all named turns sides events place so_far over =
 
 -- ---- the events of one part
 
--- what a test of two truth values says
+-- two truth values are the same if the test for that holds
 pub same_side : (left right : Bool) → beq left right ≡ true → left ≡ right
 same_side true true is = refl
 same_side true false is = absurd (false≢true is)
 same_side false true is = absurd (false≢true is)
 same_side false false is = refl
 
--- sides of which the test says that they differ do differ
+-- and differ if it fails
 pub other_side : (left right : Bool) → beq left right ≡ false → left ≢ right
 other_side true true is = absurd (false≢true (sym is))
 other_side true false is = λ e. false≢true (sym e)
 other_side false true is = λ e. false≢true e
 other_side false false is = absurd (false≢true (sym is))
 
--- an event on the wanted side is picked
+-- an event of the wanted part is picked, before those that are picked behind it
 pub picked_in : (wanted side : Bool) (sides : List Bool) (event : Event) (events : List Event) → side ≡ wanted
     → picked wanted (side ∷ sides) (event ∷ events) ≡ event ∷ picked wanted sides events
 picked_in true true sides event events is = refl
@@ -78,7 +78,7 @@ picked_in true false sides event events is = absurd (false≢true is)
 picked_in false true sides event events is = absurd (false≢true (sym is))
 picked_in false false sides event events is = refl
 
--- an event on the other side isn't
+-- one of the other part isn't
 pub picked_out : (wanted side : Bool) (sides : List Bool) (event : Event) (events : List Event) → side ≢ wanted
     → picked wanted (side ∷ sides) (event ∷ events) ≡ picked wanted sides events
 picked_out true true sides event events is = absurd (is refl)
@@ -86,7 +86,7 @@ picked_out true false sides event events is = refl
 picked_out false true sides event events is = refl
 picked_out false false sides event events is = absurd (is refl)
 
--- among no events none is picked
+-- of no events none is picked
 picked_none : (wanted : Bool) (sides : List Bool) → picked wanted sides [] ≡ []
 picked_none true [] = refl
 picked_none false [] = refl
@@ -95,7 +95,7 @@ picked_none true (false ∷ sides) = refl
 picked_none false (true ∷ sides) = refl
 picked_none false (false ∷ sides) = refl
 
--- without sides nothing is picked
+-- nor is one of events whose parts are not told
 none_picked : (wanted : Bool) (events : List Event) → picked wanted [] events ≡ []
 none_picked true events = refl
 none_picked false events = refl
@@ -142,7 +142,7 @@ picked_next wanted d place sides event events part in_sides in_events there so_f
 
 -- ---- how many there are
 
--- the count of the first sides goes on with the side at the next place
+-- up to and with the event at a place, a part has as many as before it, and one more if that event is of it
 count_in_here : (wanted side : Bool) (place : ℕ) (sides : List Bool) → slice_get sides place ≡ Some side
     → count_in wanted (take (suc place) sides)
     ≡ count_in wanted (take place sides) + count_in wanted (side ∷ [])
@@ -161,14 +161,14 @@ count_in_here false side (suc place) (true ∷ sides) at = count_in_here false s
 count_in_here false side (suc place) (false ∷ sides) at =
     ap suc (count_in_here false side place sides at) ∙ omega arith
 
--- a wanted side counts as one
+-- an event of the wanted part counts as one
 one_in : (wanted side : Bool) → side ≡ wanted → count_in wanted (side ∷ []) ≡ 1
 one_in true true is = refl
 one_in true false is = absurd (false≢true is)
 one_in false true is = absurd (false≢true (sym is))
 one_in false false is = refl
 
--- any other side doesn't count
+-- one of the other part doesn't count
 one_out : (wanted side : Bool) → side ≢ wanted → count_in wanted (side ∷ []) ≡ 0
 one_out true true is = absurd (is refl)
 one_out true false is = refl

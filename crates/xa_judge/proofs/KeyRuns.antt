@@ -39,6 +39,7 @@ pub record IsSplit (old : Config) (event : Event) (events : List Event) (new : C
   pub moves : List Move
   pub runs : LeadsThrough next events moves new
 
+-- moves that lead through an event and more split so
 pub split : (old new : Config) (event : Event) (events : List Event) (moves : List Move)
     → LeadsThrough old (event ∷ events) moves new
     → IsSplit old event events new

@@ -1,11 +1,12 @@
 -- The states of a record's two parts, and of the whole record: what a request of one part does to them.
---     free_of, unheld             so these sessions have nothing open, and nobody holds a chosen row
---     apart_after, rows_after     a request of the other part leaves that so, and the values of the chosen rows
---     AreJoined                   the state of the whole record, by those of its parts
---     free_get, free_put, free_del      what a free session reads and writes
---     free_join, other_join       a request of one part is answered there as in the whole, and leaves them so
---     none_apart, none_listed     a state without branches
---     joined_first, joined_with   before all events;  if other sessions count as those that have no branch
+--     apart_after                      a request of the other part leaves every branch apart from the chosen rows
+--     free_of, unheld                  then sessions without a branch have nothing open;  nobody holds a chosen row
+--     rows_after                       a request of the other part leaves the values of the chosen rows
+--     AreJoined                        the state of the whole record, by those of its parts
+--     free_get, free_put, free_del     what a free session reads and writes
+--     free_join, other_join            a request of one part is answered there as in the whole, and leaves them so
+--     none_apart, none_listed          a state without branches
+--     joined_first, joined_with        before all events;  if other sessions count as those that have no branch
 use Rattle.std.proofs.Common.{◌≡◌, ◌⊎◌, ℕ, ◌==◌, List, [], ◌∷◌, refl, ap, sym, ◌∙◌, subst, Bool, true, false, inl, inr}
 use Rattle.std.specs.Prelude.{Option, Some, None, cond, not, is_some, ◌&&◌, ◌||◌, map as map_list}
 use Rattle.std.specs.List.{list_any}
@@ -57,7 +58,7 @@ unlike named key other unnamed is = elim (same_or_apart bytes_total exact_texts 
   | inr apart ↦ apart
 ]
 
--- if both of two branches are apart, the chosen one is
+-- if two branches are apart (`IsApartAt`), so is the one of them that a test picks
 either_apart : (named : List ℕ → Bool) (free : ℕ → Bool) (b : Bool) (one other : Option Branch)
     → IsApartAt named free one → IsApartAt named free other → IsApartAt named free (cond b one other)
 either_apart named free true one other is was = is
@@ -70,7 +71,7 @@ changed_apart : (named : List ℕ → Bool) (free : ℕ → Bool) (change : Bran
 changed_apart named free change None keeps was = tt
 changed_apart named free change (Some branch) keeps was = keeps branch was
 
--- a branch that was just started is apart, if its session isn't one without a branch
+-- a branch that a session starts is apart, if the session may have one
 start_apart : (named : List ℕ → Bool) (free : ℕ → Bool) (session : ℕ) → free session ≡ false
     → IsApartBranch named free (started_by session)
 start_apart named free session not_free = record {
@@ -82,7 +83,7 @@ start_apart named free session not_free = record {
     same_owner : (left right : ℕ) → Some left ≡ Some right → left ≡ right
     same_owner left right e = cc
 
--- a branch that was apart is apart once it shares a row that isn't named
+-- a branch that is apart stays so once it shares a row that isn't chosen
 lock_apart : (named : List ℕ → Bool) (free : ℕ → Bool) (key : List ℕ) (branch : Branch) → named key ≡ false
     → IsApartBranch named free branch → IsApartBranch named free (with_lock key branch)
 lock_apart named free key branch unnamed was = record {
@@ -97,7 +98,7 @@ lock_apart named free key branch unnamed was = record {
     by false other is = get_inserted_apart bytes_total exact_texts branch.locks key Shared other
         (unlike named other key unnamed is) ∙ was.locks other is
 
--- a branch that was apart is apart once it writes a row that isn't named
+-- and once it writes one
 write_apart : (named : List ℕ → Bool) (free : ℕ → Bool) (key : List ℕ) (write : Write) (branch : Branch)
     → named key ≡ false → IsApartBranch named free branch → IsApartBranch named free (with_own_write key write branch)
 write_apart named free key write branch unnamed was = record {
@@ -108,7 +109,7 @@ write_apart named free key write branch unnamed was = record {
       (unlike named other key unnamed is) ∙ was.locks other is;
 }
 
--- a branch that was apart is apart once it has no owner
+-- and once it is detached
 detached_apart : (named : List ℕ → Bool) (free : ℕ → Bool) (branch : Branch) → IsApartBranch named free branch
     → IsApartBranch named free (detached branch)
 unfolding detached
@@ -121,13 +122,13 @@ detached_apart named free branch was = record {
     not_owned : (session : ℕ) → ◌≡◌ {A = Option ℕ} None (Some session) → ⊥
     not_owned session e = cc
 
--- a branch that was apart is apart once it is IDLE
+-- and once the work on it has ended
 idle_apart : (named : List ℕ → Bool) (free : ℕ → Bool) (branch : Branch) → IsApartBranch named free branch
     → IsApartBranch named free (idle branch)
 unfolding idle
 idle_apart named free branch was = record { owner = was.owner; writes = was.writes; locks = was.locks }
 
--- after a statement of the other part a branch is apart as it was
+-- the effect of a statement of the other part leaves a branch apart
 branch_apart : (named : List ℕ → Bool) (free : ℕ → Bool) (session : ℕ) (association : Association)
     (statement : Statement) (at : Xid) (found : Option Branch)
     → IsOtherRequest named free session (Given statement)
@@ -183,7 +184,7 @@ statement_apart named free state session statement other was = elim (outcome sta
       (was xid)))
 ]
 
--- after a request of the other part all branches are apart
+-- and so does a request of the other part
 pub apart_after : (named : List ℕ → Bool) (free : ℕ → Bool) (state : State) (session : ℕ) (request : Request)
     → IsOtherRequest named free session request
     → IsApart named free state → IsApart named free (next_state state session request)
@@ -211,7 +212,7 @@ free_of named free state session are is =
     by None at e = not_owned e
     by (Some branch) at e = at.owner session is e
 
--- a test that fails for each element fails for the list
+-- a test that nothing passes is passed by none of a list
 none_any : (p : Xid → Bool) (xs : List Xid) → ((x : Xid) → p x ≡ false) → list_any p xs ≡ false
 none_any p [] none = refl
 none_any p (x ∷ xs) none = ap (λ b. b || list_any p xs) (none x) ∙ none_any p xs none
@@ -255,7 +256,7 @@ unwritten key (write ∷ writes) rows none =
     by rest true is none = something none
     by rest false is none = aside write.1 (with_writes writes rows) is ∙ rest none
 
--- a change of a branch leaves the committed values
+-- changing a branch leaves all committed values
 changed_rows : (state : State) (xid : Xid) (change : Branch → Branch)
     → (with_changed state xid change).rows ≡ state.rows
 changed_rows state xid change = by (map.get state.branches xid)
@@ -265,7 +266,7 @@ changed_rows state xid change = by (map.get state.branches xid)
     by None = refl
     by (Some branch) = refl
 
--- a commit of a branch that is apart leaves the values of named rows
+-- committing a branch leaves the values of the chosen rows, if every branch is apart
 committed_rows : (named : List ℕ → Bool) (free : ℕ → Bool) (state : State) (xid : Xid) (key : List ℕ)
     → IsApart named free state → named key ≡ true
     → committed_value (committed state xid) key ≡ committed_value state key
@@ -280,7 +281,7 @@ committed_rows named free state xid key are is = by (map.get state.branches xid)
     by (Some branch) at = unwritten key (map.entries branch.writes) state.rows
         (sym (get-entries branch.writes key) ∙ at.writes key is)
 
--- a write of a row that isn't named leaves the values of named rows
+-- so does writing a row that isn't chosen, in a branch or outside of one
 written_rows : (named : List ℕ → Bool) (state : State) (association : Association) (other key : List ℕ)
     (write : Write) → named other ≡ false → named key ≡ true
     → committed_value (row_written state association other write) key ≡ committed_value state key
@@ -292,7 +293,7 @@ written_rows named state (Active own) other key write unnamed is =
     ap (λ rows. map.get rows key) (changed_rows state own (with_own_write other write))
 written_rows named state (Idle own) other key write unnamed is = refl
 
--- a statement of the other part leaves the values of named rows
+-- so does the effect of each statement of the other part, if every branch is apart
 effect_rows : (named : List ℕ → Bool) (free : ℕ → Bool) (state : State) (session : ℕ) (association : Association)
     (statement : Statement) (key : List ℕ)
     → IsOtherRequest named free session (Given statement)
@@ -358,7 +359,7 @@ free_put state session key value free nobody = (
       (record state { rows = with_write key (Some value) state.rows })) nobody,
 )
 
--- a session that is free deletes a row at once that nobody holds
+-- and deletes one so
 pub free_del : (state : State) (session : ℕ) (key : List ℕ) → association_of state session ≡ Free
     → is_held_against state Free key ≡ false
     → (reply_to state session (Del key) ≡ Accepted)

@@ -1,12 +1,12 @@
 -- Verdicts on a record, by those on its parts.
---     parts_first                  before all events
---     cut_take, cut_at             the first events are cut likewise;  and each event fits where it stands
---     picked_take, picked_at       the events of a part among the first ones;  and the event at a place
---     whole_explained, parts_explained      what is explained in both parts is explained, and the other way round
---     refuted_part                 what is refuted in a part is refuted, if the other part is explained up to there
---     answers_part                 and the answers are the same
---     explained_take               what is explained is explained up to each of its events
---     illegal_part                 the verdict on a record by that on one part
+--     parts_first                         before all events
+--     cut_take, cut_at                    the first events are cut likewise;  and each event fits where it stands
+--     picked_take, picked_at              the events of a part among the first ones;  and the event at a place
+--     whole_explained, part_explained     what is explained in both parts is explained;  and the other way round
+--     refuted_part                        what is refuted in a part is, if the other part is explained up to there
+--     answers_part                        and the answers are the same
+--     explained_take                      what is explained is explained up to each of its events
+--     illegal_part, legal_before          the verdict on a record by one part's;  what is explained in a legal part
 use Rattle.std.proofs.Common.{◌≡◌, ℕ, ◌+◌, ◌<◌, ◌≤◌, zero, suc, Bool, true, false, Some}
 use Rattle.std.proofs.Common.{List, [], ◌∷◌, Vec, Global}
 use Rattle.std.proofs.Common.{length, take, refl, ap, sym, ◌∙◌, subst, arith, replicate}
@@ -38,7 +38,7 @@ use Rattle.xa_judge.proofs.KeyRuns.{clients_at, in_parts, whole_of}
 
 -- ---- before all events
 
--- before all events each session is idle everywhere
+-- if all turns are Nobody, and all clients idle, the clients are those of parts
 clients_first : (named : List ℕ → Bool) (count at : ℕ)
     → AreClients named (slice_get (replicate count Nobody) at) (slice_get (replicate count Idle) at)
     (slice_get (replicate count Idle) at) (slice_get (replicate count Idle) at)
@@ -46,7 +46,7 @@ clients_first named zero at = (refl, refl, refl)
 clients_first named (suc count) zero = (refl, refl, refl)
 clients_first named (suc count) (suc at) = clients_first named count at
 
--- before all events no session's call ends its branch
+-- if all turns are Nobody, none is Ending
 none_ends : (count at : ℕ) → slice_get (replicate count Nobody) at ≡ Some Ending → ⊥
 none_ends zero at e = none-some Ending e
 none_ends (suc count) zero e = apart e
@@ -55,7 +55,7 @@ none_ends (suc count) zero e = apart e
     apart e = cc
 none_ends (suc count) (suc at) e = none_ends count at e
 
--- before all events the parts stand to the whole as they should, if the base has no branch
+-- before all events, from a state without branches, the opening configuration is the whole and both parts
 pub parts_first : (named : List ℕ → Bool) (base : State) → HasNoBranch base
     → AreParts named first_turns (opening_config base) (opening_config base) (opening_config base)
 unfolding opening_config first_turns
@@ -197,6 +197,7 @@ part_explained named base sides events false apart cut explained =
     explained.1 sides events explained.0 cut (parts_first named base apart) explained.2 in
     (found.rest_moves, found.rest_end, found.rest_runs)
 
+-- what is explained in the wanted part and in the other one is explained, whichever part is wanted
 both_explained : (named : List ℕ → Bool) (base : State) (sides : List Bool) (events : List Event)
     (wanted : Bool) → HasNoBranch base
     → IsCut named first_turns sides events

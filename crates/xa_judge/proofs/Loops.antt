@@ -1,4 +1,10 @@
 -- Loops over configurations.
+--     settles_step, settles_reach       in each, what a session called for takes effect;  so all are reached
+--     sees_step, sees_reach             each sees an event;  so all are reached, with one event more
+--     answers_step, answers_more        the answers that a session has in them;  no other ones, and all of them
+--     effect_added, effects_added       what one act leads to is added;  what both acts of a session lead to
+--     others_more, closed_more          what acts of sessions up to one lead to is there;  from each place up to one
+--     contained_more, contained_end     elements that are taken up one after another
 use Rattle.std.proofs.Common.{◌≡◌, ◌≢◌, ◌⊎◌, ℕ, ◌+◌, ◌<◌, ◌≤◌, take, Option, Some, None, List, [], ◌∷◌, ◌++◌, length}
 use Rattle.std.proofs.Common.{get_or, refl}
 use Rattle.std.proofs.Common.{ap, sym, ◌∙◌, subst, inl, inr, arith}
@@ -281,6 +287,7 @@ module _ {X : Type 0} where
         | inr same ↦ subst (λ y. Contains new y) same here
       ]
 
+  -- once all were taken up, each of them is in the new list
   pub contained_end : (xs : List X) (i : ℕ) (list : List X) → length xs ≤ i
       → ((other : X) → Contains (take i xs) other → Contains list other)
       → (other : X) → Contains xs other → Contains list other

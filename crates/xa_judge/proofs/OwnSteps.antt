@@ -1,6 +1,8 @@
 -- Which statements are steps of the session's own branch, by their replies.
---     started_step, ended_step, prepared_step, row_step, finished_step
---     among_at            a row that is one of these stands at a place
+--     started_step, ended_step, prepared_step     XA START, XA END and XA PREPARE
+--     row_step, finished_step                     a statement on a row;  one that ends a branch
+--     has_active, has_row                         what is so of the session's branch, by the replies to XA END and DEL
+--     among_at                                    a row that is one of these stands at a place
 use Rattle.std.proofs.Common.{◌≡◌, ◌||◌, Bool, true, false, not, Option, Some, None, List, [], ◌∷◌, ℕ}
 use Rattle.std.proofs.Common.{refl, ap, sym, ◌∙◌, subst, inl, inr, zero, suc}
 use Rattle.std.specs.Prelude.{is_some, map, slice_get}
@@ -47,12 +49,12 @@ pub accepted : (state : State) (session : ℕ) (request : Request) (statement : 
 accepted state session request statement is e =
     replied (reply_to state session statement) (sym (ap (answer_to state session) is) ∙ e)
 
--- what isn't some is none
+-- where the test for a branch fails there is none
 nothing_there : (found : Option Branch) → is_some found ≡ false → found ≡ None
 nothing_there None e = refl
 nothing_there (Some branch) e = absurd (false≢true (sym e))
 
--- an accepted XA START is a step of its branch
+-- an XA START that is accepted is a step of the branch that it starts
 pub started_step : (state : State) (session : ℕ) (xid : Xid) (rows : List (List ℕ))
     → reply_to state session (Start xid) ≡ Accepted → IsOwnStep state session (Start xid) xid rows
 unfolding reply_to
@@ -60,7 +62,7 @@ started_step state session xid rows e =
     let is = accepted_start state (association_of state session) xid (ap is_refused e) in
     starts refl is.0 (nothing_there (fin.get state.branches xid) is.1)
 
--- an XA END is accepted only of the ACTIVE branch that the session has open
+-- the table accepts XA END only of the branch that the session has open and ACTIVE
 active_of : (state : State) (a : Association) (xid : Xid) → table state a (End xid) ≡ Accepted → a ≡ Active xid
 unfolding table
 active_of state Free xid e = absurd (false≢true (sym (ap is_refused e)))
@@ -73,19 +75,19 @@ pub has_active : (state : State) (session : ℕ) (xid : Xid) → reply_to state 
 unfolding reply_to
 has_active state session xid e = active_of state (association_of state session) xid e
 
--- an accepted XA END is a step of its branch
+-- an XA END that is accepted is a step of its branch
 pub ended_step : (state : State) (session : ℕ) (xid : Xid) (rows : List (List ℕ))
     → reply_to state session (End xid) ≡ Accepted → IsOwnStep state session (End xid) xid rows
 ended_step state session xid rows e = ends refl (has_active state session xid e)
 
--- an XA PREPARE is accepted only of the IDLE branch that the session has open
+-- the table accepts XA PREPARE only of the branch on which the session has ended its work
 idle_of : (state : State) (a : Association) (xid : Xid) → table state a (Prepare xid) ≡ Accepted → a ≡ Idle xid
 unfolding table
 idle_of state Free xid e = absurd (false≢true (sym (ap is_refused e)))
 idle_of state (Active own) xid e = absurd (false≢true (sym (ap is_refused e)))
 idle_of state (Idle own) xid e = ap Idle (sym (own_is xid own _ (ap is_refused e)))
 
--- an accepted XA PREPARE is a step of its branch
+-- an XA PREPARE that is accepted is a step of its branch
 pub prepared_step : (state : State) (session : ℕ) (xid : Xid) (rows : List (List ℕ))
     → reply_to state session (Prepare xid) ≡ Accepted → IsOwnStep state session (Prepare xid) xid rows
 unfolding reply_to
@@ -104,14 +106,14 @@ has_row state session key xid own e = (
 one_row : (key : List ℕ) → IsAmong key (key ∷ [])
 one_row key = ap (λ b. b || false) (same_itself bytes_total exact_texts key)
 
--- a statement that names a row is about this row alone
+-- a statement that names a row is about that row alone
 named_row : (state : State) (session : ℕ) (statement : Statement) (key : List ℕ) → key_of statement ≡ Some key
     → keys_about state session statement ≡ key ∷ []
 unfolding keys_about
 named_row state session statement key is =
     by_row (λ s. keys_about state session s ≡ key ∷ []) statement key is refl (λ value. refl) refl
 
--- a statement on a row that the session's branch may have is a step of the branch
+-- a statement that names a row is a step of the session's ACTIVE branch, if no other branch holds the row
 pub row_step : (state : State) (session : ℕ) (statement : Statement) (xid : Xid) (rows : List (List ℕ))
     (key : List ℕ) → key_of statement ≡ Some key → rows ≡ keys_about state session statement
     → HasRow state session key xid → IsOwnStep state session statement xid rows
@@ -131,7 +133,7 @@ among_at key (row ∷ rows) e = elim (same_or_apart bytes_total exact_texts key 
 
 -- ---- the end of a branch
 
--- the rows of locks are those of their keys
+-- the rows that a branch holds by a list of locks have the keys of these
 keys_same : (branch : Branch) (locks : List (List ℕ × LockMode))
     → keys_of (map (held_row branch) locks) ≡ map (λ lock. lock.0) locks
 keys_same branch [] = refl
@@ -151,17 +153,17 @@ held_among state xid key e = by (fin.get state.branches xid) e
         ap (list_any (eq_by_cmp bytes_cmp key)) (keys_same branch (fin.entries branch.locks))
         ∙ sym (contains_key-keys branch.locks key) ∙ e
 
--- a reply that is Ok only if a test holds is Ok: the test held
+-- if a reply is OK that is so only where a test holds, the test holds
 passed : (b : Bool) (error : XaError) → ok_if b error ≡ Accepted → b ≡ true
 passed true error e = refl
 passed false error e = absurd (false≢true (sym (ap is_refused e)))
 
--- whatever the test says, the reply is a refusal
+-- a reply that is one refusal or another is never OK
 never : (b : Bool) → refused_if (not b) Nota (Refused (Rmfail StatePrepared)) ≡ Accepted → ⊥
 never true e = false≢true (sym (ap is_refused e))
 never false e = false≢true (sym (ap is_refused e))
 
--- an accepted XA COMMIT ends a branch that its session may end
+-- if the table accepts XA COMMIT, with ONE PHASE or without, the session may end the branch
 commit_ends : (state : State) (session : ℕ) (xid : Xid) (one_phase : Bool) (a : Association)
     → association_of state session ≡ a → table state a (Commit xid one_phase) ≡ Accepted → MayEnd state session xid
 unfolding table
@@ -172,7 +174,7 @@ commit_ends state session xid true (Active own) is e = absurd (false≢true (sym
 commit_ends state session xid false (Idle own) is e = absurd (false≢true (sym (ap is_refused e)))
 commit_ends state session xid true (Idle own) is e = inr (is ∙ ap Idle (sym (own_is xid own _ (ap is_refused e))))
 
--- an accepted XA ROLLBACK ends a branch that its session may end
+-- and if it accepts XA ROLLBACK
 roll_ends : (state : State) (session : ℕ) (xid : Xid) (a : Association) → association_of state session ≡ a
     → table state a (Rollback xid) ≡ Accepted → MayEnd state session xid
 unfolding table
@@ -180,7 +182,7 @@ roll_ends state session xid Free is e = inl (is, passed (is_prepared state xid) 
 roll_ends state session xid (Active own) is e = absurd (false≢true (sym (ap is_refused e)))
 roll_ends state session xid (Idle own) is e = inr (is ∙ ap Idle (sym (own_is xid own _ (ap is_refused e))))
 
--- a branch is ended only by a session that may end it
+-- a session whose statement ends a branch and is accepted may end it
 may_end : (state : State) (session : ℕ) (statement : Statement) (xid : Xid) → IsEnding statement xid
     → reply_to state session statement ≡ Accepted → MayEnd state session xid
 unfolding reply_to
@@ -189,7 +191,7 @@ may_end state session statement xid ending e =
     ending (λ one_phase. commit_ends state session xid one_phase (association_of state session) refl)
     (roll_ends state session xid (association_of state session) refl) e
 
--- the end of a branch is about the rows that the branch holds
+-- a statement that ends a branch is about the rows that the branch holds
 ended_rows : (state : State) (session : ℕ) (statement : Statement) (xid : Xid) → IsEnding statement xid
     → keys_about state session statement ≡ keys_of (rows_of state xid)
 unfolding keys_about
@@ -197,7 +199,7 @@ ended_rows state session statement xid ending =
     by_ending (λ s. keys_about state session s ≡ keys_of (rows_of state xid)) statement xid ending
     (λ one_phase. refl) refl
 
--- the accepted end of a branch is a step of it
+-- a statement that ends a branch and is accepted is a step of it, on the rows that it is about
 pub finished_step : (state : State) (session : ℕ) (statement : Statement) (xid : Xid) (rows : List (List ℕ))
     → IsEnding statement xid → rows ≡ keys_about state session statement
     → reply_to state session statement ≡ Accepted → IsOwnStep state session statement xid rows

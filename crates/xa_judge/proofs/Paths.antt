@@ -1,4 +1,6 @@
 -- Moves as codes, in blocks.
+--     moves_push                                one code more is one move more
+--     moves_folded, moves_split, moves_more     the last block is one of the blocks;  what comes of it comes last
 use Rattle.std.proofs.Common.{◌≡◌, ℕ, List, [], ◌∷◌, ◌++◌, map, ap, sym, ◌∙◌, append_assoc, append-nil}
 use Rattle.std.specs.List.{concat}
 use Rattle.std.proofs.lemmas.List.{map-append}

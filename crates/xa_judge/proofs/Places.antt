@@ -1,4 +1,9 @@
 -- Places of a list, also after a write.
+--     same_number                           two numbers are the same or not
+--     stands_at, get_within, get_front      what stands at a place
+--     get_written, get_apart, set_apart     after a write
+--     map_append, length_map                a mapped list
+--     mapped_place, place_mapped            where its members come from
 use Rattle.std.proofs.Common.{◌≡◌, ◌≢◌, ◌⊎◌, ℕ, ◌<◌, zero, suc, Some, List, [], ◌∷◌, ◌++◌, length, set, map, get_or}
 use Rattle.std.proofs.Common.{refl, ap, inl, inr, arith}
 use Rattle.std.specs.Prelude.{slice_get}
@@ -40,11 +45,13 @@ module _ {A : Type 0} where
   set_apart (y ∷ ys) (suc i) zero a b apart = refl
   set_apart (y ∷ ys) (suc i) (suc j) a b apart = ap (λ l. y ∷ l) (set_apart ys i j a b (λ e. apart (ap suc e)))
 
+  -- what stands at a place stands there too with more behind the list
   pub get_front : (xs ys : List A) (i : ℕ) (x : A) → slice_get xs i ≡ Some x → slice_get (xs ++ ys) i ≡ Some x
   get_front [] ys i x found = absurd (none-some x found)
   get_front (y ∷ xs) ys zero x found = found
   get_front (y ∷ xs) ys (suc i) x found = get_front xs ys i x found
 
+  -- at each place within the list something stands
   pub get_within : (xs : List A) (i : ℕ) → i < length xs → (x : A) × (slice_get xs i ≡ Some x)
   get_within [] i within = absurd (omega arith)
   get_within (y ∷ xs) zero within = (y, refl)

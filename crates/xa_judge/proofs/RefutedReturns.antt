@@ -36,6 +36,7 @@ record IsBeforeLast (old : Config) (events : List Event) (event : Event) : Type 
   pub next : Config
   pub sees : observed mid event ≡ Some next
 
+-- moves that lead through events and a last one begin with such moves
 before_last : (old new : Config) (events : List Event) (event : Event) (moves : List Move)
     → LeadsThrough old (events ++ event ∷ []) moves new → IsBeforeLast old events event
 before_last old new events event (Effect session act ∷ moves) runs =
@@ -138,11 +139,13 @@ illegal_return base events place session seen answers within at some each all no
 -- ---- loops over answers
 
 module _ {X : Type 0} (P : X → Type 0) where
+  -- what is so of those before a place and of the one there is so of those up to it
   pub all_more : (xs : List X) (i : ℕ) (x : X) → i < length xs → x ≡ get_or xs i x → All P (take i xs) → P x
       → All P (take (i + 1) xs)
   all_more xs i x within at all here =
       subst (λ l. All P l) (sym (take_more xs i x within ∙ ap (λ y. take i xs ++ y ∷ []) (sym at)))
       (All-push P (take i xs) x all here)
 
+  -- past the end of the list that is so of all
   pub all_end : (xs : List X) (i : ℕ) → length xs ≤ i → All P (take i xs) → All P xs
   all_end xs i over all = subst (λ l. All P l) (take_all i xs over) all

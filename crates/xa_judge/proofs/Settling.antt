@@ -1,7 +1,8 @@
 -- A return, and what comes before it.
---     dead         a session that can't be answered never returns
---     settles      where a list is closed, a return is seen from one of it, once what its session called for has taken
---                  effect
+--     dead                           a session that can't be answered never returns
+--     Settled, settles               where a list is closed, a return is seen from one of it, once what its session
+--                                    called for has taken effect
+--     AnsweredSo, answers_settle     each answer that acts lead to in a closed list is one that a session has then
 use Rattle.std.proofs.Common.{◌≡◌, ◌≢◌, ◌⊎◌, ℕ, Bool, true, false, Option, Some, None, List, [], ◌∷◌, length, set, refl}
 use Rattle.std.proofs.Common.{ap, sym, ◌∙◌, subst, inl, inr, arith}
 use Rattle.std.specs.Prelude.{slice_get}

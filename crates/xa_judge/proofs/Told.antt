@@ -1,4 +1,10 @@
 -- What is told of how far a judge is.
+--     report_more                 one report more
+--     pass_of, told_of            one pass alone
+--     passes_on, told_on          passes after others
+--     told_found, found_on        a verdict that was found, or none;  after passes
+--     whole_told, verdict_on      a pass that begins with the first event;  after passes
+--     later_told, later_whole     a pass over events that come after others
 use Rattle.std.proofs.Common.{◌≡◌, ℕ, ◌+◌, List, ◌++◌, length, refl, ap, sym, ◌∙◌, subst, zero-add}
 use Rattle.std.proofs.lemmas.List.{length-append}
 use Rattle.std.proofs.Common.{Option, Some, None, Result, Ok, Err, IfOk, IfSome, MatchOption}
@@ -18,16 +24,18 @@ module _ {S : Type 0} {gives : S → SoFar → S → Type 0} where
   less_fits weaker (one_more count mid size new before fit report) =
       one_more count mid size new (less_fits weaker before) (weaker count size fit) report
 
+  -- reports of the sizes of what is kept are reports of sizes (`IsSize`)
   pub sizes_of : {base : State} {events : List Event} {first all : ℕ} {old : S} {count : ℕ} {new : S}
       → AreReports gives (IsSizeOfKept base events) first all old count new
       → AreReports gives IsSize first all old count new
   sizes_of reports = less_fits (λ place size kept. kept.is_size) reports
 
-  -- one pass
+  -- one pass is passes
   pub pass_of : {first all : ℕ} {old : S} {count : ℕ} {new : S} → AreReports gives IsSize first all old count new
       → ArePasses gives all old new
   pass_of {first} {all} {old} {count} {new} reports = one_pass old first count new no_pass reports
 
+  -- one pass alone tells up to where it ends
   pub told_of : {first all seen : ℕ} {old : S} {count : ℕ} {new : S}
       → AreReports gives IsSize first all old count new → first + count ≡ seen → IsToldUpTo gives all seen old new
   told_of {first} {old = old} {count} reports up_to =
@@ -40,9 +48,11 @@ module _ {S : Type 0} {gives : S → SoFar → S → Type 0} where
   passes_on passes (one_pass mid first count new more reports) =
       one_pass mid first count new (passes_on passes more) reports
 
+  -- what is told up to an event is told in passes
   pub passes_of : {all seen : ℕ} {old new : S} → IsToldUpTo gives all seen old new → ArePasses gives all old new
   passes_of {new = new} told = one_pass told.mid told.first told.count new told.passes told.last
 
+  -- what is told up to an event after passes is told up to it with these
   pub told_on : {all seen : ℕ} {old mid new : S} → ArePasses gives all old mid → IsToldUpTo gives all seen mid new
       → IsToldUpTo gives all seen old new
   told_on passes told = record {
@@ -71,6 +81,7 @@ module _ {S : Type 0} {gives : S → SoFar → S → Type 0} where
   told_found events {all} {old} {new} (Some verdict) legal told =
       subst (λ n. IsToldUpTo gives all n old new) (sym legal) told
 
+  -- after passes, as many events are told as the verdict takes that was found; if none was, they are told in passes
   pub found_on : {E : Type 0} (events : List Event) {all : ℕ} {old mid : S} (new : S)
       (result : Result (Option Verdict) E) → ArePasses gives all old mid
       → IfOk result (λ found. MatchOption found (ArePasses gives all mid new)
@@ -81,12 +92,13 @@ module _ {S : Type 0} {gives : S → SoFar → S → Type 0} where
   found_on events new (Ok (Some verdict)) passes more = told_on passes more
   found_on events new (Err e) passes more = tt
 
-  -- a pass over all events leads to a verdict
+  -- a pass that begins with the first event tells up to where it ends
   pub whole_told : {base : State} {events : List Event} {all seen : ℕ} {old new : S}
       → AreReports gives (IsSizeOfKept base events) 0 (0 + all) old seen new → IsToldUpTo gives all seen old new
   whole_told {base} {events} {all} {seen} {old} {new} reports =
       subst (λ n. IsToldUpTo gives n seen old new) (zero-add all) (told_of (sizes_of reports) (zero-add seen))
 
+  -- after passes, if a pass from the first event on leads to a verdict, as many events are told as that takes
   pub verdict_on : {E : Type 0} (base : State) (events : List Event) {all : ℕ} {old mid : S} (new : S)
       (result : Result Verdict E) → ArePasses gives all old mid
       → IfOk result
@@ -95,7 +107,7 @@ module _ {S : Type 0} {gives : S → SoFar → S → Type 0} where
   verdict_on base events new (Ok verdict) passes more = told_on passes (whole_told more)
   verdict_on base events new (Err e) passes more = tt
 
-  -- a pass over the events that come after others
+  -- a pass over the events that come after others tells up to where it ends
   pub later_told : {base : State} (events first later : List Event) {old : S} {count : ℕ} {new : S}
       → events ≡ first ++ later
       → AreReports gives (IsSizeOfKept base later) (length first) (length first + length later) old count new
@@ -104,6 +116,7 @@ module _ {S : Type 0} {gives : S → SoFar → S → Type 0} where
       subst (λ n. IsToldUpTo gives n (length first + count) old new)
       (sym (ap length parts ∙ length-append first later)) (told_of (sizes_of reports) refl)
 
+  -- if such a pass goes on to the last of them, it tells up to the last of all events
   pub later_whole : {base : State} (events first later : List Event) {old : S} {new : S}
       → events ≡ first ++ later
       → AreReports gives (IsSizeOfKept base later) (length first) (length first + length later) old (length later) new

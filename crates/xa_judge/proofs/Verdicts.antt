@@ -1,4 +1,9 @@
 -- What a verdict rests on.
+--     complete_more, reach_more               a list has all that is explained, with one event more;  and no more
+--     legal, refuted, wide                    LEGAL, ILLEGAL, UNDECIDED is right
+--     answers_given                           the answers of ILLEGAL are all that some order gives
+--     opens_reached, opens_complete           before the first event
+--     continues_shortened, some_shortened     common first moves are taken out
 use Rattle.std.proofs.Common.{◌≡◌, ℕ, ◌+◌, ◌<◌, Some, List, slice_get, [], ◌∷◌, ◌++◌, length, take, drop, get_or, ap}
 use Rattle.std.proofs.Common.{sym, ◌∙◌, subst, arith, append_assoc, append-nil}
 use Rattle.std.specs.List.{All, Contains}

@@ -1,7 +1,8 @@
 -- LeadsThrough: one more move at the end, and acts that can wait until an event is seen.
---     runs_effect, runs_event     one more move at the end
---     Acted, Saw                  what an act, an event did to what one session is about
---     CanWait, First, later       where acts can wait, the event is seen first
+--     runs_effect, runs_event                   one more move at the end
+--     Acted, Saw                                what an act, an event did to what one session is about
+--     acted, saw_call, saw_return, saw_lost     what each of them changes
+--     CanWait, First, later                     where acts can wait, the event is seen first
 use Rattle.std.proofs.Common.{◌≡◌, ◌≢◌, ℕ, Bool, true, false, cond, Option, Some, None, List, [], ◌∷◌, ◌++◌, set, refl}
 use Rattle.std.proofs.Common.{ap, sym, ◌∙◌, subst, inl, inr}
 use Rattle.std.specs.Prelude.{slice_get}

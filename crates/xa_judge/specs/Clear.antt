@@ -1,9 +1,11 @@
 -- Statements that have nothing to do with a step of another session's branch.
---     named_by, key_of       the branch and the row that a statement names
---     IsEnding, IsUnlisted   it ends the branch;  it leaves the list of PREPARED branches
---     IsOwnStep              an accepted statement changes only its branch, and values only of rows
---     IsClearOf              another statement has nothing to do with it
---     AreOpenClear, AreCallsClear    nor has what is open, or is called for until it returns
+--     named_by, key_of                the branch and the row that a statement names
+--     Avoids, IsBeside                a statement doesn't name a branch;  a session hasn't it open
+--     IsEnding, IsUnlisted            it ends the branch;  it leaves the list of PREPARED branches
+--     IsOwnStep                       an accepted statement changes only its branch, and values only of rows
+--     IsClearOf                       another statement has nothing to do with it
+--     AreOpenClear, AreCallsClear     nor has what is open, or is called for until it returns
+--     IsSteppedFor                    where moves lead on, some do with the step taken, to the same answers
 -- Every rule here is the project's own: crates/xa_judge/README.md.
 use Rattle.std.specs.Prelude.{◌≡◌, ◌≢◌, ◌⊎◌, ℕ, Bool, true, false, Option, Some, None, List, [], ◌∷◌}
 use Rattle.std.specs.List.{list_any}

@@ -9,6 +9,11 @@
 --     AreAlike             this is kept of a configuration
 --     GoesOn, GoesOnLike   moves lead on from what is kept to the end;  to one with the same answers
 --     IsDead               a call was answered otherwise than it returns
+--     CanSettle, IsAllowed   a call can take effect at once;  an act isn't known to be of no use
+--     FitsHints, NotesCall   an event fits what is known;  what it calls for is noted
+--     hint_in, hints_of    what is known of an open call, of all of them, by the places of calls and returns
+--     IsClosedFor, HasSeenFor   a list has what acts lead to;  what an event leads to
+--     IsAdvanceFor         orders go on past an event, from one list in another
 use Rattle.std.specs.Prelude.{◌≡◌, length, ◌⊎◌, ◌||◌, ℕ, Bool, true, false, Option, Some, None, List, ◌<◌, ◌∷◌, ◌++◌}
 use Rattle.std.specs.Prelude.{slice_get, map}
 use Rattle.std.specs.Option.{unwrap_or}
@@ -42,6 +47,7 @@ pub record Hint : Type 0 where
   pub never : Bool
   pub asked : Option Request
 
+-- nothing is known of the call
 abbrev pub no_hint : Hint
 no_hint = record { seen = None; never = false; asked = None }
 
@@ -169,7 +175,7 @@ FitsHints hints (Unknown session) = hint_of hints session ≡ None
 abbrev pub ReplacesFor : List Hint → Config → Config → Type 0
 ReplacesFor hints old new = (run : Config) → AreAlike hints run old → AreAlike hints run new
 
--- moves lead on from a configuration of which one of the list is kept, or from one that can't go on past a return
+-- moves lead on to the end from a configuration of which one of the list is kept
 pub record IsFollowed (hints : List Hint) (has : Config → Type 0) (events : List Event) (end : Config)
     : Type 0 where
   pub kept : Config
@@ -179,12 +185,14 @@ pub record IsFollowed (hints : List Hint) (has : Config → Type 0) (events : Li
   pub moves : List Move
   pub runs : LeadsThrough run events moves end
 
+-- moves lead on to the end from a configuration that can't go on past a return
 pub record IsLeft (hints : List Hint) (events : List Event) (end : Config) : Type 0 where
   pub run : Config
   pub dead : IsDead hints run
   pub moves : List Move
   pub runs : LeadsThrough run events moves end
 
+-- moves lead on to the end, from what is kept or from what can't go on past a return
 abbrev pub GoesOn : List Hint → (Config → Type 0) → List Event → Config → Type 0
 GoesOn hints has events end = IsFollowed hints has events end ⊎ IsLeft hints events end
 
@@ -222,11 +230,12 @@ abbrev pub is_past : Option Event → Bool
 is_past None = true
 is_past (Some event) = false
 
--- a call that isn't heard of any more has a place after all events
+-- what the return at a place shows, if the place is known
 abbrev pub seen_by : List Event → Option ℕ → Option Seen
 seen_by events None = None
 seen_by events (Some place) = seen_in (slice_get events place)
 
+-- whether that place is after all events: the call isn't heard of any more
 abbrev pub never_by : List Event → Option ℕ → Bool
 never_by events None = false
 never_by events (Some place) = is_past (slice_get events place)
@@ -236,10 +245,12 @@ abbrev pub request_in : Option Event → Option Request
 request_in (Some (Call session request)) = Some request
 request_in other = None
 
+-- what the call at a place is for, if that is known
 abbrev pub asked_by : List Event → Option ℕ → Option Request
 asked_by events None = None
 asked_by events (Some place) = request_in (slice_get events place)
 
+-- what is known of an open call, by the places of the call and of its return
 abbrev pub hint_in : List Event → OpenCall → Hint
 hint_in events open_call = record {
   seen = seen_by events open_call.returns;
@@ -253,6 +264,7 @@ NotesCall hints hint (Call session request) = hint.asked ≡ Some request
 NotesCall hints hint (Lost session) = hint.asked ≡ (fact_of hints session).asked
 NotesCall hints hint event = Unit {0}
 
+-- what is known of each session's open call
 abbrev pub hints_of : List Event → List OpenCall → List Hint
 hints_of events places = map (hint_in events) places
 

@@ -10,7 +10,8 @@
 --     turns_after          to which parts the sessions' open calls belong after the events
 --     picked               the events of one part, in their order
 --     count_in             how many they are
---     IsPlaceIn            the place in the record of an event of one part
+--     IsApart              no branch has anything of the chosen rows, or an owner among those that have none
+--     HasNoBranch          there is no branch
 use Rattle.std.specs.Prelude.{◌≡◌, ℕ, suc, Bool, true, false, Some, List, [], ◌∷◌, slice_get, slice_set, replicate}
 use Rattle.std.specs.Prelude.{◌≢◌, Option, None, cond}
 use Rattle.std.specs.Option.{unwrap_or, option_map_or}

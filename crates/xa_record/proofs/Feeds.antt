@@ -22,12 +22,12 @@ use Rattle.xa_record.specs.Replaying.{HasNoFeed, joined, IsFit}
 pub both : (one two : Bool) → one ≡ true → two ≡ true → (one && two) ≡ true
 both one two first second = ap (λ b. b && two) first ∙ second
 
--- of two tests that hold together the first holds
+-- of two tests that hold together the first one holds
 pub both_first : (one two : Bool) → (one && two) ≡ true → one ≡ true
 both_first true two is = refl
 both_first false two is = is
 
--- of two tests that hold together the second holds
+-- and so does the second one
 pub both_second : (one two : Bool) → (one && two) ≡ true → two ≡ true
 both_second true two is = is
 both_second false two is = absurd (cc)

@@ -42,6 +42,7 @@ abbrev pub call_line : Told → List ℕ
 call_line (Calls session text) = decimal session ++ codes " > " ++ call_text text
 call_line told = []
 
+-- the line of a call that was found, or nothing if none was
 abbrev pub line_of_call : Option NumberedEvent → List ℕ
 line_of_call None = []
 line_of_call (Some numbered) = call_line numbered.told
@@ -52,12 +53,15 @@ pub record Exchange : Type 0 where
   pub line : ℕ
   pub call : List ℕ
 
+-- what was seen, and this call, if there is one
 abbrev pub exchange_with : Told → Option NumberedEvent → Exchange
 exchange_with told call = record { seen = seen_line told; line = number_of_line call; call = line_of_call call }
 
+-- nothing was seen
 abbrev pub no_exchange : Exchange
 no_exchange = record { seen = []; line = 0; call = [] }
 
+-- what was seen, if something was, and the last call of its session among the events before it
 abbrev pub exchange_after : List NumberedEvent → Option NumberedEvent → Exchange
 exchange_after before None = no_exchange
 exchange_after before (Some one) = exchange_with one.told (last_call (session_of one.told) None before)

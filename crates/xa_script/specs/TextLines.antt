@@ -63,6 +63,8 @@ seen_reply line = behind_first (past_number (drop 5 line))
 abbrev pub called_text : List ℕ → List ℕ
 called_text line = behind_first (past_number (past_number (drop 10 line)))
 
+-- how many rows a line of a verdict says that it has: the reply of an answer that could have been, or of what was seen;
+-- any other line has none
 abbrev pub rows_in_verdict : List ℕ → ℕ
 rows_in_verdict line =
     if could_be line then rows_of (drop 9 line) else (if was_seen line then rows_of (seen_reply line) else 0)

@@ -33,6 +33,7 @@ or_false : (b : Bool) → (b || false) ≡ b
 or_false true = refl
 or_false false = refl
 
+-- a test and a false one are false
 and_false : (b : Bool) → (b && false) ≡ false
 and_false true = refl
 and_false false = refl

@@ -35,6 +35,7 @@ phase_back Active = refl
 phase_back Idle = refl
 phase_back Prepared = refl
 
+-- a branch's phase is encoded as that number
 abbrev pub coded_phase : Coded Phase
 coded_phase = code_by ℕ coded_ℕ number_of_phase phase_of_number phase_back
 

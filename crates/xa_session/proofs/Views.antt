@@ -2,12 +2,12 @@
 use Rattle.std.proofs.Common.{◌≡◌, ◌+◌, ℕ, Option, Some, None, refl, sym, ◌∙◌, subst, arith}
 use Rattle.xa_session.specs.View.{SessionView, KeepsLimit, StaysOfLog, Takes}
 
--- a limit is kept if nothing is taken
+-- a limit that stays as it is isn't lifted
 limit_itself : (left : Option ℕ) → KeepsLimit left left
 limit_itself None = refl
 limit_itself (Some left) = (left, refl, omega arith)
 
--- a limit that is kept by one call and by the next is kept by both
+-- one that isn't lifted by either of two calls isn't by both
 limit_through : (old mid new : Option ℕ) → KeepsLimit old mid → KeepsLimit mid new → KeepsLimit old new
 limit_through None mid new first second = subst (λ m. KeepsLimit m new) first second
 limit_through (Some before) mid new first second =
