@@ -72,9 +72,8 @@ module _ {S : Type 0} {gives : S → SoFar → S → Type 0} where
       one_more count mid size new before fit report
 
   -- a verdict that was found, if any
-  pub told_found : (events : List Event) {all : ℕ} {old new : S} (found : Option Verdict)
-      → IfSome found (λ verdict. seen_for events verdict ≡ length events)
-      → IsToldUpTo gives all (length events) old new
+  pub told_found : (events : List Event) {all seen : ℕ} {old new : S} (found : Option Verdict)
+      → IfSome found (λ verdict. seen_for events verdict ≡ seen) → IsToldUpTo gives all seen old new
       → MatchOption found (ArePasses gives all old new)
       (λ verdict. IsToldUpTo gives all (seen_for events verdict) old new)
   told_found events None legal told = passes_of told
@@ -115,12 +114,3 @@ module _ {S : Type 0} {gives : S → SoFar → S → Type 0} where
   later_told {base} events first later {old} {count} {new} parts reports =
       subst (λ n. IsToldUpTo gives n (length first + count) old new)
       (sym (ap length parts ∙ length-append first later)) (told_of (sizes_of reports) refl)
-
-  -- if such a pass goes on to the last of them, it tells up to the last of all events
-  pub later_whole : {base : State} (events first later : List Event) {old : S} {new : S}
-      → events ≡ first ++ later
-      → AreReports gives (IsSizeOfKept base later) (length first) (length first + length later) old (length later) new
-      → IsToldUpTo gives (length events) (length events) old new
-  later_whole events first later {old} {new} parts reports =
-      subst (λ n. IsToldUpTo gives (length events) n old new)
-      (sym (ap length parts ∙ length-append first later)) (later_told events first later parts reports)

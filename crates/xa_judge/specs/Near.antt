@@ -4,8 +4,10 @@
 --     ReadsNamed         a request reads only named rows
 --     CallsNamed         an event, if it is a call, reads only named rows
 --     IsLoadedTo         the only state to which the events lead, with all sessions idle
+--     IsNearLater        later events read only what a near server holds as well
 use Rattle.std.specs.Prelude.{◌≡◌, ℕ, Bool, true, List, ◌++◌}
 use Rattle.std.specs.BTreeSet.{BTreeSet, contains}
+use Rattle.std.specs.List.{All}
 use Rattle.xa_xid.specs.Xid.{bytes_cmp}
 use Rattle.xa_xid.specs.declared.statement.Statement.TheVariants.{Get}
 use Rattle.xa_server.specs.State.{State, committed_value}
@@ -47,3 +49,11 @@ pub record IsLoadedTo (base : State) (events : List Event) (full : State) : Type
   pub only : (more : List Event) (all : List Move) (end : Config)
       → LeadsThrough (opening_config base) (events ++ more) all end
       → (later : List Move) × LeadsThrough (opening_config full) more later end
+
+-- the later events read only rows that a server holds as the one does to which the first events lead
+pub record IsNearLater (base : State) (first : List Event) (near : State) (later : List Event) : Type 0 where
+  pub keys : Keys
+  pub full : State
+  pub loaded : IsLoadedTo base first full
+  pub is_near : AreNear (named_in keys) full near
+  pub named : All (CallsNamed (named_in keys)) later

@@ -3,9 +3,10 @@
 --     AreReports       one report before each event that is judged, in turn
 --     ArePasses        such reports on the events once, or several times
 --     IsToldUpTo       the last pass went up to this many events
+--     IsToldOf         so is what was found: a verdict up to what decides, nothing in passes
 --     IsComplete       whatever goes on through more events goes on from one of a list
 --     IsSizeOfKept     the size of the list that is kept before an event
-use Rattle.std.specs.Prelude.{◌≡◌, ℕ, ◌+◌, ◌<◌, List, ◌++◌, length, take}
+use Rattle.std.specs.Prelude.{◌≡◌, ℕ, ◌+◌, ◌<◌, Option, MatchOption, List, ◌++◌, length, take}
 use Rattle.std.specs.List.{All}
 use Rattle.xa_server.specs.State.{State}
 use Rattle.xa_judge.specs.declared.configuration.Configuration.{Configuration}
@@ -62,6 +63,11 @@ pub record IsToldUpTo {S : Type 0} (gives : S → SoFar → S → Type 0) (all s
   pub count : ℕ
   pub last : AreReports gives IsSize first all mid count new
   pub up_to : first + count ≡ seen
+
+-- what was found on the events is told: a verdict up to what decides it; and if none was found, passes were
+abbrev pub IsToldOf : {S : Type 0} → (S → SoFar → S → Type 0) → List Event → Option Verdict → S → S → Type 0
+IsToldOf gives events found old new = MatchOption found (ArePasses gives (length events) old new)
+    (λ verdict. IsToldUpTo gives (length events) (seen_for events verdict) old new)
 
 -- where moves lead through those that were seen and more, some lead through these from the list, to the same end
 abbrev pub IsComplete : State → List Event → List Configuration → Type 0

@@ -1,6 +1,6 @@
 //! Judges a record: which ways to a verdict are tried, and in which order.
-ghost use Rattle.std.specs.Prelude.{length, IfOk, IfSome, MatchOption};
-ghost use Rattle.xa_judge.specs.Told.{ArePasses, IsToldUpTo, seen_for};
+ghost use Rattle.std.specs.Prelude.{length, IfOk, IfSome};
+ghost use Rattle.xa_judge.specs.Told.{IsToldUpTo, IsToldOf, seen_for};
 ghost use Rattle.xa_judge.specs.Verdicts.{IsVerdict};
 
 use crate::by_keys::judge_by_keys;
@@ -48,42 +48,6 @@ const WAYS_OF_LONG: [Way; 8] = [
     Way::BehindAll,
 ];
 
-/// The verdict, if it is found by judging free statements row by row.
-fn judge_apart<P: Progress>(
-    alloc: Global,
-    base: &Server,
-    events: &[Event],
-    limit: usize,
-    progress: &mut P,
-) -> Result<Option<Verdict>, NoMemory>
-    ensures verdict { IfOk result (λ found. IfSome found (IsVerdict base.now events.now limit)) }
-    ensures told { IfOk result (λ found. MatchOption found
-        (ArePasses P.judged_gives (length events.now) progress.old progress.new)
-        (λ verdict. IsToldUpTo P.judged_gives (length events.now) (seen_for events.now verdict) progress.old
-        progress.new)) }
-{
-    let found = judge_by_keys(alloc, base, events, limit)?;
-    Ok(tell_verdict(base, events, found, limit, progress))
-}
-
-/// The verdict, if it is found by configurations that are kept where later returns are known.
-fn judge_foreseen<P: Progress>(
-    alloc: Global,
-    base: &Server,
-    events: &[Event],
-    limit: usize,
-    progress: &mut P,
-) -> Result<Option<Verdict>, NoMemory>
-    ensures verdict { IfOk result (λ found. IfSome found (IsVerdict base.now events.now limit)) }
-    ensures told { IfOk result (λ found. MatchOption found
-        (ArePasses P.judged_gives (length events.now) progress.old progress.new)
-        (λ verdict. IsToldUpTo P.judged_gives (length events.now) (seen_for events.now verdict) progress.old
-        progress.new)) }
-{
-    let found = judge_ahead(alloc, base, events, limit)?;
-    Ok(tell_verdict(base, events, found, limit, progress))
-}
-
 /// The verdict that is found this way, if one is.
 fn judge_by<P: Progress>(
     alloc: Global,
@@ -94,15 +58,15 @@ fn judge_by<P: Progress>(
     progress: &mut P,
 ) -> Result<Option<Verdict>, NoMemory>
     ensures verdict { IfOk result (λ found. IfSome found (IsVerdict base.now events.now limit)) }
-    ensures told { IfOk result (λ found. MatchOption found
-        (ArePasses P.judged_gives (length events.now) progress.old progress.new)
-        (λ verdict. IsToldUpTo P.judged_gives (length events.now) (seen_for events.now verdict) progress.old
-        progress.new)) }
+    ensures told { IfOk result (λ found. IsToldOf P.judged_gives events.now found progress.old progress.new) }
 {
     match way {
         Way::Narrow => judge_narrow(alloc, base, events, limit, progress),
         Way::Wide => judge_kept(alloc, base, events, WIDE, limit, progress),
-        Way::Rows => judge_apart(alloc, base, events, limit, progress),
+        Way::Rows => {
+            let found = judge_by_keys(alloc, base, events, limit)?;
+            Ok(tell_verdict(base, events, found, limit, progress))
+        }
         Way::ShortSearch => judge_by_search(
             alloc,
             base,
@@ -119,7 +83,10 @@ fn judge_by<P: Progress>(
             SearchSize::Whole,
             progress,
         ),
-        Way::LaterReturns => judge_foreseen(alloc, base, events, limit, progress),
+        Way::LaterReturns => {
+            let found = judge_ahead(alloc, base, events, limit)?;
+            Ok(tell_verdict(base, events, found, limit, progress))
+        }
         Way::BehindWide => judge_behind(alloc, base, events, limit, WIDE, progress),
         Way::BehindAll => judge_behind(alloc, base, events, limit, limit, progress),
     }
@@ -135,10 +102,7 @@ fn judge_in_order<P: Progress>(
     progress: &mut P,
 ) -> Result<Option<Verdict>, NoMemory>
     ensures verdict { IfOk result (λ found. IfSome found (IsVerdict base.now events.now limit)) }
-    ensures told { IfOk result (λ found. MatchOption found
-        (ArePasses P.judged_gives (length events.now) progress.old progress.new)
-        (λ verdict. IsToldUpTo P.judged_gives (length events.now) (seen_for events.now verdict) progress.old
-        progress.new)) }
+    ensures told { IfOk result (λ found. IsToldOf P.judged_gives events.now found progress.old progress.new) }
 {
     for way in ways {
         if let Some(verdict) = judge_by(alloc, *way, base, events, limit, progress)? {

@@ -3,14 +3,14 @@
 //!
 //! A test bench often fills its tables first, one call after another. The answers to its other calls don't
 //! depend on rows that none of them names, and a server without these rows is soon copied.
-ghost use Rattle.std.specs.Prelude.{◌≡◌, ◌+◌, ◌<◌, ◌^◌, ◌++◌, true, false, length, IfOk, IfSome, OnOk, MatchOption};
+ghost use Rattle.std.specs.Prelude.{◌≡◌, ◌+◌, ◌<◌, ◌^◌, ◌++◌, ℕ, true, false, length, IfOk, IfSome, OnOk};
 ghost use Rattle.std.specs.List.{All};
 ghost use Rattle.xa_server.specs.State.{State, association_of};
 ghost use Rattle.xa_server.specs.Step.{after};
 ghost use Rattle.xa_server.specs.declared.association.Association.{Association};
 ghost use Rattle.xa_judge.specs.Explained.{answer_to, next_state, shows_answer, IsSession};
-ghost use Rattle.xa_judge.specs.Near.{Keys, named_in, AreNear, ReadsNamed, CallsNamed, IsLoadedTo};
-ghost use Rattle.xa_judge.specs.Told.{ArePasses, IsToldUpTo, seen_for};
+ghost use Rattle.xa_judge.specs.Near.{named_in, AreNear, ReadsNamed, CallsNamed, IsLoadedTo, IsNearLater};
+ghost use Rattle.xa_judge.specs.Told.{IsToldOf, seen_for};
 ghost use Rattle.xa_judge.specs.Verdicts.{IsVerdict};
 
 use crate::alone_call::{AloneCall, alone};
@@ -242,8 +242,39 @@ fn legal_behind(
     }
 }
 
-/// The verdict on the later events, by at most `width` configurations on a server near the one to which the first
-/// events lead, if these are enough.
+/// The verdict on all events, by one on the later events and a server near the one to which the first events lead.
+fn verdict_behind(
+    alloc: Global,
+    base: &Server,
+    events: &[Event],
+    first: &[Event],
+    near: &Server,
+    later: &[Event],
+    limit: usize,
+    found: Verdict,
+) -> Result<Option<Verdict>, NoMemory>
+    requires parts { events.now ≡ first.now ++ later.now }
+    requires within { length first.now + length later.now < 2 ^ 63 }
+    requires near { IsNearLater base.now first.now near.now later.now }
+    requires found { (bound : ℕ) × IsVerdict near.now later.now bound found }
+    ensures verdict { IfOk result (λ whole. IfSome whole (IsVerdict base.now events.now limit)) }
+    ensures seen { IfOk result (λ whole. IfSome whole
+        (λ verdict. seen_for events.now verdict ≡ length first.now + seen_for later.now found)) }
+{
+    let (_near, _later) = (near, later);
+    match found {
+        Verdict::Legal(moves) => {
+            let whole = legal_behind(alloc, base, events, first, moves.as_slice(), limit)?;
+            Ok(whole)
+        }
+        Verdict::Illegal(place, answers) => {
+            Ok(Some(Verdict::Illegal(first.len() + place, answers)))
+        }
+        Verdict::Undecided(_) => Ok(None),
+    }
+}
+
+/// The verdict by at most `width` configurations of the later events, if these are enough.
 fn judge_later_kept<P: Progress>(
     alloc: Global,
     base: &Server,
@@ -257,28 +288,16 @@ fn judge_later_kept<P: Progress>(
 ) -> Result<Option<Verdict>, NoMemory>
     requires parts { events.now ≡ first.now ++ later.now }
     requires within { length first.now + length later.now < 2 ^ 63 }
-    requires near { (keys : Keys) × (full : State) × IsLoadedTo base.now first.now full
-        × AreNear (named_in keys) full near.now
-        × All (CallsNamed (named_in keys)) later.now }
+    requires near { IsNearLater base.now first.now near.now later.now }
     ensures verdict { IfOk result (λ found. IfSome found (IsVerdict base.now events.now limit)) }
-    ensures told { IfOk result (λ found. MatchOption found
-        (ArePasses P.judged_gives (length events.now) progress.old progress.new)
-        (λ verdict. IsToldUpTo P.judged_gives (length events.now) (seen_for events.now verdict) progress.old
-        progress.new)) }
+    ensures told { IfOk result (λ found. IsToldOf P.judged_gives events.now found progress.old progress.new) }
 {
-    match judge_in_breadth(alloc, near, first.len(), later, width.min(limit), progress)? {
-        Verdict::Legal(moves) => {
-            let found = legal_behind(alloc, base, events, first, moves.as_slice(), limit)?;
-            Ok(found)
-        }
-        Verdict::Illegal(place, answers) => {
-            Ok(Some(Verdict::Illegal(first.len() + place, answers)))
-        }
-        Verdict::Undecided(_) => Ok(None),
-    }
+    let found = judge_in_breadth(alloc, near, first.len(), later, width.min(limit), progress)?;
+    let whole = verdict_behind(alloc, base, events, first, near, later, limit, found)?;
+    Ok(whole)
 }
 
-/// The same by the configurations that later returns allow.
+/// The verdict by the configurations of the later events that later returns allow, if these give one.
 fn judge_later_ahead(
     alloc: Global,
     base: &Server,
@@ -290,53 +309,17 @@ fn judge_later_ahead(
 ) -> Result<Option<Verdict>, NoMemory>
     requires parts { events.now ≡ first.now ++ later.now }
     requires within { length first.now + length later.now < 2 ^ 63 }
-    requires near { (keys : Keys) × (full : State) × IsLoadedTo base.now first.now full
-        × AreNear (named_in keys) full near.now
-        × All (CallsNamed (named_in keys)) later.now }
+    requires near { IsNearLater base.now first.now near.now later.now }
     ensures verdict { IfOk result (λ found. IfSome found (IsVerdict base.now events.now limit)) }
 {
     match judge_ahead(alloc, near, later, limit)? {
         None => Ok(None),
-        Some(Verdict::Legal(moves)) => {
-            let found = legal_behind(alloc, base, events, first, moves.as_slice(), limit)?;
-            Ok(found)
-        }
-        Some(Verdict::Illegal(place, answers)) => {
-            let behind = first.len() + place;
-            Ok(Some(Verdict::Illegal(behind, answers)))
-        }
-        Some(Verdict::Undecided(_)) => Ok(None),
+        Some(found) => verdict_behind(alloc, base, events, first, near, later, limit, found),
     }
 }
 
-/// The same, with telling how far judging is.
-fn judge_later_telling<P: Progress>(
-    alloc: Global,
-    base: &Server,
-    events: &[Event],
-    first: &[Event],
-    near: &Server,
-    later: &[Event],
-    limit: usize,
-    progress: &mut P,
-) -> Result<Option<Verdict>, NoMemory>
-    requires parts { events.now ≡ first.now ++ later.now }
-    requires within { length first.now + length later.now < 2 ^ 63 }
-    requires near { (keys : Keys) × (full : State) × IsLoadedTo base.now first.now full
-        × AreNear (named_in keys) full near.now
-        × All (CallsNamed (named_in keys)) later.now }
-    ensures verdict { IfOk result (λ found. IfSome found (IsVerdict base.now events.now limit)) }
-    ensures told { IfOk result (λ found. MatchOption found
-        (ArePasses P.judged_gives (length events.now) progress.old progress.new)
-        (λ verdict. IsToldUpTo P.judged_gives (length events.now) (seen_for events.now verdict) progress.old
-        progress.new)) }
-{
-    let found = judge_later_ahead(alloc, base, events, first, near, later, limit)?;
-    Ok(tell_verdict(base, events, found, limit, progress))
-}
-
-/// The verdict on the later events, by a server near the one to which the first events lead, if it gives one with the
-/// configurations that later returns allow, or with at most `width`.
+/// The verdict by the later events, if they give one with the configurations that later returns allow, or with at most
+/// `width`.
 fn judge_later<P: Progress>(
     alloc: Global,
     base: &Server,
@@ -350,16 +333,12 @@ fn judge_later<P: Progress>(
 ) -> Result<Option<Verdict>, NoMemory>
     requires parts { events.now ≡ first.now ++ later.now }
     requires within { length first.now + length later.now < 2 ^ 63 }
-    requires near { (keys : Keys) × (full : State) × IsLoadedTo base.now first.now full
-        × AreNear (named_in keys) full near.now
-        × All (CallsNamed (named_in keys)) later.now }
+    requires near { IsNearLater base.now first.now near.now later.now }
     ensures verdict { IfOk result (λ found. IfSome found (IsVerdict base.now events.now limit)) }
-    ensures told { IfOk result (λ found. MatchOption found
-        (ArePasses P.judged_gives (length events.now) progress.old progress.new)
-        (λ verdict. IsToldUpTo P.judged_gives (length events.now) (seen_for events.now verdict) progress.old
-        progress.new)) }
+    ensures told { IfOk result (λ found. IsToldOf P.judged_gives events.now found progress.old progress.new) }
 {
-    match judge_later_telling(alloc, base, events, first, near, later, limit, progress)? {
+    let ahead = judge_later_ahead(alloc, base, events, first, near, later, limit)?;
+    match tell_verdict(base, events, ahead, limit, progress) {
         Some(verdict) => Ok(Some(verdict)),
         None => judge_later_kept(
             alloc, base, events, first, near, later, limit, width, progress,
@@ -383,10 +362,7 @@ pub fn judge_behind<P: Progress>(
     // Proved (records, named-rows-only): A verdict that is found after calls that don't overlap, on a server
     //   without the rows that no later call names, is right for the whole record.
     ensures verdict { IfOk result (λ found. IfSome found (IsVerdict base.now events.now limit)) }
-    ensures told { IfOk result (λ found. MatchOption found
-        (ArePasses P.judged_gives (length events.now) progress.old progress.new)
-        (λ verdict. IsToldUpTo P.judged_gives (length events.now) (seen_for events.now verdict) progress.old
-        progress.new)) }
+    ensures told { IfOk result (λ found. IsToldOf P.judged_gives events.now found progress.old progress.new) }
 {
     let (first, later) = events.split_at(count_alone(events).min(events.len()));
     let keys = keys_called(alloc, later)?;

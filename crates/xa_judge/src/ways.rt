@@ -1,6 +1,6 @@
 //! The ways to a verdict that tell how far they are, each by itself.
-ghost use Rattle.std.specs.Prelude.{◌+◌, ◌^◌, ◌<◌, length, IfOk, IfSome, MatchOption};
-ghost use Rattle.xa_judge.specs.Told.{AreReports, ArePasses, IsToldUpTo, IsSizeOfKept, seen_for};
+ghost use Rattle.std.specs.Prelude.{◌+◌, ◌^◌, ◌<◌, length, IfOk, IfSome};
+ghost use Rattle.xa_judge.specs.Told.{AreReports, IsToldOf, IsSizeOfKept, seen_for};
 ghost use Rattle.xa_judge.specs.Verdicts.{IsVerdict};
 
 use crate::advance::{Advance, see_event};
@@ -67,10 +67,7 @@ pub fn judge_kept<P: Progress>(
     progress: &mut P,
 ) -> Result<Option<Verdict>, NoMemory>
     ensures verdict { IfOk result (λ found. IfSome found (IsVerdict base.now events.now limit)) }
-    ensures told { IfOk result (λ found. MatchOption found
-        (ArePasses P.judged_gives (length events.now) progress.old progress.new)
-        (λ verdict. IsToldUpTo P.judged_gives (length events.now) (seen_for events.now verdict) progress.old
-        progress.new)) }
+    ensures told { IfOk result (λ found. IsToldOf P.judged_gives events.now found progress.old progress.new) }
 {
     match judge_in_breadth(alloc, base, 0, events, width.min(limit), progress)? {
         Verdict::Legal(moves) => Ok(Some(Verdict::Legal(moves))),
@@ -90,10 +87,7 @@ pub fn judge_narrow<P: Progress>(
     progress: &mut P,
 ) -> Result<Option<Verdict>, NoMemory>
     ensures verdict { IfOk result (λ found. IfSome found (IsVerdict base.now events.now limit)) }
-    ensures told { IfOk result (λ found. MatchOption found
-        (ArePasses P.judged_gives (length events.now) progress.old progress.new)
-        (λ verdict. IsToldUpTo P.judged_gives (length events.now) (seen_for events.now verdict) progress.old
-        progress.new)) }
+    ensures told { IfOk result (λ found. IsToldOf P.judged_gives events.now found progress.old progress.new) }
 {
     judge_kept(alloc, base, events, NARROW, limit, progress)
 }
@@ -110,10 +104,7 @@ pub fn judge_by_search<P: Progress>(
     progress: &mut P,
 ) -> Result<Option<Verdict>, NoMemory>
     ensures verdict { IfOk result (λ found. IfSome found (IsVerdict base.now events.now limit)) }
-    ensures told { IfOk result (λ found. MatchOption found
-        (ArePasses P.judged_gives (length events.now) progress.old progress.new)
-        (λ verdict. IsToldUpTo P.judged_gives (length events.now) (seen_for events.now verdict) progress.old
-        progress.new)) }
+    ensures told { IfOk result (λ found. IsToldOf P.judged_gives events.now found progress.old progress.new) }
 {
     match moves_through(alloc, base, events, size, progress)? {
         None => Ok(None),
@@ -138,10 +129,7 @@ pub fn tell_verdict<P: Progress>(
 ) -> Option<Verdict>
     requires verdict { IfSome found (IsVerdict base.now events.now limit) }
     ensures verdict { IfSome result (IsVerdict base.now events.now limit) }
-    ensures told { MatchOption result
-        (ArePasses P.judged_gives (length events.now) progress.old progress.new)
-        (λ verdict. IsToldUpTo P.judged_gives (length events.now) (seen_for events.now verdict) progress.old
-        progress.new) }
+    ensures told { IsToldOf P.judged_gives events.now result progress.old progress.new }
 {
     let (_base, _limit) = (base, limit);
     match found {

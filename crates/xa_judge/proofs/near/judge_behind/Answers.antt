@@ -10,7 +10,13 @@ judge_later-requires-clause-near g c =
     let found = subst (λ (o : Option State). IfSome o (λ near. (full : State)
     × IsLoadedTo c.args.base.now c.split_at.result.0.now full × AreNear (named_in keys) full near))
     c.in-Some.is c.in_ok-found.ensures in
-    (keys, found.0, found.1, found.2, c.all_named.ensures (search rules))
+    record {
+      keys = keys;
+      full = found.0;
+      loaded = found.1;
+      is_near = found.2;
+      named = c.all_named.ensures (search rules);
+    }
 
 pub returns-in-None-clause-told : goal.returns-in-None-clause-told
 returns-in-None-clause-told g c = no_pass
