@@ -1,14 +1,17 @@
 -- A step of a session's branch that no other session has to do with until it returns takes effect at once.
 --     exchanged                            an act of another session may come after the step
---     seen_later, event_clear              so may an event of one;  what is open after it is still clear of the step
+--     seen_later, event_aside              so may an event of one;  what is open after it is still aside
+--     shown_there                          an answered call has the answer that its return shows
 --     goes_first                           so it may come first of all moves
 --     steps_first, steps_none              in what is kept the step is taken;  or that stays as it is
 --     goes_stepped, goes_same              orders go on from a list in which each has taken it;  or none has
 --     StepsBoth, steps_more, steps_end     a loop in which each of a list takes its step
-use Rattle.std.proofs.Common.{◌≡◌, ◌≢◌, ◌⊎◌, ℕ, false, Option, Some, None, List, [], ◌∷◌, set, refl, ap, sym, ◌∙◌}
+use Rattle.std.proofs.Common.{◌≡◌, ◌≢◌, ◌⊎◌, ◌==◌, ℕ, true, false, cond, Option, Some, None, List, [], ◌∷◌, set, refl}
+use Rattle.std.proofs.Common.{ap, sym, ◌∙◌}
 use Rattle.std.proofs.Common.{subst, inl, inr}
 use Rattle.std.specs.Prelude.{slice_get}
 use Rattle.std.proofs.lemmas.Bool.{false≢true}
+use Rattle.std.proofs.lemmas.Bool.Decides.{nat_tests}
 use Rattle.std.proofs.lemmas.Option.{none-some, same_Some, cond_some}
 use Rattle.xa_xid.specs.declared.xid.Xid.{Xid}
 use Rattle.xa_xid.specs.declared.statement.Statement.{Statement}
@@ -32,13 +35,15 @@ use Rattle.xa_judge.specs.Explained.{Config, with_client, effect_of, carried_out
 use Rattle.xa_judge.specs.Explained.{returned}
 use Rattle.xa_judge.specs.Explained.{lost, answered_unknown, answer_to, next_state, shows_answer, LeadsThrough}
 use Rattle.xa_judge.proofs.Places.{same_number, get_written, get_apart, set_apart}
-use Rattle.xa_judge.proofs.Waits.{acted, session_in}
+use Rattle.xa_judge.proofs.Clean.{same_test}
+use Rattle.xa_judge.proofs.Waits.{acted}
+use Rattle.xa_judge.specs.Keys.{session_of}
 use Rattle.xa_judge.proofs.ForeseenSteps.{act_keeps, both_act}
 use Rattle.xa_judge.proofs.ForeseenEvents.{saw}
-use Rattle.xa_judge.specs.Foreseen.{Hint, fact_of, IsOpenFor, IsAlikeAt, AreAlike}
+use Rattle.xa_judge.specs.Foreseen.{Hint, fact_of, seen_in, IsOpenFor, IsAlikeAt, AreAlike}
 use Rattle.xa_judge.proofs.Acts.{ActsAs, acts_as}
-use Rattle.xa_judge.specs.Clear.{IsOwnStep, IsClearOf, IsClearRequest, AreOpenClear, AreCallsClear, AreNotedClear}
-use Rattle.xa_judge.specs.Clear.{IsSteppedFor}
+use Rattle.xa_judge.specs.Clear.{IsOwnStep, IsClearOf, IsClearRequest, IsHeldBack, IsAside, unrelated, held, returns_in}
+use Rattle.xa_judge.specs.Clear.{AreOpenAside, AreCallsAside, AreNotedAside, IsSteppedFor}
 use Rattle.xa_judge.proofs.Commuting.{step_commutes}
 use Rattle.xa_judge.specs.declared.configuration.Configuration.{Configuration}
 use Rattle.xa_judge.specs.Found.{config_of, Has, AddsUnlessThere}
@@ -85,7 +90,8 @@ leaving_clear one xid rows = record {
 pub exchanged : (run mid next : Config) (session other : ℕ) (act : Act) (one : Statement) (xid : Xid)
     (rows : List (List ℕ))
     → LockLaw run.state → session ≢ other → slice_get run.clients session ≡ Some (Called (Given one))
-    → IsOwnStep run.state session one xid rows → AreOpenClear run session one xid rows
+    → IsOwnStep run.state session one xid rows
+    → ((request : Request) → IsOpenFor run other request → IsClearRequest one request xid rows)
     → effect_of run other act ≡ Some mid → effect_of mid session ItsStatement ≡ Some next
     → (first : Config) × (effect_of run session ItsStatement ≡ Some first) × (effect_of first other act ≡ Some next)
 unfolding effect_of carried_out
@@ -113,7 +119,7 @@ exchanged run mid next session other act one xid rows law apart at step clear le
 
     is_clear : IsOpenFor run other theirs.request ⊎ (theirs.request ≡ Given Disconnect)
         → IsClearRequest one theirs.request xid rows
-    is_clear (inl opened) = clear other theirs.request apart opened
+    is_clear (inl opened) = clear theirs.request opened
     is_clear (inr leaves) = subst (λ r. IsClearRequest one r xid rows) (sym leaves) (leaving_clear one xid rows)
 
     commute : RequestsCommute run.state session other one theirs.request xid rows
@@ -158,7 +164,7 @@ exchanged run mid next session other act one xid rows law apart at step clear le
 -- ---- events
 
 -- an event of another session may come after the act
-pub seen_later : (run mid next : Config) (session : ℕ) (act : Act) (event : Event) → session ≢ session_in event
+pub seen_later : (run mid next : Config) (session : ℕ) (act : Act) (event : Event) → session ≢ session_of event
     → observed run event ≡ Some mid → effect_of mid session act ≡ Some next
     → (first : Config) × (effect_of run session act ≡ Some first) × (observed first event ≡ Some next)
 seen_later run mid next session act event apart sees leads =
@@ -167,33 +173,59 @@ seen_later run mid next session act event apart sees leads =
     let state_is : run.state ≡ mid.state = sym (ap (λ (c : Config). c.state) s.is) in
     let at : slice_get run.clients session ≡ Some a.before =
     sym (ap (λ (c : Config). slice_get c.clients session) s.is
-    ∙ get_apart run.clients (session_in event) session s.next (λ e. apart (sym e))) ∙ a.found in
+    ∙ get_apart run.clients (session_of event) session s.next (λ e. apart (sym e))) ∙ a.found in
     let first : Config = record { state = a.state; clients = set run.clients session a.next } in (
       first,
       a.again run at state_is,
-      s.again first (get_apart run.clients session (session_in event) a.next apart ∙ s.found)
+      s.again first (get_apart run.clients session (session_of event) a.next apart ∙ s.found)
           ∙ ap Some (ap (λ l. record { state = a.state; clients = l })
-          (set_apart run.clients session (session_in event) a.next s.next apart)
+          (set_apart run.clients session (session_of event) a.next s.next apart)
           ∙ ap (λ (l : List ClientState). record { state = a.state; clients = set l session a.next })
           (sym (ap (λ (c : Config). c.clients) s.is)) ∙ sym a.is),
     )
 
--- what is open after another session's event is clear, if what it calls for is
-pub event_clear : (run mid : Config) (session : ℕ) (one : Statement) (xid : Xid) (rows : List (List ℕ)) (event : Event)
-    → AreOpenClear run session one xid rows → observed run event ≡ Some mid
-    → ((request : Request) → event ≡ Call (session_in event) request → IsClearRequest one request xid rows)
-    → AreOpenClear mid session one xid rows
+-- different numbers are unequal by the test
+apart_test : (m n : ℕ) → m ≢ n → (m == n) ≡ false
+apart_test m n apart = grind (arith, nat_tests)
+
+-- what a call returns after another session's event, it returned before it
+pub returns_past : (event : Event) (more : List Event) (other : ℕ) → session_of event ≢ other
+    → returns_in other (event ∷ more) ≡ returns_in other more
+unfolding returns_in
+returns_past event more other apart =
+    ap (λ b. cond b (seen_in (Some event)) (returns_in other more)) (apart_test (session_of event) other apart)
+
+-- what the session's call returns, if its next event is this one
+pub returns_here : (event : Event) (more : List Event) → returns_in (session_of event) (event ∷ more) ≡ seen_in (Some event)
+unfolding returns_in
+returns_here event more =
+    ap (λ b. cond b (seen_in (Some event)) (returns_in (session_of event) more)) (same_test (session_of event))
+
+-- what isn't known to return is clear
+clear_of : (one : Statement) (request : Request) (xid : Xid) (rows : List (List ℕ)) (returns : Option Seen)
+    → returns ≡ None → IsAside one request xid rows returns → IsClearRequest one request xid rows
+clear_of one request xid rows returns none (unrelated clear) = clear
+clear_of one request xid rows returns none (held seen shown back) = absurd (none-some seen (sym none ∙ shown))
+
+-- what is open after another session's event is aside, if what it calls for is
+pub event_aside : (run mid : Config) (session : ℕ) (one : Statement) (xid : Xid) (rows : List (List ℕ)) (event : Event)
+    (more : List Event)
+    → AreOpenAside run session one xid rows (event ∷ more) → observed run event ≡ Some mid
+    → ((request : Request) → event ≡ Call (session_of event) request
+    → IsAside one request xid rows (returns_in (session_of event) more))
+    → AreOpenAside mid session one xid rows more
 unfolding observed called returned lost answered_unknown
-event_clear run mid session one xid rows event clear sees calls = λ other request apart opened.
+event_aside run mid session one xid rows event more aside sees calls = λ other request apart opened.
     let s = saw run mid event sees in
-    elim (same_number (session_in event) other) [
-      | inr beside ↦ clear other request apart (elim opened [
-        | inl at ↦ inl (sym (ap (λ (c : Config). slice_get c.clients other) s.is
-            ∙ get_apart run.clients (session_in event) other s.next beside) ∙ at)
-        | inr at ↦ inr (sym (ap (λ (c : Config). slice_get c.clients other) s.is
-            ∙ get_apart run.clients (session_in event) other s.next beside) ∙ at)
-      ])
-      | inl e ↦ here event sees calls other request apart opened e
+    elim (same_number (session_of event) other) [
+      | inr beside ↦ subst (IsAside one request xid rows) (returns_past event more other beside)
+          (aside other request apart (elim opened [
+            | inl at ↦ inl (sym (ap (λ (c : Config). slice_get c.clients other) s.is
+                ∙ get_apart run.clients (session_of event) other s.next beside) ∙ at)
+            | inr at ↦ inr (sym (ap (λ (c : Config). slice_get c.clients other) s.is
+                ∙ get_apart run.clients (session_of event) other s.next beside) ∙ at)
+          ]))
+      | inl e ↦ here event sees calls (aside other) request apart opened e
     ]
   where
     read : (session_of_it : ℕ) (c : ClientState) (was : ClientState) → slice_get run.clients session_of_it ≡ Some was
@@ -249,24 +281,27 @@ event_clear run mid session one xid rows event clear sees calls = λ other reque
     none_gone y f = cc
 
     call : (it : ℕ) (asked : Request) (c : Option ClientState) → slice_get run.clients it ≡ c
-        → called c run it asked ≡ Some mid → IsClearRequest one asked xid rows → (other : ℕ) (request : Request)
-        → IsOpenFor mid other request → it ≡ other → IsClearRequest one request xid rows
+        → called c run it asked ≡ Some mid → IsAside one asked xid rows (returns_in it more) → (other : ℕ)
+        (request : Request) → IsOpenFor mid other request → it ≡ other
+        → IsAside one request xid rows (returns_in other more)
     call it asked None at f gives other request opened e = absurd (none-some mid f)
     call it asked (Some Idle) at f gives other request opened e =
-        subst (λ r. IsClearRequest one r xid rows)
-        (opens _ asked request (read it (Called asked) Idle at (same_Some _ mid f) other e) opened) gives
+        subst (λ n. IsAside one request xid rows (returns_in n more)) e
+        (subst (λ r. IsAside one r xid rows (returns_in it more))
+        (opens _ asked request (read it (Called asked) Idle at (same_Some _ mid f) other e) opened) gives)
     call it asked (Some (Called was)) at f gives other request opened e = absurd (none-some mid f)
     call it asked (Some (Answered was)) at f gives other request opened e = absurd (none-some mid f)
     call it asked (Some (Gone None)) at f gives other request opened e =
-        subst (λ r. IsClearRequest one r xid rows)
-        (goes _ asked request (read it (Gone (Some asked)) (Gone None) at (same_Some _ mid f) other e) opened) gives
+        subst (λ n. IsAside one request xid rows (returns_in n more)) e
+        (subst (λ r. IsAside one r xid rows (returns_in it more))
+        (goes _ asked request (read it (Gone (Some asked)) (Gone None) at (same_Some _ mid f) other e) opened) gives)
     call it asked (Some (Gone (Some was))) at f gives other request opened e = absurd (none-some mid f)
     call it asked (Some Left) at f gives other request opened e =
         absurd (shut _ Left request (read it Left Left at (same_Some _ mid f) other e) left_called left_gone opened)
 
     back : (it : ℕ) (shown : Seen) (c : Option ClientState) → slice_get run.clients it ≡ c
         → returned c run it shown ≡ Some mid → (other : ℕ) (request : Request)
-        → IsOpenFor mid other request → it ≡ other → IsClearRequest one request xid rows
+        → IsOpenFor mid other request → it ≡ other → IsAside one request xid rows (returns_in other more)
     back it shown None at f other request opened e = absurd (none-some mid f)
     back it shown (Some Idle) at f other request opened e = absurd (none-some mid f)
     back it shown (Some (Called was)) at f other request opened e = absurd (none-some mid f)
@@ -277,25 +312,30 @@ event_clear run mid session one xid rows event clear sees calls = λ other reque
     back it shown (Some Left) at f other request opened e = absurd (none-some mid f)
 
     unheard : (it : ℕ) (c : Option ClientState) → slice_get run.clients it ≡ c → lost c run it ≡ Some mid
-        → (other : ℕ) (request : Request) → session ≢ other → IsOpenFor mid other request → it ≡ other
-        → IsClearRequest one request xid rows
-    unheard it None at f other request apart opened e = absurd (none-some mid f)
-    unheard it (Some Idle) at f other request apart opened e =
+        → (other : ℕ) → ((request : Request) → session ≢ other → IsOpenFor run other request
+        → IsAside one request xid rows (returns_in other (Lost it ∷ more)))
+        → (request : Request) → session ≢ other → IsOpenFor mid other request → it ≡ other
+        → IsAside one request xid rows (returns_in other more)
+    unheard it None at f other before request apart opened e = absurd (none-some mid f)
+    unheard it (Some Idle) at f other before request apart opened e =
         absurd (shut _ (Gone None) request (read it (Gone None) Idle at (same_Some _ mid f) other e) none_called
         none_gone opened)
-    unheard it (Some (Called was)) at f other request apart opened e =
+    unheard it (Some (Called was)) at f other before request apart opened e =
         let same = goes _ was request (read it (Gone (Some was)) (Called was) at (same_Some _ mid f) other e) opened in
-        subst (λ r. IsClearRequest one r xid rows) same
-        (clear other was apart (inl (subst (λ n. slice_get run.clients n ≡ Some (Called was)) e at)))
-    unheard it (Some (Answered was)) at f other request apart opened e =
+        let none : returns_in other (Lost it ∷ more) ≡ None =
+        subst (λ n. returns_in n (Lost it ∷ more) ≡ None) e (returns_here (Lost it) more) in
+        unrelated (subst (λ r. IsClearRequest one r xid rows) same
+        (clear_of one was xid rows (returns_in other (Lost it ∷ more)) none
+        (before was apart (inl (subst (λ n. slice_get run.clients n ≡ Some (Called was)) e at)))))
+    unheard it (Some (Answered was)) at f other before request apart opened e =
         absurd (shut _ (Gone None) request (read it (Gone None) (Answered was) at (same_Some _ mid f) other e)
         none_called none_gone opened)
-    unheard it (Some (Gone was)) at f other request apart opened e = absurd (none-some mid f)
-    unheard it (Some Left) at f other request apart opened e = absurd (none-some mid f)
+    unheard it (Some (Gone was)) at f other before request apart opened e = absurd (none-some mid f)
+    unheard it (Some Left) at f other before request apart opened e = absurd (none-some mid f)
 
     over : (it : ℕ) (c : Option ClientState) → slice_get run.clients it ≡ c → answered_unknown c run it ≡ Some mid
         → (other : ℕ) (request : Request) → IsOpenFor mid other request → it ≡ other
-        → IsClearRequest one request xid rows
+        → IsAside one request xid rows (returns_in other more)
     over it None at f other request opened e = absurd (none-some mid f)
     over it (Some Idle) at f other request opened e = absurd (none-some mid f)
     over it (Some (Called was)) at f other request opened e =
@@ -307,25 +347,29 @@ event_clear run mid session one xid rows event clear sees calls = λ other reque
     over it (Some (Gone was)) at f other request opened e = absurd (none-some mid f)
     over it (Some Left) at f other request opened e = absurd (none-some mid f)
 
-    here : (this : Event) → observed run this ≡ Some mid
-        → ((request : Request) → this ≡ Call (session_in this) request → IsClearRequest one request xid rows)
-        → (other : ℕ) (request : Request) → session ≢ other → IsOpenFor mid other request → session_in this ≡ other
-        → IsClearRequest one request xid rows
-    here (Call it asked) seen gives other request apart opened e =
+    here : {other : ℕ} (this : Event) → observed run this ≡ Some mid
+        → ((request : Request) → this ≡ Call (session_of this) request
+        → IsAside one request xid rows (returns_in (session_of this) more))
+        → ((request : Request) → session ≢ other → IsOpenFor run other request
+        → IsAside one request xid rows (returns_in other (this ∷ more)))
+        → (request : Request) → session ≢ other → IsOpenFor mid other request → session_of this ≡ other
+        → IsAside one request xid rows (returns_in other more)
+    here {other} (Call it asked) seen gives before request apart opened e =
         call it asked (slice_get run.clients it) refl seen (gives asked refl) other request opened e
-    here (Return it shown) seen gives other request apart opened e =
+    here {other} (Return it shown) seen gives before request apart opened e =
         back it shown (slice_get run.clients it) refl seen other request opened e
-    here (Lost it) seen gives other request apart opened e =
-        unheard it (slice_get run.clients it) refl seen other request apart opened e
-    here (Unknown it) seen gives other request apart opened e =
+    here {other} (Lost it) seen gives before request apart opened e =
+        unheard it (slice_get run.clients it) refl seen other before request apart opened e
+    here {other} (Unknown it) seen gives before request apart opened e =
         over it (slice_get run.clients it) refl seen other request opened e
 
--- what is open after another session's act is clear
-act_clear : (run mid : Config) (session other : ℕ) (act : Act) (one : Statement) (xid : Xid) (rows : List (List ℕ))
-    → AreOpenClear run session one xid rows → effect_of run other act ≡ Some mid → AreOpenClear mid session one xid rows
-act_clear run mid session other act one xid rows clear leads = λ at request apart opened.
+-- what is open after another session's act is aside
+act_aside : (run mid : Config) (session other : ℕ) (act : Act) (one : Statement) (xid : Xid) (rows : List (List ℕ))
+    (more : List Event) → AreOpenAside run session one xid rows more → effect_of run other act ≡ Some mid
+    → AreOpenAside mid session one xid rows more
+act_aside run mid session other act one xid rows more aside leads = λ at request apart opened.
     elim (same_number other at) [
-      | inr beside ↦ clear at request apart (elim opened [
+      | inr beside ↦ aside at request apart (elim opened [
         | inl is ↦ inl (sym (ap (λ (c : Config). slice_get c.clients at) theirs.is
             ∙ get_apart run.clients other at theirs_next beside) ∙ is)
         | inr is ↦ inr (sym (ap (λ (c : Config). slice_get c.clients at) theirs.is
@@ -350,6 +394,89 @@ act_clear run mid session other act one xid rows clear leads = λ at request apa
     shut {request} (inr is) = theirs.gone (answer_to run.state other theirs.request) request
         (same_Some theirs_next (Gone (Some request)) (sym now ∙ is))
 
+-- ---- what a call returns
+
+-- a session that isn't open has what its call returns
+abbrev IsShownIn : Seen → ClientState → Type 0
+IsShownIn seen (Answered answer) = shows_answer seen answer ≡ true
+IsShownIn seen (Called request) = Unit {0}
+IsShownIn seen other = ⊥
+
+-- if a session's next event is a return, and moves lead there, its call is open or has the answer that is shown
+shown_there : (run end : Config) (session : ℕ) (seen : Seen) (c : ClientState) (more : List Event) (moves : List Move)
+    → returns_in session more ≡ Some seen → slice_get run.clients session ≡ Some c → LeadsThrough run more moves end
+    → IsShownIn seen c
+unfolding returns_in effect_of carried_out disconnected observed returned called lost answered_unknown
+shown_there run end session seen c more (Effect other act ∷ moves) is at runs =
+    elim (same_number session other) [
+      | inr apart ↦
+          let theirs = acts_as run runs.0 other act runs.2 in
+          shown_there runs.0 end session seen c more moves is
+          (ap (λ (d : Config). slice_get d.clients session) theirs.is
+          ∙ get_apart run.clients other session (theirs.client (answer_to run.state other theirs.request))
+          (λ e. apart (sym e)) ∙ at) runs.3
+      | inl same ↦ own (λ next there. shown_there runs.0 end session seen next more moves is there runs.3) c at act
+          (subst (λ n. effect_of run n act ≡ Some runs.0) (sym same) runs.2)
+    ]
+  where
+    own : ((next : ClientState) → slice_get runs.0.clients session ≡ Some next → IsShownIn seen next)
+        → (was : ClientState) → slice_get run.clients session ≡ Some was → (a : Act)
+        → effect_of run session a ≡ Some runs.0 → IsShownIn seen was
+    own later (Called request) there a leads = tt
+    own later Idle there ItsStatement leads =
+        absurd (none-some runs.0 (sym (ap (λ o. carried_out o run session) there) ∙ leads))
+    own later Idle there ItsDisconnect leads =
+        absurd (none-some runs.0 (sym (ap (λ o. disconnected o run session) there) ∙ leads))
+    own later (Answered answer) there ItsStatement leads =
+        absurd (none-some runs.0 (sym (ap (λ o. carried_out o run session) there) ∙ leads))
+    own later (Answered answer) there ItsDisconnect leads =
+        absurd (none-some runs.0 (sym (ap (λ o. disconnected o run session) there) ∙ leads))
+    own later (Gone None) there ItsStatement leads =
+        absurd (none-some runs.0 (sym (ap (λ o. carried_out o run session) there) ∙ leads))
+    own later (Gone (Some request)) there ItsStatement leads =
+        later (Gone None) (ap (λ (d : Config). slice_get d.clients session)
+        (sym (same_Some _ runs.0 (sym (ap (λ o. carried_out o run session) there) ∙ leads)))
+        ∙ get_written run.clients session (Gone (Some request)) (Gone None) there)
+    own later (Gone request) there ItsDisconnect leads =
+        later Left (ap (λ (d : Config). slice_get d.clients session)
+        (sym (same_Some _ runs.0 (sym (ap (λ o. disconnected o run session) there) ∙ leads)))
+        ∙ get_written run.clients session (Gone request) Left there)
+    own later Left there ItsStatement leads =
+        absurd (none-some runs.0 (sym (ap (λ o. carried_out o run session) there) ∙ leads))
+    own later Left there ItsDisconnect leads =
+        absurd (none-some runs.0 (sym (ap (λ o. disconnected o run session) there) ∙ leads))
+shown_there run end session seen c (event ∷ more) (Seeing ∷ moves) is at runs =
+    elim (same_number (session_of event) session) [
+      | inr apart ↦
+          let s = saw run runs.0 event runs.1 in
+          shown_there runs.0 end session seen c more moves (sym (returns_past event more session apart) ∙ is)
+          (ap (λ (d : Config). slice_get d.clients session) s.is
+          ∙ get_apart run.clients (session_of event) session s.next apart ∙ at) runs.2
+      | inl same ↦ own event same runs.1
+          (sym (subst (λ n. returns_in n (event ∷ more) ≡ seen_in (Some event)) same (returns_here event more)) ∙ is)
+    ]
+  where
+    by : (was : ClientState) → slice_get run.clients session ≡ Some was → (shown : Seen)
+        → returned (Some was) run session shown ≡ Some runs.0 → IsShownIn shown was
+    by (Answered answer) there shown leads = (cond_some (shows_answer shown answer) _ runs.0 leads).0
+    by (Called request) there shown leads = tt
+    by Idle there shown leads = absurd (none-some runs.0 leads)
+    by (Gone request) there shown leads = absurd (none-some runs.0 leads)
+    by Left there shown leads = absurd (none-some runs.0 leads)
+
+    own : (this : Event) → session_of this ≡ session → observed run this ≡ Some runs.0
+        → seen_in (Some this) ≡ Some seen → IsShownIn seen c
+    own (Call other request) e sees returns = absurd (none-some seen returns)
+    own (Lost other) e sees returns = absurd (none-some seen returns)
+    own (Unknown other) e sees returns = absurd (none-some seen returns)
+    own (Return other shown) e sees returns =
+        subst (λ x. IsShownIn x c) (same_Some shown seen returns)
+        (by c at shown (ap (λ o. returned o run session shown) (sym at)
+        ∙ subst (λ n. returned (slice_get run.clients n) run n shown ≡ Some runs.0) e sees))
+shown_there run end session seen c [] (Seeing ∷ moves) is at runs = absurd runs
+shown_there run end session seen c [] [] is at runs = absurd (none-some seen is)
+shown_there run end session seen c (event ∷ more) [] is at runs = absurd runs
+
 -- ---- the step comes first
 
 -- if what is open, or is called for until the step's call returns, is clear of the step, it may come first of all moves
@@ -357,17 +484,18 @@ act_clear run mid session other act one xid rows clear leads = λ at request apa
 pub goes_first : (run end : Config) (session : ℕ) (one : Statement) (xid : Xid) (rows : List (List ℕ))
     (more : List Event) (moves : List Move)
     → LockLaw run.state → slice_get run.clients session ≡ Some (Called (Given one))
-    → IsOwnStep run.state session one xid rows → AreOpenClear run session one xid rows
-    → AreCallsClear session one xid rows more → LeadsThrough run more moves end
+    → IsOwnStep run.state session one xid rows → AreOpenAside run session one xid rows more
+    → AreCallsAside session one xid rows more → LeadsThrough run more moves end
     → (first : Config) × (all : List Move) × (last : Config) × (effect_of run session ItsStatement ≡ Some first)
     × LeadsThrough first more all last × IsLike end last
 unfolding effect_of carried_out disconnected observed returned
-goes_first run end session one xid rows more (Effect other act ∷ moves) law at step clear calls runs =
+goes_first run end session one xid rows more (Effect other act ∷ moves) law at step aside calls runs =
     elim (same_number session other) [
       | inl e ↦ own act (subst (λ n. effect_of run n act ≡ Some runs.0) (sym e) runs.2)
       | inr apart ↦
           let theirs = acts_as run runs.0 other act runs.2 in
-          let asked = is_clear theirs.asked other apart theirs.request in
+          let clear = is_clear apart theirs in
+          let asked = leaves_clear theirs.asked clear in
           let commute = requests_commute run.state session other one theirs.request xid rows law apart step asked in
           let state_is : runs.0.state ≡ next_state run.state other theirs.request =
           ap (λ (c : Config). c.state) theirs.is in
@@ -378,9 +506,9 @@ goes_first run end session one xid rows more (Effect other act ∷ moves) law at
           (λ e. apart (sym e)) ∙ at in
           let rest = goes_first runs.0 end session one xid rows more moves
           (act_keeps run runs.0 other act law runs.2).law
-          at_mid still (act_clear run runs.0 session other act one xid rows clear runs.2) calls runs.3 in
-          let swapped = exchanged run runs.0 rest.0 session other act one xid rows law apart at step clear runs.2
-          rest.3 in (
+          at_mid still (act_aside run runs.0 session other act one xid rows more aside runs.2) calls runs.3 in
+          let swapped = exchanged run runs.0 rest.0 session other act one xid rows law apart at step
+          (λ request opened. clear request opened) runs.2 rest.3 in (
             swapped.0,
             Effect other act ∷ rest.1,
             rest.2,
@@ -390,10 +518,36 @@ goes_first run end session one xid rows more (Effect other act ∷ moves) law at
           )
     ]
   where
-    is_clear : {request : Request} → IsOpenFor run other request ⊎ (request ≡ Given Disconnect) → (it : ℕ)
-        → session ≢ other → (asked : Request) → IsClearRequest one request xid rows
-    is_clear {request} (inl opened) it apart asked = clear other request apart opened
-    is_clear (inr leaves) it apart asked = subst (λ r. IsClearRequest one r xid rows) (sym leaves)
+    -- a request that was held back wasn't carried out before the step: it would be answered otherwise than it returns
+    held_back : session ≢ other → ActsAs run other act runs.0 → (request : Request) → IsOpenFor run other request
+        → (seen : Seen) → returns_in other more ≡ Some seen → IsHeldBack one request xid rows seen → ⊥
+    held_back apart theirs request (inl called) seen shown back = answered act runs.2
+      where
+        answered : (a : Act) → effect_of run other a ≡ Some runs.0 → ⊥
+        answered ItsDisconnect leads =
+            none-some runs.0 (sym (ap (λ o. disconnected o run other) called) ∙ leads)
+        answered ItsStatement leads =
+            let made = same_Some _ runs.0 (sym (ap (λ o. carried_out o run other) called) ∙ leads) in
+            let told = shown_there runs.0 end other seen (Answered (answer_to run.state other request)) more moves
+            shown (ap (λ (c : Config). slice_get c.clients other) (sym made)
+            ∙ get_written run.clients other (Called request) (Answered (answer_to run.state other request)) called)
+            runs.3 in
+            false≢true (sym (back run.state session other apart law step) ∙ told)
+    held_back apart theirs request (inr gone) seen shown back =
+        shown_there run end other seen (Gone (Some request)) more (Effect other act ∷ moves) shown gone runs
+
+    is_clear : session ≢ other → ActsAs run other act runs.0 → (request : Request) → IsOpenFor run other request
+        → IsClearRequest one request xid rows
+    is_clear apart theirs request opened = elim (aside other request apart opened) [
+      | unrelated clear ↦ clear
+      | held seen shown back ↦ absurd (held_back apart theirs request opened seen shown back)
+    ]
+
+    leaves_clear : {request : Request} → IsOpenFor run other request ⊎ (request ≡ Given Disconnect)
+        → ((asked : Request) → IsOpenFor run other asked → IsClearRequest one asked xid rows)
+        → IsClearRequest one request xid rows
+    leaves_clear {request} (inl opened) clear = clear request opened
+    leaves_clear (inr leaves) clear = subst (λ r. IsClearRequest one r xid rows) (sym leaves)
         (leaving_clear one xid rows)
 
     own : (a : Act) → effect_of run session a ≡ Some runs.0
@@ -401,7 +555,7 @@ goes_first run end session one xid rows more (Effect other act ∷ moves) law at
         × LeadsThrough first more all last × IsLike end last
     own ItsStatement leads = (runs.0, moves, end, leads, runs.3, (λ at answer e. e))
     own ItsDisconnect leads = absurd (none-some runs.0 (sym (ap (λ o. disconnected o run session) at) ∙ leads))
-goes_first run end session one xid rows (event ∷ more) (Seeing ∷ moves) law at step clear calls runs =
+goes_first run end session one xid rows (event ∷ more) (Seeing ∷ moves) law at step aside calls runs =
     elim (apart_from event calls runs.1) [
       | inl none ↦ absurd none
       | inr parts ↦
@@ -409,21 +563,22 @@ goes_first run end session one xid rows (event ∷ more) (Seeing ∷ moves) law 
           let state_is : runs.0.state ≡ run.state = ap (λ (c : Config). c.state) s.is in
           let at_mid : slice_get runs.0.clients session ≡ Some (Called (Given one)) =
           ap (λ (c : Config). slice_get c.clients session) s.is
-          ∙ get_apart run.clients (session_in event) session s.next (λ e. parts.0 (sym e)) ∙ at in
+          ∙ get_apart run.clients (session_of event) session s.next (λ e. parts.0 (sym e)) ∙ at in
           let rest = goes_first runs.0 end session one xid rows more moves (subst LockLaw (sym state_is) law) at_mid
           (subst (λ t. IsOwnStep t session one xid rows) (sym state_is) step)
-          (event_clear run runs.0 session one xid rows event clear runs.1 parts.1) parts.2 runs.2 in
+          (event_aside run runs.0 session one xid rows event more aside runs.1 parts.1) parts.2 runs.2 in
           let swapped = seen_later run runs.0 rest.0 session ItsStatement event parts.0 runs.1 rest.3 in
           (swapped.0, Seeing ∷ rest.1, rest.2, swapped.1, (rest.0, swapped.2, rest.4), rest.5)
     ]
   where
-    apart_from : (this : Event) → AreCallsClear session one xid rows (this ∷ more) → observed run this ≡ Some runs.0
-        → ⊥ ⊎ ((session ≢ session_in this)
-        × ((request : Request) → this ≡ Call (session_in this) request → IsClearRequest one request xid rows)
-        × AreCallsClear session one xid rows more)
+    apart_from : (this : Event) → AreCallsAside session one xid rows (this ∷ more) → observed run this ≡ Some runs.0
+        → ⊥ ⊎ ((session ≢ session_of this)
+        × ((request : Request) → this ≡ Call (session_of this) request
+        → IsAside one request xid rows (returns_in (session_of this) more))
+        × AreCallsAside session one xid rows more)
     apart_from (Call other asked) all sees = inr (
       all.0,
-      (λ request e. subst (λ r. IsClearRequest one r xid rows)
+      (λ request e. subst (λ r. IsAside one r xid rows (returns_in other more))
           (same_asked asked request e) all.1),
       all.2,
     )
@@ -445,8 +600,8 @@ goes_first run end session one xid rows (event ∷ more) (Seeing ∷ moves) law 
       where
         no : (request : Request) → Unknown other ≡ Call other request → ⊥
         no request e = cc
-goes_first run end session one xid rows [] (Seeing ∷ moves) law at step clear calls runs = absurd runs
-goes_first run end session one xid rows [] [] law at step clear calls runs =
+goes_first run end session one xid rows [] (Seeing ∷ moves) law at step aside calls runs = absurd runs
+goes_first run end session one xid rows [] [] law at step aside calls runs =
     (made, [], made, ap (λ o. carried_out o run session) at, refl, like)
   where
     answered : ClientState
@@ -470,7 +625,7 @@ goes_first run end session one xid rows [] [] law at step clear calls runs =
               ∙ subst (λ n. slice_get run.clients n ≡ Some (Answered answer)) (sym is) there))
           | inr apart ↦ get_apart run.clients session other answered apart ∙ there
         ]
-goes_first run end session one xid rows (event ∷ more) [] law at step clear calls runs = absurd runs
+goes_first run end session one xid rows (event ∷ more) [] law at step aside calls runs = absurd runs
 
 -- ---- in what is kept
 
@@ -478,13 +633,13 @@ goes_first run end session one xid rows (event ∷ more) [] law at step clear ca
 pub steps_first : (hints : List Hint) (kept new : Config) (session : ℕ) (one : Statement) (xid : Xid)
     (rows : List (List ℕ)) (more : List Event) → slice_get kept.clients session ≡ Some (Called (Given one))
     → (fact_of hints session).never ≡ false → IsOwnStep kept.state session one xid rows
-    → AreNotedClear hints session one xid rows → AreCallsClear session one xid rows more
+    → AreNotedAside hints session one xid rows more → AreCallsAside session one xid rows more
     → effect_of kept session ItsStatement ≡ Some new → IsSteppedFor hints more kept new
-steps_first hints kept new session one xid rows more at heard step clear calls leads = λ run end moves alike runs.
+steps_first hints kept new session one xid rows more at heard step aside calls leads = λ run end moves alike runs.
     let same = as_far run alike (alike.clients session) in
     let found = goes_first run end session one xid rows more moves alike.law (same ∙ at)
     (subst (λ s. IsOwnStep s session one xid rows) alike.state step)
-    (λ other request apart opened. clear other request apart (alike.asked.calls other request opened)) calls runs in
+    (λ other request apart opened. aside other request apart (alike.asked.calls other request opened)) calls runs in
     let both = both_act hints run kept found.0 session ItsStatement alike found.3 same in (
       found.0,
       found.1,
@@ -533,6 +688,16 @@ goes_stepped hints more old new steps end (inr left) = (end, (λ at answer e. e)
 pub goes_same : (hints : List Hint) (more : List Event) (known : List Configuration) (end : Config)
     → GoesOn hints (Has known) more end → GoesOnLike hints (Has known) more end
 goes_same hints more known end goes = (end, (λ at answer e. e), goes)
+
+-- what goes on from a second list goes on from a third, if the second does from the first
+pub goes_past : (hints : List Hint) (more : List Event) (old mid new : Config → Type 0)
+    → ((end : Config) → GoesOn hints old more end → GoesOnLike hints mid more end)
+    → ((end : Config) → GoesOn hints mid more end → GoesOnLike hints new more end)
+    → (end : Config) → GoesOn hints old more end → GoesOnLike hints new more end
+goes_past hints more old mid new first second end goes =
+    let there = first end goes in
+    let past = second there.0 there.2 in
+    (past.0, (λ session answer at. past.1 session answer (there.1 session answer at)), past.2)
 
 -- in a loop over a list: each configuration is still to come, or its step is there
 abbrev pub StepsBoth : List Hint → List Event → List Configuration → List Configuration → List Configuration → Type 0

@@ -35,14 +35,15 @@ use Rattle.xa_judge.specs.Foreseen.{NotesCall, Hint, no_hint, fact_of, hint_of, 
 use Rattle.xa_judge.specs.Foreseen.{GoesOnLike, HasSeenFor, AreClosedFor, ExtendsBy, IsAlikeAt, IsDead, seen_by}
 use Rattle.xa_judge.specs.Foreseen.{never_by, asked_by}
 use Rattle.xa_judge.specs.Foreseen.{IsAdvanceFor, IsClosedFor, NeedsNone, AreAlike, returning_in}
-use Rattle.xa_judge.proofs.Waits.{CanWait, session_in}
+use Rattle.xa_judge.proofs.Waits.{CanWait}
+use Rattle.xa_judge.specs.Keys.{session_of}
 use Rattle.xa_judge.proofs.ForeseenLists.{goes_closed, goes_called, left_past, unheard_alike, hints_set}
 use Rattle.xa_judge.proofs.ForeseenReturns.{goes_returned, ends_answered}
 use Rattle.xa_judge.proofs.ForeseenGrowth.{still_has, closed_all}
 
 -- before a return or an unknown answer, all allowed acts may come
 pub advance_closed : (events : List Event) (places later : List OpenCall) (place : OpenCall) (event : Event)
-    (old closed new : List Configuration) → later ≡ set places (session_in event) place
+    (old closed new : List Configuration) → later ≡ set places (session_of event) place
     → FitsHints (hints_of events places) event → NotesCall (hints_of events places) (hint_in events place) event
     → ExtendsBy old closed
     → AreClosedFor (hints_of events places) (returning_in event) (length closed) closed
@@ -50,8 +51,8 @@ pub advance_closed : (events : List Event) (places later : List OpenCall) (place
     → IsAdvanceFor (hints_of events places) (hints_of events later) event old new
 advance_closed events places later place event old closed new is fits notes grows are seen = λ more end goes.
     let hints = hints_of events places in
-    let e = subst (λ p. hints_of events p ≡ set hints (session_in event) (hint_in events place)) (sym is)
-    (hints_set events places (session_in event) place) in
+    let e = subst (λ p. hints_of events p ≡ set hints (session_of event) (hint_in events place)) (sym is)
+    (hints_set events places (session_of event) place) in
     subst (λ h. GoesOn h (Has new) more end) (sym e) (elim goes [
       | inl from ↦ past event (closed_all hints (returning_in event) closed are) from.kept from.run end more from.moves
           (still_has old closed from.kept grows from.there) from.alike fits notes
@@ -64,9 +65,9 @@ advance_closed events places later place event old closed new is fits notes grow
         → (kept run end : Config) → (more : List Event) → (moves : List Move) → Has closed kept
         → AreAlike (hints_of events places) run kept
         → FitsHints (hints_of events places) one → NotesCall (hints_of events places) (hint_in events place) one
-        → HasSeenFor (set (hints_of events places) (session_in one) (hint_in events place)) one (Has closed) (Has new)
+        → HasSeenFor (set (hints_of events places) (session_of one) (hint_in events place)) one (Has closed) (Has new)
         → LeadsThrough run (one ∷ more) moves end
-        → GoesOn (set (hints_of events places) (session_in one) (hint_in events place)) (Has new) more end
+        → GoesOn (set (hints_of events places) (session_of one) (hint_in events place)) (Has new) more end
     past (Return session shown) all kept run end more moves there alike fits notes seen runs =
         goes_returned (hints_of events places) (hint_in events place) session shown (Has closed) (Has new) kept run end
         more moves all there alike fits notes seen runs
@@ -82,15 +83,15 @@ advance_closed events places later place event old closed new is fits notes grow
 
 -- before a call or a loss none has to
 pub advance_open : (events : List Event) (places later : List OpenCall) (place : OpenCall) (event : Event)
-    (old new : List Configuration) → later ≡ set places (session_in event) place
+    (old new : List Configuration) → later ≡ set places (session_of event) place
     → FitsHints (hints_of events places) event → NotesCall (hints_of events places) (hint_in events place) event
     → NeedsNone old event
     → HasSeenFor (hints_of events later) event (Has old) (Has new)
     → IsAdvanceFor (hints_of events places) (hints_of events later) event old new
 advance_open events places later place event old new is fits notes needs seen = λ more end goes.
     let hints = hints_of events places in
-    let e = subst (λ p. hints_of events p ≡ set hints (session_in event) (hint_in events place)) (sym is)
-    (hints_set events places (session_in event) place) in
+    let e = subst (λ p. hints_of events p ≡ set hints (session_of event) (hint_in events place)) (sym is)
+    (hints_set events places (session_of event) place) in
     subst (λ h. GoesOn h (Has new) more end) (sym e) (elim goes [
       | inl from ↦ goes_called hints (hint_in events place) event (Has old) (Has new) from.kept from.run end more
           from.moves from.there from.alike fits notes

@@ -27,7 +27,8 @@ use Rattle.std.proofs.Common.{◌<◌, ◌⊎◌}
 use Rattle.std.proofs.lemmas.List.{length-set}
 use Rattle.std.proofs.lemmas.Option.{slice_get_within}
 use Rattle.xa_judge.proofs.Places.{same_number, get_written, get_apart, get_within}
-use Rattle.xa_judge.proofs.Waits.{acted, Saw, session_in, saw_call, saw_return, saw_lost}
+use Rattle.xa_judge.proofs.Waits.{acted, Saw, saw_call, saw_return, saw_lost}
+use Rattle.xa_judge.specs.Keys.{session_of}
 
 -- what an unknown answer changes: its own client alone
 saw_unknown : (o : Option ClientState) (old new : Config) (session : ℕ) → slice_get old.clients session ≡ o
@@ -127,8 +128,8 @@ same_client hints run kept session hint c one other are here there noted = recor
 -- what an event leaves open is noted
 noted_event : (hints : List Hint) (hint : Hint) (run next : Config) (event : Event) (c : ClientState)
     → AreAsked hints run → NotesCall hints hint event → observed run event ≡ Some next
-    → next ≡ with_client run (session_in event) c → (was : ClientState)
-    → slice_get run.clients (session_in event) ≡ Some was → (request : Request)
+    → next ≡ with_client run (session_of event) c → (was : ClientState)
+    → slice_get run.clients (session_of event) ≡ Some was → (request : Request)
     → (c ≡ Called request) ⊎ (c ≡ Gone (Some request)) → hint.asked ≡ Some request
 unfolding observed called returned lost answered_unknown
 noted_event hints hint run next event c asked notes sees is was here = by event notes sees is here
@@ -241,7 +242,7 @@ noted_event hints hint run next event c asked notes sees is was here = by event 
     over it (Some Left) at e f request opened = absurd (none-some next e)
 
     by : (this : Event) → NotesCall hints hint this → observed run this ≡ Some next
-        → next ≡ with_client run (session_in this) c → slice_get run.clients (session_in this) ≡ Some was
+        → next ≡ with_client run (session_of this) c → slice_get run.clients (session_of this) ≡ Some was
         → (request : Request) → (c ≡ Called request) ⊎ (c ≡ Gone (Some request)) → hint.asked ≡ Some request
     by (Call it asks) noted e f at = call it asks (slice_get run.clients it) refl e f noted
     by (Return it seen) noted e f at = back it seen (slice_get run.clients it) refl e f
@@ -263,29 +264,29 @@ idle_shut hint request (inr e) = absurd (no request e)
 -- what is kept sees the event as well
 abbrev pub SeesAlike : List Hint → Hint → Config → Event → Config → Type 0
 SeesAlike hints hint kept event next = (new : Config) × (observed kept event ≡ Some new)
-    × AreAlike (set hints (session_in event) hint) next new
+    × AreAlike (set hints (session_of event) hint) next new
 
 -- where the session of the event is as far in what is kept as on the way, what is kept sees the event as well
 equal_sees : (hints : List Hint) (hint : Hint) (run kept next : Config) (event : Event)
     → AreAlike hints run kept → NotesCall hints hint event → observed run event ≡ Some next
-    → slice_get run.clients (session_in event) ≡ slice_get kept.clients (session_in event)
+    → slice_get run.clients (session_of event) ≡ slice_get kept.clients (session_of event)
     → SeesAlike hints hint kept event next
 equal_sees hints hint run kept next event are notes sees same =
     let s = saw run next event sees in
-    let there : slice_get kept.clients (session_in event) ≡ Some s.before = sym same ∙ s.found in (
-      with_client kept (session_in event) s.next,
+    let there : slice_get kept.clients (session_of event) ≡ Some s.before = sym same ∙ s.found in (
+      with_client kept (session_of event) s.next,
       s.again kept there,
-      subst (λ c. AreAlike (set hints (session_in event) hint) c (with_client kept (session_in event) s.next))
+      subst (λ c. AreAlike (set hints (session_of event) hint) c (with_client kept (session_of event) s.next))
           (sym s.is)
-          (same_client hints run kept (session_in event) hint s.next s.before s.before are s.found there
+          (same_client hints run kept (session_of event) hint s.next s.before s.before are s.found there
           (noted_event hints hint run next event s.next are.asked notes sees s.is s.before s.found)),
     )
 
 -- so it does where it is ahead, if the event fits what is known
 ahead_sees : (hints : List Hint) (hint : Hint) (run kept next : Config) (event : Event)
     → AreAlike hints run kept → FitsHints hints event → observed run event ≡ Some next
-    → IsAheadAt (hint_of hints (session_in event)) run.state (session_in event)
-    (slice_get run.clients (session_in event)) (slice_get kept.clients (session_in event))
+    → IsAheadAt (hint_of hints (session_of event)) run.state (session_of event)
+    (slice_get run.clients (session_of event)) (slice_get kept.clients (session_of event))
     → SeesAlike hints hint kept event next
 unfolding observed called returned
 ahead_sees hints hint run kept next (Call session request) are fits sees ahead = elim ahead.way [
@@ -328,8 +329,8 @@ ahead_sees hints hint run kept next (Unknown session) are fits sees ahead =
 -- what is kept is behind: its call isn't heard of any more
 behind_sees : (hints : List Hint) (hint : Hint) (run kept next : Config) (event : Event)
     → AreAlike hints run kept → FitsHints hints event → observed run event ≡ Some next
-    → IsBehindAt (fact_of hints (session_in event)) (slice_get run.clients (session_in event))
-    (slice_get kept.clients (session_in event))
+    → IsBehindAt (fact_of hints (session_of event)) (slice_get run.clients (session_of event))
+    (slice_get kept.clients (session_of event))
     → SeesAlike hints hint kept event next
 unfolding observed called returned answered_unknown
 behind_sees hints hint run kept next (Call session request) are fits sees behind =
@@ -354,10 +355,10 @@ behind_sees hints hint run kept next (Unknown session) are fits sees behind = (
 pub alike_sees : (hints : List Hint) (hint : Hint) (run kept next : Config) (event : Event)
     → AreAlike hints run kept → FitsHints hints event → NotesCall hints hint event → observed run event ≡ Some next
     → SeesAlike hints hint kept event next
-alike_sees hints hint run kept next event are fits notes sees = by (are.clients (session_in event))
+alike_sees hints hint run kept next event are fits notes sees = by (are.clients (session_of event))
   where
-    by : IsAlikeAt (fact_of hints (session_in event)) run.state (session_in event)
-        (slice_get run.clients (session_in event)) (slice_get kept.clients (session_in event))
+    by : IsAlikeAt (fact_of hints (session_of event)) run.state (session_of event)
+        (slice_get run.clients (session_of event)) (slice_get kept.clients (session_of event))
         → SeesAlike hints hint kept event next
     by (inl same) = equal_sees hints hint run kept next event are notes sees same
     by (inr (inl ahead)) = ahead_sees hints hint run kept next event are fits sees ahead
@@ -395,24 +396,24 @@ dead_acts hints run next session act dead leads =
 -- and after an event that fits what is known
 pub dead_sees : (hints : List Hint) (hint : Hint) (run next : Config) (event : Event) → IsDead hints run
     → FitsHints hints event → observed run event ≡ Some next
-    → IsDead (set hints (session_in event) hint) next
+    → IsDead (set hints (session_of event) hint) next
 unfolding observed called returned
 dead_sees hints hint run next event dead fits sees =
     let s = saw run next event sees in
-    elim (same_number (session_in event) dead.session) [
+    elim (same_number (session_of event) dead.session) [
       | inl e ↦ absurd (over event fits sees e)
       | inr apart ↦ record {
         session = dead.session;
         seen = dead.seen;
-        hinted = hint_apart hints (session_in event) dead.session hint apart ∙ dead.hinted;
+        hinted = hint_apart hints (session_of event) dead.session hint apart ∙ dead.hinted;
         answer = dead.answer;
         at = ap (λ (c : Config). slice_get c.clients dead.session) s.is
-            ∙ get_apart run.clients (session_in event) dead.session s.next apart ∙ dead.at;
+            ∙ get_apart run.clients (session_of event) dead.session s.next apart ∙ dead.at;
         hidden = dead.hidden;
       }
     ]
   where
-    over : (other : Event) → FitsHints hints other → observed run other ≡ Some next → session_in other ≡ dead.session
+    over : (other : Event) → FitsHints hints other → observed run other ≡ Some next → session_of other ≡ dead.session
         → ⊥
     over (Call session request) f e is =
         none-some next (sym (ap (λ o. called o run session request) (ap (slice_get run.clients) is ∙ dead.at)) ∙ e)

@@ -24,14 +24,15 @@ use Rattle.xa_judge.specs.Foreseen.{NotesCall, Hint, no_hint, fact_of, hint_of, 
 use Rattle.xa_judge.specs.Foreseen.{AreAlike, IsDead, IsFollowed}
 use Rattle.xa_judge.specs.Foreseen.{IsLeft, GoesOn}
 use Rattle.xa_judge.specs.Foreseen.{IsClosedFor, HasSeenFor, FitsHints, hint_in, hints_of}
-use Rattle.xa_judge.proofs.Waits.{later, session_in, CanWait}
+use Rattle.xa_judge.proofs.Waits.{later, CanWait}
+use Rattle.xa_judge.specs.Keys.{session_of}
 use Rattle.xa_judge.proofs.ForeseenSteps.{alike_acts}
 use Rattle.xa_judge.proofs.ForeseenEvents.{alike_sees, dead_acts, dead_sees}
 
 -- an order that can't go on past a return can't after an event either
 pub left_past : (hints : List Hint) (hint : Hint) (event : Event) (run end : Config) (more : List Event)
     (moves : List Move) → IsDead hints run → FitsHints hints event → LeadsThrough run (event ∷ more) moves end
-    → IsLeft (set hints (session_in event) hint) more end
+    → IsLeft (set hints (session_of event) hint) more end
 left_past hints hint event run end more (Effect session act ∷ moves) dead fits runs =
     left_past hints hint event runs.0 end more moves (dead_acts hints run runs.0 session act dead runs.2) fits runs.3
 left_past hints hint event run end more (Seeing ∷ moves) dead fits runs = record {
@@ -46,9 +47,9 @@ left_past hints hint event run end more [] dead fits runs = absurd runs
 pub seen_from : (hints : List Hint) (hint : Hint) (event : Event) (old new : Config → Type 0)
     (kept run next end : Config) (more : List Event) (moves : List Move) → old kept → AreAlike hints run kept
     → FitsHints hints event → NotesCall hints hint event
-    → HasSeenFor (set hints (session_in event) hint) event old new
+    → HasSeenFor (set hints (session_of event) hint) event old new
     → observed run event ≡ Some next → LeadsThrough next more moves end
-    → IsFollowed (set hints (session_in event) hint) new more end
+    → IsFollowed (set hints (session_of event) hint) new more end
 seen_from hints hint event old new kept run next end more moves there alike fits notes seen sees runs =
     let both = alike_sees hints hint run kept next event alike fits notes sees in
     let other = seen kept both.0 there both.1 in
@@ -66,9 +67,9 @@ seen_from hints hint event old new kept run next end more moves there alike fits
 pub goes_closed : (hints : List Hint) (hint : Hint) (event : Event) (old new : Config → Type 0)
     (kept run end : Config) (more : List Event) (moves : List Move) → IsClosedFor hints None old → old kept
     → AreAlike hints run kept → FitsHints hints event → NotesCall hints hint event
-    → HasSeenFor (set hints (session_in event) hint) event old new
+    → HasSeenFor (set hints (session_of event) hint) event old new
     → LeadsThrough run (event ∷ more) moves end
-    → GoesOn (set hints (session_in event) hint) new more end
+    → GoesOn (set hints (session_of event) hint) new more end
 goes_closed hints hint event old new kept run end more (Effect session act ∷ moves) closed there alike fits notes seen
     runs =
     elim (alike_acts hints run kept runs.0 session act alike runs.2) [
@@ -99,10 +100,10 @@ unheard_alike hint run kept session (inr (inl ahead)) is = elim ahead.way [
 pub goes_called : (hints : List Hint) (hint : Hint) (event : Event) (old new : Config → Type 0)
     (kept run end : Config) (more : List Event) (moves : List Move) → old kept
     → AreAlike hints run kept → FitsHints hints event → NotesCall hints hint event
-    → HasSeenFor (set hints (session_in event) hint) event old new
+    → HasSeenFor (set hints (session_of event) hint) event old new
     → CanWait run event
     → LeadsThrough run (event ∷ more) moves end
-    → GoesOn (set hints (session_in event) hint) new more end
+    → GoesOn (set hints (session_of event) hint) new more end
 goes_called hints hint event old new kept run end more moves there alike fits notes seen waits runs =
     let first = later run end event more moves waits runs in
     inl (seen_from hints hint event old new kept run first.first end more first.moves there alike fits notes seen

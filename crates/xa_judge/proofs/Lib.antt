@@ -28,6 +28,7 @@ pub mod ForeseenReturns
 pub mod ForeseenGrowth
 pub mod ForeseenAdvances
 pub mod Commuting
+pub mod HeldBack
 pub mod Eager
 pub mod OwnSteps
 pub mod KeyParts

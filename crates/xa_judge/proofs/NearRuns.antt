@@ -28,7 +28,7 @@ use Rattle.xa_judge.specs.Explained.{shows_answer, answer_to, next_state, LeadsT
 use Rattle.xa_judge.specs.Near.{AreNear, ReadsNamed, CallsNamed}
 use Rattle.xa_judge.proofs.NearStates.{near_answer, near_next, near_after}
 use Rattle.xa_judge.proofs.Places.{same_number, get_written, get_apart}
-use Rattle.xa_judge.proofs.Waits.{session_in}
+use Rattle.xa_judge.specs.Keys.{session_of}
 
 -- a client waits for no request but one that reads named rows
 abbrev pub WaitsNamed : (List ℕ → Bool) → ClientState → Type 0
@@ -165,16 +165,16 @@ near_effect named left right mid session Disconnect near is =
 -- an event that does to its session what it does in one
 seen_too : (named : List ℕ → Bool) (left right mid : Config) (event : Event) (before next : ClientState)
     → AreNearConfigs named left right
-    → slice_get left.clients (session_in event) ≡ Some before
-    → with_client left (session_in event) next ≡ mid
+    → slice_get left.clients (session_of event) ≡ Some before
+    → with_client left (session_of event) next ≡ mid
     → WaitsNamed named next
-    → observed right event ≡ Some (with_client right (session_in event) next)
+    → observed right event ≡ Some (with_client right (session_of event) next)
     → SeenToo named right mid event
 seen_too named left right mid event before next near found is reads at = (
-  with_client right (session_in event) next,
+  with_client right (session_of event) next,
   at,
-  subst (λ c. AreNearConfigs named c (with_client right (session_in event) next)) is
-      (changed named left right (session_in event) before next next left.state right.state near found refl near.states
+  subst (λ c. AreNearConfigs named c (with_client right (session_of event) next)) is
+      (changed named left right (session_of event) before next next left.state right.state near found refl near.states
       reads),
 )
 

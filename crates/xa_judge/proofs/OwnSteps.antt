@@ -38,6 +38,10 @@ use Rattle.xa_judge.specs.Explained.{answer_to}
 use Rattle.xa_judge.specs.Clear.{IsAmong, HasRow, MayEnd, IsEnding, key_of, IsOwnStep}
 use Rattle.xa_judge.specs.Clear.{starts, ends, prepares, works, finishes}
 use Rattle.xa_judge.proofs.Commuting.{by_row, by_ending}
+use Rattle.std.proofs.lemmas.Option.{none-some, same_Some}
+use Rattle.xa_judge.specs.declared.event.Event.{Event}
+use Rattle.xa_judge.specs.declared.event.Event.TheVariants.{Call}
+use Rattle.xa_judge.specs.Foreseen.{asked_by, request_in}
 
 -- an answer that says OK has that reply
 pub replied : (reply : Reply) → Replied reply ≡ Replied Accepted → reply ≡ Accepted
@@ -207,3 +211,19 @@ finished_step state session statement xid rows ending about e =
     finishes ending (may_end state session statement xid ending e) (ap is_refused e)
     (λ key held. subst (IsAmong key) (sym (about ∙ ended_rows state session statement xid ending))
     (held_among state xid key held))
+
+-- ---- what is noted of an open call
+
+-- what was called for is what the event at the noted place calls for
+pub asked_is : (events : List Event) (call : Option ℕ) (place session : ℕ) (one request : Request)
+    → call ≡ Some place → slice_get events place ≡ Some (Call session one) → asked_by events call ≡ Some request
+    → one ≡ request
+asked_is events call place session one request is at asked =
+    same_Some one request (sym (ap (asked_by events) is ∙ ap request_in at) ∙ asked)
+
+-- if that event isn't a call, nothing was
+pub asked_not : (events : List Event) (call : Option ℕ) (place : ℕ) (event : Event) (request : Request)
+    → call ≡ Some place → slice_get events place ≡ Some event → request_in (Some event) ≡ None
+    → asked_by events call ≡ Some request → ⊥
+asked_not events call place event request is at none asked =
+    none-some request (sym (ap (asked_by events) is ∙ ap request_in at ∙ none) ∙ asked)

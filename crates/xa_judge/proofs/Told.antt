@@ -4,7 +4,7 @@
 --     passes_on, told_on          passes after others
 --     told_found, found_on        a verdict that was found, or none;  after passes
 --     whole_told, verdict_on      a pass that begins with the first event;  after passes
---     later_told, later_whole     a pass over events that come after others
+--     later_told                  a pass over events that come after others
 use Rattle.std.proofs.Common.{◌≡◌, ℕ, ◌+◌, List, ◌++◌, length, refl, ap, sym, ◌∙◌, subst, zero-add}
 use Rattle.std.proofs.lemmas.List.{length-append}
 use Rattle.std.proofs.Common.{Option, Some, None, Result, Ok, Err, IfOk, IfSome, MatchOption}

@@ -26,6 +26,7 @@ use Rattle.xa_judge.specs.Explained.{Config, with_client, effect_of, carried_out
 use Rattle.xa_judge.specs.Explained.{returned, lost, shows_answer, answer_to}
 use Rattle.xa_judge.specs.Explained.{next_state, LeadsThrough, IsSession}
 use Rattle.xa_judge.specs.Late.{call_is_answered, answered_so, has_unheard, unheard_so, called_for}
+use Rattle.xa_judge.specs.Keys.{session_of}
 use Rattle.xa_judge.proofs.Places.{same_number, get_written, get_apart, set_apart}
 
 -- moves that lead through events still do with one act more at the end, which leads on from there
@@ -175,21 +176,14 @@ effect_called config session request = by (slice_get config.clients session)
     by (Some (Gone other)) is = absurd (none-some request is)
     by (Some Left) is = absurd (none-some request is)
 
--- the session whose event it is
-abbrev pub session_in : Event → ℕ
-session_in (Call session request) = session
-session_in (Return session seen) = session
-session_in (Lost session) = session
-session_in (Unknown session) = session
-
 -- what an event did to what its session is about; it does the same wherever the session stands so
 pub record Saw (old : Config) (event : Event) (new : Config) : Type 0 where
   pub before : ClientState
   pub next : ClientState
-  pub found : slice_get old.clients (session_in event) ≡ Some before
-  pub is : new ≡ with_client old (session_in event) next
-  pub again : (other : Config) → slice_get other.clients (session_in event) ≡ Some before
-      → observed other event ≡ Some (with_client other (session_in event) next)
+  pub found : slice_get old.clients (session_of event) ≡ Some before
+  pub is : new ≡ with_client old (session_of event) next
+  pub again : (other : Config) → slice_get other.clients (session_of event) ≡ Some before
+      → observed other event ≡ Some (with_client other (session_of event) next)
 
 -- what a call changes: its own client alone
 pub saw_call : (o : Option ClientState) (old new : Config) (session : ℕ) (request : Request)
@@ -290,10 +284,10 @@ Swapped old event session act new =
 
 -- an act and an event of different sessions may be exchanged
 commute : (old mid new : Config) (session : ℕ) (act : Act) (event : Event) → Acted old session act mid
-    → Saw mid event new → session ≢ session_in event
+    → Saw mid event new → session ≢ session_of event
     → Swapped old event session act new
 commute old mid new session act event a s apart =
-    let other = session_in event in
+    let other = session_of event in
     let here : slice_get mid.clients other ≡ slice_get old.clients other =
     ap (λ (c : Config). slice_get c.clients other) a.is ∙ get_apart old.clients session other a.next apart in
     let first : Config = with_client old other s.next in

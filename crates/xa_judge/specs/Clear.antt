@@ -4,10 +4,12 @@
 --     IsEnding, IsUnlisted            it ends the branch;  it leaves the list of PREPARED branches
 --     IsOwnStep                       an accepted statement changes only its branch, and values only of rows
 --     IsClearOf                       another statement has nothing to do with it
---     AreOpenClear, AreCallsClear     nor has what is open, or is called for until it returns
+--     IsHeldBack                      another request isn't answered so before it
+--     IsAside                         one or the other, by what the request's call returns
+--     AreOpenAside, AreCallsAside     so is what is open, or is called for until it returns
 --     IsSteppedFor                    where moves lead on, some do with the step taken, to the same answers
 -- Every rule here is the project's own: crates/xa_judge/README.md.
-use Rattle.std.specs.Prelude.{◌≡◌, ◌≢◌, ◌⊎◌, ℕ, Bool, true, false, Option, Some, None, List, [], ◌∷◌}
+use Rattle.std.specs.Prelude.{◌≡◌, ◌≢◌, ◌⊎◌, ◌==◌, ℕ, Bool, true, false, cond, Option, Some, None, List, [], ◌∷◌}
 use Rattle.std.specs.List.{list_any}
 use Rattle.std.specs.Ordering.{eq_by_cmp}
 use Rattle.std.specs.FinMap as map
@@ -21,16 +23,18 @@ use Rattle.xa_server.specs.declared.association.Association.TheVariants.{Free, A
 use Rattle.xa_server.specs.State.{State, association_of, is_prepared}
 use Rattle.xa_server.specs.Replies.{reply_to}
 use Rattle.xa_server.specs.Step.{is_refused}
-use Rattle.xa_server.specs.Locks.{holds, is_held_against}
+use Rattle.xa_server.specs.Locks.{LockLaw, holds, is_held_against}
 use Rattle.xa_judge.specs.declared.request.Request.{Request}
 use Rattle.xa_judge.specs.declared.request.Request.TheVariants.{Statement as Given, Unread}
+use Rattle.xa_judge.specs.declared.event.Seen.{Seen}
 use Rattle.xa_judge.specs.declared.event.Event.{Event}
 use Rattle.xa_judge.specs.declared.event.Event.TheVariants.{Call, Return, Lost, Unknown}
 use Rattle.std.specs.Prelude.{slice_get}
 use Rattle.xa_judge.specs.declared.client_state.ClientState.TheVariants.{Called}
 use Rattle.xa_judge.specs.declared.moves.Move.{Move}
-use Rattle.xa_judge.specs.Explained.{Config, LeadsThrough}
-use Rattle.xa_judge.specs.Foreseen.{Hint, fact_of, IsOpenFor, AreAlike, IsLike}
+use Rattle.xa_judge.specs.Explained.{Config, LeadsThrough, answer_to, shows_answer}
+use Rattle.xa_judge.specs.Keys.{session_of}
+use Rattle.xa_judge.specs.Foreseen.{Hint, fact_of, seen_in, IsOpenFor, AreAlike, IsLike}
 
 -- the branch that a statement names
 abbrev pub named_by : Statement → Option Xid
@@ -116,25 +120,61 @@ abbrev pub IsClearRequest : Statement → Request → Xid → List (List ℕ) �
 IsClearRequest one (Given two) xid rows = IsClearOf one two xid rows
 IsClearRequest one Unread xid rows = Unit {0}
 
--- nor has what other sessions have called for
-abbrev pub AreOpenClear : Config → ℕ → Statement → Xid → List (List ℕ) → Type 0
-AreOpenClear config session one xid rows = (other : ℕ) (request : Request) → session ≢ other
-    → IsOpenFor config other request → IsClearRequest one request xid rows
+-- before the step no request of another session is answered so
+abbrev pub IsHeldBack : Statement → Request → Xid → List (List ℕ) → Seen → Type 0
+IsHeldBack one two xid rows seen = (state : State) (session other : ℕ) → session ≢ other → LockLaw state
+    → IsOwnStep state session one xid rows → shows_answer seen (answer_to state other two) ≡ false
 
--- nor what they call for until the session's call returns, or all is over
-abbrev pub AreCallsClear : ℕ → Statement → Xid → List (List ℕ) → List Event → Type 0
-AreCallsClear session one xid rows [] = Unit {0}
-AreCallsClear session one xid rows (Call other request ∷ more) =
-    (session ≢ other) × IsClearRequest one request xid rows × AreCallsClear session one xid rows more
-AreCallsClear session one xid rows (Return other seen ∷ more) =
-    (session ≡ other) ⊎ ((session ≢ other) × AreCallsClear session one xid rows more)
-AreCallsClear session one xid rows (Lost other ∷ more) = (session ≢ other) × AreCallsClear session one xid rows more
-AreCallsClear session one xid rows (Unknown other ∷ more) = (session ≢ other) × AreCallsClear session one xid rows more
+-- a list of PREPARED branches shows the step: it has the branch, or hasn't it any more
+abbrev pub IsListedAfter : Statement → Xid → List Xid → Type 0
+IsListedAfter (Prepare own) xid listed = list_any (same_xid xid) listed ≡ true
+IsListedAfter (Commit own one_phase) xid listed = (one_phase ≡ false) × (list_any (same_xid xid) listed ≡ false)
+IsListedAfter other xid listed = ⊥
 
--- nor has what is noted of open calls
-abbrev pub AreNotedClear : List Hint → ℕ → Statement → Xid → List (List ℕ) → Type 0
-AreNotedClear hints session one xid rows = (other : ℕ) (request : Request) → session ≢ other
-    → (fact_of hints other).asked ≡ Some request → IsClearRequest one request xid rows
+-- the other statement ends the branch that the step prepares
+abbrev pub EndsPrepared : Statement → Statement → Xid → Type 0
+EndsPrepared (Prepare own) (Commit other one_phase) xid = (other ≡ xid) × (one_phase ≡ false)
+EndsPrepared (Prepare own) (Rollback other) xid = other ≡ xid
+EndsPrepared one two xid = ⊥
+
+-- what the session's call returns, if the next event of the session is that return
+unfoldable pub returns_in : ℕ → List Event → Option Seen
+returns_in session [] = None
+returns_in session (event ∷ more) =
+    cond (session_of event == session) (seen_in (Some event)) (returns_in session more)
+
+-- the session's call returns what isn't answered before the step
+pub record ComesAfter (other : ℕ) (one : Statement) (two : Request) (xid : Xid) (rows : List (List ℕ))
+    (more : List Event) : Type 0 where
+  pub seen : Seen
+  pub returned : returns_in other more ≡ Some seen
+  pub held : IsHeldBack one two xid rows seen
+
+-- the request has nothing to do with the step, or comes after it, by what its call returns
+pub data IsAside (one : Statement) (two : Request) (xid : Xid) (rows : List (List ℕ)) (returns : Option Seen) : Type 0
+  where
+    unrelated : IsClearRequest one two xid rows → IsAside one two xid rows returns
+    held : (seen : Seen) → returns ≡ Some seen → IsHeldBack one two xid rows seen → IsAside one two xid rows returns
+
+-- so is what other sessions have called for
+abbrev pub AreOpenAside : Config → ℕ → Statement → Xid → List (List ℕ) → List Event → Type 0
+AreOpenAside config session one xid rows more = (other : ℕ) (request : Request) → session ≢ other
+    → IsOpenFor config other request → IsAside one request xid rows (returns_in other more)
+
+-- so is what they call for until the session's call returns, or all is over
+abbrev pub AreCallsAside : ℕ → Statement → Xid → List (List ℕ) → List Event → Type 0
+AreCallsAside session one xid rows [] = Unit {0}
+AreCallsAside session one xid rows (Call other request ∷ more) = (session ≢ other)
+    × IsAside one request xid rows (returns_in other more) × AreCallsAside session one xid rows more
+AreCallsAside session one xid rows (Return other seen ∷ more) =
+    (session ≡ other) ⊎ ((session ≢ other) × AreCallsAside session one xid rows more)
+AreCallsAside session one xid rows (Lost other ∷ more) = (session ≢ other) × AreCallsAside session one xid rows more
+AreCallsAside session one xid rows (Unknown other ∷ more) = (session ≢ other) × AreCallsAside session one xid rows more
+
+-- so is what is noted of open calls
+abbrev pub AreNotedAside : List Hint → ℕ → Statement → Xid → List (List ℕ) → List Event → Type 0
+AreNotedAside hints session one xid rows more = (other : ℕ) (request : Request) → session ≢ other
+    → (fact_of hints other).asked ≡ Some request → IsAside one request xid rows (returns_in other more)
 
 -- where moves lead on from a configuration, some lead on from one of which the new one is kept, to the same answers
 abbrev pub IsSteppedFor : List Hint → List Event → Config → Config → Type 0

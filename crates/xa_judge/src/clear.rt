@@ -1,10 +1,14 @@
 //! Tells which statements have nothing to do with a step of another session's branch.
-ghost use Rattle.std.specs.Prelude.{◌≡◌, ◌≢◌, ◌∷◌, true, false, Some, None, List, ℕ, slice_get, drop};
+ghost use Rattle.std.specs.Prelude.{◌≡◌, ◌≢◌, ◌<◌, ◌+◌, ◌∷◌, true, false, Some, None, List, ℕ, slice_get, length, drop};
+ghost use Rattle.std.specs.List.{list_any};
 ghost use Rattle.std.specs.Ordering.{eq_by_cmp};
 ghost use Rattle.xa_xid.specs.Xid.{same_xid, bytes_cmp};
-ghost use Rattle.xa_judge.specs.Clear.{Avoids, IsUnlisted, key_of, IsAmong, IsClearOf, IsClearRequest, AreCallsClear};
+ghost use Rattle.xa_judge.specs.declared.request.Request.{Request as RequestSeen};
+ghost use Rattle.xa_judge.specs.Clear.{Avoids, IsUnlisted, key_of, IsAmong, IsClearOf, IsListedAfter, EndsPrepared};
+ghost use Rattle.xa_judge.specs.Clear.{IsHeldBack, ComesAfter, IsAside, returns_in, AreCallsAside};
 
-use crate::event::Event;
+use crate::event::{Event, Seen};
+use crate::hints::session_of;
 use crate::request::Request;
 use crate::same::is_same_xid;
 use xa_xid::{Key, SessionNo, Statement, Xid};
@@ -140,37 +144,158 @@ fn is_clear(one: &Statement, two: &Statement, xid: &Xid, rows: &[Key]) -> bool
     avoids(two, xid) && avoids_rows(two, rows) && (lists_none(two) || is_unlisted(one))
 }
 
-/// Tells whether the request of another session has nothing to do with the step of this branch.
-pub fn is_clear_request(one: &Statement, request: &Request, xid: &Xid, rows: &[Key]) -> bool
-    ensures { result ≡ true → IsClearRequest one.now request.now xid.now rows.now }
+/// Whether the branch is one of these.
+fn is_listed(xid: &Xid, listed: &[Xid]) -> bool
+    ensures { result ≡ list_any (same_xid xid.now) listed.now }
+{
+    match listed {
+        [] => false,
+        [row, rest @ ..] => is_same_xid(xid, row) || is_listed(xid, rest),
+    }
+}
+
+/// Whether a list of PREPARED branches shows the step.
+fn is_listed_after(one: &Statement, xid: &Xid, listed: &[Xid]) -> bool
+    ensures { result ≡ true → IsListedAfter one.now xid.now listed.now }
+{
+    match one {
+        Statement::Prepare(_) => is_listed(xid, listed),
+        // In two phases a branch leaves the list.
+        Statement::Commit { one_phase, .. } => !*one_phase && !is_listed(xid, listed),
+        _ => false,
+    }
+}
+
+/// Whether the other statement ends the branch that the step prepares.
+fn ends_prepared(one: &Statement, two: &Statement, xid: &Xid) -> bool
+    ensures { result ≡ true → EndsPrepared one.now two.now xid.now }
+{
+    match one {
+        Statement::Prepare(_) => match two {
+            Statement::Commit {
+                xid: other,
+                one_phase,
+            } => !*one_phase && is_same_xid(other, xid),
+            Statement::Rollback(other) => is_same_xid(other, xid),
+            _ => false,
+        },
+        _ => false,
+    }
+}
+
+/// Whether no other session's statement is answered so before the step.
+fn is_held_back(one: &Statement, two: &Statement, xid: &Xid, rows: &[Key], seen: &Seen) -> bool
+    ensures { result ≡ true → IsHeldBack one.now (RequestSeen.Statement two.now) xid.now rows.now seen.now }
+{
+    let _rows = rows;
+    match seen {
+        Seen::Rows(listed) => match two {
+            Statement::Recover { .. } => is_listed_after(one, xid, listed.as_slice()),
+            _ => false,
+        },
+        Seen::Ok => ends_prepared(one, two, xid),
+        Seen::Value(_) => false,
+        Seen::Error(_) => false,
+    }
+}
+
+/// Whether the event is the return of the session of this number, and shows what isn't answered before the step; None,
+/// if it is another session's.
+fn returns_after(
+    event: &Event,
+    number: usize,
+    one: &Statement,
+    two: &Statement,
+    xid: &Xid,
+    rows: &[Key],
+) -> Option<bool>
+    ensures yes { result ≡ Some true → (more : _)
+        → ComesAfter number one.now (RequestSeen.Statement two.now) xid.now rows.now (event.now ∷ more) }
+    ensures on { result ≡ None → (more : _)
+        → ComesAfter number one.now (RequestSeen.Statement two.now) xid.now rows.now more
+        → ComesAfter number one.now (RequestSeen.Statement two.now) xid.now rows.now (event.now ∷ more) }
+{
+    if session_of(event).get() as usize != number {
+        return None;
+    }
+    match event {
+        Event::Return(_, seen) => Some(is_held_back(one, two, xid, rows, seen.seen())),
+        Event::Call(_, _) => Some(false),
+        Event::Lost(_) => Some(false),
+        Event::Unknown(_) => Some(false),
+    }
+}
+
+/// Whether the next event of the session of this number, from this place on, is a return that shows what isn't answered
+/// before the step.
+fn comes_after(
+    events: &[Event],
+    from: usize,
+    number: usize,
+    one: &Statement,
+    two: &Statement,
+    xid: &Xid,
+    rows: &[Key],
+) -> bool
+    ensures { result ≡ true
+        → ComesAfter number one.now (RequestSeen.Statement two.now) xid.now rows.now (drop from events.now) }
+{
+    for place in from..events.len() {
+        match returns_after(&events[place], number, one, two, xid, rows) {
+            Some(yes) => return yes,
+            None => {}
+        }
+    }
+    false
+}
+
+/// Tells whether the request of the session of this number, which is open before this place, has nothing to do with the
+/// step, or comes after it.
+pub fn is_aside(
+    events: &[Event],
+    from: usize,
+    number: usize,
+    one: &Statement,
+    request: &Request,
+    xid: &Xid,
+    rows: &[Key],
+) -> bool
+    ensures { result ≡ true
+        → IsAside one.now request.now xid.now rows.now (returns_in number (drop from events.now)) }
 {
     match request {
-        Request::Statement(two) => is_clear(one, two, xid, rows),
+        Request::Statement(two) => {
+            is_clear(one, two, xid, rows) || comes_after(events, from, number, one, two, xid, rows)
+        }
         Request::Unread => true,
     }
 }
 
-/// Whether the event is the return of the session's step; None, if it is another one that has nothing to do with it.
+/// Whether the event at this place is the return of the session's step; None, if it is another one that leaves the step
+/// aside.
 fn is_return(
-    event: &Event,
+    events: &[Event],
+    place: usize,
     session: SessionNo,
     one: &Statement,
     xid: &Xid,
     rows: &[Key],
 ) -> Option<bool>
-    ensures done { result ≡ Some true → (more : _)
-        → AreCallsClear session one.now xid.now rows.now (event.now ∷ more) }
-    ensures on { result ≡ None → (more : _) → AreCallsClear session one.now xid.now rows.now more
-        → AreCallsClear session one.now xid.now rows.now (event.now ∷ more) }
+    requires within { place < length events.now }
+    ensures done { result ≡ Some true → AreCallsAside session one.now xid.now rows.now (drop place events.now) }
+    ensures on { result ≡ None → AreCallsAside session one.now xid.now rows.now (drop (place + 1) events.now)
+        → AreCallsAside session one.now xid.now rows.now (drop place events.now) }
 {
-    match event {
+    match &events[place] {
         Event::Call(other, request) => {
-            if is_same_session(session, *other)
-                || !is_clear_request(one, request.request(), xid, rows)
-            {
-                Some(false)
-            } else {
+            let number = other.get() as usize;
+            if is_same_session(session, *other) {
+                return Some(false);
+            }
+            if is_aside(events, place + 1, number, one, request.request(), xid, rows) {
                 None
+            } else {
+                Some(false)
             }
         }
         Event::Return(other, _) => {
@@ -197,9 +322,9 @@ fn is_return(
     }
 }
 
-/// Tells whether nothing that is called for from this place on has to do with the session's step of this branch, until
-/// that returns. If no event shows its return, that is up to the end.
-pub fn are_calls_clear(
+/// Tells whether all that is called for from this place on leaves the session's step of this branch aside, until that
+/// returns. If no event shows its return, that is up to the end.
+pub fn are_calls_aside(
     events: &[Event],
     from: usize,
     session: SessionNo,
@@ -207,10 +332,10 @@ pub fn are_calls_clear(
     xid: &Xid,
     rows: &[Key],
 ) -> bool
-    ensures { result ≡ true → AreCallsClear session one.now xid.now rows.now (drop from events.now) }
+    ensures { result ≡ true → AreCallsAside session one.now xid.now rows.now (drop from events.now) }
 {
     for place in from..events.len() {
-        match is_return(&events[place], session, one, xid, rows) {
+        match is_return(events, place, session, one, xid, rows) {
             Some(done) => return done,
             None => {}
         }

@@ -70,7 +70,7 @@ pub fn sweep_on(
             alloc, known, &mut index, event, events, before, after, effort,
         )? {
             None => return Ok(Swept::Unknown),
-            Some(list) => stepped(alloc, list, &mut index, events, after, place + 1, event)?,
+            Some(list) => stepped(alloc, list, &mut index, events, after, place + 1)?,
         };
         effort.spend(&mut index);
         if known.is_empty() {

@@ -6,11 +6,12 @@ ghost use Rattle.xa_server.specs.declared.association.Association.TheVariants.{A
 ghost use Rattle.xa_judge.specs.declared.request.Request.{Request as RequestSeen};
 ghost use Rattle.xa_judge.specs.Explained.{Config, answer_to};
 ghost use Rattle.xa_judge.specs.Found.{config_of, Has};
-ghost use Rattle.xa_judge.specs.Clear.{HasRow, IsOwnStep, IsReadyStep, IsSteppedFor, IsClearRequest, AreNotedClear};
+ghost use Rattle.xa_judge.specs.Clear.{HasRow, IsOwnStep, IsReadyStep, IsSteppedFor, IsAside, returns_in};
+ghost use Rattle.xa_judge.specs.Clear.{AreNotedAside};
 ghost use Rattle.xa_judge.specs.Foreseen.{hint_in, fact_of, hints_of, GoesOn, GoesOnLike};
 
 use crate::answer::Answer;
-use crate::clear::{are_calls_clear, is_clear_request};
+use crate::clear::{are_calls_aside, is_aside};
 use crate::client_state::ClientState;
 use crate::configuration::Configuration;
 use crate::event::Event;
@@ -141,9 +142,10 @@ fn is_step(
     }
 }
 
-/// Whether nothing that is known of the open call of the session of this number has to do with the step.
-fn is_open_clear(
+/// Whether what is known of the open call of the session of this number leaves the step aside.
+fn is_open_aside(
     events: &[Event],
+    from: usize,
     entry: &OpenCall,
     number: usize,
     session: SessionNo,
@@ -152,7 +154,8 @@ fn is_open_clear(
     rows: &[Key],
 ) -> bool
     ensures { result ≡ true → session ≢ number → (request : RequestSeen)
-        → (hint_in events.now entry.now).asked ≡ Some request → IsClearRequest one.now request xid.now rows.now }
+        → (hint_in events.now entry.now).asked ≡ Some request
+        → IsAside one.now request xid.now rows.now (returns_in number (drop from events.now)) }
 {
     if number == session.get() as usize {
         return true;
@@ -161,7 +164,9 @@ fn is_open_clear(
         None => true,
         Some(place) => match events.get(place) {
             None => true,
-            Some(Event::Call(_, request)) => is_clear_request(one, request.request(), xid, rows),
+            Some(Event::Call(_, request)) => {
+                is_aside(events, from, number, one, request.request(), xid, rows)
+            }
             Some(Event::Return(_, _)) => true,
             Some(Event::Lost(_)) => true,
             Some(Event::Unknown(_)) => true,
@@ -170,8 +175,9 @@ fn is_open_clear(
 }
 
 /// Whether that is so of what is known at this place.
-fn is_place_clear(
+fn is_place_aside(
     events: &[Event],
+    from: usize,
     places: &[OpenCall],
     number: usize,
     session: SessionNo,
@@ -181,27 +187,29 @@ fn is_place_clear(
 ) -> bool
     ensures { result ≡ true → session ≢ number → (entry : _) (request : RequestSeen)
         → slice_get places.now number ≡ Some entry → (hint_in events.now entry).asked ≡ Some request
-        → IsClearRequest one.now request xid.now rows.now }
+        → IsAside one.now request xid.now rows.now (returns_in number (drop from events.now)) }
 {
     match places.get(number) {
         None => true,
-        Some(entry) => is_open_clear(events, entry, number, session, one, xid, rows),
+        Some(entry) => is_open_aside(events, from, entry, number, session, one, xid, rows),
     }
 }
 
-/// Tells whether nothing that other sessions have called for has to do with the step.
-pub fn are_open_clear(
+/// Whether all that other sessions have called for leaves the step aside.
+fn are_open_aside(
     events: &[Event],
+    from: usize,
     places: &[OpenCall],
     session: SessionNo,
     one: &Statement,
     xid: &Xid,
     rows: &[Key],
 ) -> bool
-    ensures { result ≡ true → AreNotedClear (hints_of events.now places.now) session one.now xid.now rows.now }
+    ensures { result ≡ true → AreNotedAside (hints_of events.now places.now) session one.now xid.now rows.now
+        (drop from events.now) }
 {
     for number in 0..places.len() {
-        if !is_place_clear(events, places, number, session, one, xid, rows) {
+        if !is_place_aside(events, from, places, number, session, one, xid, rows) {
             return false;
         }
     }
@@ -257,8 +265,8 @@ fn stepped_one(
 {
     let about = kept.server.keys_about(session, statement)?;
     let rows = about.as_slice();
-    if !are_open_clear(events, places, session, statement, xid, rows)
-        || !are_calls_clear(events, from, session, statement, xid, rows)
+    if !are_open_aside(events, from, places, session, statement, xid, rows)
+        || !are_calls_aside(events, from, session, statement, xid, rows)
         || !takes_step(&kept, session, request, statement, xid, rows)?
     {
         return Ok(kept);
@@ -343,10 +351,91 @@ fn last_started(events: &[Event], from: usize, session: SessionNo) -> Option<Xid
     None
 }
 
-/// Returns the configurations after the call right before the place `from` has taken effect, where it is a step of its
-/// session's branch that nothing has to do with until it returns, or else until the end; else the same ones. `places`
-/// has what is known of open calls.
+/// The configurations after this call of the session has taken effect, where it is a step of the session's branch that
+/// comes first.
+fn stepped_for(
+    alloc: Global,
+    known: Vec<Configuration>,
+    index: &mut FingerprintIndex,
+    events: &[Event],
+    places: &[OpenCall],
+    from: usize,
+    session: SessionNo,
+    request: &Request,
+) -> Result<Vec<Configuration>, NoMemory>
+    ensures { IfOk result (λ list. (end : Config)
+        → GoesOn (hints_of events.now places.now) (Has known.items) (drop from events.now) end
+        → GoesOnLike (hints_of events.now places.now) (Has list.items) (drop from events.now) end) }
+{
+    let Request::Statement(statement) = request else {
+        return Ok(known);
+    };
+    let Some(xid) = branch_of(events, from, session, statement) else {
+        return Ok(known);
+    };
+    if !may_be_heard(events, places, session) {
+        return Ok(known);
+    }
+    let list = stepped_all(
+        alloc, known, index, events, places, from, session, request, statement, &xid,
+    )?;
+    Ok(list)
+}
+
+/// Whether the call of this session hasn't taken effect in each configuration.
+fn is_called(known: &[Configuration], session: SessionNo) -> bool {
+    for one in known {
+        if let Some(ClientState::Called(_)) = one.client(session) {
+            return true;
+        }
+    }
+    false
+}
+
+/// The same for the call that is noted at this number, if there is one.
+fn stepped_at(
+    alloc: Global,
+    known: Vec<Configuration>,
+    index: &mut FingerprintIndex,
+    events: &[Event],
+    places: &[OpenCall],
+    from: usize,
+    number: usize,
+) -> Result<Vec<Configuration>, NoMemory>
+    ensures { IfOk result (λ list. (end : Config)
+        → GoesOn (hints_of events.now places.now) (Has known.items) (drop from events.now) end
+        → GoesOnLike (hints_of events.now places.now) (Has list.items) (drop from events.now) end) }
+{
+    let Some(entry) = places.get(number) else {
+        return Ok(known);
+    };
+    let Some(place) = entry.call else {
+        return Ok(known);
+    };
+    let Some(Event::Call(session, call)) = events.get(place) else {
+        return Ok(known);
+    };
+    if !is_called(known.as_slice(), *session) {
+        return Ok(known);
+    }
+    let list = stepped_for(
+        alloc,
+        known,
+        index,
+        events,
+        places,
+        from,
+        *session,
+        call.request(),
+    )?;
+    Ok(list)
+}
+
+/// Returns the configurations after each call before the place `from` has taken effect that is a step of its session's
+/// branch and comes before all that other sessions do until it returns, or else until the end. `places` has what is
+/// known of open calls.
 ///
+/// A step that had to wait for another call is tried again after each event.
 /// May return `NoMemory`.
 pub fn stepped(
     alloc: Global,
@@ -355,27 +444,14 @@ pub fn stepped(
     events: &[Event],
     places: &[OpenCall],
     from: usize,
-    event: &Event,
 ) -> Result<Vec<Configuration>, NoMemory>
     ensures { IfOk result (λ list. (end : Config)
         → GoesOn (hints_of events.now places.now) (Has known.items) (drop from events.now) end
         → GoesOnLike (hints_of events.now places.now) (Has list.items) (drop from events.now) end) }
 {
-    let Event::Call(session, call) = event else {
-        return Ok(known);
-    };
-    let request = call.request();
-    let Request::Statement(statement) = request else {
-        return Ok(known);
-    };
-    let Some(xid) = branch_of(events, from, *session, statement) else {
-        return Ok(known);
-    };
-    if !may_be_heard(events, places, *session) {
-        return Ok(known);
+    let mut list = known;
+    for number in 0..places.len() {
+        list = stepped_at(alloc, list, index, events, places, from, number)?;
     }
-    let list = stepped_all(
-        alloc, known, index, events, places, from, *session, request, statement, &xid,
-    )?;
     Ok(list)
 }

@@ -18,11 +18,11 @@ returns-in-Some c =
     c.in_ok-takes_step.ensures (search (rules, tests)) in
     steps_first (hints_of c.args.events.now c.args.places.now) (config_of c.args.kept) (config_of c.in-Some.next)
     c.args.session c.args.statement.now c.args.xid.now rows (drop c.args.from c.args.events.now) ready.0
-    c.requires.heard ready.1 (c.are_open_clear.ensures (search (rules, tests)))
-    (c.are_calls_clear.ensures (search (rules, tests)))
+    c.requires.heard ready.1 (c.are_open_aside.ensures (search (rules, tests)))
+    (c.are_calls_aside.ensures (search (rules, tests)))
     (sym c.in_ok-effected.ensures.config ∙ ap (option_map config_of) c.in-Some.is)
 
-pub returns-then-not-are_open_clear : goal.returns-then-not-are_open_clear
-returns-then-not-are_open_clear c =
+pub returns-then-not-are_open_aside : goal.returns-then-not-are_open_aside
+returns-then-not-are_open_aside c =
     steps_none (hints_of c.args.events.now c.args.places.now) (drop c.args.from c.args.events.now)
     (config_of c.args.kept)

@@ -1,9 +1,10 @@
-use Rattle.std.proofs.Common.{◌≡◌, Some, sym, ◌∙◌, subst, inl, inr, arith, rules, tests}
+use Rattle.std.proofs.Common.{◌≡◌, Some, drop, sym, ◌∙◌, subst, inl, inr, arith, rules, tests}
 use Rattle.std.specs.Prelude.{slice_get}
 use Rattle.std.proofs.lemmas.Bool.{cases_lt}
+use Rattle.xa_judge.specs.Clear.{IsAside, returns_in}
 use Rattle.xa_judge.proofs.KeyVerdicts.{within_of}
 use Rattle.xa_judge.proofs.ForeseenLists.{noted_at}
-use Rattle.xa_judge.proofs.own_step.are_open_clear.Goals as goal
+use Rattle.xa_judge.proofs.own_step.are_open_aside.Goals as goal
 
 pub loop-number-preserved : goal.loop-number-preserved
 loop-number-preserved c = λ at entry request below there apart asked.
@@ -11,8 +12,10 @@ loop-number-preserved c = λ at entry request below there apart asked.
       | inl less ↦ c.loop-number.invariant at entry request less there apart asked
       | inr over ↦
           let is : at ≡ c.loop-number.number = omega (arith, below, over) in
-          c.is_place_clear.ensures (search (rules, tests)) (λ e. apart (e ∙ sym is)) entry request
-          (subst (λ n. slice_get c.args.places.now n ≡ Some entry) is there) asked
+          subst (λ n. IsAside c.args.one.now request c.args.xid.now c.args.rows.now
+          (returns_in n (drop c.args.from c.args.events.now))) (sym is)
+          (c.is_place_aside.ensures (search (rules, tests)) (λ e. apart (e ∙ sym is)) entry request
+          (subst (λ n. slice_get c.args.places.now n ≡ Some entry) is there) asked)
     ]
 
 pub returns : goal.returns

@@ -1,13 +1,13 @@
-use Rattle.std.proofs.Common.{◌≡◌, ◌≢◌, ◌<◌, ℕ, Some}
+use Rattle.std.proofs.Common.{◌≡◌, ◌≢◌, ◌<◌, ℕ, Some, drop}
 use Rattle.std.specs.Prelude.{slice_get}
 use Rattle.xa_judge.specs.declared.open_call.OpenCall.{OpenCall}
 use Rattle.xa_judge.specs.declared.request.Request.{Request}
-use Rattle.xa_judge.specs.Clear.{IsClearRequest}
+use Rattle.xa_judge.specs.Clear.{IsAside, returns_in}
 use Rattle.xa_judge.specs.Foreseen.{hint_in}
-use Rattle.xa_judge.proofs.own_step.are_open_clear.Given as goal
+use Rattle.xa_judge.proofs.own_step.are_open_aside.Given as goal
 
 -- those of lower numbers
 abbrev pub invariant-loop-number : goal.invariant-loop-number
 invariant-loop-number l = (at : ℕ) (entry : OpenCall) (request : Request) → at < l.number
     → slice_get l.places at ≡ Some entry → l.session ≢ at → (hint_in l.events entry).asked ≡ Some request
-    → IsClearRequest l.one request l.xid l.rows
+    → IsAside l.one request l.xid l.rows (returns_in at (drop l.from l.events))
