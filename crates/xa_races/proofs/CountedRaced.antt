@@ -16,8 +16,8 @@ use Rattle.xa_store.specs.Legal.{IsLegal}
 use Rattle.xa_orders.specs.Orders.{Told, IsSession}
 use Rattle.xa_races.specs.CountedRaced.{statement_in, statements_of, laid_texts, IsReadLine, GivesRaced}
 use Rattle.xa_races.specs.CountedHeld.{list_at, answers_of, AreWithin}
-use Rattle.xa_races.proofs.CountedTests.{apart_test}
-use Rattle.xa_races.proofs.CountedHistories.{entries_of-other}
+use Rattle.xa_races.proofs.Tests.{apart_test}
+use Rattle.xa_races.proofs.Histories.{entries_of-other}
 
 -- past the last list there is the empty one
 list_past : {A : Type 0} (lists : List (List A)) (index : ℕ) → length lists ≤ index → list_at lists index ≡ []

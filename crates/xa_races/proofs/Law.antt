@@ -24,10 +24,10 @@ use Rattle.xa_orders.specs.declared.outcome.Outcome.{Outcome}
 use Rattle.xa_orders.specs.Orders.{Told, Parts, Config, opening, text_at, carried_out, turn, IsSession, LeadsTo, Gives}
 use Rattle.xa_orders.specs.Orders.{AtMost, Any, IsExplored, told_text, told_state}
 use Rattle.xa_races.specs.CountedRaced.{statements_of, laid_texts, IsRaced, HasCome}
-use Rattle.xa_races.proofs.CountedTests.{same_of_test}
-use Rattle.xa_races.proofs.CountedHistories.{Remains, statements_in, answers_in}
+use Rattle.xa_races.proofs.Tests.{same_of_test}
+use Rattle.xa_races.proofs.Histories.{Remains, statements_in, answers_in}
 use Rattle.xa_races.proofs.Turns.{Lines, Stands, Goes, said_of, opening_agrees, opening_left, all_empty}
-use Rattle.xa_races.proofs.CountedSchedules.{Ready, goes}
+use Rattle.xa_races.proofs.CountedSchedules.{itself, counted_goes}
 
 -- what holds of each element holds of the one at a place
 all_at : {A : Type 0} (P : A → Type 0) (list : List A) (place : ℕ) (x : A) → All P list → slice_get list place ≡ Some x
@@ -57,7 +57,7 @@ answered_long base history session (statement ∷ statements) (answer ∷ answer
 
 -- lines made of statements and answers have these statements
 said_statements : (statements : List Statement) (answers : List Answer) → length answers ≡ length statements
-    → statements_in (said_of statements answers) ≡ statements
+    → statements_in itself (said_of statements answers) ≡ statements
 said_statements [] answers long = refl
 said_statements (statement ∷ statements) [] long = absurd (omega arith)
 said_statements (statement ∷ statements) (answer ∷ answers) long =
@@ -65,7 +65,7 @@ said_statements (statement ∷ statements) (answer ∷ answers) long =
 
 -- lines made of statements and answers have these answers
 said_answers : (statements : List Statement) (answers : List Answer) → length answers ≡ length statements
-    → answers_in (said_of statements answers) ≡ answers
+    → answers_in itself (said_of statements answers) ≡ answers
 said_answers [] [] long = refl
 said_answers [] (answer ∷ answers) long = absurd (omega arith)
 said_answers (statement ∷ statements) [] long = absurd (omega arith)
@@ -82,23 +82,25 @@ module _ (base : State) (lines : List Told) (texts : List (List ℕ)) (new : Sta
   abbrev all_said : Lines
   all_said = λ session. said_of (statements_of session lines) (raced.answers session)
 
-  remain : (session : ℕ) → IsSession session → Remains base raced.history 0 session (all_said session)
+  remain : (session : ℕ) → IsSession session → Remains itself base raced.history 0 session (all_said session)
   remain session is =
       let legal : IsLegal base raced.history (newcomer session) (statements_of session lines) (raced.answers session) =
       raced.legal session is in
-      let statements : statements_in (all_said session) ≡ statements_of session lines =
+      let statements : statements_in itself (all_said session) ≡ statements_of session lines =
       said_statements (statements_of session lines) (raced.answers session) (long session is) in
-      let answers : answers_in (all_said session) ≡ raced.answers session =
+      let answers : answers_in itself (all_said session) ≡ raced.answers session =
       said_answers (statements_of session lines) (raced.answers session) (long session is) in
       record {
         answered =
-            subst (λ (s : List Statement). Answered base raced.history session 0 s (answers_in (all_said session)))
+            subst (λ (s : List Statement). Answered base raced.history session 0 s
+            (answers_in itself (all_said session)))
             (sym statements)
             (subst (λ (a : List Answer). Answered base raced.history session 0 (statements_of session lines) a)
             (sym answers) legal.answered);
         mine = legal.mine ∙ ap (λ (s : List Statement). entered base raced.history session s (raced.answers session))
             (sym statements)
-            ∙ ap (λ (a : List Answer). entered base raced.history session (statements_in (all_said session)) a)
+            ∙ ap (λ (a : List Answer). entered base raced.history session
+            (statements_in itself (all_said session)) a)
             (sym answers);
       }
 
@@ -112,14 +114,11 @@ module _ (base : State) (lines : List Told) (texts : List (List ℕ)) (new : Sta
 
   pub raced_leads : Leads base lines texts new
   raced_leads =
-      let ready : Ready lines (laid_texts [] raced.answers lines) raced.sessions base raced.history 0 all_said
-      (opening lines base) =
-      record { remain = remain; state = sym (state_after-nil base); stands = stands } in
       let all : Goes lines (laid_texts [] raced.answers lines) (state_after base raced.history) (opening lines base) =
-      goes lines (laid_texts [] raced.answers lines) raced.sessions base raced.history (length raced.history) 0
-      (omega arith)
+      counted_goes lines (laid_texts [] raced.answers lines) raced.sessions base raced.history
       (λ at entry found. all_at (λ (e : Entry). (1 ≤ e.session)
-      × (e.session ≤ 16)) raced.history at entry raced.own found) all_said (opening lines base) ready in
+      × (e.session ≤ 16)) raced.history at entry raced.own found) all_said (opening lines base) remain
+      (sym (state_after-nil base)) stands in
       record {
         order = all.order;
         config = all.new;

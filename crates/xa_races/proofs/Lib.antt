@@ -7,9 +7,10 @@ pub mod Gathering
 pub mod Places
 pub mod Ends
 pub mod NewRuns
-pub mod CountedTests
-pub mod CountedHistories
+pub mod Tests
+pub mod Histories
 pub mod Turns
+pub mod Schedules
 pub mod CountedSchedules
 pub mod Law
 pub mod CountedRaced
@@ -25,8 +26,6 @@ pub mod Ended
 pub mod HeldRuns
 pub mod Whole
 pub mod Written
-pub mod OverlapTests
 pub mod OverlapSteps
-pub mod OverlapHistories
 pub mod OverlapSchedules
 pub mod OverlapOutcomes

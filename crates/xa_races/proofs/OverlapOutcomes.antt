@@ -20,8 +20,8 @@ use Rattle.xa_store.specs.declared.outcome.Outcome.{Outcome}
 use Rattle.xa_judge.specs.Explained.{IsSession}
 use Rattle.xa_judge.proofs.Places.{get_within}
 use Rattle.xa_races.specs.Overlapping.{RunLine, Lines, AreFreshRuns, AreLinesOf, IsExplainedOverlap}
-use Rattle.xa_races.proofs.OverlapHistories.{Remains, statements_in, answers_in, entries_of-other}
-use Rattle.xa_races.proofs.OverlapSchedules.{overlap_explained}
+use Rattle.xa_races.proofs.Histories.{Remains, statements_in, answers_in, entries_of-other}
+use Rattle.xa_races.proofs.OverlapSchedules.{spoken, overlap_explained}
 
 -- what holds of each element holds of the one at a place
 all_at : {A : Type 0} (P : A → Type 0) (list : List A) (place : ℕ) (x : A) → All P list → slice_get list place ≡ Some x
@@ -53,21 +53,23 @@ none_of count session (entry ∷ list) within above =
 run_remains : (base : State) (history : List Entry) (session : ℕ) (known : Known) (statements : List Statement)
     (answers : List Answer) (lines : List RunLine)
     → IsLegal base history known statements answers → known ≡ newcomer session
-    → statements_in lines ≡ statements → answers_in lines ≡ answers → Remains base history 0 session lines
+    → statements_in spoken lines ≡ statements → answers_in spoken lines ≡ answers
+    → Remains spoken base history 0 session lines
 run_remains base history session known statements answers lines legal fresh given told =
     let new : IsLegal base history (newcomer session) statements answers =
     subst (λ (k : Known). IsLegal base history k statements answers) fresh legal in
-    let own : IsLegal base history (newcomer session) (statements_in lines) (answers_in lines) =
-    subst (λ (s : List Statement). IsLegal base history (newcomer session) s (answers_in lines)) (sym given)
+    let own : IsLegal base history (newcomer session) (statements_in spoken lines)
+    (answers_in spoken lines) =
+    subst (λ (s : List Statement). IsLegal base history (newcomer session) s (answers_in spoken lines)) (sym given)
     (subst (λ (a : List Answer). IsLegal base history (newcomer session) statements a) (sym told) new) in
     record { answered = own.answered; mine = own.mine }
 
 -- a session without lines and without entries has nothing left at the history's beginning
 no_lines : (base : State) (history : List Entry) (session : ℕ) (lines : List RunLine) → lines ≡ []
     → entries_of session history ≡ []
-    → Remains base history 0 session lines
+    → Remains spoken base history 0 session lines
 no_lines base history session lines none no_entry =
-    subst (Remains base history 0 session) (sym none) (record { answered = tt; mine = no_entry })
+    subst (Remains spoken base history 0 session) (sym none) (record { answered = tt; mine = no_entry })
 
 module _ (base : State) (runs : List Run) (outcome : Outcome) (lines : Lines) (legal : IsOutcome base runs outcome)
     (fresh : AreFreshRuns runs)
@@ -78,7 +80,8 @@ module _ (base : State) (runs : List Run) (outcome : Outcome) (lines : Lines) (l
   entry_within place entry at =
       all_at (λ e. (1 ≤ e.session) × (e.session ≤ length runs)) outcome.history.items place entry own at
 
-  run_at : (place : ℕ) → place < length runs → Remains base outcome.history.items 0 (suc place) (lines (suc place))
+  run_at : (place : ℕ) → place < length runs
+      → Remains spoken base outcome.history.items 0 (suc place) (lines (suc place))
   run_at place within =
       let answers : List (List Answer) = map (λ answers. answers.items) outcome.answers.items in
       let run = get_within runs place within in
@@ -86,12 +89,13 @@ module _ (base : State) (runs : List Run) (outcome : Outcome) (lines : Lines) (l
       let is : IsLegal base outcome.history.items (known_of run.0.pass) run.0.lines.items given.0 =
       zip_at (λ r. IsLegal base outcome.history.items (known_of r.pass) r.lines.items) runs answers place run.0 given.0
       legal.legal run.1 given.1 in
-      subst (λ (n : ℕ). Remains base outcome.history.items 0 n (lines n)) (add-one place)
+      subst (λ (n : ℕ). Remains spoken base outcome.history.items 0 n (lines n)) (add-one place)
       (run_remains base outcome.history.items (place + 1) (known_of run.0.pass) run.0.lines.items given.0
       (lines (place + 1)) is (fresh place run.0 run.1)
       (are.statements place run.0 run.1) (are.answered place given.0 given.1))
 
-  remains : (session : ℕ) → IsSession session → Remains base outcome.history.items 0 session (lines session)
+  remains : (session : ℕ) → IsSession session
+      → Remains spoken base outcome.history.items 0 session (lines session)
   remains zero is = absurd (omega (arith, is.0))
   remains (suc place) is = elim (cases_lt place (length runs)) [
     | inl within ↦ run_at place within

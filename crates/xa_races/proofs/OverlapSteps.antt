@@ -29,7 +29,7 @@ use Rattle.xa_judge.specs.Explained.{LeadsThrough}
 use Rattle.xa_judge.proofs.Places.{same_number, get_written, get_apart}
 use Rattle.xa_races.specs.Overlapping.{RunLine, Lines, with_lines, next_call, first_calls, Overlap}
 use Rattle.xa_races.specs.Overlapping.{returned as returned_next}
-use Rattle.xa_races.proofs.OverlapTests.{lines_own, lines_other, get_replicate}
+use Rattle.xa_races.proofs.Tests.{lines_own, lines_other, get_replicate}
 
 -- some moves lead through the events
 pub record RunsOn (config : Config) (events : List Event) : Type 0 where

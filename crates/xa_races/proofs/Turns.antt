@@ -28,9 +28,11 @@ use Rattle.xa_lines.specs.Transcript.{answer_to, state_then}
 use Rattle.xa_orders.specs.Orders.{Told, Config, is_left, text_at, carried_out, turn, IsSession, LeadsTo}
 use Rattle.xa_races.specs.CountedRaced.{IsReadLine, statement_in, statements_of, converts_in, line_text, rank_in}
 use Rattle.xa_races.specs.CountedRaced.{laid_texts}
-use Rattle.xa_races.proofs.CountedTests.{same_number, same_test, apart_test, same_of_test, first_passes, first_fails}
-use Rattle.xa_races.proofs.CountedTests.{position_is}
-use Rattle.xa_races.proofs.CountedHistories.{Said}
+use Rattle.xa_judge.proofs.Places.{same_number}
+use Rattle.xa_races.proofs.Tests.{same_test, apart_test, same_of_test, first_passes, first_fails}
+use Rattle.xa_races.proofs.Tests.{position_is, lines_own, lines_other}
+use Rattle.xa_races.proofs.Histories.{Said}
+use Rattle.xa_races.specs.Overlapping.{with_lines}
 
 -- each line has no answer yet, or that of the end
 abbrev pub Agrees : List Told → List (List ℕ) → List (List ℕ) → Type 0
@@ -198,19 +200,6 @@ next session (told ∷ lines) (answer ∷ answers) (last ∷ texts) read text re
 -- what each session has left to say
 abbrev pub Lines : Type 0
 Lines = ℕ → List Said
-
--- the lines of all sessions, with those of one session replaced
-abbrev pub with_lines : Lines → ℕ → List Said → Lines
-with_lines lines session rest = λ other. cond (other == session) rest (lines other)
-
--- after a session's lines were replaced, it has the new ones
-pub lines_own : (lines : Lines) (session : ℕ) (rest : List Said) → with_lines lines session rest session ≡ rest
-lines_own lines session rest = ap (λ b. cond b rest (lines session)) (same_test session)
-
--- replacing one session's lines leaves those of the others
-pub lines_other : (lines : Lines) (session other : ℕ) (rest : List Said) → other ≢ session
-    → with_lines lines session rest other ≡ lines other
-lines_other lines session other rest apart = ap (λ b. cond b rest (lines other)) (apart_test other session apart)
 
 -- the printed answer of a session's line
 abbrev pub said_text : ℕ → Said → List ℕ

@@ -35,8 +35,8 @@ pub record RunLine : Type 0 where
 abbrev pub Lines : Type 0
 Lines = ℕ → List RunLine
 
--- the lines of all sessions, with those of one session replaced
-abbrev pub with_lines : Lines → ℕ → List RunLine → Lines
+-- the lines of all sessions, of whatever kind, with those of one session replaced
+abbrev pub with_lines : {L : Type 0} → (ℕ → List L) → ℕ → List L → ℕ → List L
 with_lines lines session rest = λ other. cond (other == session) rest (lines other)
 
 -- the session calls for the first of these lines, if there is one

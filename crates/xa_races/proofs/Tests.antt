@@ -1,17 +1,10 @@
--- Numbers that are told apart by a test, first places, and the texts of sessions after a change.
-use Rattle.std.proofs.Common.{◌≡◌, ◌≢◌, ◌⊎◌, ℕ, zero, suc, ◌+◌, ◌<◌, ◌==◌, Bool, true, false, not, cond, Some, None}
-use Rattle.std.proofs.Common.{List, [], ◌∷◌, length, position, refl, ap, ◌∙◌, arith, inl, inr}
+-- Numbers that are told apart by a test, first places, and lines after a change.
+use Rattle.std.proofs.Common.{◌≡◌, ◌≢◌, ℕ, zero, suc, ◌+◌, ◌<◌, ◌==◌, Bool, true, false, not, cond, Some, None}
+use Rattle.std.proofs.Common.{List, ◌∷◌, length, position, replicate, refl, ap, ◌∙◌, arith}
 use Rattle.std.specs.Prelude.{slice_get, nat_lt}
 use Rattle.std.specs.List.{prefix_len, position_or_len}
 use Rattle.std.proofs.lemmas.Bool.Decides.{nat_tests}
-
--- two numbers are the same or not
-pub same_number : (m n : ℕ) → (m ≡ n) ⊎ (m ≢ n)
-same_number zero zero = inl refl
-same_number zero (suc n) = inr (λ e. absurd (omega arith))
-same_number (suc m) zero = inr (λ e. absurd (omega arith))
-same_number (suc m) (suc n) =
-    elim (same_number m n) [ inl is ↦ inl (ap suc is) | inr apart ↦ inr (λ e. apart (omega arith)) ]
+use Rattle.xa_races.specs.Overlapping.{with_lines}
 
 -- a number is equal to itself by the test
 pub same_test : (n : ℕ) → (n == n) ≡ true
@@ -44,8 +37,19 @@ module _ {A : Type 0} (p : A → Bool) where
       ap (λ n. cond (nat_lt n (length xs)) (Some n) None) is
       ∙ ap (λ b. cond b (Some place) None) (below_test place (length xs) below)
 
--- within a list there is an element
-pub get_within : {A : Type 0} (xs : List A) (i : ℕ) → i < length xs → (x : A) × (slice_get xs i ≡ Some x)
-get_within [] i within = absurd (omega arith)
-get_within (y ∷ xs) zero within = (y, refl)
-get_within (y ∷ xs) (suc i) within = get_within xs i (omega arith)
+-- after a session's lines were replaced, it has the new ones
+pub lines_own : {L : Type 0} (lines : ℕ → List L) (session : ℕ) (rest : List L)
+    → with_lines lines session rest session ≡ rest
+lines_own lines session rest = ap (λ b. cond b rest (lines session)) (same_test session)
+
+-- replacing one session's lines leaves those of the others
+pub lines_other : {L : Type 0} (lines : ℕ → List L) (session other : ℕ) (rest : List L) → other ≢ session
+    → with_lines lines session rest other ≡ lines other
+lines_other lines session other rest apart = ap (λ b. cond b rest (lines other)) (apart_test other session apart)
+
+-- each element of a repeated one is that one
+pub get_replicate : {A : Type 0} (count place : ℕ) (x : A) → place < count
+    → slice_get (replicate count x) place ≡ Some x
+get_replicate zero place x within = absurd (omega arith)
+get_replicate (suc count) zero x within = refl
+get_replicate (suc count) (suc place) x within = get_replicate count place x (omega arith)

@@ -1,0 +1,273 @@
+-- A history from a place on, and what a session has left to say there.
+--     Said              a statement, and what it was answered
+--     Remains           the session's lines that are left explain its entries from the place on
+--     Drained           the first of them doesn't stand at the place without entering there
+--     skipped, entering, waiting      what is left behind a line that doesn't enter, one that does, and another
+--                                     session's entry
+--     due               the session of the next entry has a line left at the place
+--     ended             at the end of the history no line is left
+use Rattle.std.proofs.Common.{◌≡◌, ◌≢◌, ℕ, zero, suc, ◌+◌, ◌-◌, ◌≤◌, Bool, true, false, cond, Some, List, [], ◌∷◌}
+use Rattle.std.proofs.Common.{length, map, drop, refl, ap, sym, ◌∙◌, subst}
+use Rattle.std.proofs.Common.{inl, inr, arith, add-one}
+use Rattle.std.specs.Prelude.{slice_get}
+use Rattle.std.proofs.lemmas.List.{drop-drop}
+use Rattle.std.proofs.lemmas.Option.{none-some, same_Some, slice_get_past}
+use Rattle.xa_xid.specs.declared.statement.Statement.{Statement}
+use Rattle.xa_words.specs.Entry.{Entry}
+use Rattle.xa_server.specs.State.{State}
+use Rattle.xa_server.specs.Step.{enters}
+use Rattle.decision_log.specs.History.{entries_of, is_of}
+use Rattle.xa_session.specs.Replay.{state_at}
+use Rattle.xa_session.specs.Answer.{entry_of}
+use Rattle.xa_session.specs.declared.answer.Answer.{Answer}
+use Rattle.xa_store.specs.Legal.{Answered, entered}
+use Rattle.xa_judge.proofs.Places.{same_number}
+use Rattle.xa_races.proofs.Tests.{same_test, apart_test}
+
+-- a statement of a session, and what it was answered
+pub record Said : Type 0 where
+  pub statement : Statement
+  pub answer : Answer
+
+-- the session's entries of a history whose first entry is its own
+entries_of-own : (session : ℕ) (entry : Entry) (list : List Entry) → entry.session ≡ session
+    → entries_of session (entry ∷ list) ≡ entry ∷ entries_of session list
+entries_of-own session entry list own =
+    ap (λ b. cond b (entry ∷ entries_of session list) (entries_of session list))
+    (ap (λ (n : ℕ). is_of session (record entry { session = n })) own ∙ same_test session)
+
+-- a session's entries of a history whose first entry is another session's: those of the rest
+pub entries_of-other : (session : ℕ) (entry : Entry) (list : List Entry) → entry.session ≢ session
+    → entries_of session (entry ∷ list) ≡ entries_of session list
+entries_of-other session entry list apart =
+    ap (λ b. cond b (entry ∷ entries_of session list) (entries_of session list))
+    (apart_test entry.session session apart)
+
+-- a history from a place on begins with the entry at the place
+from_place : (history : List Entry) (place : ℕ) (entry : Entry) → slice_get history place ≡ Some entry
+    → drop place history ≡ entry ∷ drop (suc place) history
+from_place [] place entry is = absurd (none-some entry is)
+from_place (x ∷ xs) zero entry is = ap (λ e. e ∷ xs) (same_Some x entry is)
+from_place (x ∷ xs) (suc place) entry is = from_place xs place entry is
+
+-- the session's entries from a place on, if the entry there is its own: that one, then those from the next place
+own_from : (history : List Entry) (place session : ℕ) (entry : Entry) → slice_get history place ≡ Some entry
+    → entry.session ≡ session
+    → entries_of session (drop place history) ≡ entry ∷ entries_of session (drop (suc place) history)
+own_from history place session entry is own =
+    ap (entries_of session) (from_place history place entry is)
+    ∙ entries_of-own session entry (drop (suc place) history) own
+
+-- if it is another session's: those from the next place
+other_from : (history : List Entry) (place session : ℕ) (entry : Entry) → slice_get history place ≡ Some entry
+    → entry.session ≢ session
+    → entries_of session (drop place history) ≡ entries_of session (drop (suc place) history)
+other_from history place session entry is apart =
+    ap (entries_of session) (from_place history place entry is)
+    ∙ entries_of-other session entry (drop (suc place) history) apart
+
+-- a list with one element more, or not, is at least as long
+more_of : (b : Bool) (entry : Entry) (list : List Entry) → length list ≤ length (cond b (entry ∷ list) list)
+more_of true entry list = omega arith
+more_of false entry list = omega arith
+
+-- dropping a front of the history leaves at most as many entries of a session
+count_drop : (session : ℕ) (list : List Entry) (count : ℕ)
+    → length (entries_of session (drop count list)) ≤ length (entries_of session list)
+count_drop session list zero = omega arith
+count_drop session [] (suc count) = omega arith
+count_drop session (x ∷ xs) (suc count) =
+    omega (arith, count_drop session xs count, more_of (is_of session x) x (entries_of session xs))
+
+-- a session has no more entries from a later place on
+count_from : (session : ℕ) (history : List Entry) (first later : ℕ) → first ≤ later
+    → length (entries_of session (drop later history)) ≤ length (entries_of session (drop first history))
+count_from session history first later order =
+    let place : first + (later - first) ≡ later = omega arith in
+    subst (λ (l : List Entry). length (entries_of session l) ≤ length (entries_of session (drop first history)))
+    (drop-drop (later - first) first history ∙ ap (λ (n : ℕ). drop n history) place)
+    (count_drop session (drop first history) (later - first))
+
+-- the step of `fits`: one statement more, logged (`b`) or not, makes no more entries than the session has left
+fits_one : (base : State) (history : List Entry) (session from : ℕ) (statement : Statement) (answer : Answer)
+    (statements : List Statement)
+    (answers : List Answer) (b : Bool) → from ≤ answer.place
+    → (b ≡ true → slice_get history answer.place ≡ Some (entry_of session statement))
+    → Answered base history session (cond b (answer.place + 1) answer.place) statements answers
+    → ((place : ℕ) → Answered base history session place statements answers
+    → length (entered base history session statements answers) ≤ length (entries_of session (drop place history)))
+    → length (cond b (entry_of session statement ∷ entered base history session statements answers)
+    (entered base history session statements answers))
+    ≤ length (entries_of session (drop from history))
+fits_one base history session from statement answer statements answers true order next rest fit =
+    let left : length (entered base history session statements answers) ≤ length
+    (entries_of session (drop (suc answer.place) history)) =
+    fit (suc answer.place) (subst (λ (n : ℕ). Answered base history session n statements answers)
+    (add-one answer.place) rest) in
+    let own = ap length (own_from history answer.place session (entry_of session statement) (next refl) refl) in
+    omega (arith, left, own, count_from session history from answer.place order)
+fits_one base history session from statement answer statements answers false order next rest fit =
+    omega (arith, fit answer.place rest, count_from session history from answer.place order)
+
+-- what enters of a session's statements are no more than its entries from there on
+fits : (base : State) (history : List Entry) (session from : ℕ) (statements : List Statement) (answers : List Answer)
+    → Answered base history session from statements answers
+    → length (entered base history session statements answers) ≤ length (entries_of session (drop from history))
+fits base history session from [] [] answered = omega arith
+fits base history session from [] (answer ∷ answers) answered = absurd answered
+fits base history session from (statement ∷ statements) [] answered = absurd answered
+fits base history session from (statement ∷ statements) (answer ∷ answers) answered =
+    fits_one base history session from statement answer statements answers
+    (enters (state_at base history answer.place) session statement) answered.0 answered.1.next answered.2
+    (λ place rest. fits base history session place statements answers rest)
+
+-- equal lists have equal rests
+tails : (first second : Entry) (xs ys : List Entry) → first ∷ xs ≡ second ∷ ys → xs ≡ ys
+tails first second xs ys same = cc
+
+-- a list with a first element isn't empty
+some_left : (entry : Entry) (list : List Entry) → entry ∷ list ≡ [] → ⊥
+some_left entry list same = cc
+
+-- lines of any kind, of which each has a statement and what it was answered
+module _ {L : Type 0} (spoken : L → Said) where
+  -- the statements of a session's lines
+  abbrev pub statements_in : List L → List Statement
+  statements_in lines = map (λ line. (spoken line).statement) lines
+
+  -- what a session's lines were answered
+  abbrev pub answers_in : List L → List Answer
+  answers_in lines = map (λ line. (spoken line).answer) lines
+
+  -- the session's lines that are left are answered from the place on, and are its entries from there on
+  pub record Remains (base : State) (history : List Entry) (place session : ℕ) (lines : List L) : Type 0 where
+    pub answered : Answered base history session place (statements_in lines) (answers_in lines)
+    pub mine : entries_of session (drop place history) ≡ entered base history session (statements_in lines)
+        (answers_in lines)
+
+  -- the first line that is left enters, if it stands at the place
+  abbrev pub Drained : State → List Entry → ℕ → ℕ → List L → Type 0
+  Drained base history place session [] = Unit {0}
+  Drained base history place session (line ∷ lines) = (spoken line).answer.place ≡ place
+      → enters (state_at base history place) session (spoken line).statement ≡ true
+
+  -- a line that doesn't enter the history leaves the rest of its session's lines to come, at the same place
+  pub skipped : (base : State) (history : List Entry) (place session : ℕ) (line : L) (rest : List L)
+      → Remains base history place session (line ∷ rest)
+      → (spoken line).answer.place ≡ place
+      → enters (state_at base history place) session (spoken line).statement ≡ false
+      → Remains base history place session rest
+  skipped base history place session line rest left at out =
+      let no : enters (state_at base history (spoken line).answer.place) session (spoken line).statement ≡ false =
+      ap (λ (n : ℕ). enters (state_at base history n) session (spoken line).statement) at ∙ out in
+      record {
+        answered =
+            subst (λ (n : ℕ). Answered base history session n (statements_in rest) (answers_in rest)) at
+            (subst (λ (b : Bool). Answered base history session
+            (cond b ((spoken line).answer.place + 1) (spoken line).answer.place) (statements_in rest) (answers_in rest))
+            no
+            left.answered.2);
+        mine =
+            left.mine
+            ∙ ap (λ (b : Bool). cond b (entry_of session (spoken line).statement ∷ entered base history session
+            (statements_in rest) (answers_in rest))
+            (entered base history session (statements_in rest) (answers_in rest))) no;
+      }
+
+  -- behind a line whose statement entered at this place, the session has its other lines left from the next place on
+  pub entering : (base : State) (history : List Entry) (place session : ℕ) (line : L) (rest : List L)
+      (entry : Entry)
+      → Remains base history place session (line ∷ rest) → (spoken line).answer.place ≡ place
+      → enters (state_at base history place) session (spoken line).statement ≡ true
+      → slice_get history place ≡ Some entry
+      → entry.session ≡ session
+      → Remains base history (suc place) session rest
+  entering base history place session line rest entry left at in' is own =
+      let yes : enters (state_at base history (spoken line).answer.place) session (spoken line).statement ≡ true =
+      ap (λ (n : ℕ). enters (state_at base history n) session (spoken line).statement) at ∙ in' in
+      let mine : entries_of session (drop place history) ≡ entry_of session (spoken line).statement
+      ∷ entered base history session (statements_in rest) (answers_in rest) =
+      left.mine
+      ∙ ap (λ (b : Bool). cond b (entry_of session (spoken line).statement
+      ∷ entered base history session (statements_in rest) (answers_in rest))
+      (entered base history session (statements_in rest) (answers_in rest))) yes in
+      record {
+        answered =
+            subst (λ (n : ℕ). Answered base history session n (statements_in rest) (answers_in rest))
+            (ap (λ (n : ℕ). n + 1) at ∙ add-one place)
+            (subst (λ (b : Bool). Answered base history session
+            (cond b ((spoken line).answer.place + 1) (spoken line).answer.place) (statements_in rest) (answers_in rest))
+            yes
+            left.answered.2);
+        mine = tails entry (entry_of session (spoken line).statement) _ _
+            (sym (own_from history place session entry is own) ∙ mine);
+      }
+
+  -- the line that enters at a place is the entry there
+  pub enters_there : (base : State) (history : List Entry) (place session : ℕ) (line : L) (rest : List L)
+      → Remains base history place session (line ∷ rest)
+      → (spoken line).answer.place ≡ place
+      → enters (state_at base history place) session (spoken line).statement ≡ true
+      → slice_get history place ≡ Some (entry_of session (spoken line).statement)
+  enters_there base history place session line rest left at in' =
+      sym (ap (slice_get history) at) ∙ left.answered.1.next
+      (ap (λ (n : ℕ). enters (state_at base history n) session (spoken line).statement) at ∙ in')
+
+  -- behind an entry of another session, a session has left what it had left before it
+  pub waiting : (base : State) (history : List Entry) (place session : ℕ) (lines : List L) (entry : Entry)
+      → Remains base history place session lines
+      → Drained base history place session lines → slice_get history place ≡ Some entry
+      → entry.session ≢ session → Remains base history (suc place) session lines
+  waiting base history place session [] entry left drained is apart =
+      record { answered = tt; mine = sym (other_from history place session entry is apart) ∙ left.mine }
+  waiting base history place session (line ∷ rest) entry left drained is apart =
+      let later : (spoken line).answer.place ≢ place = λ at.
+      apart (ap (λ (e : Entry). e.session)
+      (same_Some entry (entry_of session (spoken line).statement) (sym is
+      ∙ enters_there base history place session line rest left at (drained at)))) in
+      record {
+        answered = (after_place later left.answered.0, left.answered.1, left.answered.2);
+        mine = sym (other_from history place session entry is apart) ∙ left.mine;
+      }
+    where
+      after_place : (spoken line).answer.place ≢ place → place ≤ (spoken line).answer.place
+          → suc place ≤ (spoken line).answer.place
+      after_place apart order = omega arith
+
+  -- the session of the next entry has a line left, at the place
+  pub record Due (place : ℕ) (lines : List L) : Type 0 where
+    pub line : L
+    pub rest : List L
+    pub is : lines ≡ line ∷ rest
+    pub at : (spoken line).answer.place ≡ place
+
+  -- if the history's entry at a place is the session's, its next line is the one that was answered there
+  pub due : (base : State) (history : List Entry) (place session : ℕ) (lines : List L) (entry : Entry)
+      → Remains base history place session lines
+      → slice_get history place ≡ Some entry → entry.session ≡ session → Due place lines
+  due base history place session [] entry left is own =
+      absurd (some_left entry _ (sym (own_from history place session entry is own) ∙ left.mine))
+  due base history place session (line ∷ rest) entry left is own = elim (same_number (spoken line).answer.place place) [
+    | inl at ↦ record { line = line; rest = rest; is = refl; at = at }
+    | inr apart ↦ absurd (too_many apart)
+  ]
+    where
+      too_many : (spoken line).answer.place ≢ place → ⊥
+      too_many apart =
+          let order : suc place ≤ (spoken line).answer.place = omega (arith, left.answered.0) in
+          let few = fits base history session (suc place) (statements_in (line ∷ rest)) (answers_in (line ∷ rest))
+          (order, left.answered.1, left.answered.2) in
+          let many = ap length (sym (own_from history place session entry is own) ∙ left.mine) in
+          omega (arith, few, many)
+
+  -- at the end of the history a session has no line left, unless one stands there without entering (`Drained` excludes
+  -- it)
+  pub ended : (base : State) (history : List Entry) (place session : ℕ) (lines : List L)
+      → Remains base history place session lines
+      → Drained base history place session lines → place ≡ length history → lines ≡ []
+  ended base history place session [] left drained end = refl
+  ended base history place session (line ∷ rest) left drained end =
+      let at : (spoken line).answer.place ≡ place = omega (arith, left.answered.0, left.answered.1.within, end) in
+      absurd (none-some (entry_of session (spoken line).statement)
+      (sym (slice_get_past history place (omega (arith, end)))
+      ∙ enters_there base history place session line rest left at (drained at)))

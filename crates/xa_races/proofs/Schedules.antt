@@ -1,0 +1,206 @@
+-- The order in which the lines of a race have their turns: place by place of the history, at each first those that
+-- don't enter there, and then the one that does. What a turn is, the module is told.
+--     Ready             the lines that are left at a place, and how things stand
+--     goes              their turns lead to the end
+use Rattle.std.proofs.Common.{◌≡◌, ◌≢◌, ℕ, zero, suc, ◌+◌, ◌<◌, ◌≤◌, Bool, true, false, Some, List, [], ◌∷◌, length}
+use Rattle.std.proofs.Common.{refl, ap, sym, ◌∙◌, subst, inl}
+use Rattle.std.proofs.Common.{inr, arith, add-one}
+use Rattle.std.specs.Prelude.{slice_get}
+use Rattle.std.proofs.lemmas.Option.{same_Some}
+use Rattle.xa_words.specs.Entry.{Entry}
+use Rattle.xa_server.specs.State.{State}
+use Rattle.xa_server.specs.Replies.{reply_to}
+use Rattle.xa_server.specs.Step.{enters, after}
+use Rattle.xa_server.proofs.Entering.{unentered_leaves}
+use Rattle.xa_session.specs.Replay.{state_at}
+use Rattle.xa_session.specs.Answer.{entry_of}
+use Rattle.xa_session.proofs.Replaying.{state_at-next}
+use Rattle.xa_judge.specs.Explained.{IsSession}
+use Rattle.xa_judge.proofs.Places.{same_number, get_within}
+use Rattle.xa_races.specs.Overlapping.{with_lines}
+use Rattle.xa_races.proofs.Tests.{lines_own, lines_other}
+use Rattle.xa_races.proofs.Histories.{Said, Remains, Drained, skipped, entering, enters_there, waiting, Due, due, ended}
+
+-- Lines of any kind have their turns in configurations of any kind. `Stands` says how things stand, and `Goes` that
+-- turns lead from there to the end: one turn leads there if the others do, and without lines that is the end.
+module _ {L C : Type 0} (spoken : L → Said) (state_of : C → State) (Stands Goes : (ℕ → List L) → C → Type 0)
+    (base : State) (history : List Entry)
+    (emits : (lines : ℕ → List L) (session : ℕ) (line : L) (rest : List L) (config : C) → IsSession session
+    → lines session ≡ line ∷ rest → Stands lines config
+    → (spoken line).answer.reply ≡ reply_to (state_of config) session (spoken line).statement
+    → ((new : C) → state_of new ≡ after (state_of config) session (spoken line).statement
+    → Stands (with_lines lines session rest) new → Goes (with_lines lines session rest) new) → Goes lines config)
+    (ends : (lines : ℕ → List L) (config : C) → Stands lines config
+    → state_of config ≡ state_at base history (length history)
+    → ((session : ℕ) → IsSession session → lines session ≡ []) → Goes lines config) where
+  -- each session's lines that are left at a place
+  pub record Ready (place : ℕ) (lines : ℕ → List L) (config : C) : Type 0 where
+    pub remain : (session : ℕ) → IsSession session → Remains spoken base history place session (lines session)
+    pub state : state_of config ≡ state_at base history place
+    pub stands : Stands lines config
+
+  -- the lines of one session were changed
+  remain_with : (next : ℕ) (lines : ℕ → List L) (session : ℕ) (rest : List L)
+      → Remains spoken base history next session rest
+      → ((other : ℕ) → IsSession other → other ≢ session → Remains spoken base history next other (lines other))
+      → (other : ℕ) → IsSession other → Remains spoken base history next other (with_lines lines session rest other)
+  remain_with next lines session rest own others other is = elim (same_number other session) [
+    | inl same ↦ subst (λ (n : ℕ). Remains spoken base history next n (with_lines lines session rest n)) (sym same)
+        (subst (Remains spoken base history next session) (sym (lines_own lines session rest)) own)
+    | inr apart ↦ subst (Remains spoken base history next other) (sym (lines_other lines session other rest apart))
+        (others other is apart)
+  ]
+
+  reply_there : (place session : ℕ) (line : L) (rest : List L) (config : C)
+      → Remains spoken base history place session (line ∷ rest)
+      → (spoken line).answer.place ≡ place → state_of config ≡ state_at base history place
+      → (spoken line).answer.reply ≡ reply_to (state_of config) session (spoken line).statement
+  reply_there place session line rest config left at state =
+      left.answered.1.reply_is ∙ ap (λ (s : State). reply_to s session (spoken line).statement)
+      (ap (state_at base history) at ∙ sym state)
+
+  -- what draining a session's lines leads to
+  abbrev pub Leads : ℕ → ℕ → (ℕ → List L) → Type 0
+  Leads place session lines =
+      (new : ℕ → List L) (later : C) → Ready place new later → Drained spoken base history place session (new session)
+      → ((other : ℕ) → other ≢ session → new other ≡ lines other) → Goes new later
+
+  -- a line of a session that stands at the place and doesn't enter there is next
+  skip_one : (place session : ℕ) → IsSession session → (line : L) (rest : List L) (lines : ℕ → List L)
+      (config : C) → lines session ≡ line ∷ rest
+      → Ready place lines config → (spoken line).answer.place ≡ place
+      → enters (state_at base history place) session (spoken line).statement ≡ false
+      → ((new : ℕ → List L) (later : C) → new session ≡ rest → Ready place new later → Leads place session new
+      → Goes new later) → Leads place session lines
+      → Goes lines config
+  skip_one place session is line rest lines config own ready at out drains go =
+      let left : Remains spoken base history place session (line ∷ rest) =
+      subst (Remains spoken base history place session) own (ready.remain session is) in
+      let same : after (state_of config) session (spoken line).statement ≡ state_of config =
+      unentered_leaves (state_of config) session (spoken line).statement
+      (ap (λ (s : State). enters s session (spoken line).statement) ready.state ∙ out) in
+      let new : ℕ → List L = with_lines lines session rest in
+      emits lines session line rest config is own ready.stands
+      (reply_there place session line rest config left at ready.state)
+      (λ later state stands. drains new later (lines_own lines session rest)
+      (record {
+        remain = remain_with place lines session rest (skipped spoken base history place session line rest left at out)
+            (λ other it apart. ready.remain other it);
+        state = state ∙ same ∙ ready.state;
+        stands = stands;
+      })
+      (λ last end there drained others. go last end there drained
+      (λ other apart. others other apart ∙ lines_other lines session other rest apart)))
+
+  drain_by : (place session : ℕ) → IsSession session → (line : L) (rest : List L) (lines : ℕ → List L)
+      (config : C) → lines session ≡ line ∷ rest
+      → Ready place lines config
+      → (enters_it : Bool) → enters (state_at base history place) session (spoken line).statement ≡ enters_it
+      → ((new : ℕ → List L) (later : C) → new session ≡ rest → Ready place new later → Leads place session new
+      → Goes new later) → Leads place session lines
+      → Goes lines config
+  drain_by place session is line rest lines config own ready true in' drains go =
+      go lines config ready (subst (Drained spoken base history place session) (sym own) (λ at. in'))
+      (λ other apart. refl)
+  drain_by place session is line rest lines config own ready false out drains go =
+      elim (same_number (spoken line).answer.place place) [
+        | inl at ↦ skip_one place session is line rest lines config own ready at out drains go
+        | inr apart ↦ go lines config ready (subst (Drained spoken base history place session) (sym own)
+            (λ at. absurd (apart at)))
+            (λ other else'. refl)
+      ]
+
+  -- the lines of a session that stand at the place and don't enter there are next
+  drain : (place session : ℕ) → IsSession session → (own : List L) (lines : ℕ → List L) (config : C)
+      → lines session ≡ own → Ready place lines config
+      → Leads place session lines → Goes lines config
+  drain place session is [] lines config own ready go =
+      go lines config ready (subst (Drained spoken base history place session) (sym own) tt) (λ other apart. refl)
+  drain place session is (line ∷ rest) lines config own ready go =
+      drain_by place session is line rest lines config own ready
+      (enters (state_at base history place) session (spoken line).statement) refl
+      (λ new later at there leads. drain place session is rest new later at there leads) go
+
+  -- the sessions from a number on
+  drained_above : (place count : ℕ) (lines new : ℕ → List L)
+      → ((session : ℕ) → IsSession session → suc count < session
+      → Drained spoken base history place session (lines session))
+      → Drained spoken base history place (suc count) (new (suc count))
+      → ((other : ℕ) → other ≢ suc count → new other ≡ lines other) → (session : ℕ) → IsSession session
+      → count < session
+      → Drained spoken base history place session (new session)
+  drained_above place count lines new above own others session is high = elim (same_number session (suc count)) [
+    | inl same ↦ subst (λ (n : ℕ). Drained spoken base history place n (new n)) (sym same) own
+    | inr apart ↦ subst (Drained spoken base history place session) (sym (others session apart))
+        (above session is (omega arith))
+  ]
+
+  -- those of all sessions
+  drain_all : (place count : ℕ) → count ≤ 16 → (lines : ℕ → List L) (config : C) → Ready place lines config
+      → ((session : ℕ) → IsSession session → count < session
+      → Drained spoken base history place session (lines session))
+      → ((new : ℕ → List L) (later : C) → Ready place new later
+      → ((session : ℕ) → IsSession session → Drained spoken base history place session (new session))
+      → Goes new later) → Goes lines config
+  drain_all place zero within lines config ready above go =
+      go lines config ready (λ session is. above session is (omega arith))
+  drain_all place (suc count) within lines config ready above go =
+      drain place (suc count) (omega arith, within) (lines (suc count)) lines config refl ready
+      (λ new later there own others. drain_all place count (omega arith) new later there
+      (drained_above place count lines new above own others) go)
+
+  -- the line that is the entry at the place is next
+  enter : (place : ℕ) (entry : Entry) → slice_get history place ≡ Some entry → IsSession entry.session
+      → (lines : ℕ → List L) (config : C)
+      → Ready place lines config
+      → ((session : ℕ) → IsSession session → Drained spoken base history place session (lines session))
+      → ((new : ℕ → List L) (later : C) → Ready (suc place) new later → Goes new later) → Goes lines config
+  enter place entry at is lines config ready drained go =
+      let session : ℕ = entry.session in
+      let d : Due spoken place (lines session) = due spoken base history place session (lines session) entry
+      (ready.remain session is) at refl in
+      let left : Remains spoken base history place session (d.line ∷ d.rest) =
+      subst (Remains spoken base history place session) d.is (ready.remain session is) in
+      let in' : enters (state_at base history place) session (spoken d.line).statement ≡ true =
+      subst (Drained spoken base history place session) d.is (drained session is) d.at in
+      let same : entry ≡ entry_of session (spoken d.line).statement =
+      same_Some entry (entry_of session (spoken d.line).statement) (sym at
+      ∙ enters_there spoken base history place session d.line d.rest left d.at in') in
+      let next : after (state_of config) session (spoken d.line).statement ≡ state_at base history (suc place) =
+      ap (λ (s : State). after s session (spoken d.line).statement) ready.state
+      ∙ ap (λ (e : Entry). after (state_at base history place) session e.statement) (sym same)
+      ∙ sym (state_at-next base history place entry at)
+      ∙ ap (state_at base history) (add-one place) in
+      emits lines session d.line d.rest config is d.is ready.stands
+      (reply_there place session d.line d.rest config left d.at ready.state)
+      (λ later state stands. go (with_lines lines session d.rest) later (record {
+        remain =
+            remain_with (suc place) lines session d.rest
+            (entering spoken base history place session d.line d.rest entry left d.at in' at refl)
+            (λ other it apart. waiting spoken base history place other (lines other) entry (ready.remain other it)
+            (drained other it) at (λ e. apart (sym e)));
+        state = state ∙ next;
+        stands = stands;
+      }))
+
+  -- at the end of the history all lines are done
+  done : (place : ℕ) → place ≡ length history → (lines : ℕ → List L) (config : C) → Ready place lines config
+      → ((session : ℕ) → IsSession session → Drained spoken base history place session (lines session))
+      → Goes lines config
+  done place end lines config ready drained =
+      ends lines config ready.stands (ready.state ∙ ap (state_at base history) end)
+      (λ session is. ended spoken base history place session (lines session) (ready.remain session is)
+      (drained session is) end)
+
+  -- the turns of the lines that are left at a place lead to the end
+  pub goes : (left place : ℕ) → place + left ≡ length history
+      → ((at : ℕ) (entry : Entry) → slice_get history at ≡ Some entry → IsSession entry.session)
+      → (lines : ℕ → List L) (config : C) → Ready place lines config → Goes lines config
+  goes zero place end sessions lines config ready =
+      drain_all place 16 (omega arith) lines config ready (λ session is high. absurd (omega (arith, is.1)))
+      (λ new later there drained. done place (omega arith) new later there drained)
+  goes (suc left) place end sessions lines config ready =
+      let next = get_within history place (omega arith) in
+      drain_all place 16 (omega arith) lines config ready (λ session is high. absurd (omega (arith, is.1)))
+      (λ new later there drained. enter place next.0 next.1 (sessions place next.0 next.1) new later there drained
+      (λ last end' ready'. goes left (suc place) (omega arith) sessions last end' ready'))
