@@ -6,11 +6,12 @@
 --     outcome_of          which of the five ends it is
 --     keys_named          the rows that calls name, each once, ascending
 --     IsReason            the order explains what is before a place, and the store is the one after it
+--     is_reason_asked     such a reason is asked for
 --     IsReasonSought      if it is asked for, there is such a reason, unless too many configurations have to be
 --                         kept before a place
 --     AreGrounds          what is told beside the answers of an ILLEGAL verdict at a place
 --     IsReportOf          what is reported of a verdict
-use Rattle.std.specs.Prelude.{◌≡◌, ℕ, Bool, true, false, Option, Some, None, List, [], ◌∷◌, take}
+use Rattle.std.specs.Prelude.{◌≡◌, ℕ, Bool, true, false, not, ◌&&◌, Option, Some, None, List, [], ◌∷◌, take}
 use Rattle.std.specs.BTreeSet.{insert_key}
 use Rattle.xa_xid.specs.Xid.{bytes_cmp}
 use Rattle.xa_xid.specs.declared.statement.Statement.{Statement}
@@ -108,6 +109,10 @@ abbrev pub IsReasonFound : State → List NumberedEvent → List Event → ℕ �
 IsReasonFound base numbered events limit (Some reason) = IsReason base numbered events reason
 IsReasonFound base numbered events limit None = (place : ℕ) × IsWide base events limit place
 
+-- an order and the store after it are asked for: an explanation is, and no smaller record, which stands in their place
+abbrev pub is_reason_asked : Asked → Bool
+is_reason_asked asked = asked.explains && not asked.shrinks
+
 -- the reason is found if it is asked for
 abbrev pub IsReasonSought : Bool → State → List NumberedEvent → List Event → ℕ → Option Reason → Type 0
 IsReasonSought true base numbered events limit reason = IsReasonFound base numbered events limit reason
@@ -117,7 +122,8 @@ IsReasonSought false base numbered events limit reason = reason ≡ None
 pub record AreGrounds (base : State) (allowances : List Allowance) (lines : List (List ℕ)) (asked : Asked)
     (numbered : List NumberedEvent) (events : List Event) (place : ℕ) (grounds : Grounds) : Type 0 where
   pub exchange : grounds.exchange ≡ exchange_sought asked.explains numbered place
-  pub reason : IsReasonSought asked.explains base (take place numbered) (take place events) asked.limit grounds.reason
+  pub reason : IsReasonSought (is_reason_asked asked) base (take place numbered) (take place events) asked.limit
+      grounds.reason
   pub smaller : IsSmallerSought asked.shrinks base allowances asked lines grounds.smaller
 
 -- what is reported of a verdict on the events of these lines, which begin in a state

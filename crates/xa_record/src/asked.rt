@@ -11,8 +11,8 @@ pub struct Asked {
     pub limit: usize,
     /// The form in which the verdict is written.
     pub form: Form,
-    /// Whether an ILLEGAL verdict also has an order that explains what is before its line, and the store
-    /// after that order.
+    /// Whether an ILLEGAL verdict also has what was seen at its line, and the call. Unless a smaller record is asked
+    /// for, it has an order that explains what is before its line, too, and the store after that order.
     pub explains: bool,
     /// Whether an ILLEGAL verdict also has a smaller record that no order explains.
     pub shrinks: bool,

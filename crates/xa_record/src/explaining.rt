@@ -6,7 +6,7 @@ ghost use Rattle.xa_record.specs.Events.{AreCalls};
 ghost use Rattle.xa_judge.specs.Verdicts.{IsWide};
 ghost use Rattle.xa_record.specs.Kept.{reason_kept};
 ghost use Rattle.xa_record.specs.Reading.{notes_of};
-ghost use Rattle.xa_record.specs.Reports.{keys_named, IsReason, IsReasonFound, IsReasonSought};
+ghost use Rattle.xa_record.specs.Reports.{keys_named, is_reason_asked, IsReason, IsReasonFound, IsReasonSought};
 ghost use Rattle.std.specs.Option.{option_map};
 
 use crate::asked::Asked;
@@ -123,9 +123,10 @@ fn reason_of<P: Progress>(
 }
 
 /// Returns an order that explains what happens before this place in the record of this text, and the store
-/// after it, if `asked` asks for that and the limit allows it.
+/// after it, if `asked` asks for an explanation and the limit allows it. A smaller record stands in their place, if
+/// `asked` asks for one.
 ///
-/// The events before the place are judged once more.
+/// If the order is sought, the events before the place are judged once more.
 /// May return `NoMemory`.
 pub fn reason_for<P: Progress>(
     alloc: Global,
@@ -140,11 +141,11 @@ pub fn reason_for<P: Progress>(
     requires within { place < length events.now }
     requires explained { Explained base.now (take place events.now) }
     ensures { IfOk result
-        (λ reason. IsReasonSought asked.explains base.now (take place (notes_of text.now).told)
+        (λ reason. IsReasonSought (is_reason_asked asked) base.now (take place (notes_of text.now).told)
         (take place events.now) asked.limit
         (option_map reason_kept reason)) }
 {
-    if !asked.explains {
+    if !asked.explains || asked.shrinks {
         return Ok(None);
     }
     reason_of(alloc, base, asked.limit, text, events, place, progress)

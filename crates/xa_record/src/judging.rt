@@ -132,8 +132,8 @@ fn text_in(alloc: Global, form: Form, report: &Report) -> Result<Vec<u8>, NoMemo
 /// `allowances` are known differences between the answers of the recorded server and the rules. If more than
 /// `asked.limit` different configurations have to be kept before an event, and no order is found, the end is
 /// `Undecided`. With `asked.explains` the part before an ILLEGAL line is judged once more; if that passes the
-/// limit, it isn't explained. With `asked.shrinks` parts of an ILLEGAL record are judged, at most 1,000 times, and
-/// `progress` isn't told of that. If lines are faulty, or nothing happens, there is no verdict. With
+/// limit, it isn't explained. With `asked.shrinks` parts of an ILLEGAL record are judged instead, at most 1,000 times,
+/// and `progress` isn't told of that. If lines are faulty, or nothing happens, there is no verdict. With
 /// `asked.strict_calls` a call whose text isn't a statement is a faulty line. `progress` takes note of how far
 /// judging is.
 /// Errors: `NoMemory` if an allocation failed.
@@ -164,8 +164,8 @@ pub fn judge_text_from<P: Progress>(
 /// The server holds nothing at first. `allowances` are known differences between its answers and the rules.
 /// If more than `asked.limit` different configurations have to be kept before an event, and no order is found,
 /// the end is `Undecided`. With `asked.explains` the part before an ILLEGAL line is judged once more; if that
-/// passes the limit, it isn't explained. With `asked.shrinks` parts of an ILLEGAL record are judged, at most 1,000
-/// times, and `progress` isn't told of that. If lines are faulty, or nothing happens, there is no verdict. With
+/// passes the limit, it isn't explained. With `asked.shrinks` parts of an ILLEGAL record are judged instead, at most
+/// 1,000 times, and `progress` isn't told of that. If lines are faulty, or nothing happens, there is no verdict. With
 /// `asked.strict_calls` a call whose text isn't a statement is a faulty line. `progress` takes note of how far
 /// judging is.
 /// Errors: `NoMemory` if an allocation failed.
@@ -197,7 +197,8 @@ pub fn judge_text<P: Progress>(
     //   that lead through what was seen before its place. The store is listed to which they lead: every
     //   branch, and each row that a call before the place names, once, ascending.
     // Proved (records, illegal-unexplained): An ILLEGAL verdict that is to be explained lacks its order and
-    //   store only if more configurations than allowed come before a place of what was seen before it.
+    //   store only if more configurations than allowed come before a place of what was seen before it, or if a
+    //   smaller record is asked for: then it has neither.
     // Proved (records, illegal-smaller)
     // Proved (records, order-replayed): The order that is written for a legal record, run as a script by a
     //   server that holds nothing, gives for each effect, in order, the answer that its session has there,

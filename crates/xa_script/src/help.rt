@@ -195,8 +195,8 @@ have been answered, by an order that explains the lines before, and the store af
   1 PUT 0x6b,0x76
   STATE
     ROW 0x6b VALUE 0x76
-With --shrink a smaller record that is ILLEGAL too comes last: calls that aren't needed for that are left out. Below
-RECORD are its lines, which are lines of the record.
+With --shrink a smaller record that is ILLEGAL too comes last, in place of such an order and store: calls that aren't
+needed for that are left out. Below RECORD are its lines, which are lines of the record.
 The object of --json has the keys verdict, line, seen, call, call_line, could_be, order, state, record and faulty.
 If several records are named, a line for each has its name and the first line of its verdict, and the status is the
 least that isn't 0. With --tap a record is ok if it is LEGAL, and its verdict is in comments:

@@ -92,7 +92,8 @@ fn judge_command<'a>(alloc: Global) -> Result<Command<'a>, AllocError>
     let allow = "Accepts the error numbers that FILE allows in place of others";
     let from =
         "Begins with the store that FILE lists, as show prints one, instead of an empty store";
-    let shrink = "After ILLEGAL, prints a smaller record that no order explains either";
+    let shrink =
+        "After ILLEGAL, prints a smaller record that no order explains either, in place of an order";
     let tap = "Lists the verdicts in the Test Anything Protocol, for prove and the like";
     let follow =
         "Judges a record while it comes, and says on the standard error once no order explains it";
