@@ -1,10 +1,10 @@
 -- Forms of a text that no record has. Every rule here is the project's own: docs/HISTORIES.md.
 --     foreign_of    in which of these forms a text is, if it is in one
-use Rattle.std.specs.Prelude.{ℕ, Bool, true, false, not, ◌==◌, ◌&&◌, ◌||◌, if◌then◌else◌, Option, Some, None}
+use Rattle.std.specs.Prelude.{ℕ, Bool, true, false, not, ◌==◌, ◌&&◌, ◌||◌, nat_le, if◌then◌else◌, Option, Some, None}
 use Rattle.std.specs.Prelude.{List, [], ◌∷◌}
 use Rattle.std.specs.List.{list_any}
 use Rattle.xa_script.specs.declared.foreign.Foreign.{Foreign}
-use Rattle.xa_script.specs.declared.foreign.Foreign.TheVariants.{Marked, Utf16, Returns}
+use Rattle.xa_script.specs.declared.foreign.Foreign.TheVariants.{Marked, Utf16, Returns, Mixed}
 
 -- the byte order mark of UTF-8
 abbrev pub begins_with_mark : List ℕ → Bool
@@ -21,9 +21,20 @@ begins_as_utf16 text = false
 abbrev pub has_byte : ℕ → List ℕ → Bool
 has_byte byte text = list_any (λ other. other == byte) text
 
--- in UTF-16, behind a byte order mark, or with carriage returns and no line feed
+-- a byte begins a line of a record: a digit, or the sign of a comment
+abbrev pub begins_line : ℕ → Bool
+begins_line byte = byte == 35 || nat_le 48 byte && nat_le byte 57
+
+-- a byte that begins a line is directly behind a carriage return, which may be the byte before the text
+abbrev pub goes_on : (returned : Bool) → List ℕ → Bool
+goes_on returned [] = false
+goes_on returned (byte ∷ bytes) = returned && begins_line byte || goes_on (byte == 13) bytes
+
+-- in UTF-16, behind a byte order mark, with carriage returns and no line feed, or with what begins a line behind a
+-- carriage return
 abbrev pub foreign_of : List ℕ → Option Foreign
 foreign_of text =
     if begins_as_utf16 text then Some Utf16
     else (if begins_with_mark text then Some Marked
-    else (if has_byte 13 text && not (has_byte 10 text) then Some Returns else None))
+    else (if has_byte 13 text && not (has_byte 10 text) then Some Returns
+    else (if goes_on false text then Some Mixed else None)))

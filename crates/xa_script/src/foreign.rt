@@ -1,6 +1,7 @@
 //! Forms of a text that no record has: its lines aren't read as its writer meant them.
-ghost use Rattle.std.specs.Prelude.{◌≡◌};
-ghost use Rattle.xa_script.specs.Foreign.{begins_with_mark, begins_as_utf16, has_byte, foreign_of};
+ghost use Rattle.std.specs.Prelude.{◌≡◌, false};
+ghost use Rattle.xa_script.specs.Foreign.{begins_with_mark, begins_as_utf16, has_byte, begins_line, goes_on};
+ghost use Rattle.xa_script.specs.Foreign.{foreign_of};
 
 /// The form of a text whose lines aren't read as its writer meant them.
 #[derive(Clone, Copy, Debug, PartialEq, Eq)]
@@ -11,6 +12,8 @@ pub enum Foreign {
     Utf16,
     /// Its lines end in carriage returns alone.
     Returns,
+    /// Some of its lines seem to end in carriage returns alone.
+    Mixed,
 }
 
 /// Returns whether a text begins with the byte order mark of UTF-8.
@@ -45,13 +48,35 @@ fn contains(text: &[u8], byte: u8) -> bool
     text.contains(&byte)
 }
 
+/// Returns whether a byte begins a line of a record: a digit, or the sign of a comment.
+fn is_first(byte: u8) -> bool
+    ensures { result ≡ begins_line byte }
+{
+    byte == b'#' || (b'0' <= byte && byte <= b'9')
+}
+
+/// Returns whether a carriage return in a text is directly before a byte that begins a line of a record.
+fn goes_on_behind(text: &[u8]) -> bool
+    ensures { result ≡ goes_on false text.now }
+{
+    let mut returned = false;
+    for byte in text {
+        if returned && is_first(*byte) {
+            return true;
+        }
+        returned = *byte == b'\r';
+    }
+    false
+}
+
 /// Returns in which form a text is whose lines aren't read as its writer meant them, if it is in such a form.
 ///
 /// Takes no memory. Doesn't wait.
 /// Own rule: docs/HISTORIES.md#records.
 pub fn foreign_in(text: &[u8]) -> Option<Foreign>
     // Proved (scripts, foreign-records): A record is said to be in another form exactly if it begins with a byte order
-    //   mark, begins as UTF-16 does, or has carriage returns and no line feed.
+    //   mark, begins as UTF-16 does, has carriage returns and no line feed, or has a digit or `#` directly behind a
+    //   carriage return.
     ensures { result ≡ foreign_of text.now }
 {
     if is_utf16(text) {
@@ -60,6 +85,8 @@ pub fn foreign_in(text: &[u8]) -> Option<Foreign>
         Some(Foreign::Marked)
     } else if contains(text, b'\r') && !contains(text, b'\n') {
         Some(Foreign::Returns)
+    } else if goes_on_behind(text) {
+        Some(Foreign::Mixed)
     } else {
         None
     }
@@ -80,6 +107,10 @@ impl Foreign {
             Foreign::Returns => {
                 "the record has carriage returns and no line feed, so it is one line; end its lines in line feeds, \
 for example by: tr '\\r' '\\n'"
+            }
+            Foreign::Mixed => {
+                "the record has a digit or # directly behind a carriage return, which doesn't end a line; if a line is \
+to begin there, end lines in line feeds, for example by: tr '\\r' '\\n'"
             }
         }
     }
