@@ -4,6 +4,7 @@
 --     form_of_job      the form of the lines that a job writes
 --     form_of_lines    the same, and objects where they are asked for
 --     form_of_texts    the form of the lines whose literals are written as texts, if some are
+--     tells_length     whether the standard error says what is too long
 use Rattle.std.specs.Prelude.{ℕ, ◌-◌, ◌^◌, Bool, true, false, Option, Some, None}
 use Rattle.xa_lines.specs.declared.TheConstants.{LINE_BYTES}
 use Rattle.xa_script.specs.declared.command.Job.{Job}
@@ -80,3 +81,16 @@ form_of_lines false job = form_of_job job
 abbrev pub form_of_texts : (text json : Bool) → Job → Option LineForm
 form_of_texts true json job = Some (form_of_lines json job)
 form_of_texts false json job = None
+
+-- whether the standard error says what of a job's input is too long, and what to do: after a fault of `run` and `race`
+-- it has one line, unless more is asked for (own rule)
+abbrev pub tells_length : (verbose : Bool) → Job → Bool
+tells_length verbose Run = verbose
+tells_length verbose (Race capacity schedule renews runs) = verbose
+tells_length verbose (Coordinate stores capacity fixed) = true
+tells_length verbose Serve = true
+tells_length verbose Show = true
+tells_length verbose (Judge limit explain json strict shrink) = true
+tells_length verbose (Explore limit) = true
+tells_length verbose (Stops stores capacity) = true
+tells_length verbose (Audit json) = true

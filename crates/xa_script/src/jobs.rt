@@ -176,7 +176,9 @@ pub fn judge<I: Read, W: Write + Drop, R: Clock + Eprint + Alloc<A = Global>>(
     let mut telling = Telling::new(rt, manner.quiet);
     let telling = &mut telling;
     let follow = manner.follow;
-    let done = judge_read(rt, base, input, output, allowances, asked, follow, telling);
+    let done = judge_read(
+        rt, base, input, None, output, allowances, asked, follow, telling,
+    );
     flushed(output, done)
 }
 

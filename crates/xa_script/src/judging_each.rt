@@ -11,6 +11,7 @@ use crate::listing::{heading, push_piece, worse};
 use crate::looked_at;
 use crate::manner::Manner;
 use crate::telling::Telling;
+use crate::undecided::{is_undecided, tell_limit};
 use crate::verdict::Verdict;
 use crate::watch::Watch;
 use std::alloc::Global;
@@ -20,7 +21,26 @@ use xa_lines::{ScriptFault, in_memory, write_whole};
 use xa_record::{Allowance, Asked};
 use xa_server::Server;
 
-/// Judges the next record. If it can't be read, the standard error names it.
+/// Says on the standard error of which record it is that judging it ended so, and what to do.
+fn tell_end<I: Read + Drop, R: Eprint + Alloc<A = Global>>(
+    rt: &R,
+    input: &Watch<'_, I, R>,
+    done: &Result<u8, ScriptFault>,
+) {
+    match done {
+        // Of any other fault the file isn't the cause.
+        Err(ScriptFault::Read | ScriptFault::TooLong) => input.tell_unread(),
+        Err(_) => {}
+        Ok(status) => {
+            if is_undecided(*status) {
+                input.tell_name();
+                tell_limit(rt);
+            }
+        }
+    }
+}
+
+/// Judges the next record. What the standard error says of it comes behind its name, also that it can't be read.
 fn verdict_on<I: Read + Drop, R: Clock + Eprint + Alloc<A = Global>>(
     rt: &R,
     base: &Server,
@@ -37,14 +57,12 @@ fn verdict_on<I: Read + Drop, R: Clock + Eprint + Alloc<A = Global>>(
     let mut telling = Telling::new(rt, quiet);
     let mut text = Vec::new(rt.alloc());
     let telling = &mut telling;
+    let name = Some(input.name());
     // Several records are files, which have come whole.
     let done = in_memory(judge_read(
-        rt, base, input, &mut text, allowances, asked, false, telling,
+        rt, base, input, name, &mut text, allowances, asked, false, telling,
     ));
-    // Of any other fault the file isn't the cause.
-    if matches!(done, Err(ScriptFault::Read | ScriptFault::TooLong)) {
-        input.tell_unread();
-    }
+    tell_end(rt, input, &done);
     let status = done?;
     Ok(Verdict { status, text })
 }

@@ -22,19 +22,24 @@ const RECORD_BYTES: usize = 16_777_216;
 /// The greatest number of reads for a record, which are ample for a reader that gives one byte at a time.
 const RECORD_READS: u64 = 33_554_432;
 
-/// Says on the standard error in which form a record is, if its lines aren't read as its writer meant them.
-fn tell_form<R: Eprint>(rt: &R, record: &[u8]) {
+/// Says on the standard error in which form a record is, if its lines aren't read as its writer meant them. The record's
+/// `name` comes first, if it has one.
+fn tell_form<R: Eprint>(rt: &R, name: Option<&str>, record: &[u8]) {
     if let Some(form) = foreign_in(record) {
+        if let Some(name) = name {
+            let _ = eprintln!(rt; "xa_script: in {name}");
+        }
         let _ = eprintln!(rt; "xa_script: {}", form.advice());
     }
 }
 
-/// Reads a record, and says in which form it is if that isn't a record's. If `follows`, its lines are judged as they
-/// come.
+/// Reads a record, and says in which form it is if that isn't a record's, with its `name` if it has one. If `follows`,
+/// its lines are judged as they come.
 fn record_in<I: Read, R: Eprint + Alloc<A = Global>>(
     rt: &R,
     base: &Server,
     reader: &mut I,
+    name: Option<&str>,
     allowances: &[Allowance],
     asked: Asked,
     follows: bool,
@@ -45,13 +50,13 @@ fn record_in<I: Read, R: Eprint + Alloc<A = Global>>(
 {
     let mut following = Following::new(rt, reader, base, allowances, asked, follows);
     let record = read_within(rt.alloc(), &mut following, RECORD_BYTES, RECORD_READS)?;
-    tell_form(rt, record.as_slice());
+    tell_form(rt, name, record.as_slice());
     Ok(record)
 }
 
 /// Reads a record, judges it as `judge_within` does, and says on the standard error in which form it is, if that isn't
-/// a record's. If `follows`, its lines are judged as they come, too, and the standard error is told once they are
-/// ILLEGAL.
+/// a record's; if it is one of a list, its `name` comes before that. If `follows`, its lines are judged as they come,
+/// too, and the standard error is told once they are ILLEGAL.
 ///
 /// The limit of `asked` is in `[1, 1_000_000]`.
 /// Errors: `Read`, `TooLong` and `NoMemory` of reading, then as `judge_within`. After `Write` a prefix of the text was
@@ -63,6 +68,7 @@ pub fn judge_read<I: Read, W: Write, R: Eprint + Alloc<A = Global>, P: Progress>
     rt: &R,
     base: &Server,
     reader: &mut I,
+    name: Option<&str>,
     writer: &mut W,
     allowances: &[Allowance],
     asked: Asked,
@@ -78,7 +84,7 @@ pub fn judge_read<I: Read, W: Write, R: Eprint + Alloc<A = Global>, P: Progress>
         (λ fault. AfterJudgeFaultFrom base.now allowances.now asked fault (I.remaining reader.old)
         (W.contents writer.old) (W.contents writer.new)) }
 {
-    let record_read = record_in(rt, base, reader, allowances, asked, follows)?;
+    let record_read = record_in(rt, base, reader, name, allowances, asked, follows)?;
     let record = record_read.as_slice();
     judge_within(
         rt.alloc(),

@@ -53,6 +53,7 @@ mod telling;
 mod text_line;
 mod texts;
 mod too_long;
+mod undecided;
 mod verdict;
 mod wanted;
 mod watch;
@@ -81,6 +82,7 @@ use std::sync::Wait;
 use std::thread::Threads;
 use std::{env, io};
 use too_long::tell_too_long;
+use undecided::tell_undecided;
 use watch::Watch;
 use xa_audit::Form;
 use xa_lines::LINE_BYTES;
@@ -103,9 +105,6 @@ const COMMAND_FAULT: u8 = 2;
 
 /// The status if memory ran out, the log is full, a gate stopped a session, or a thread couldn't be started.
 const GAVE_OUT: u8 = 3;
-
-/// The status of judging and exploring if the limit was passed.
-const UNDECIDED: u8 = 5;
 
 /// The status of a job that was done if a line had a syntax fault, and `--strict` asks for that.
 const UNREAD: u8 = 8;
@@ -148,15 +147,7 @@ fn ended<R: Eprint>(rt: &R, manner: &Manner<'_>, done: Result<u8, ScriptFault>) 
     ensures { result ≡ status_of_job done }
 {
     match done {
-        Ok(status) => {
-            // Judging and exploring alone end so.
-            if status == UNDECIDED {
-                let _ = eprintln!(rt;
-                    "xa_script: more had to be kept than --limit allows; raise it, at most to 1,000,000"
-                );
-            }
-            status
-        }
+        Ok(status) => status,
         Err(fault) => {
             tell(rt, &fault);
             if manner.verbose && fault == ScriptFault::Full {
@@ -241,7 +232,9 @@ fn carry_out<R: Files + Clock + Input + Print + Eprint + Alloc<A = Global> + Thr
     if let Some(asked) = judging_in(job)
         && records.are_listed()
     {
-        return carry_out_records(rt, asked, manner, records, allowances, &base);
+        let done = carry_out_records(rt, asked, manner, records, allowances, &base);
+        tell_too_long(rt, job, manner.verbose, &done);
+        return done;
     }
     let done = match records.only_name().or(manner.file) {
         None => carry_out_on(rt, rt.reader(), job, manner, allowances, &base),
@@ -250,9 +243,8 @@ fn carry_out<R: Files + Clock + Input + Print + Eprint + Alloc<A = Global> + Thr
             carry_out_on(rt, file, job, manner, allowances, &base)
         }
     };
-    if manner.verbose {
-        tell_too_long(rt, job, &done);
-    }
+    tell_too_long(rt, job, manner.verbose, &done);
+    tell_undecided(rt, &done);
     done
 }
 
@@ -386,9 +378,7 @@ fn carry_out_audit<R: Files + Print + Eprint + Alloc<A = Global>>(
             jobs::audit(rt, inputs, &mut output, form)
         }
     };
-    if manner.verbose {
-        tell_too_long(rt, job, &done);
-    }
+    tell_too_long(rt, job, manner.verbose, &done);
     done
 }
 

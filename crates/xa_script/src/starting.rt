@@ -75,9 +75,7 @@ pub fn first_store<R: Files + Eprint + Alloc<A = Global>>(
         Some(name) => {
             let mut file = opened(rt, name)?;
             let found = state_in(rt, &mut file);
-            if manner.verbose {
-                tell_file_too_long(rt, "--from", "16,777,216", &found);
-            }
+            tell_file_too_long(rt, "--from", "16,777,216", &found);
             found
         }
     }

@@ -1,4 +1,6 @@
 //! Says on the standard error what is too long, and what to do about it.
+ghost use Rattle.std.specs.Prelude.{◌≡◌};
+ghost use Rattle.xa_script.specs.Lines.{tells_length};
 
 use crate::Job;
 use xa_lines::ScriptFault;
@@ -21,12 +23,26 @@ fn advice(job: Job) -> &'static str {
     }
 }
 
-/// Says what is too long if a job ended so.
+/// Returns whether the standard error says what is too long. After a fault of `run` and `race` it has one line, and
+/// more only if that is asked for.
+fn tells(job: Job, verbose: bool) -> bool
+    // Proved (scripts, too-long-told): What is too long, the limit and what to do are for the standard error of every
+    //   job but `run` and `race`, and with `--verbose` for theirs, too.
+    ensures { result ≡ tells_length verbose job }
+{
+    match job {
+        Job::Run | Job::Race { .. } => verbose,
+        Job::Coordinate { .. } | Job::Serve | Job::Show | Job::Judge { .. } => true,
+        Job::Explore { .. } | Job::Stops { .. } | Job::Audit { .. } => true,
+    }
+}
+
+/// Says what is too long if a job ended so. Of `run` and `race` this is said only if `verbose`.
 ///
 /// Takes no memory. Doesn't wait, unless the standard error does.
 /// Own rule: docs/COMMANDS.md#messages.
-pub fn tell_too_long<R: Eprint>(rt: &R, job: Job, done: &Result<u8, ScriptFault>) {
-    if matches!(done, Err(ScriptFault::TooLong)) {
+pub fn tell_too_long<R: Eprint>(rt: &R, job: Job, verbose: bool, done: &Result<u8, ScriptFault>) {
+    if matches!(done, Err(ScriptFault::TooLong)) && tells(job, verbose) {
         let _ = eprintln!(rt; "xa_script: {}", advice(job));
     }
 }

@@ -21,7 +21,7 @@ pub struct Watch<'r, I: Read + Drop, R> {
     inner: I,
     /// The runtime whose standard error is written to.
     rt: &'r R,
-    /// The file's name, if there are several: it is reported before what is reported first.
+    /// The file's name, if it is one of a list: it is reported before what is reported of the file.
     name: Option<&'r str>,
     /// The kind of lines that the job reads.
     kind: LineKind,
@@ -134,13 +134,20 @@ impl<'r, I: Read + Drop, R: Eprint + Alloc<A = Global>> Watch<'r, I, R> {
         }
     }
 
+    /// Reports the file's name, if it has one, unless faults of its lines were reported behind that already. What is
+    /// reported next is about the file.
+    ///
+    /// Doesn't wait, unless the standard error does.
+    pub fn tell_name(&self) {
+        if let (Some(name), false) = (self.name, self.speaks && self.faulty) {
+            let _ = eprintln!(self.rt; "xa_script: in {name}");
+        }
+    }
+
     /// Reports what the line that has been read lacks.
     fn blame(&self, fault: LineFault<'_>) -> Result<(), NoMemory> {
         if self.speaks {
-            // Of several files the name is reported once.
-            if let (Some(name), false) = (self.name, self.faulty) {
-                let _ = eprintln!(self.rt; "xa_script: in {name}");
-            }
+            self.tell_name();
             tell_line(self.rt, self.number, fault)?;
         }
         Ok(())
