@@ -11,7 +11,10 @@ use xa_xid::NoMemory;
 pub struct Telling<'r, R> {
     /// The runtime whose standard error is written to.
     rt: &'r R,
-    /// When the judging began, or the last report was made. `None` if nothing is reported.
+    /// Whether nothing is reported.
+    quiet: bool,
+    /// When the first event was judged, or the last report was made; `None` before that. The record may take long to
+    /// come, which is no judging.
     last: Option<Instant>,
 }
 
@@ -31,12 +34,28 @@ fn grouped(alloc: Global, number: u64) -> Result<String, NoMemory> {
 }
 
 impl<'r, R: Clock + Eprint + Alloc<A = Global>> Telling<'r, R> {
-    /// Returns a reporter that begins now. If `quiet`, it reports nothing.
+    /// Returns a reporter that begins with the first event that is judged. If `quiet`, it reports nothing.
     ///
     /// Takes no memory. Doesn't wait.
     pub fn new(rt: &'r R, quiet: bool) -> Telling<'r, R> {
-        let last = if quiet { None } else { Instant::now(rt).ok() };
-        Telling { rt, last }
+        Telling {
+            rt,
+            quiet,
+            last: None,
+        }
+    }
+
+    /// Returns whether a report is due: a second after the last one, or after the first event that was judged.
+    fn is_due(&mut self) -> bool {
+        match self.last {
+            None => {
+                self.last = Instant::now(self.rt).ok();
+                false
+            }
+            Some(last) => last
+                .elapsed(self.rt)
+                .is_ok_and(|passed| passed.as_secs() >= 1),
+        }
     }
 
     /// Writes a line.
@@ -54,13 +73,10 @@ impl<'r, R: Clock + Eprint + Alloc<A = Global>> Telling<'r, R> {
 
 impl<'r, R: Clock + Eprint + Alloc<A = Global>> Progress for Telling<'r, R> {
     fn judged(&mut self, so_far: SoFar) {
-        if let Some(last) = self.last {
-            let passed = last.elapsed(self.rt);
-            // Less than a second after the last line a new one would say little.
-            if passed.is_ok_and(|passed| passed.as_secs() >= 1) {
-                let _ = self.say(so_far);
-                self.last = Instant::now(self.rt).ok();
-            }
+        // Less than a second after the last line a new one would say little.
+        if !self.quiet && self.is_due() {
+            let _ = self.say(so_far);
+            self.last = Instant::now(self.rt).ok();
         }
     }
 }
