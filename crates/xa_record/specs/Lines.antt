@@ -7,15 +7,16 @@
 --     trimmed          a text without the blanks at its end
 --     reading_of_line  what a line says
 --     is_bad           it isn't written as a line of a record is
-use Rattle.std.specs.Prelude.{ℕ, nat_lt, Bool, true, false, ◌||◌, bytes_eq, if◌then◌else◌, Option, Some, None}
-use Rattle.std.specs.Prelude.{Ok, Err, List, [], ◌∷◌, codes, reverse}
+--     is_no_row        a line in the place of a row isn't one
+use Rattle.std.specs.Prelude.{ℕ, nat_lt, Bool, true, false, not, ◌||◌, bytes_eq, if◌then◌else◌, Option, Some, None}
+use Rattle.std.specs.Prelude.{is_some, Ok, Err, List, [], ◌∷◌, codes, reverse}
 use Rattle.xa_xid.specs.Bytes.{unblank}
 use Rattle.xa_xid.specs.Literal.{Reading, literal_ahead}
 use Rattle.xa_xid.specs.Xid.{Text}
 use Rattle.xa_xid.specs.declared.xid.Xid.{Xid}
 use Rattle.xa_lines.specs.Script.{Line, Blank, Bad as BadLine, Given, line_of, first_word, behind_word, is_empty_line}
 use Rattle.xa_lines.specs.Script.{is_comment_line, number_of_word}
-use Rattle.xa_record.specs.Rows.{leading_number}
+use Rattle.xa_record.specs.Rows.{leading_number, row_said}
 
 -- what the line of a return shows
 pub data Shown : Type 0 where
@@ -121,3 +122,7 @@ reading_of_line line = if is_silent line then Nothing else filled_said (line_of 
 abbrev pub is_bad : LineSaid → Bool
 is_bad Bad = true
 is_bad said = false
+
+-- a line in the place of a row isn't one, and isn't silent
+abbrev pub is_no_row : List ℕ → Bool
+is_no_row line = not (is_silent line || is_some (row_said (unblank line)))

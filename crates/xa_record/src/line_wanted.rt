@@ -19,6 +19,12 @@ pub enum LineWanted {
     Count,
     /// A number from 0 to 65,535.
     ErrorNumber,
+    /// A row of a return.
+    Row,
+    /// A number from 0 to 64, the length of a gtrid or a bqual.
+    Length,
+    /// `0x` and the digits of a gtrid and a bqual, whose lengths come before.
+    Digits,
     /// `ERROR`.
     Error,
     /// `LOST` or `GONE`.
@@ -27,7 +33,7 @@ pub enum LineWanted {
     End,
 }
 
-/// A place in a line, and what has to come there. The place counts from 0, in what comes after the sign.
+/// A place in a line, and what has to come there. The place counts from 0, in what comes after the sign, or in a row.
 #[derive(Clone, Copy, Debug, PartialEq, Eq)]
 pub struct LineGap {
     /// What has to come.
@@ -37,7 +43,7 @@ pub struct LineGap {
 }
 
 /// What has to come where only `rest` is left of a text.
-fn gap(wanted: LineWanted, text: &[u8], rest: &[u8]) -> LineGap {
+pub fn gap(wanted: LineWanted, text: &[u8], rest: &[u8]) -> LineGap {
     let at = text.len().saturating_sub(rest.len()) as u64;
     LineGap { wanted, at }
 }
@@ -111,7 +117,7 @@ fn gap_of(line: &[u8]) -> LineGap {
 }
 
 /// Returns what has to come in a line, without its line feed, if it isn't one of a record. A line in the place of a
-/// row is another matter.
+/// row is another matter: see `row_wanted_in`.
 ///
 /// Takes no memory. Doesn't wait.
 /// Own rule: docs/COMMANDS.md#messages.

@@ -2,7 +2,7 @@
 --     is_silent      a line is blank, or a comment
 --     is_unread_by   a line isn't one for a job that reads lines of this kind
 --     kind_after     the kind that a line, and all after it, are of
---     is_unread      a line isn't read, by how long it may be, and by whether it is a row
+--     is_unread      a line isn't read, by how long it may be, and by whether it is in the place of a row
 use Rattle.std.specs.Prelude.{ℕ, Bool, true, false, not, ◌&&◌, ◌||◌, if◌then◌else◌, nat_lt, nat_eq, Result, Ok, Err}
 use Rattle.std.specs.Prelude.{List, [], length, codes}
 use Rattle.std.specs.Cmp.Lexicographic.{pointwise}
@@ -16,7 +16,7 @@ use Rattle.xa_manager.specs.Calls.{call_of}
 use Rattle.xa_manager.specs.Scripts.{taken}
 use Rattle.xa_manager.specs.declared.call.Call.{Call}
 use Rattle.xa_manager.specs.declared.call.Call.TheVariants.{Unread}
-use Rattle.xa_record.specs.Lines.{reading_of_line, is_bad}
+use Rattle.xa_record.specs.Lines.{reading_of_line, is_bad, is_no_row}
 use Rattle.xa_script.specs.declared.line_kind.LineKind.{LineKind}
 use Rattle.xa_script.specs.declared.line_kind.LineKind.TheVariants.{Statement as Stated, Shown, Raced, Explored}
 use Rattle.xa_script.specs.declared.line_kind.LineKind.TheVariants.{Call as Called, Stopped, Record as Recorded}
@@ -88,7 +88,7 @@ kind_after Called line = Called
 kind_after Stopped line = Stopped
 kind_after Recorded line = Recorded
 
--- a line isn't read: it is longer than it may be, or it is no row and not one for the job
+-- a line isn't read: it is longer than it may be, or it isn't one for the job, or not a row while rows have to come
 abbrev pub is_unread : LineKind → (most rows : ℕ) → List ℕ → Bool
 is_unread kind most rows line =
-    if nat_lt most (length line) then true else (if nat_lt 0 rows then false else is_unread_by kind line)
+    if nat_lt most (length line) then true else (if nat_lt 0 rows then is_no_row line else is_unread_by kind line)

@@ -25,6 +25,9 @@ fn record_words(wanted: LineWanted) -> &'static str {
         LineWanted::Literal => "a quoted text or 0x.. of at most 64 bytes",
         LineWanted::Count => "a number below 2^64",
         LineWanted::ErrorNumber => "a number from 0 to 65535",
+        LineWanted::Row => "a row, formatID gtrid_length bqual_length 0xDATA,",
+        LineWanted::Length => "a number from 0 to 64",
+        LineWanted::Digits => "0x and two digits for each byte of gtrid and bqual",
         LineWanted::Error => "ERROR",
         LineWanted::Loss => "LOST or GONE",
         LineWanted::End => "the end of the line",
@@ -37,8 +40,7 @@ fn tell_wanted<R: Eprint>(rt: &R, number: u64, at: u64, wanted: &str) {
 }
 
 /// Says what has to come in the line of this number, and at which byte. If only the statement is at fault,
-/// its own bytes are counted; in a line of a record those after
-/// its sign.
+/// its own bytes are counted; in a line of a record those after its sign, and in a row those of the row.
 ///
 /// Errors: `NoMemory`. Doesn't wait, unless the standard error does.
 pub fn tell_line<R: Eprint + Alloc<A = Global>>(

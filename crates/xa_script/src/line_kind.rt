@@ -2,6 +2,7 @@
 ghost use Rattle.std.specs.Prelude.{◌≡◌, is_some};
 ghost use Rattle.xa_statement.specs.Reading.{read_of};
 ghost use Rattle.xa_lines.specs.Script.{line_of};
+ghost use Rattle.xa_record.specs.Lines.{is_no_row};
 ghost use Rattle.xa_manager.specs.Calls.{call_of};
 ghost use Rattle.xa_manager.specs.Scripts.{taken};
 ghost use Rattle.xa_script.specs.Unread.{goes_wrong, is_faulty, divides_script, is_no_call, given_by, is_no_record};
@@ -11,7 +12,7 @@ ghost use Rattle.xa_script.specs.Unread.{is_unread_by, kind_after, kind_of_first
 use crate::line_fault::LineFault;
 use xa_lines::{ScriptLine, is_comment, number_in, read_line, split_word};
 use xa_manager::{Call, read_call};
-use xa_record::wanted_in;
+use xa_record::{row_wanted_in, wanted_in};
 use xa_statement::read_statement;
 use xa_xid::skip_blanks;
 
@@ -120,12 +121,28 @@ fn given_in(line: &[u8]) -> &[u8]
 
 /// Returns how many rows a line of a record says that the next lines are.
 pub fn rows_behind(line: &[u8]) -> u64 {
+    // No rows follow a line that isn't read.
+    if wanted_in(line).is_some() {
+        return 0;
+    }
     let (sign, rest) = split_word(given_in(line));
     let (word, count) = split_word(skip_blanks(rest));
     if sign == b"<".as_slice() && word == b"ROWS".as_slice() {
         number_in(split_word(skip_blanks(count)).0).unwrap_or(0)
     } else {
         0
+    }
+}
+
+/// Returns why a line in the place of a row of a return isn't one.
+///
+/// The line is without its line feed. Takes no memory. Doesn't wait.
+pub fn row_fault(line: &[u8]) -> Option<LineFault<'_>>
+    ensures { is_some result ≡ is_no_row line.now }
+{
+    match row_wanted_in(line) {
+        Some(wanted) => Some(LineFault::NoRecord(wanted)),
+        None => None,
     }
 }
 

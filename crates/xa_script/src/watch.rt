@@ -7,11 +7,12 @@ ghost use Rattle.xa_script.specs.Unread.{is_unread, kind_after};
 
 use crate::hint::tell_line;
 use crate::line_fault::LineFault;
-use crate::line_kind::{LineKind, rows_behind};
+use crate::line_kind::{LineKind, row_fault, rows_behind};
 use std::alloc::Global;
 use std::io;
 use std::io::Read;
 use xa_lines::is_comment;
+use xa_record::{LineGap, LineWanted};
 use xa_xid::{NoMemory, skip_blanks};
 
 /// A reader whose lines are looked at as they are read.
@@ -160,9 +161,8 @@ impl<'r, I: Read + Drop, R: Eprint + Alloc<A = Global>> Watch<'r, I, R> {
         if self.line.len() > self.most {
             return Some(LineFault::TooLong);
         }
-        // A row of a return may hold any bytes.
         if self.rows > 0 {
-            return None;
+            return row_fault(self.line.as_slice());
         }
         self.kind.fault_in(self.line.as_slice())
     }
@@ -189,7 +189,7 @@ impl<'r, I: Read + Drop, R: Eprint + Alloc<A = Global>> Watch<'r, I, R> {
     fn end_line(&mut self) -> Result<(), NoMemory>
         ensures inner { self.new.inner ≡ self.old.inner }
         // Proved (scripts, strict-lines): `--strict` counts a line as faulty exactly if it is longer than it may be, or
-        //   it is no row of a reply and not one for the job.
+        //   it isn't one for the job, or isn't a row while rows of a reply have to come.
         ensures faulty { OnOk result (self.new.faulty ≡ (self.old.faulty
             || is_unread (kind_after self.old.kind self.old.line.items) self.old.most self.old.rows
             self.old.line.items)) }
@@ -244,14 +244,29 @@ impl<'r, I: Read + Drop, R: Eprint + Alloc<A = Global>> Watch<'r, I, R> {
         }
     }
 
+    /// Looks at the end: its line may lack a line feed, and rows of a return may still be missing.
+    fn look_at_end(&mut self)
+        ensures { self.new.inner ≡ self.old.inner }
+    {
+        if !self.line.is_empty() {
+            self.look_at(b'\n');
+        }
+        if self.rows > 0 {
+            let wanted = LineWanted::Row;
+            let missing = LineFault::NoRecord(LineGap { wanted, at: 0 });
+            self.refused |= self.blame(missing).is_err();
+            self.rows = 0;
+        }
+    }
+
     /// Looks at what was read. No bytes are the end.
     fn look(&mut self, bytes: &[u8])
         ensures { self.new.inner ≡ self.old.inner }
     {
-        if !bytes.is_empty() {
+        if bytes.is_empty() {
+            self.look_at_end();
+        } else {
             self.look_at_each(bytes);
-        } else if !self.line.is_empty() {
-            self.look_at(b'\n');
         }
     }
 }
