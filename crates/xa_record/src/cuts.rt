@@ -1,23 +1,27 @@
 //! What is left out next of an ILLEGAL record.
 //!
-//! What happens behind the ILLEGAL line is left out first. Then the parts of each session are tried, and then windows
-//! of parts that are there, later ones first: all of them, a half, and so on down to single ones. Short windows are
-//! tried again while that helps.
+//! What happens behind the ILLEGAL line is left out first. Then all the rest is tried, and then windows of what is
+//! there, later ones first: a half of it, a quarter, and so on down to single ones. At first these are windows of calls
+//! that are refused, and of calls that read: what they are answered depends on much, and little depends on them. Then
+//! they are windows of branches, since the answers to the other statements of a branch depend on each of them. Windows
+//! of calls come last, and short ones of these are tried again while that helps.
 //!
 //! The call that returns on the ILLEGAL line stays. If that line shows a value, one of the calls that write it stays
 //! too, and for each branch that it shows one of those that prepare it: without them any value would be ILLEGAL there.
 
 use crate::line_event::NumberedEvent;
-use crate::part::{Belongs, Standing};
+use crate::part::{Belongs, Does, Standing};
 use crate::parts::Parts;
+use crate::stage::Stage;
 use std::alloc::Global;
 use xa_xid::NoMemory;
 
-/// The number of the last session.
-const LAST_SESSION: u64 = 16;
-
 /// Windows of up to so many parts are tried at each place, and are tried again. Longer ones overlap by half.
 const SHORT: usize = 8;
+
+/// If there are more windows than this of calls that are refused or read, no shorter ones are tried: so many of these
+/// calls are needed that it would take too long to find the others.
+const MANY: usize = 16;
 
 /// What is left out of an ILLEGAL record, and what is to be left out next.
 #[derive(Drop)]
@@ -26,11 +30,11 @@ pub struct Cuts {
     parts: Parts,
     /// Which lines are kept, if what is proposed is left out.
     keeps: Vec<bool>,
-    /// The number of the session that was tried last.
-    session: u64,
-    /// How many parts a window has.
+    /// What is tried now.
+    stage: Stage,
+    /// How many parts or branches a window has.
     size: usize,
-    /// Before which of the parts that are there the next window ends.
+    /// Before which of those that are there the next window ends.
     to: usize,
     /// Whether a part was left out since windows of all lengths were tried.
     shrunk: bool,
@@ -42,34 +46,63 @@ impl Parts {
         index < self.parts.len() && self.parts[index].standing != Standing::Out
     }
 
-    /// How many parts are there.
-    fn count(&self) -> usize {
+    /// Tells whether windows are counted by this part.
+    fn leads(&self, index: usize, stage: Stage) -> bool {
+        match stage {
+            Stage::Everything => self.starts(index),
+            Stage::Refused => self.does(index, Does::Nothing),
+            Stage::Reads => self.does(index, Does::Reads),
+            Stage::Branches => self.starts(index),
+            Stage::Calls => true,
+        }
+    }
+
+    /// Tells whether a part does this.
+    fn does(&self, index: usize, does: Does) -> bool {
+        index < self.parts.len() && self.parts[index].does == does
+    }
+
+    /// Tells whether a part belongs to the branch that this part starts.
+    fn belongs(&self, index: usize, start: usize) -> bool {
+        index < self.parts.len() && self.parts[index].start == start
+    }
+
+    /// Tells whether a part starts a branch, or belongs to none.
+    fn starts(&self, index: usize) -> bool {
+        self.belongs(index, index)
+    }
+
+    /// Tells whether the branch of a part is proposed by the part that starts it.
+    fn is_led(&self, index: usize) -> bool {
+        if index >= self.parts.len() {
+            return false;
+        }
+        let start = self.parts[index].start;
+        start < self.parts.len() && self.parts[start].standing == Standing::Proposed
+    }
+
+    /// How many parts are there by which windows are counted.
+    fn count(&self, stage: Stage) -> usize {
         let mut count: usize = 0;
         for index in 0..self.parts.len() {
-            if self.is_there(index) {
+            if self.is_there(index) && self.leads(index, stage) {
                 count = count.saturating_add(1);
             }
         }
         count
     }
 
-    /// Proposes the parts of a session.
-    fn propose_session(&mut self, session: u64) {
-        for index in 0..self.parts.len() {
-            if self.is_there(index) {
-                let is_its = index < self.parts.len() && self.parts[index].session == session;
-                self.set(index, proposed_if(is_its));
-            }
-        }
-    }
-
-    /// Proposes a window of the parts that are there.
-    fn propose_window(&mut self, from: usize, to: usize) {
+    /// Proposes a window of what is there.
+    fn propose_window(&mut self, stage: Stage, from: usize, to: usize) {
         let mut rank: usize = 0;
         for index in 0..self.parts.len() {
-            if self.is_there(index) {
+            if self.is_there(index) && self.leads(index, stage) {
                 self.set(index, proposed_if(from <= rank && rank < to));
                 rank = rank.saturating_add(1);
+            } else if self.is_there(index) {
+                // A branch starts before all else that belongs to it.
+                let follows = stage.takes_branches() && self.is_led(index);
+                self.set(index, proposed_if(follows));
             }
         }
     }
@@ -84,13 +117,27 @@ impl Parts {
         false
     }
 
+    /// A part is to stay, and so is its branch if branches are left out as a whole.
+    fn spare(&mut self, index: usize, stage: Stage) {
+        if index >= self.parts.len() {
+            return;
+        }
+        let start = self.parts[index].start;
+        self.set(index, Standing::In);
+        for other in 0..self.parts.len() {
+            if stage.takes_branches() && self.is_there(other) && self.belongs(other, start) {
+                self.set(other, Standing::In);
+            }
+        }
+    }
+
     /// Of all parts that write the same of what the ILLEGAL line shows one is to stay.
-    fn spare_writers(&mut self) {
+    fn spare_writers(&mut self, stage: Stage) {
         for index in 0..self.parts.len() {
             if self.is_there(index) && index < self.parts.len() {
                 let written = self.parts[index].writes;
                 if written > 0 && !self.is_written(written) {
-                    self.set(index, Standing::In);
+                    self.spare(index, stage);
                 }
             }
         }
@@ -152,52 +199,84 @@ impl Cuts {
         for line in parts.lines.as_slice() {
             keeps.push(parts.keeps(*line))?;
         }
+        let all = parts.count(Stage::Everything);
         Ok(Cuts {
             parts,
             keeps,
-            session: 0,
-            size: usize::MAX,
-            to: 0,
+            stage: Stage::Everything,
+            size: all,
+            to: all,
             shrunk: false,
         })
     }
 
+    /// Tells whether there are few windows of this length.
+    fn is_few(&self) -> bool {
+        self.parts.count(self.stage) / MANY <= self.size
+    }
+
+    /// Tells whether shorter windows are tried before the next stage.
+    fn goes_shorter(&self) -> bool {
+        match self.stage {
+            Stage::Everything => false,
+            Stage::Refused => self.size > 1 && self.is_few(),
+            Stage::Reads => self.size > 1 && self.is_few(),
+            Stage::Branches => self.size > 1,
+            Stage::Calls => self.size > 1,
+        }
+    }
+
     /// Goes on with windows of the next length, and tells whether there is one.
     fn next_size(&mut self) -> bool {
-        if self.size > SHORT {
-            self.size /= 2;
-        } else if self.size > 1 {
-            self.size -= 1;
+        if self.goes_shorter() {
+            self.size = self.shorter();
+        } else if let Some(next) = self.stage.next() {
+            self.stage = next;
+            self.size = usize::MAX;
         } else if self.shrunk {
             self.shrunk = false;
             self.size = SHORT;
         } else {
             return false;
         }
-        self.to = self.parts.count();
+        self.to = self.parts.count(self.stage);
         if self.size > self.to {
             self.size = self.to;
         }
-        self.to > 0
+        true
     }
 
-    /// Proposes the next session or window, and tells whether there is one.
-    fn next(&mut self) -> bool {
-        if self.session < LAST_SESSION {
-            self.session += 1;
-            self.parts.propose_session(self.session);
-            return true;
+    /// The next length of windows.
+    fn shorter(&self) -> usize {
+        if self.stage == Stage::Calls && self.size <= SHORT {
+            self.size.saturating_sub(1)
+        } else {
+            self.size - self.size / 2
         }
+    }
+
+    /// How far windows are apart.
+    fn step(&self) -> usize {
+        if self.stage != Stage::Calls {
+            self.size
+        } else if self.size > SHORT {
+            self.size / 2
+        } else {
+            1
+        }
+    }
+
+    /// Proposes the next window, and tells whether there is one.
+    fn next(&mut self) -> bool {
         if self.to == 0 && !self.next_size() {
             return false;
         }
         let from = self.to.saturating_sub(self.size);
-        self.parts.propose_window(from, self.to);
-        let step = if self.size > SHORT { self.size / 2 } else { 1 };
+        self.parts.propose_window(self.stage, from, self.to);
         self.to = if from == 0 {
             0
         } else {
-            self.to.saturating_sub(step)
+            self.to.saturating_sub(self.step())
         };
         true
     }
@@ -220,7 +299,7 @@ impl Cuts {
             if !self.next() {
                 return false;
             }
-            self.parts.spare_writers();
+            self.parts.spare_writers(self.stage);
             if self.parts.has_proposed() {
                 self.fill();
                 return true;

@@ -11,13 +11,26 @@ pub enum Standing {
     Proposed,
 }
 
+/// What a call does, as its return shows.
+#[derive(Clone, Copy, Debug, PartialEq, Eq)]
+pub enum Does {
+    /// It may write or change a branch.
+    Changes,
+    /// It reads.
+    Reads,
+    /// Nothing, since it is refused.
+    Nothing,
+}
+
 /// A call with its return, or the loss of a client.
 #[derive(Clone, Copy, Debug, PartialEq, Eq)]
 pub struct Part {
-    /// The session's number.
-    pub session: u64,
     /// Which it writes of what the ILLEGAL line shows, from 1, or 0 if it writes none of that.
     pub writes: usize,
+    /// The part that starts its branch, or its own number if it belongs to no branch.
+    pub start: usize,
+    /// What it does.
+    pub does: Does,
     /// Whether it is there.
     pub standing: Standing,
 }

@@ -1,8 +1,10 @@
 //! The parts of a record.
 
+use crate::branches::Branches;
 use crate::line::{RecordLine, is_silent, read_record_line};
 use crate::line_event::{LineEvent, NumberedEvent};
-use crate::part::{Belongs, Part, Standing};
+use crate::part::{Belongs, Does, Part, Standing};
+use crate::shown::Shown;
 use crate::sought::Sought;
 use std::alloc::Global;
 use xa_lines::split_line;
@@ -37,15 +39,15 @@ impl Parts {
         })
     }
 
-    /// Adds a part, and returns its number.
-    fn add(&mut self, session: SessionNo, writes: usize) -> Result<usize, NoMemory> {
-        let number = self.parts.len();
+    /// Adds a part of the branch that this part starts.
+    fn add(&mut self, writes: usize, start: usize) -> Result<(), NoMemory> {
         self.parts.push(Part {
-            session: session.get(),
             writes,
+            start,
+            does: Does::Changes,
             standing: Standing::In,
         })?;
-        Ok(number)
+        Ok(())
     }
 
     /// Puts a line into a part. Lines have numbers from 1.
@@ -64,32 +66,51 @@ impl Parts {
     }
 
     /// Takes note of what happens next.
-    fn follow(&mut self, one: &NumberedEvent, sought: &Sought) -> Result<(), NoMemory> {
+    fn follow(
+        &mut self,
+        one: &NumberedEvent,
+        sought: &Sought,
+        branches: &mut Branches,
+    ) -> Result<(), NoMemory> {
+        let part = self.parts.len();
         match &one.line_event {
             LineEvent::Call(session, text) => {
-                let part = self.add(*session, sought.written_by(text))?;
+                let start = branches.call(*session, text, part)?;
+                self.add(sought.written_by(text), start)?;
                 self.calls[session.get() as usize] = Some(part);
                 self.put(one.number, Belongs::Part(part));
             }
-            LineEvent::Return(session, _) => self.put_return(one.number, *session),
+            LineEvent::Return(session, shown) => {
+                self.put_return(one.number, *session);
+                let does = done_by(shown);
+                if does != Does::Changes {
+                    branches.undo(*session);
+                    self.set_done(*session, does);
+                }
+            }
             LineEvent::Unknown(session) => self.put_return(one.number, *session),
             LineEvent::Lost(session) => {
-                let part = self.add(*session, 0)?;
+                let start = branches.lose(*session, part);
+                self.add(0, start)?;
                 self.put(one.number, Belongs::Part(part));
             }
         }
         Ok(())
     }
 
+    /// Takes note of what the session's last call does.
+    fn set_done(&mut self, session: SessionNo, does: Does) {
+        if let Some(index) = self.calls[session.get() as usize] {
+            if index < self.parts.len() {
+                self.parts[index].does = does;
+            }
+        }
+    }
+
     /// Changes whether a part is there.
     pub fn set(&mut self, index: usize, standing: Standing) {
         if index < self.parts.len() {
-            let part = self.parts[index];
-            self.parts[index] = Part {
-                session: part.session,
-                writes: part.writes,
-                standing,
-            };
+            self.parts[index].standing = standing;
         }
     }
 
@@ -145,14 +166,26 @@ impl Parts {
             return Ok(parts);
         }
         let sought = Sought::at(alloc, numbered, place)?;
+        let mut branches = Branches::none(alloc);
         for one in &numbered[..place] {
-            parts.follow(one, &sought)?;
+            parts.follow(one, &sought, &mut branches)?;
         }
         let last = &numbered[place];
-        parts.follow(last, &sought)?;
+        parts.follow(last, &sought, &mut branches)?;
         parts.keep_call(last.line_event.session());
         parts.put_rows(text);
         Ok(parts)
+    }
+}
+
+/// What a call does that returns this.
+fn done_by(shown: &Shown) -> Does {
+    match shown {
+        Shown::Ok => Does::Changes,
+        Shown::None => Does::Reads,
+        Shown::Value(_) => Does::Reads,
+        Shown::Rows(_) => Does::Reads,
+        Shown::Error(_) => Does::Nothing,
     }
 }
 
