@@ -8,6 +8,7 @@
 --     IsAheadAt, IsBehindAt, IsAlikeAt   how far a session is, on the way of an order, and in what is kept
 --     AreAlike             this is kept of a configuration
 --     GoesOn, GoesOnLike   moves lead on from what is kept to the end;  to one with the same answers
+--     KeepsEnds            they do from a second list, where they do from a first
 --     IsDead               a call was answered otherwise than it returns
 --     CanSettle, IsAllowed   a call can take effect at once;  an act isn't known to be of no use
 --     FitsHints, NotesCall   an event fits what is known;  what it calls for is noted
@@ -204,6 +205,11 @@ IsLike end last = (session : ℕ) (answer : Answer) → slice_get end.clients se
 -- moves lead on to such an end
 abbrev pub GoesOnLike : List Hint → (Config → Type 0) → List Event → Config → Type 0
 GoesOnLike hints has events end = (last : Config) × IsLike end last × GoesOn hints has events last
+
+-- where moves lead on from the first list to an end, some lead on from the second to one with the same answers
+abbrev pub KeepsEnds : List Hint → List Event → List Configuration → List Configuration → Type 0
+KeepsEnds hints events old new =
+    (end : Config) → GoesOn hints (Has old) events end → GoesOnLike hints (Has new) events end
 
 -- a list has what each allowed act leads to, or what is as good; no act counts once the session that is to return is
 -- answered

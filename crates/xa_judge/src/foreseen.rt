@@ -23,9 +23,9 @@ use crate::hints::{
     are_unknown, fits, is_blank, last_call, last_place, later_places, no_places, note_unheard,
 };
 use crate::known::opening;
-use crate::own_step::stepped;
 use crate::refuting::refuted;
 use crate::shared_answer::SharedAnswer;
+use crate::stepping::stepped;
 use crate::swept::Swept;
 use crate::trunk::{path_of, share};
 use crate::verdict::Verdict;

@@ -66,6 +66,7 @@ mod shared_lists;
 mod shared_request;
 mod shared_seen;
 mod so_far;
+mod stepping;
 mod swept;
 mod trunk;
 mod turn;

@@ -1,30 +1,24 @@
-//! Steps of a session's branch that no other session has to do with until they return take effect at once.
+//! What a step of a session's own branch is, and whether other sessions' calls leave it aside.
 ghost use Rattle.std.specs.Prelude.{◌≡◌, ◌≢◌, true, false, Some, None, List, ℕ, slice_get, length, drop, IfOk, OnOk};
 ghost use Rattle.xa_server.specs.State.{association_of};
 ghost use Rattle.xa_server.specs.Overview.{keys_about};
 ghost use Rattle.xa_server.specs.declared.association.Association.TheVariants.{Active};
 ghost use Rattle.xa_judge.specs.declared.request.Request.{Request as RequestSeen};
-ghost use Rattle.xa_judge.specs.Explained.{Config, answer_to};
-ghost use Rattle.xa_judge.specs.Found.{config_of, Has};
-ghost use Rattle.xa_judge.specs.Clear.{HasRow, IsOwnStep, IsReadyStep, IsSteppedFor, IsAside, returns_in};
+ghost use Rattle.xa_judge.specs.Explained.{answer_to};
+ghost use Rattle.xa_judge.specs.Found.{config_of};
+ghost use Rattle.xa_judge.specs.Clear.{HasRow, IsOwnStep, IsReadyStep, IsAside, returns_in};
 ghost use Rattle.xa_judge.specs.Clear.{AreNotedAside};
-ghost use Rattle.xa_judge.specs.Foreseen.{hint_in, fact_of, hints_of, GoesOn, GoesOnLike};
+ghost use Rattle.xa_judge.specs.Foreseen.{hint_in, hints_of};
 
 use crate::answer::Answer;
-use crate::clear::{are_calls_aside, is_aside};
+use crate::clear::is_aside;
 use crate::client_state::ClientState;
 use crate::configuration::Configuration;
 use crate::event::Event;
-use crate::fingerprint_index::FingerprintIndex;
-use crate::hints::may_be_heard;
 use crate::kept_server::KeptServer;
-use crate::known::add;
-use crate::moves::Act;
 use crate::open_call::OpenCall;
 use crate::request::Request;
 use crate::same::is_same_xid;
-use crate::shared_lists::SharedLists;
-use std::alloc::Global;
 use xa_server::Reply;
 use xa_xid::{Key, NoMemory, SessionNo, Statement, Xid};
 
@@ -195,8 +189,8 @@ fn is_place_aside(
     }
 }
 
-/// Whether all that other sessions have called for leaves the step aside.
-fn are_open_aside(
+/// Tells whether all that other sessions have called for leaves the step aside.
+pub fn are_open_aside(
     events: &[Event],
     from: usize,
     places: &[OpenCall],
@@ -216,8 +210,10 @@ fn are_open_aside(
     true
 }
 
-/// Whether the session has called for this, and that is a step of its own branch now, about these rows.
-fn takes_step(
+/// Tells whether the session has called for this, and that is a step of its own branch now, about these rows.
+///
+/// May return `NoMemory`.
+pub fn takes_step(
     one: &Configuration,
     session: SessionNo,
     request: &Request,
@@ -244,214 +240,4 @@ fn takes_step(
         Some(ClientState::Gone(_)) => Ok(false),
         Some(ClientState::Left) => Ok(false),
     }
-}
-
-/// The configuration after the step, if the session can take it.
-fn stepped_one(
-    kept: Configuration,
-    events: &[Event],
-    places: &[OpenCall],
-    from: usize,
-    session: SessionNo,
-    request: &Request,
-    statement: &Statement,
-    xid: &Xid,
-    lists: &mut SharedLists,
-) -> Result<Configuration, NoMemory>
-    requires request { request.now ≡ Request.Statement statement.now }
-    requires heard { (fact_of (hints_of events.now places.now) session).never ≡ false }
-    ensures { IfOk result (λ new. IsSteppedFor (hints_of events.now places.now) (drop from events.now) (config_of kept)
-        (config_of new)) }
-{
-    let about = kept.server.keys_about(session, statement)?;
-    let rows = about.as_slice();
-    if !are_open_aside(events, from, places, session, statement, xid, rows)
-        || !are_calls_aside(events, from, session, statement, xid, rows)
-        || !takes_step(&kept, session, request, statement, xid, rows)?
-    {
-        return Ok(kept);
-    }
-    match kept.effected(session, Act::Statement, lists)? {
-        None => Ok(kept),
-        Some(next) => Ok(next),
-    }
-}
-
-/// The configurations after the step, where the session can take it.
-fn stepped_all(
-    alloc: Global,
-    mut known: Vec<Configuration>,
-    index: &mut FingerprintIndex,
-    events: &[Event],
-    places: &[OpenCall],
-    from: usize,
-    session: SessionNo,
-    request: &Request,
-    statement: &Statement,
-    xid: &Xid,
-) -> Result<Vec<Configuration>, NoMemory>
-    requires request { request.now ≡ Request.Statement statement.now }
-    requires heard { (fact_of (hints_of events.now places.now) session).never ≡ false }
-    ensures { IfOk result (λ list. (end : Config)
-        → GoesOn (hints_of events.now places.now) (Has known.items) (drop from events.now) end
-        → GoesOnLike (hints_of events.now places.now) (Has list.items) (drop from events.now) end) }
-{
-    index.clear();
-    let mut list = Vec::new(alloc);
-    while let Some(one) = known.pop() {
-        let new = stepped_one(
-            one,
-            events,
-            places,
-            from,
-            session,
-            request,
-            statement,
-            xid,
-            &mut index.lists,
-        )?;
-        add(&mut list, index, new)?;
-    }
-    Ok(list)
-}
-
-/// How many events before a statement the start of its branch is looked for. A branch that takes longer is rare.
-const FAR: usize = 4_096;
-
-/// The branch that the session's statement may be a step of, by what it called for before this place.
-fn branch_of(
-    events: &[Event],
-    from: usize,
-    session: SessionNo,
-    statement: &Statement,
-) -> Option<Xid> {
-    match statement {
-        Statement::Start(xid) => Some(xid.copy()),
-        Statement::End(xid) => Some(xid.copy()),
-        Statement::Prepare(xid) => Some(xid.copy()),
-        Statement::Commit { xid, .. } => Some(xid.copy()),
-        Statement::Rollback(xid) => Some(xid.copy()),
-        Statement::Get(_) => last_started(events, from, session),
-        Statement::Put(_, _) => last_started(events, from, session),
-        Statement::Del(_) => last_started(events, from, session),
-        _ => None,
-    }
-}
-
-/// The branch that the session called last to start before this place.
-fn last_started(events: &[Event], from: usize, session: SessionNo) -> Option<Xid> {
-    for back in 0..from.min(FAR) {
-        if let Some(Event::Call(other, request)) = events.get(from - 1 - back)
-            && *other == session
-            && let Request::Statement(Statement::Start(xid)) = request.request()
-        {
-            return Some(xid.copy());
-        }
-    }
-    None
-}
-
-/// The configurations after this call of the session has taken effect, where it is a step of the session's branch that
-/// comes first.
-fn stepped_for(
-    alloc: Global,
-    known: Vec<Configuration>,
-    index: &mut FingerprintIndex,
-    events: &[Event],
-    places: &[OpenCall],
-    from: usize,
-    session: SessionNo,
-    request: &Request,
-) -> Result<Vec<Configuration>, NoMemory>
-    ensures { IfOk result (λ list. (end : Config)
-        → GoesOn (hints_of events.now places.now) (Has known.items) (drop from events.now) end
-        → GoesOnLike (hints_of events.now places.now) (Has list.items) (drop from events.now) end) }
-{
-    let Request::Statement(statement) = request else {
-        return Ok(known);
-    };
-    let Some(xid) = branch_of(events, from, session, statement) else {
-        return Ok(known);
-    };
-    if !may_be_heard(events, places, session) {
-        return Ok(known);
-    }
-    let list = stepped_all(
-        alloc, known, index, events, places, from, session, request, statement, &xid,
-    )?;
-    Ok(list)
-}
-
-/// Whether the call of this session hasn't taken effect in each configuration.
-fn is_called(known: &[Configuration], session: SessionNo) -> bool {
-    for one in known {
-        if let Some(ClientState::Called(_)) = one.client(session) {
-            return true;
-        }
-    }
-    false
-}
-
-/// The same for the call that is noted at this number, if there is one.
-fn stepped_at(
-    alloc: Global,
-    known: Vec<Configuration>,
-    index: &mut FingerprintIndex,
-    events: &[Event],
-    places: &[OpenCall],
-    from: usize,
-    number: usize,
-) -> Result<Vec<Configuration>, NoMemory>
-    ensures { IfOk result (λ list. (end : Config)
-        → GoesOn (hints_of events.now places.now) (Has known.items) (drop from events.now) end
-        → GoesOnLike (hints_of events.now places.now) (Has list.items) (drop from events.now) end) }
-{
-    let Some(entry) = places.get(number) else {
-        return Ok(known);
-    };
-    let Some(place) = entry.call else {
-        return Ok(known);
-    };
-    let Some(Event::Call(session, call)) = events.get(place) else {
-        return Ok(known);
-    };
-    if !is_called(known.as_slice(), *session) {
-        return Ok(known);
-    }
-    let list = stepped_for(
-        alloc,
-        known,
-        index,
-        events,
-        places,
-        from,
-        *session,
-        call.request(),
-    )?;
-    Ok(list)
-}
-
-/// Returns the configurations after each call before the place `from` has taken effect that is a step of its session's
-/// branch and comes before all that other sessions do until it returns, or else until the end. `places` has what is
-/// known of open calls.
-///
-/// A step that had to wait for another call is tried again after each event.
-/// May return `NoMemory`.
-pub fn stepped(
-    alloc: Global,
-    known: Vec<Configuration>,
-    index: &mut FingerprintIndex,
-    events: &[Event],
-    places: &[OpenCall],
-    from: usize,
-) -> Result<Vec<Configuration>, NoMemory>
-    ensures { IfOk result (λ list. (end : Config)
-        → GoesOn (hints_of events.now places.now) (Has known.items) (drop from events.now) end
-        → GoesOnLike (hints_of events.now places.now) (Has list.items) (drop from events.now) end) }
-{
-    let mut list = known;
-    for number in 0..places.len() {
-        list = stepped_at(alloc, list, index, events, places, from, number)?;
-    }
-    Ok(list)
 }

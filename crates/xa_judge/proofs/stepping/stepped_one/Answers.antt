@@ -4,7 +4,7 @@ use Rattle.xa_judge.specs.Clear.{IsReadyStep}
 use Rattle.xa_judge.specs.Found.{config_of}
 use Rattle.xa_judge.specs.Foreseen.{hints_of}
 use Rattle.xa_judge.proofs.Eager.{steps_first, steps_none}
-use Rattle.xa_judge.proofs.own_step.stepped_one.Goals as goal
+use Rattle.xa_judge.proofs.stepping.stepped_one.Goals as goal
 
 pub returns-in-None : goal.returns-in-None
 returns-in-None c =

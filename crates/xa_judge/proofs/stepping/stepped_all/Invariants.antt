@@ -1,7 +1,7 @@
 use Rattle.std.proofs.Common.{drop, length}
 use Rattle.xa_judge.specs.Foreseen.{hints_of}
 use Rattle.xa_judge.proofs.Eager.{StepsBoth}
-use Rattle.xa_judge.proofs.own_step.stepped_all.Given as goal
+use Rattle.xa_judge.proofs.stepping.stepped_all.Given as goal
 
 abbrev pub invariant-loop-one : goal.invariant-loop-one
 invariant-loop-one l =

@@ -2,7 +2,7 @@ use Rattle.std.proofs.Common.{drop, rules, tests}
 use Rattle.xa_judge.specs.Found.{Has}
 use Rattle.xa_judge.specs.Foreseen.{hints_of}
 use Rattle.xa_judge.proofs.Eager.{steps_more, steps_end, goes_stepped}
-use Rattle.xa_judge.proofs.own_step.stepped_all.Goals as goal
+use Rattle.xa_judge.proofs.stepping.stepped_all.Goals as goal
 
 pub loop-one-preserved : goal.loop-one-preserved
 loop-one-preserved c =

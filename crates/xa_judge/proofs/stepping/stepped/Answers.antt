@@ -2,7 +2,7 @@ use Rattle.std.proofs.Common.{drop}
 use Rattle.xa_judge.specs.Found.{Has}
 use Rattle.xa_judge.specs.Foreseen.{hints_of}
 use Rattle.xa_judge.proofs.Eager.{goes_past}
-use Rattle.xa_judge.proofs.own_step.stepped.Goals as goal
+use Rattle.xa_judge.proofs.stepping.stepped.Goals as goal
 
 pub loop-number-preserved : goal.loop-number-preserved
 loop-number-preserved c =

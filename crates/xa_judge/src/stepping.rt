@@ -1,0 +1,226 @@
+//! Steps of a session's branch that no other session has to do with until they return take effect at once.
+ghost use Rattle.std.specs.Prelude.{◌≡◌, false, drop, IfOk};
+ghost use Rattle.xa_judge.specs.Found.{config_of};
+ghost use Rattle.xa_judge.specs.Clear.{IsSteppedFor};
+ghost use Rattle.xa_judge.specs.Foreseen.{fact_of, hints_of, KeepsEnds};
+
+use crate::clear::are_calls_aside;
+use crate::client_state::ClientState;
+use crate::configuration::Configuration;
+use crate::event::Event;
+use crate::fingerprint_index::FingerprintIndex;
+use crate::hints::may_be_heard;
+use crate::known::add;
+use crate::moves::Act;
+use crate::open_call::OpenCall;
+use crate::own_step::{are_open_aside, takes_step};
+use crate::request::Request;
+use crate::shared_lists::SharedLists;
+use std::alloc::Global;
+use xa_xid::{NoMemory, SessionNo, Statement, Xid};
+
+/// The configuration after the step, if the session can take it.
+fn stepped_one(
+    kept: Configuration,
+    events: &[Event],
+    places: &[OpenCall],
+    from: usize,
+    session: SessionNo,
+    request: &Request,
+    statement: &Statement,
+    xid: &Xid,
+    lists: &mut SharedLists,
+) -> Result<Configuration, NoMemory>
+    requires request { request.now ≡ Request.Statement statement.now }
+    requires heard { (fact_of (hints_of events.now places.now) session).never ≡ false }
+    ensures { IfOk result (λ new. IsSteppedFor (hints_of events.now places.now) (drop from events.now) (config_of kept)
+        (config_of new)) }
+{
+    let about = kept.server.keys_about(session, statement)?;
+    let rows = about.as_slice();
+    if !are_open_aside(events, from, places, session, statement, xid, rows)
+        || !are_calls_aside(events, from, session, statement, xid, rows)
+        || !takes_step(&kept, session, request, statement, xid, rows)?
+    {
+        return Ok(kept);
+    }
+    match kept.effected(session, Act::Statement, lists)? {
+        None => Ok(kept),
+        Some(next) => Ok(next),
+    }
+}
+
+/// The configurations after the step, where the session can take it.
+fn stepped_all(
+    alloc: Global,
+    mut known: Vec<Configuration>,
+    index: &mut FingerprintIndex,
+    events: &[Event],
+    places: &[OpenCall],
+    from: usize,
+    session: SessionNo,
+    request: &Request,
+    statement: &Statement,
+    xid: &Xid,
+) -> Result<Vec<Configuration>, NoMemory>
+    requires request { request.now ≡ Request.Statement statement.now }
+    requires heard { (fact_of (hints_of events.now places.now) session).never ≡ false }
+    ensures { IfOk result (λ list. KeepsEnds (hints_of events.now places.now) (drop from events.now) known.items
+        list.items) }
+{
+    index.clear();
+    let mut list = Vec::new(alloc);
+    while let Some(one) = known.pop() {
+        let new = stepped_one(
+            one,
+            events,
+            places,
+            from,
+            session,
+            request,
+            statement,
+            xid,
+            &mut index.lists,
+        )?;
+        add(&mut list, index, new)?;
+    }
+    Ok(list)
+}
+
+/// How many events before a statement the start of its branch is looked for. A branch that takes longer is rare.
+const FAR: usize = 4_096;
+
+/// The branch that the session's statement may be a step of, by what it called for before this place.
+fn branch_of(
+    events: &[Event],
+    from: usize,
+    session: SessionNo,
+    statement: &Statement,
+) -> Option<Xid> {
+    match statement {
+        Statement::Start(xid) => Some(xid.copy()),
+        Statement::End(xid) => Some(xid.copy()),
+        Statement::Prepare(xid) => Some(xid.copy()),
+        Statement::Commit { xid, .. } => Some(xid.copy()),
+        Statement::Rollback(xid) => Some(xid.copy()),
+        Statement::Get(_) => last_started(events, from, session),
+        Statement::Put(_, _) => last_started(events, from, session),
+        Statement::Del(_) => last_started(events, from, session),
+        _ => None,
+    }
+}
+
+/// The branch that the session called last to start before this place.
+fn last_started(events: &[Event], from: usize, session: SessionNo) -> Option<Xid> {
+    for back in 0..from.min(FAR) {
+        if let Some(Event::Call(other, request)) = events.get(from - 1 - back)
+            && *other == session
+            && let Request::Statement(Statement::Start(xid)) = request.request()
+        {
+            return Some(xid.copy());
+        }
+    }
+    None
+}
+
+/// The configurations after this call of the session has taken effect, where it is a step of the session's branch that
+/// comes first.
+fn stepped_for(
+    alloc: Global,
+    known: Vec<Configuration>,
+    index: &mut FingerprintIndex,
+    events: &[Event],
+    places: &[OpenCall],
+    from: usize,
+    session: SessionNo,
+    request: &Request,
+) -> Result<Vec<Configuration>, NoMemory>
+    ensures { IfOk result (λ list. KeepsEnds (hints_of events.now places.now) (drop from events.now) known.items
+        list.items) }
+{
+    let Request::Statement(statement) = request else {
+        return Ok(known);
+    };
+    let Some(xid) = branch_of(events, from, session, statement) else {
+        return Ok(known);
+    };
+    if !may_be_heard(events, places, session) {
+        return Ok(known);
+    }
+    let list = stepped_all(
+        alloc, known, index, events, places, from, session, request, statement, &xid,
+    )?;
+    Ok(list)
+}
+
+/// Whether there is a configuration in which the session's call hasn't taken effect.
+fn is_called(known: &[Configuration], session: SessionNo) -> bool {
+    for one in known {
+        if let Some(ClientState::Called(_)) = one.client(session) {
+            return true;
+        }
+    }
+    false
+}
+
+/// The same for the call of what is known at this number, if there is one.
+fn stepped_at(
+    alloc: Global,
+    known: Vec<Configuration>,
+    index: &mut FingerprintIndex,
+    events: &[Event],
+    places: &[OpenCall],
+    from: usize,
+    number: usize,
+) -> Result<Vec<Configuration>, NoMemory>
+    ensures { IfOk result (λ list. KeepsEnds (hints_of events.now places.now) (drop from events.now) known.items
+        list.items) }
+{
+    let Some(entry) = places.get(number) else {
+        return Ok(known);
+    };
+    let Some(place) = entry.call else {
+        return Ok(known);
+    };
+    let Some(Event::Call(session, call)) = events.get(place) else {
+        return Ok(known);
+    };
+    if !is_called(known.as_slice(), *session) {
+        return Ok(known);
+    }
+    let list = stepped_for(
+        alloc,
+        known,
+        index,
+        events,
+        places,
+        from,
+        *session,
+        call.request(),
+    )?;
+    Ok(list)
+}
+
+/// Returns the configurations after each call before the place `from` has taken effect that is a step of its session's
+/// branch and comes before all that other sessions do until it returns, or else until the end. `places` has what is
+/// known of open calls.
+///
+/// A step that had to wait for another call is tried again after each event.
+/// May return `NoMemory`.
+pub fn stepped(
+    alloc: Global,
+    known: Vec<Configuration>,
+    index: &mut FingerprintIndex,
+    events: &[Event],
+    places: &[OpenCall],
+    from: usize,
+) -> Result<Vec<Configuration>, NoMemory>
+    ensures { IfOk result (λ list. KeepsEnds (hints_of events.now places.now) (drop from events.now) known.items
+        list.items) }
+{
+    let mut list = known;
+    for number in 0..places.len() {
+        list = stepped_at(alloc, list, index, events, places, from, number)?;
+    }
+    Ok(list)
+}
