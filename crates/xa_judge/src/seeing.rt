@@ -1,7 +1,7 @@
 //! What an event does to a configuration.
-ghost use Rattle.std.specs.Prelude.{◌≡◌, ◌∷◌, ◌++◌, [], slice_get, IfOk, IfSome};
+ghost use Rattle.std.specs.Prelude.{◌≡◌, ◌<◌, ◌∷◌, ◌++◌, [], slice_get, vec_len, IfOk, IfSome};
 ghost use Rattle.std.specs.Option.{option_map};
-ghost use Rattle.xa_judge.specs.Explained.{observed};
+ghost use Rattle.xa_judge.specs.Explained.{observed, with_client};
 ghost use Rattle.xa_judge.specs.Found.{config_of};
 
 use crate::client_state::ClientState;
@@ -12,93 +12,104 @@ use crate::shared_request::SharedRequest;
 use xa_xid::{NoMemory, SessionNo};
 
 impl Configuration {
-    /// The configuration after the session calls, if it can.
+    /// How far the session is once it calls, if it can.
     #[tactic(auto, unfolding(crate::specs::Explained::observed, crate::specs::Explained::called))]
-    fn called(
-        self,
+    fn after_call(
+        &self,
         session: SessionNo,
         request: &SharedRequest,
-    ) -> Result<Option<Configuration>, NoMemory>
-        ensures config { IfOk result (λ found. option_map config_of found
-            ≡ observed (config_of self) (Event.Call session request.now)) }
-        ensures path { IfOk result (λ found. IfSome found (λ new. new.path ≡ self.path ++ Move.Event ∷ [])) }
+    ) -> Result<Option<ClientState>, NoMemory>
+        ensures config { IfOk result (λ client. option_map (with_client (config_of self.now) session) client
+            ≡ observed (config_of self.now) (Event.Call session request.now)) }
+        ensures place { IfOk result (λ client. IfSome client (λ _. session < vec_len self.now.clients)) }
     {
         match self.client(session) {
             None => Ok(None),
-            Some(ClientState::Idle) => {
-                let client = ClientState::Called(request.try_clone()?);
-                Ok(Some(self.moved(session, client, Move::Event)?))
-            }
+            Some(ClientState::Idle) => Ok(Some(ClientState::Called(request.try_clone()?))),
             Some(ClientState::Called(_)) => Ok(None),
             Some(ClientState::Answered(_)) => Ok(None),
             Some(ClientState::Gone(None)) => {
-                let client = ClientState::Gone(Some(request.try_clone()?));
-                Ok(Some(self.moved(session, client, Move::Event)?))
+                Ok(Some(ClientState::Gone(Some(request.try_clone()?))))
             }
             Some(ClientState::Gone(Some(_))) => Ok(None),
-            Some(ClientState::Left) => {
-                Ok(Some(self.moved(session, ClientState::Left, Move::Event)?))
-            }
+            Some(ClientState::Left) => Ok(Some(ClientState::Left)),
         }
     }
 
-    /// The configuration after the session's call returns this, if it can.
+    /// How far the session is once its call returns this, if it can.
     #[tactic(auto, unfolding(crate::specs::Explained::observed, crate::specs::Explained::returned))]
-    fn returned(self, session: SessionNo, seen: &Seen) -> Result<Option<Configuration>, NoMemory>
-        ensures config { IfOk result (λ found. option_map config_of found
-            ≡ observed (config_of self) (Event.Return session seen.now)) }
-        ensures path { IfOk result (λ found. IfSome found (λ new. new.path ≡ self.path ++ Move.Event ∷ [])) }
+    fn after_return(&self, session: SessionNo, seen: &Seen) -> Option<ClientState>
+        ensures config { option_map (with_client (config_of self.now) session) result
+            ≡ observed (config_of self.now) (Event.Return session seen.now) }
+        ensures place { IfSome result (λ _. session < vec_len self.now.clients) }
+    {
+        match self.client(session) {
+            None => None,
+            Some(ClientState::Idle) => None,
+            Some(ClientState::Called(_)) => None,
+            Some(ClientState::Answered(answer)) => {
+                if seen.shows_kept(answer.kept()) {
+                    Some(ClientState::Idle)
+                } else {
+                    None
+                }
+            }
+            Some(ClientState::Gone(_)) => None,
+            Some(ClientState::Left) => None,
+        }
+    }
+
+    /// How far the session is once its client is gone, if that can be.
+    #[tactic(auto, unfolding(crate::specs::Explained::observed, crate::specs::Explained::lost))]
+    fn after_loss(&self, session: SessionNo) -> Result<Option<ClientState>, NoMemory>
+        ensures config { IfOk result (λ client. option_map (with_client (config_of self.now) session) client
+            ≡ observed (config_of self.now) (Event.Lost session)) }
+        ensures place { IfOk result (λ client. IfSome client (λ _. session < vec_len self.now.clients)) }
     {
         match self.client(session) {
             None => Ok(None),
-            Some(ClientState::Idle) => Ok(None),
-            Some(ClientState::Called(_)) => Ok(None),
-            Some(ClientState::Answered(answer)) => {
-                if seen.shows_kept(answer.kept()) {
-                    Ok(Some(self.moved(session, ClientState::Idle, Move::Event)?))
-                } else {
-                    Ok(None)
-                }
+            Some(ClientState::Idle) => Ok(Some(ClientState::Gone(None))),
+            Some(ClientState::Called(request)) => {
+                Ok(Some(ClientState::Gone(Some(request.try_clone()?))))
             }
+            Some(ClientState::Answered(_)) => Ok(Some(ClientState::Gone(None))),
             Some(ClientState::Gone(_)) => Ok(None),
             Some(ClientState::Left) => Ok(None),
         }
     }
 
-    /// The configuration after the session's client is gone, if that can be.
-    #[tactic(auto, unfolding(crate::specs::Explained::observed, crate::specs::Explained::lost))]
-    fn lost(self, session: SessionNo) -> Result<Option<Configuration>, NoMemory>
-        ensures config { IfOk result (λ found. option_map config_of found
-            ≡ observed (config_of self) (Event.Lost session)) }
-        ensures path { IfOk result (λ found. IfSome found (λ new. new.path ≡ self.path ++ Move.Event ∷ [])) }
-    {
-        let client = match self.client(session) {
-            None => return Ok(None),
-            Some(ClientState::Idle) => ClientState::Gone(None),
-            Some(ClientState::Called(request)) => ClientState::Gone(Some(request.try_clone()?)),
-            Some(ClientState::Answered(_)) => ClientState::Gone(None),
-            Some(ClientState::Gone(_)) => return Ok(None),
-            Some(ClientState::Left) => return Ok(None),
-        };
-        Ok(Some(self.moved(session, client, Move::Event)?))
-    }
-
-    /// The configuration after the session's call is over with an answer that isn't known, if that can be.
+    /// How far the session is once its call is over with an answer that isn't known, if that can be.
     #[tactic(auto, unfolding(crate::specs::Explained::observed, crate::specs::Explained::answered_unknown))]
-    fn answered_unknown(self, session: SessionNo) -> Result<Option<Configuration>, NoMemory>
-        ensures config { IfOk result (λ found. option_map config_of found
-            ≡ observed (config_of self) (Event.Unknown session)) }
-        ensures path { IfOk result (λ found. IfSome found (λ new. new.path ≡ self.path ++ Move.Event ∷ [])) }
+    fn after_unknown(&self, session: SessionNo) -> Option<ClientState>
+        ensures config { option_map (with_client (config_of self.now) session) result
+            ≡ observed (config_of self.now) (Event.Unknown session) }
+        ensures place { IfSome result (λ _. session < vec_len self.now.clients) }
     {
         match self.client(session) {
-            None => return Ok(None),
-            Some(ClientState::Idle) => return Ok(None),
-            Some(ClientState::Called(_)) => {}
-            Some(ClientState::Answered(_)) => {}
-            Some(ClientState::Gone(_)) => return Ok(None),
-            Some(ClientState::Left) => return Ok(None),
+            None => None,
+            Some(ClientState::Idle) => None,
+            Some(ClientState::Called(_)) => Some(ClientState::Idle),
+            Some(ClientState::Answered(_)) => Some(ClientState::Idle),
+            Some(ClientState::Gone(_)) => None,
+            Some(ClientState::Left) => None,
         }
-        Ok(Some(self.moved(session, ClientState::Idle, Move::Event)?))
+    }
+
+    /// The configuration after an event that leaves the session so, if the event can be seen.
+    fn seen_as(
+        self,
+        session: SessionNo,
+        client: Option<ClientState>,
+    ) -> Result<Option<Configuration>, NoMemory>
+        requires { IfSome client (λ _. session < vec_len self.clients) }
+        ensures config { IfOk result (λ found. option_map config_of found
+            ≡ option_map (with_client (config_of self) session) client) }
+        ensures path { IfOk result (λ found. IfSome found (λ new. new.path ≡ self.path ++ Move.Event ∷ [])) }
+    {
+        match client {
+            None => Ok(None),
+            Some(client) => Ok(Some(self.moved(session, client, Move::Event)?)),
+        }
     }
 
     /// Returns the configuration after the event, if it can be seen.
@@ -108,11 +119,12 @@ impl Configuration {
         ensures config { IfOk result (λ found. option_map config_of found ≡ observed (config_of self) event.now) }
         ensures path { IfOk result (λ found. IfSome found (λ new. new.path ≡ self.path ++ Move.Event ∷ [])) }
     {
-        match event {
-            Event::Call(session, request) => self.called(*session, request),
-            Event::Return(session, seen) => self.returned(*session, seen.seen()),
-            Event::Lost(session) => self.lost(*session),
-            Event::Unknown(session) => self.answered_unknown(*session),
-        }
+        let (session, client) = match event {
+            Event::Call(session, request) => (*session, self.after_call(*session, request)?),
+            Event::Return(session, seen) => (*session, self.after_return(*session, seen.seen())),
+            Event::Lost(session) => (*session, self.after_loss(*session)?),
+            Event::Unknown(session) => (*session, self.after_unknown(*session)),
+        };
+        self.seen_as(session, client)
     }
 }
