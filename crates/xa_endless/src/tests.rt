@@ -2,9 +2,15 @@
 //!
 //! A test whose name ends in `_survives` passes whether or not one allocation in it fails; `scripts/sweep` makes each
 //! fail in turn. So a step that is refused memory is repeated once.
+//!
+//! Sessions are dropped by calls of `drop`: the end of a scope would drop each of their fields by itself, which makes a
+//! proof much larger.
 ghost use Rattle.std.specs.Prelude.{◌≡◌, ◌∷◌, [], IfSome};
+ghost use Rattle.chain_log.specs.Resting.{resting_spare_log_of};
+ghost use Rattle.chain_log.specs.RingPass.{identity_of};
 ghost use Rattle.xa_coordinator.specs.Work.{IsRow};
 
+use crate::resting::RestingCheckpoint;
 use crate::{EndlessFault, EndlessSession, EndlessStore, Next, Replica, TakeFault, laws};
 use chain_log::RingFault;
 use std::alloc::Global;
@@ -62,10 +68,24 @@ pub(crate) fn taken(store: &Arc<EndlessStore>, number: u64) -> Option<EndlessSes
     }
 }
 
-/// Sessions 1 and 2 of a store of so many rows and two sessions.
-fn pair(alloc: Global, rows: u64) -> Option<(EndlessSession, EndlessSession)> {
+/// A store of two sessions, which has two checkpoints, and both sessions.
+#[derive(Drop)]
+struct Pair {
+    store: Arc<EndlessStore>,
+    first: EndlessSession,
+    second: EndlessSession,
+}
+
+/// A new store of so many rows, and both its sessions.
+fn new_pair(alloc: Global, rows: u64) -> Option<Pair> {
     let store = opened(alloc, rows, 2)?;
-    Some((taken(&store, 1)?, taken(&store, 2)?))
+    let first = taken(&store, 1)?;
+    let second = taken(&store, 2)?;
+    Some(Pair {
+        store,
+        first,
+        second,
+    })
 }
 
 /// What a session answers.
@@ -136,18 +156,26 @@ pub(crate) fn misses(session: &mut EndlessSession, letter: u8, place: u64) -> bo
     answer.place == place && matches!(answer.reply, Reply::Value(None))
 }
 
+impl Pair {
+    /// Whether the second goes on from a checkpoint, after the ring has lapped it twelve times.
+    fn goes_on(&mut self) -> bool {
+        misses(&mut self.second, b'r', 0)
+            && puts(&mut self.first, b'r', 100)
+            && self.first.seen() == 100
+            && self.second.folded() == 0
+            && finds(&mut self.second, b'r', 100)
+            && self.second.folded() == 100
+    }
+}
+
 #[test]
 fn a_session_goes_on_from_a_checkpoint_after_many_laps(rt: HostRuntime) {
-    let Some((mut first, mut second)) = pair(rt.alloc(), 8) else {
+    let Some(mut pair) = new_pair(rt.alloc(), 8) else {
         panic!(rt; "two sessions")
     };
-    assert!(rt; misses(&mut second, b'r', 0));
-    assert!(rt; puts(&mut first, b'r', 100));
-    assert_eq!(rt; first.seen(), 100);
-    // The ring has lapped it twelve times.
-    assert_eq!(rt; second.folded(), 0);
-    assert!(rt; finds(&mut second, b'r', 100));
-    assert_eq!(rt; second.folded(), 100);
+    let goes_on = pair.goes_on();
+    drop(pair);
+    assert!(rt; goes_on);
 }
 
 /// Prepares a branch that writes the row `p`, and leaves one open that writes the row `o`: six entries.
@@ -201,21 +229,33 @@ fn is_refused(session: &mut EndlessSession, letter: u8) -> bool {
     answer.reply.is_refused()
 }
 
-/// Its branches and their locks stand while it sleeps for 200 laps of eight rows.
+impl Pair {
+    /// Whether the first's branches and their locks stand while it sleeps for 200 laps of eight rows.
+    fn sleeps(&mut self) -> bool {
+        begins(&mut self.first)
+            && puts(&mut self.second, b'r', 1_600)
+            && self.second.seen() == 1_606
+            && self.first.seen() == 6
+            && is_refused(&mut self.second, b'p')
+    }
+
+    /// Whether it goes on after that, and the second finds all that it wrote.
+    fn wakes(&mut self) -> bool {
+        ends(&mut self.first)
+            && finds(&mut self.second, b'p', 1_610)
+            && finds(&mut self.second, b'o', 1_610)
+            && finds(&mut self.second, b'm', 1_610)
+    }
+}
+
 #[test]
 fn session_that_sleeps_for_200_laps_survives(rt: HostRuntime) {
-    let Some((mut sleeper, mut other)) = pair(rt.alloc(), 8) else {
+    let Some(mut pair) = new_pair(rt.alloc(), 8) else {
         panic!(rt; "two sessions")
     };
-    assert!(rt; begins(&mut sleeper));
-    assert!(rt; puts(&mut other, b'r', 1_600));
-    assert_eq!(rt; other.seen(), 1_606);
-    assert_eq!(rt; sleeper.seen(), 6);
-    assert!(rt; is_refused(&mut other, b'p'));
-    assert!(rt; ends(&mut sleeper));
-    assert!(rt; finds(&mut other, b'p', 1_610));
-    assert!(rt; finds(&mut other, b'o', 1_610));
-    assert!(rt; finds(&mut other, b'm', 1_610));
+    let survives = pair.sleeps() && pair.wakes();
+    drop(pair);
+    assert!(rt; survives);
 }
 
 /// Whether a session that leaves with two branches is taken again with all that it had: its branches, its replica, and
@@ -228,22 +268,34 @@ fn comes_back(store: &Arc<EndlessStore>, mut session: EndlessSession) -> bool {
         return false;
     };
     let same = again.number().get() == number && again.folded() == 6;
-    left && same && hands_out(&mut again, b'p') && ends(&mut again)
+    let goes_on = hands_out(&mut again, b'p') && ends(&mut again);
+    drop(again);
+    left && same && goes_on
+}
+
+/// Whether a session can't be taken, for this cause.
+fn is_not_taken(store: &Arc<EndlessStore>, number: u64, fault: TakeFault) -> bool {
+    EndlessStore::take(store, number).err() == Some(fault)
+}
+
+/// Whether the first session of two can't be taken twice, and is taken again after it left.
+fn is_taken_again(store: &Arc<EndlessStore>) -> bool {
+    let Some(first) = taken(store, 1) else {
+        return false;
+    };
+    let refused = is_not_taken(store, 1, TakeFault::Taken)
+        && is_not_taken(store, 0, TakeFault::OutOfRange)
+        && is_not_taken(store, 3, TakeFault::OutOfRange);
+    comes_back(store, first) && refused
 }
 
 #[test]
 fn a_session_that_left_is_taken_again(rt: HostRuntime) {
-    let Some(store) = opened(rt.alloc(), 8, 2) else {
-        panic!(rt; "a store")
+    let comes_back = match opened(rt.alloc(), 8, 2) {
+        Some(store) => is_taken_again(&store),
+        None => false,
     };
-    let Some(first) = taken(&store, 1) else {
-        panic!(rt; "a session")
-    };
-    let fault = |number: u64| EndlessStore::take(&store, number).err();
-    assert!(rt; fault(1) == Some(TakeFault::Taken));
-    assert!(rt; fault(0) == Some(TakeFault::OutOfRange));
-    assert!(rt; fault(3) == Some(TakeFault::OutOfRange));
-    assert!(rt; comes_back(&store, first));
+    assert!(rt; comes_back);
 }
 
 /// Whether the next entry is session 1's `PUT` of a letter.
@@ -276,24 +328,50 @@ fn puts_each(session: &mut EndlessSession, from: u8, to: u8) -> bool {
     true
 }
 
+/// Whether all that the history has was handed out.
+fn is_at_end(session: &mut EndlessSession) -> bool {
+    matches!(session.next_entry(), Next::End)
+}
+
+/// Whether so many entries are lost next.
+fn loses(session: &mut EndlessSession, count: u64) -> bool {
+    match session.next_entry() {
+        Next::Lost(lost) => lost == count,
+        _ => false,
+    }
+}
+
+impl Pair {
+    /// Whether the second hands out three entries of the first in time.
+    fn follows_in_time(&mut self) -> bool {
+        is_at_end(&mut self.second)
+            && puts_each(&mut self.first, 1, 4)
+            && hands_out_each(&mut self.second, 1, 4)
+            && is_at_end(&mut self.second)
+    }
+
+    /// Whether the second loses fourteen of the next twenty, and hands out the last six. It replays nothing meanwhile,
+    /// and goes on from a checkpoint.
+    fn follows_too_late(&mut self) -> bool {
+        puts_each(&mut self.first, 4, 24)
+            && loses(&mut self.second, 14)
+            && hands_out_each(&mut self.second, 18, 24)
+            && is_at_end(&mut self.second)
+            && self.second.folded() == 0
+            && finds(&mut self.second, 23, 23)
+    }
+}
+
 /// Of 23 entries in eight rows three were handed out in time. The next may begin with the last six, since a quarter of
 /// the ring may be overwritten meanwhile: fourteen are lost.
 #[test]
 fn each_entry_is_handed_out_once_or_lost(rt: HostRuntime) {
-    let Some((mut first, mut second)) = pair(rt.alloc(), 8) else {
+    let Some(mut pair) = new_pair(rt.alloc(), 8) else {
         panic!(rt; "two sessions")
     };
-    assert!(rt; matches!(second.next_entry(), Next::End));
-    assert!(rt; puts_each(&mut first, 1, 4));
-    assert!(rt; hands_out_each(&mut second, 1, 4));
-    assert!(rt; matches!(second.next_entry(), Next::End));
-    assert!(rt; puts_each(&mut first, 4, 24));
-    assert!(rt; matches!(second.next_entry(), Next::Lost(14)));
-    assert!(rt; hands_out_each(&mut second, 18, 24));
-    assert!(rt; matches!(second.next_entry(), Next::End));
-    // It has replayed nothing meanwhile, and goes on from a checkpoint.
-    assert_eq!(rt; second.folded(), 0);
-    assert!(rt; finds(&mut second, 23, 23));
+    let follows = pair.follows_in_time() && pair.follows_too_late();
+    drop(pair);
+    assert!(rt; follows);
 }
 
 /// How many entries are handed out or lost until this many are, or until it was asked for too long.
@@ -313,12 +391,12 @@ fn follows(session: &mut EndlessSession, count: u64) -> u64 {
 }
 
 /// One thread adds entries, and another follows them.
-fn adds_and_follows<R: Threads>(
-    rt: &R,
-    mut first: EndlessSession,
-    mut second: EndlessSession,
-    count: u64,
-) -> (bool, u64) {
+fn adds_and_follows<R: Threads>(rt: &R, pair: Pair, count: u64) -> (bool, u64) {
+    let Pair {
+        mut first,
+        mut second,
+        ..
+    } = pair;
     thread::join(
         rt,
         move || puts(&mut first, b'r', count),
@@ -328,82 +406,106 @@ fn adds_and_follows<R: Threads>(
 
 #[test]
 fn a_thread_that_follows_counts_every_entry(rt: HostRuntime) {
-    let Some((first, second)) = pair(rt.alloc(), 16) else {
-        panic!(rt; "two sessions")
+    let counts = match new_pair(rt.alloc(), 16) {
+        Some(pair) => adds_and_follows(&rt, pair, 3_000),
+        None => (false, 0),
     };
-    assert!(rt; adds_and_follows(&rt, first, second, 3_000) == (true, 3_000));
+    assert!(rt; counts == (true, 3_000));
 }
 
-/// Whether a session is behind while nobody can reach the checkpoints, and says so as a coordinator's session too.
+/// Both checkpoints of a store, out of their places, where nobody else can reach them.
+#[derive(Drop)]
+struct Away {
+    one: RestingCheckpoint,
+    two: RestingCheckpoint,
+}
+
+/// Takes a checkpoint out of its place.
+fn takes_out(store: &EndlessStore, index: usize) -> Option<RestingCheckpoint>
+    ensures { IfSome result (λ one. resting_spare_log_of one.spare ≡ identity_of store.now.log) }
+{
+    store.checkpoints.get(index)?.take()
+}
+
+/// Takes both checkpoints out of their places.
+fn takes_both(store: &EndlessStore) -> Option<Away>
+    ensures one { IfSome result (λ away. resting_spare_log_of away.one.spare ≡ identity_of store.now.log) }
+    ensures two { IfSome result (λ away. resting_spare_log_of away.two.spare ≡ identity_of store.now.log) }
+{
+    let one = takes_out(store, 0)?;
+    let two = takes_out(store, 1)?;
+    Some(Away { one, two })
+}
+
+/// Whether a checkpoint is put into its place, which is empty.
+fn puts_in(store: &EndlessStore, index: usize, checkpoint: RestingCheckpoint) -> bool
+    requires { resting_spare_log_of checkpoint.spare ≡ identity_of store.now.log }
+{
+    match store.checkpoints.get(index) {
+        Some(place) => place.put(checkpoint).is_ok(),
+        None => false,
+    }
+}
+
+/// Whether both checkpoints are put back into their places.
+fn puts_both(store: &EndlessStore, away: Away) -> bool
+    requires one { resting_spare_log_of away.one.spare ≡ identity_of store.now.log }
+    requires two { resting_spare_log_of away.two.spare ≡ identity_of store.now.log }
+{
+    let Away { one, two } = away;
+    let first = puts_in(store, 0, one);
+    puts_in(store, 1, two) && first
+}
+
+/// Whether a session says that it is behind, also as a coordinator's session.
+fn says_behind(session: &mut EndlessSession, letter: u8) -> bool {
+    let Some(put) = put(letter) else {
+        return false;
+    };
+    matches!(session.attempt(&put), Err(EndlessFault::Behind))
+        && matches!(Speak::attempt(session, &put), Err(Fault::NoMemory))
+}
+
+/// Whether a session is behind while nobody can reach the checkpoints.
 fn is_behind(store: &EndlessStore, session: &mut EndlessSession, letter: u8) -> bool {
-    let (Some(first), Some(second)) = (store.checkpoints.get(0), store.checkpoints.get(1)) else {
+    let Some(away) = takes_both(store) else {
         return false;
     };
-    let (Some(one), Some(two), Some(put)) = (first.take(), second.take(), put(letter)) else {
-        return false;
-    };
-    let answered = session.attempt(&put);
-    let spoken = Speak::attempt(session, &put);
-    first.put(one).is_ok()
-        && second.put(two).is_ok()
-        && matches!(answered, Err(EndlessFault::Behind))
-        && matches!(spoken, Err(Fault::NoMemory))
+    let behind = says_behind(session, letter);
+    puts_both(store, away) && behind
 }
 
-/// Nothing of its statement stands. Once another session has left a checkpoint, it goes on.
+impl Pair {
+    /// Whether nothing stands of a statement for which the second is behind. Once the first has left a checkpoint, the
+    /// second goes on.
+    fn goes_on_behind(&mut self) -> bool {
+        puts(&mut self.first, b'r', 100)
+            && misses(&mut self.first, b'x', 100)
+            && is_behind(&self.store, &mut self.second, b'x')
+            && misses(&mut self.first, b'x', 100)
+            && puts(&mut self.second, b'x', 1)
+            && finds(&mut self.first, b'x', 101)
+    }
+}
+
 #[test]
 fn a_session_without_a_checkpoint_is_behind(rt: HostRuntime) {
     laws::calls_keep_agreement();
-    let Some(store) = opened(rt.alloc(), 8, 2) else {
-        panic!(rt; "a store")
-    };
-    let (Some(mut first), Some(mut second)) = (taken(&store, 1), taken(&store, 2)) else {
+    let Some(mut pair) = new_pair(rt.alloc(), 8) else {
         panic!(rt; "two sessions")
     };
-    assert!(rt; puts(&mut first, b'r', 100));
-    assert!(rt; misses(&mut first, b'x', 100));
-    assert!(rt; is_behind(&store, &mut second, b'x'));
-    assert!(rt; misses(&mut first, b'x', 100));
-    assert!(rt; puts(&mut second, b'x', 1));
-    assert!(rt; finds(&mut first, b'x', 101));
-}
-
-/// A store of eight rows, two sessions and two checkpoints, and both sessions.
-fn small(alloc: Global) -> Option<(Arc<EndlessStore>, EndlessSession, EndlessSession)> {
-    let store = opened(alloc, 8, 2)?;
-    let first = taken(&store, 1)?;
-    let second = taken(&store, 2)?;
-    Some((store, first, second))
+    let goes_on = pair.goes_on_behind();
+    drop(pair);
+    assert!(rt; goes_on);
 }
 
 /// Whether a session adds 100 entries while nobody can reach the checkpoints, so that both are lost.
 fn loses_checkpoints(store: &EndlessStore, session: &mut EndlessSession) -> bool {
-    let (Some(first), Some(second)) = (store.checkpoints.get(0), store.checkpoints.get(1)) else {
-        return false;
-    };
-    let (Some(one), Some(two)) = (first.take(), second.take()) else {
+    let Some(away) = takes_both(store) else {
         return false;
     };
     let added = puts(session, b'r', 100);
-    first.put(one).is_ok() && second.put(two).is_ok() && added
-}
-
-/// Neither checkpoint can replay what was added meanwhile. So each becomes a copy of the replica of a session that
-/// looks after it.
-#[test]
-fn a_lost_checkpoint_becomes_a_copy_survives(rt: HostRuntime) {
-    let Some((store, mut first, mut second)) = small(rt.alloc()) else {
-        panic!(rt; "two sessions")
-    };
-    assert!(rt; loses_checkpoints(&store, &mut first));
-    let lost = get(b'r').map(|get| second.attempt(&get));
-    assert!(rt; matches!(lost, Some(Err(EndlessFault::Behind))));
-    // Enough for a second copy if one is refused.
-    assert!(rt; puts(&mut first, b's', 8));
-    assert!(rt; finds(&mut second, b's', 108));
-    assert_eq!(rt; second.folded(), 108);
-    assert!(rt; held(&store, 0).is_some_and(|replica| replica.replayed > 100));
-    assert!(rt; held(&store, 1).is_some_and(|replica| replica.replayed > 100));
+    puts_both(store, away) && added
 }
 
 /// The replica of a checkpoint, as a session holds it that copies it.
@@ -415,22 +517,93 @@ fn held(store: &EndlessStore, index: usize) -> Option<Arc<Replica>> {
     held
 }
 
+/// The replicas of both checkpoints of a store.
+#[derive(Drop)]
+struct Replicas {
+    one: Arc<Replica>,
+    two: Arc<Replica>,
+}
+
+/// Both replicas, as a session holds them that copies them.
+fn both_held(store: &EndlessStore) -> Option<Replicas> {
+    let one = held(store, 0)?;
+    let two = held(store, 1)?;
+    Some(Replicas { one, two })
+}
+
+/// Whether the replica of a checkpoint has replayed more than 100 entries.
+fn is_new(store: &EndlessStore, index: usize) -> bool {
+    match held(store, index) {
+        Some(replica) => replica.replayed > 100,
+        None => false,
+    }
+}
+
+/// Whether a session is behind that asks for the row `r`.
+fn asks_behind(session: &mut EndlessSession) -> bool {
+    match get(b'r') {
+        Some(get) => matches!(session.attempt(&get), Err(EndlessFault::Behind)),
+        None => false,
+    }
+}
+
+impl Pair {
+    /// Whether both lost checkpoints become copies. The first adds enough for a second copy if one is refused.
+    fn renews(&mut self) -> bool {
+        loses_checkpoints(&self.store, &mut self.first)
+            && asks_behind(&mut self.second)
+            && puts(&mut self.first, b's', 8)
+            && finds(&mut self.second, b's', 108)
+            && self.second.folded() == 108
+            && is_new(&self.store, 0)
+            && is_new(&self.store, 1)
+    }
+}
+
+/// Neither checkpoint can replay what was added meanwhile. So each becomes a copy of the replica of a session that
+/// looks after it.
+#[test]
+fn a_lost_checkpoint_becomes_a_copy_survives(rt: HostRuntime) {
+    let Some(mut pair) = new_pair(rt.alloc(), 8) else {
+        panic!(rt; "two sessions")
+    };
+    let renews = pair.renews();
+    drop(pair);
+    assert!(rt; renews);
+}
+
+impl Pair {
+    /// Whether the second gets a checkpoint, after 100 entries of the first, while the replicas of two don't change.
+    fn goes_on_beside(&mut self, one: &Replica, two: &Replica) -> bool {
+        let (before, after) = (one.replayed, two.replayed);
+        puts(&mut self.first, b'r', 100)
+            && finds(&mut self.second, b'r', 104)
+            && one.replayed == before
+            && two.replayed == after
+            && before <= 4
+            && after <= 4
+    }
+
+    /// Whether it does while somebody holds both replicas, after four entries.
+    fn goes_on_while_held(&mut self) -> bool {
+        let added = puts(&mut self.first, b'q', 4);
+        match both_held(&self.store) {
+            Some(both) => self.goes_on_beside(&both.one, &both.two) && added,
+            None => false,
+        }
+    }
+}
+
 /// Both checkpoints are shared with somebody who stopped while copying them. They can't change, and others take their
 /// places.
 #[test]
 fn others_get_a_checkpoint_while_some_are_copied_survives(rt: HostRuntime) {
-    let Some((store, mut first, mut second)) = small(rt.alloc()) else {
+    let Some(mut pair) = new_pair(rt.alloc(), 8) else {
         panic!(rt; "two sessions")
     };
-    assert!(rt; puts(&mut first, b'q', 4));
-    let (Some(one), Some(two)) = (held(&store, 0), held(&store, 1)) else {
-        panic!(rt; "two checkpoints")
-    };
-    let (before, after) = (one.replayed, two.replayed);
-    assert!(rt; puts(&mut first, b'r', 100));
-    assert!(rt; finds(&mut second, b'r', 104));
-    assert!(rt; one.replayed == before && two.replayed == after);
-    assert!(rt; before <= 4 && after <= 4);
+    let goes_on = pair.goes_on_while_held();
+    drop(pair);
+    assert!(rt; goes_on);
 }
 
 #[test]

@@ -1,6 +1,7 @@
 //! A coordinator over two endless stores, beside other clients.
 //!
-//! A test whose name ends in `_survives` passes whether or not one allocation in it fails.
+//! A test whose name ends in `_survives` passes whether or not one allocation in it fails. Sessions are dropped by
+//! calls of `drop`, as in `src/tests.rt`.
 ghost use Rattle.std.specs.Prelude.{◌≡◌, ◌<◌, IfSome, vec_len};
 ghost use Rattle.xa_coordinator.specs.declared.transaction.VoteKind.TheVariants.{Ready as VoteKindReady};
 
@@ -156,22 +157,48 @@ fn reads(store: &Arc<EndlessStore>, letter: u8, place: u64) -> bool {
     let Some(mut session) = taken(store, 2) else {
         return false;
     };
-    finds(&mut session, letter, place) && lists(&mut session, 0)
+    let found = finds(&mut session, letter, place) && lists(&mut session, 0);
+    drop(session);
+    found
+}
+
+/// Two stores.
+#[derive(Drop)]
+struct Stores {
+    north: Arc<EndlessStore>,
+    south: Arc<EndlessStore>,
+}
+
+/// Two new stores of so many rows and sessions each.
+fn two_stores(alloc: Global, rows: u64, sessions: u64) -> Option<Stores> {
+    let north = opened(alloc, rows, sessions)?;
+    let south = opened(alloc, rows, sessions)?;
+    Some(Stores { north, south })
+}
+
+/// Whether so many transactions of a coordinator over two stores commit.
+fn commits_over<R: Wait>(rt: &R, alloc: Global, stores: &Stores, count: u64) -> bool {
+    match begun(alloc, &stores.north, &stores.south) {
+        Some(mut team) => team.commits_each(rt, b'k', count),
+        None => false,
+    }
+}
+
+/// Whether two thousand transactions of a coordinator commit, and another client of each store finds the last.
+fn goes_through<R: Wait>(rt: &R, alloc: Global, stores: &Stores) -> bool {
+    commits_over(rt, alloc, stores, 2_000)
+        && reads(&stores.north, b'k', 10_000)
+        && reads(&stores.south, b'k', 10_000)
 }
 
 /// Two thousand transactions: 10,000 entries in each store, which are 156 laps of 64 rows.
 #[test]
 fn two_thousand_transactions_go_through_two_small_rings(rt: HostRuntime) {
-    let alloc = rt.alloc();
-    let (Some(north), Some(south)) = (opened(alloc, 64, 2), opened(alloc, 64, 2)) else {
-        panic!(rt; "two stores")
+    let goes_through = match two_stores(rt.alloc(), 64, 2) {
+        Some(stores) => goes_through(&rt, rt.alloc(), &stores),
+        None => false,
     };
-    let Some(mut team) = begun(alloc, &north, &south) else {
-        panic!(rt; "a coordinator")
-    };
-    assert!(rt; team.commits_each(&rt, b'k', 2_000));
-    assert!(rt; reads(&north, b'k', 10_000));
-    assert!(rt; reads(&south, b'k', 10_000));
+    assert!(rt; goes_through);
 }
 
 /// Whether so many branches are prepared.
@@ -209,33 +236,94 @@ fn stands(other: &mut EndlessSession) -> bool {
     finds(other, b'k', 1_610) && misses(other, b'u', 1_610) && lists(other, 0)
 }
 
-/// What a recovery does, 200 laps after a coordinator stopped, if both stores then are as they should be.
-fn recovered<R: Wait>(rt: &R, alloc: Global) -> Option<Report> {
-    let north = opened(alloc, 8, 2)?;
-    let south = opened(alloc, 8, 2)?;
-    let mut first = taken(&north, 2)?;
-    let mut second = taken(&south, 2)?;
-    let decisions = stopped(rt, alloc, &north, &south)?;
-    if !goes_round(&mut first) || !goes_round(&mut second) {
-        return None;
+/// A client of each of two stores, beside a coordinator.
+#[derive(Drop)]
+struct Clients {
+    first: EndlessSession,
+    second: EndlessSession,
+}
+
+/// Takes the session of a number of each store.
+fn clients_of(stores: &Stores, number: u64) -> Option<Clients> {
+    let first = taken(&stores.north, number)?;
+    let second = taken(&stores.south, number)?;
+    Some(Clients { first, second })
+}
+
+impl Clients {
+    /// Whether each adds 200 laps to its store, in which two branches are prepared.
+    fn go_round(&mut self) -> bool {
+        goes_round(&mut self.first) && goes_round(&mut self.second)
     }
-    let mut team = Team::over(alloc, &north, &south, decisions)?;
-    let report = team.recovers(rt, alloc)?;
-    if stands(&mut first) && stands(&mut second) {
-        Some(report)
+
+    /// Whether the decided transaction is committed in both stores, and the other rolled back.
+    fn stand(&mut self) -> bool {
+        stands(&mut self.first) && stands(&mut self.second)
+    }
+}
+
+/// What a new coordinator that has these decisions finds and does in a recovery.
+fn recovers<R: Wait>(
+    rt: &R,
+    alloc: Global,
+    stores: &Stores,
+    decisions: Decisions,
+) -> Option<Report> {
+    Team::over(alloc, &stores.north, &stores.south, decisions)?.recovers(rt, alloc)
+}
+
+/// The decisions of a coordinator that stopped 200 laps ago, if both its transactions are still prepared.
+fn stopped_long_ago<R: Wait>(
+    rt: &R,
+    alloc: Global,
+    stores: &Stores,
+    clients: &mut Clients,
+) -> Option<Decisions> {
+    let decisions = stopped(rt, alloc, &stores.north, &stores.south)?;
+    if clients.go_round() {
+        Some(decisions)
     } else {
         None
     }
 }
 
+/// What a recovery does, 200 laps after a coordinator stopped.
+fn recovered_beside<R: Wait>(
+    rt: &R,
+    alloc: Global,
+    stores: &Stores,
+    clients: &mut Clients,
+) -> Option<Report> {
+    let decisions = stopped_long_ago(rt, alloc, stores, clients)?;
+    recovers(rt, alloc, stores, decisions)
+}
+
+/// The same, if both stores then are as they should be.
+fn recovered_in<R: Wait>(rt: &R, alloc: Global, stores: &Stores) -> Option<Report> {
+    let mut clients = clients_of(stores, 2)?;
+    let report = recovered_beside(rt, alloc, stores, &mut clients);
+    let stands = clients.stand();
+    drop(clients);
+    if stands { report } else { None }
+}
+
+/// What a recovery does in two new stores of eight rows.
+fn recovered<R: Wait>(rt: &R, alloc: Global) -> Option<Report> {
+    recovered_in(rt, alloc, &two_stores(alloc, 8, 2)?)
+}
+
+/// Whether a recovery has committed two branches and rolled back two, and missed none.
+fn is_whole(report: &Report) -> bool {
+    report.committed == 2 && report.rolled_back == 2 && report.missing == 0
+}
+
 #[test]
 fn recovery_finds_what_was_prepared_200_laps_ago(rt: HostRuntime) {
-    let Some(report) = recovered(&rt, rt.alloc()) else {
-        panic!(rt; "not recovered")
+    let found = match recovered(&rt, rt.alloc()) {
+        Some(report) => is_whole(&report),
+        None => false,
     };
-    assert_eq!(rt; report.committed, 2);
-    assert_eq!(rt; report.rolled_back, 2);
-    assert_eq!(rt; report.missing, 0);
+    assert!(rt; found);
 }
 
 #[test]
@@ -279,59 +367,86 @@ fn writes_each<R: Wait>(rt: &R, mut session: EndlessSession, letter: u8, count: 
     true
 }
 
+impl Clients {
+    /// Whether so many branches of each commit, each client on a thread of its own.
+    fn write_each<R: Threads + Wait + Sync>(self, rt: &R, count: u64) -> bool {
+        let Clients { first, second } = self;
+        let (left, right) = thread::join(
+            rt,
+            move || writes_each(rt, first, b'a', count),
+            move || writes_each(rt, second, b'b', count),
+        );
+        left && right
+    }
+}
+
 /// The coordinator and another client of each store, each on a thread of its own.
 fn side_by_side<R: Threads + Wait + Sync>(
     rt: &R,
     mut team: Team,
-    first: EndlessSession,
-    second: EndlessSession,
+    clients: Clients,
     count: u64,
 ) -> bool {
-    let (committed, (left, right)) = thread::join(
+    let (committed, written) = thread::join(
         rt,
         move || team.commits_each(rt, b'k', count),
-        move || {
-            thread::join(
-                rt,
-                move || writes_each(rt, first, b'a', count),
-                move || writes_each(rt, second, b'b', count),
-            )
-        },
+        move || clients.write_each(rt, count),
     );
-    committed && left && right
+    committed && written
+}
+
+/// Whether a coordinator writes beside these clients.
+fn beside_clients<R: Threads + Wait + Sync>(
+    rt: &R,
+    alloc: Global,
+    stores: &Stores,
+    clients: Clients,
+    count: u64,
+) -> bool {
+    match begun(alloc, &stores.north, &stores.south) {
+        Some(team) => side_by_side(rt, team, clients, count),
+        None => {
+            drop(clients);
+            false
+        }
+    }
 }
 
 /// Whether a coordinator and another client of each store write side by side.
-fn beside<R: Threads + Wait + Sync>(
-    rt: &R,
-    alloc: Global,
-    north: &Arc<EndlessStore>,
-    south: &Arc<EndlessStore>,
-    count: u64,
-) -> bool {
-    let (Some(first), Some(second)) = (taken(north, 2), taken(south, 2)) else {
-        return false;
-    };
-    match begun(alloc, north, south) {
-        Some(team) => side_by_side(rt, team, first, second, count),
+fn beside<R: Threads + Wait + Sync>(rt: &R, alloc: Global, stores: &Stores, count: u64) -> bool {
+    match clients_of(stores, 2) {
+        Some(clients) => beside_clients(rt, alloc, stores, clients, count),
         None => false,
     }
+}
+
+/// Whether a third client of a store finds the coordinator's row, and that of another client, and no prepared branch.
+fn finds_both(store: &Arc<EndlessStore>, letter: u8) -> bool {
+    let Some(mut third) = taken(store, 3) else {
+        return false;
+    };
+    let found = finds(&mut third, b'k', 9_000)
+        && finds(&mut third, letter, 9_000)
+        && lists(&mut third, 0);
+    drop(third);
+    found
+}
+
+/// Whether a thousand transactions commit beside other clients, and third clients find what was written.
+fn writes_beside<R: Threads + Wait + Sync>(rt: &R, alloc: Global, stores: &Stores) -> bool {
+    beside(rt, alloc, stores, 1_000)
+        && finds_both(&stores.north, b'a')
+        && finds_both(&stores.south, b'b')
 }
 
 /// A thousand transactions beside a thousand branches of other clients: 9,000 entries, or 281 laps of 32 rows.
 #[test]
 fn other_clients_write_beside_a_coordinator(rt: HostRuntime) {
-    let alloc = rt.alloc();
-    let (Some(north), Some(south)) = (opened(alloc, 32, 3), opened(alloc, 32, 3)) else {
-        panic!(rt; "two stores")
+    let written = match two_stores(rt.alloc(), 32, 3) {
+        Some(stores) => writes_beside(&rt, rt.alloc(), &stores),
+        None => false,
     };
-    assert!(rt; beside(&rt, alloc, &north, &south, 1_000));
-    let (Some(mut first), Some(mut second)) = (taken(&north, 3), taken(&south, 3)) else {
-        panic!(rt; "two sessions")
-    };
-    assert!(rt; finds(&mut first, b'k', 9_000) && finds(&mut first, b'a', 9_000));
-    assert!(rt; finds(&mut second, b'k', 9_000) && finds(&mut second, b'b', 9_000));
-    assert!(rt; lists(&mut first, 0) && lists(&mut second, 0));
+    assert!(rt; written);
 }
 
 /// Writes the rows of so many keys of two letters each.
@@ -350,30 +465,86 @@ fn fills<R: Wait>(rt: &R, session: &mut EndlessSession, count: u16) -> bool {
     true
 }
 
+/// A client of a store: its session, and the letter of its rows.
+#[derive(Drop)]
+struct Client {
+    session: EndlessSession,
+    letter: u8,
+}
+
+/// The client of a number. The first has the letter `b`.
+fn client_of(store: &Arc<EndlessStore>, number: u64) -> Option<Client> {
+    let session = taken(store, number)?;
+    let after = u8::try_from(number).unwrap_or(0);
+    let letter = b'a'.wrapping_add(after);
+    Some(Client { session, letter })
+}
+
+/// Whether so many branches of a client commit.
+fn client_writes<R: Wait>(rt: &R, client: Client, count: u64) -> bool {
+    let Client { session, letter } = client;
+    writes_each(rt, session, letter, count)
+}
+
+/// Two clients of one store.
+#[derive(Drop)]
+struct Two {
+    one: Client,
+    other: Client,
+}
+
+/// The client of a number, and the next.
+fn two_clients(store: &Arc<EndlessStore>, number: u64) -> Option<Two>
+    requires { number < 20 }
+{
+    let one = client_of(store, number)?;
+    let other = client_of(store, number + 1)?;
+    Some(Two { one, other })
+}
+
 /// Whether so many branches of each of two clients commit, each client on a thread of its own.
-fn two_write<R: Threads + Wait + Sync>(
-    rt: &R,
-    first: (EndlessSession, u8),
-    second: (EndlessSession, u8),
-    count: u64,
-) -> bool {
+fn two_write<R: Threads + Wait + Sync>(rt: &R, two: Two, count: u64) -> bool {
+    let Two { one, other } = two;
     let (left, right) = thread::join(
         rt,
-        move || writes_each(rt, first.0, first.1, count),
-        move || writes_each(rt, second.0, second.1, count),
+        move || client_writes(rt, one, count),
+        move || client_writes(rt, other, count),
     );
     left && right
 }
 
-/// The session of a number, and the letter of its client: `b` for the first.
-fn lettered(store: &Arc<EndlessStore>, number: u64) -> Option<(EndlessSession, u8)> {
-    let session = taken(store, number)?;
-    let after = u8::try_from(number).unwrap_or(0);
-    Some((session, b'a'.wrapping_add(after)))
+/// Four clients of one store.
+#[derive(Drop)]
+struct Four {
+    first: Two,
+    second: Two,
+}
+
+/// The client of a number, and the next three.
+fn four_clients(store: &Arc<EndlessStore>, number: u64) -> Option<Four>
+    requires { number < 16 }
+{
+    let first = two_clients(store, number)?;
+    let Some(second) = two_clients(store, number + 2) else {
+        drop(first);
+        return None;
+    };
+    Some(Four { first, second })
+}
+
+/// Whether so many branches of each of four clients commit, each client on a thread of its own.
+fn four_write<R: Threads + Wait + Sync>(rt: &R, four: Four, count: u64) -> bool {
+    let Four { first, second } = four;
+    let (left, right) = thread::join(
+        rt,
+        move || two_write(rt, first, count),
+        move || two_write(rt, second, count),
+    );
+    left && right
 }
 
 /// Whether so many branches of sessions `from` to `from + 3` commit, each on a thread of its own.
-fn four_write<R: Threads + Wait + Sync>(
+fn four_write_from<R: Threads + Wait + Sync>(
     rt: &R,
     store: &Arc<EndlessStore>,
     from: u64,
@@ -381,26 +552,18 @@ fn four_write<R: Threads + Wait + Sync>(
 ) -> bool
     requires { from < 16 }
 {
-    let (Some(one), Some(two)) = (lettered(store, from), lettered(store, from + 1)) else {
-        return false;
-    };
-    let (Some(three), Some(four)) = (lettered(store, from + 2), lettered(store, from + 3)) else {
-        return false;
-    };
-    let (left, right) = thread::join(
-        rt,
-        move || two_write(rt, one, two, count),
-        move || two_write(rt, three, four, count),
-    );
-    left && right
+    match four_clients(store, from) {
+        Some(four) => four_write(rt, four, count),
+        None => false,
+    }
 }
 
 /// Whether so many branches of sessions 1 to 8 commit, each on a thread of its own.
 fn eight_write<R: Threads + Wait + Sync>(rt: &R, store: &Arc<EndlessStore>, count: u64) -> bool {
     let (left, right) = thread::join(
         rt,
-        move || four_write(rt, store, 1, count),
-        move || four_write(rt, store, 5, count),
+        move || four_write_from(rt, store, 1, count),
+        move || four_write_from(rt, store, 5, count),
     );
     left && right
 }
@@ -415,17 +578,25 @@ fn each_is_found(session: &mut EndlessSession, place: u64) -> bool {
     true
 }
 
+/// Whether session 9 writes 3,000 rows, and finds those of eight clients after 100 branches of each.
+fn eight_are_answered<R: Threads + Wait + Sync>(rt: &R, store: &Arc<EndlessStore>) -> bool {
+    let Some(mut last) = taken(store, 9) else {
+        return false;
+    };
+    let answered = fills(rt, &mut last, 3_000)
+        && eight_write(rt, store, 100)
+        && each_is_found(&mut last, 6_200);
+    drop(last);
+    answered
+}
+
 /// A copy of the rows takes longer than 64 entries of eight threads, so most sessions are behind most of the time. Each
 /// statement is answered all the same: 3,000 rows and 3,200 entries, or 96 laps.
 #[test]
 fn eight_threads_are_answered_in_a_small_ring_with_many_rows(rt: HostRuntime) {
-    let Some(store) = opened(rt.alloc(), 64, 9) else {
-        panic!(rt; "a store")
+    let answered = match opened(rt.alloc(), 64, 9) {
+        Some(store) => eight_are_answered(&rt, &store),
+        None => false,
     };
-    let Some(mut last) = taken(&store, 9) else {
-        panic!(rt; "a session")
-    };
-    assert!(rt; fills(&rt, &mut last, 3_000));
-    assert!(rt; eight_write(&rt, &store, 100));
-    assert!(rt; each_is_found(&mut last, 6_200));
+    assert!(rt; answered);
 }
