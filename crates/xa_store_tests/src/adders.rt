@@ -2,6 +2,7 @@
 ghost use Rattle.std.specs.Prelude.{◌≡◌, IfSome};
 
 use decision_log::{AddFault, DecisionLog};
+use std::process::Abort;
 use std::thread;
 use std::thread::Threads;
 use xa_words::Entry;
@@ -97,18 +98,36 @@ where
         move || add_each(log, first),
         move || add_each(log, second),
     );
-    let ((mut first, first_added), (mut second, second_added)) = (first, second);
-    first_added && second_added && saw_each(log, &mut first, &mut second)
+    first.1 && second.1 && saw_each(log, first.0, second.0)
+}
+
+/// Two threads add to a log, as `two_threads_add` says.
+pub(crate) fn add_all<L: DecisionLog + Sync, R: Abort + Threads>(
+    rt: &R,
+    log: &L,
+    first: L::Pass,
+    second: L::Pass,
+)
+where
+    L::Pass: Send + Drop,
+    requires first { L.belongs_to first ≡ L.identity log.now }
+    requires second { L.belongs_to second ≡ L.identity log.now }
+{
+    assert!(rt; two_threads_add(rt, log, first, second));
 }
 
 /// Whether after a meeting the second pass has seen what both added, each one's in its order, and nothing
 /// else.
-fn saw_each<L: DecisionLog>(log: &L, first: &mut L::Pass, second: &mut L::Pass) -> bool
-    requires first { L.belongs_to first.old ≡ L.identity log.now }
-    requires second { L.belongs_to second.old ≡ L.identity log.now }
+fn saw_each<L: DecisionLog>(log: &L, mut first: L::Pass, mut second: L::Pass) -> bool
+where
+    L::Pass: Drop,
+    requires first { L.belongs_to first ≡ L.identity log.now }
+    requires second { L.belongs_to second ≡ L.identity log.now }
 {
-    log.meet(first, second);
-    let one = log.number(first);
-    let two = log.number(second);
-    log.length(second) == 2 * EACH && has_each(log, second, one) && has_each(log, second, two)
+    log.meet(&mut first, &mut second);
+    let one = log.number(&first);
+    let two = log.number(&second);
+    log.length(&second) == 2 * EACH
+        && has_each(log, &mut second, one)
+        && has_each(log, &mut second, two)
 }

@@ -1,4 +1,6 @@
 //! Texts that no line of a script holds; copies, orders and kinds of bytes.
+ghost use Rattle.std.specs.Prelude.{◌≤◌, length};
+
 use std::cmp::Ordering;
 use std::test::Fail;
 use xa_statement::{SyntaxFault, read_statement};
@@ -23,123 +25,217 @@ X'ff'
 /// Keys in ascending order, the least one before the first line.
 const KEYS: &str = "'a'\n'ab'\nX'6180'\n'b'\n";
 
-fn xid_of(text: &str) -> Result<Xid, Fail> {
-    Ok(read_xid(text.as_bytes(), 0).ok().ok_or("an identifier")?.0)
+/// The identifier that a text spells.
+fn xid_of(text: &[u8]) -> Option<Xid> {
+    Some(read_xid(text, 0).ok()?.0)
 }
 
-fn key_of(text: &str) -> Result<Key, Fail> {
-    let bytes = read_literal(text.as_bytes(), 0).ok().ok_or("a literal")?.0;
-    Ok(Key::of(bytes).ok_or("a key")?)
+/// The key that a literal spells.
+fn key_of(text: &[u8]) -> Option<Key> {
+    Key::of(read_literal(text, 0).ok()?.0)
+}
+
+/// Whether an identifier stands before another one, and each is the same as itself alone.
+fn xid_stands_before(before: &Xid, xid: &Xid) -> bool {
+    order_of_xids(before, xid) == Ordering::Less
+        && order_of_xids(xid, before) == Ordering::Greater
+        && order_of_xids(xid, xid) == Ordering::Equal
+        && same_xids(xid, xid)
+        && !same_xids(before, xid)
+}
+
+/// Whether texts spell two identifiers, of which the first stands before the second.
+fn spell_xids_in_order(before: &[u8], text: &[u8]) -> bool {
+    match (xid_of(before), xid_of(text)) {
+        (Some(before), Some(xid)) => xid_stands_before(&before, &xid),
+        _ => false,
+    }
 }
 
 #[test]
-fn xids_stand_by_format_then_gtrid_then_bqual(rt: HostRuntime) -> Result<(), Fail> {
-    let mut before = xid_of("'','',0")?;
+fn xids_stand_by_format_then_gtrid_then_bqual(rt: HostRuntime) {
+    let mut before = b"'','',0".as_slice();
     for line in XIDS.lines() {
-        let xid = xid_of(line)?;
-        assert_eq!(rt; order_of_xids(&before, &xid), Ordering::Less, "{line}");
-        assert_eq!(rt; order_of_xids(&xid, &before), Ordering::Greater, "{line}");
-        assert_eq!(rt; order_of_xids(&xid, &xid), Ordering::Equal, "{line}");
-        assert!(rt;
-            same_xids(&xid, &xid) && !same_xids(&before, &xid),
-            "{line}"
-        );
-        before = xid;
+        assert!(rt; spell_xids_in_order(before, line.as_bytes()), "{line}");
+        before = line.as_bytes();
     }
-    Ok(())
+}
+
+/// Whether a key stands before another one, and the other ties with itself.
+fn key_stands_before(before: &Key, key: &Key) -> bool {
+    order_of_keys(before, key) == Ordering::Less
+        && order_of_keys(key, before) == Ordering::Greater
+        && order_of_keys(key, key) == Ordering::Equal
+}
+
+/// Whether literals spell two keys, of which the first stands before the second.
+fn spell_keys_in_order(before: &[u8], text: &[u8]) -> bool {
+    match (key_of(before), key_of(text)) {
+        (Some(before), Some(key)) => key_stands_before(&before, &key),
+        _ => false,
+    }
 }
 
 #[test]
-fn a_key_stands_before_those_that_it_begins(rt: HostRuntime) -> Result<(), Fail> {
-    let mut before = key_of("X'00'")?;
+fn a_key_stands_before_those_that_it_begins(rt: HostRuntime) {
+    let mut before = b"X'00'".as_slice();
     for line in KEYS.lines() {
-        let key = key_of(line)?;
-        assert_eq!(rt; order_of_keys(&before, &key), Ordering::Less, "{line}");
-        assert_eq!(rt; order_of_keys(&key, &before), Ordering::Greater, "{line}");
-        assert_eq!(rt; order_of_keys(&key, &key), Ordering::Equal, "{line}");
-        before = key;
+        assert!(rt; spell_keys_in_order(before, line.as_bytes()), "{line}");
+        before = line.as_bytes();
     }
-    Ok(())
+}
+
+/// The number of a session that is made of it.
+fn number_of(number: u64) -> Option<u64> {
+    Some(SessionNo::of(number)?.get())
 }
 
 #[test]
 fn session_numbers_go_from_1_to_16(rt: HostRuntime) {
     for number in 0..20 {
-        let session = SessionNo::of(number).map(|it| it.get());
         let wanted = if number == 0 || number > 16 {
             None
         } else {
             Some(number)
         };
-        assert_eq!(rt; session, wanted, "{number}");
+        assert!(rt; number_of(number) == wanted, "{number}");
     }
-    assert!(rt; SessionNo::of(u64::MAX).is_none());
+    assert!(rt; number_of(u64::MAX).is_none());
 }
 
-#[test]
-fn copies_equal_what_they_were_made_from(rt: HostRuntime) -> Result<(), Fail> {
-    let text = Bytes::try_from(b"\x00\xff".as_slice())?;
-    assert!(rt; copy_of(&text) == text);
-    let xid = xid_of("'g','b',18446744073709551615")?;
-    assert!(rt; xid.copy() == xid);
-    let row = key_of("'k'")?;
-    assert!(rt; row.copy() == row);
-    let put = Statement::Put(row, text);
-    assert!(rt; put.copy() == put);
-    assert!(rt; put.copy() != Statement::Disconnect);
+/// Whether a copy of a text of two bytes equals it.
+fn text_is_copied() -> bool {
+    match Bytes::try_from(b"\x00\xff".as_slice()) {
+        Ok(text) => copy_of(&text) == text,
+        Err(_) => false,
+    }
+}
+
+/// Whether the copies of an identifier, and of the statement that commits its branch, equal them.
+fn xid_is_copied() -> bool {
+    let Some(xid) = xid_of(b"'g','b',18446744073709551615") else {
+        return false;
+    };
+    if xid.copy() != xid {
+        return false;
+    }
     let commit = Statement::Commit {
         xid,
         one_phase: true,
     };
-    assert!(rt; commit.copy() == commit);
-    Ok(())
+    commit.copy() == commit
+}
+
+/// Whether the copies of a key, and of a statement that writes its row, equal them.
+fn key_is_copied() -> bool {
+    let (Some(row), Ok(text)) = (key_of(b"'k'"), Bytes::try_from(b"\x00\xff".as_slice())) else {
+        return false;
+    };
+    if row.copy() != row {
+        return false;
+    }
+    let put = Statement::Put(row, text);
+    put.copy() == put && put.copy() != Statement::Disconnect
+}
+
+#[test]
+fn copies_equal_what_they_were_made_from(rt: HostRuntime) {
+    assert!(rt; text_is_copied());
+    assert!(rt; xid_is_copied());
+    assert!(rt; key_is_copied());
+}
+
+/// Whether the blanks before a text are left out.
+fn blanks_are_left_out() -> bool {
+    skip_blanks(b" \t\r\nXA ") == b"XA ".as_slice() && skip_blanks(b"  ").is_empty()
+}
+
+/// Whether a text is cut behind the last byte of a word.
+fn words_are_cut() -> bool {
+    let (run, rest) = ByteClass::Word.split(b"aZ09_$\x80\xff-a");
+    run == b"aZ09_$\x80\xff".as_slice() && rest == b"-a".as_slice()
 }
 
 #[test]
 fn texts_are_cut_where_a_kind_of_byte_ends(rt: HostRuntime) {
-    assert!(rt; skip_blanks(b" \t\r\nXA ") == b"XA ".as_slice());
-    assert!(rt; skip_blanks(b"  ").is_empty());
-    let (run, rest) = ByteClass::Word.split(b"aZ09_$\x80\xff-a");
-    assert!(rt; run == b"aZ09_$\x80\xff".as_slice());
-    assert!(rt; rest == b"-a".as_slice());
+    assert!(rt; blanks_are_left_out());
+    assert!(rt; words_are_cut());
     assert!(rt; ByteClass::Decimal.has(b'9') && !ByteClass::Decimal.has(b'a'));
     assert!(rt; ByteClass::Hexadecimal.has(b'F') && !ByteClass::Hexadecimal.has(b'g'));
 }
 
-#[test]
-fn line_feeds_are_blanks_and_places_count_bytes(rt: HostRuntime) {
-    let recover = Statement::Recover { convert: false };
-    assert!(rt; read_statement(b"\t XA\r\nRECOVER \n;\t") == Ok(recover));
-    assert!(rt; read_statement(b" \n\t\r") == Err(SyntaxFault { at: 4 }));
-    assert!(rt; read_statement(b"\nGET '\n\t;,' x") == Err(SyntaxFault { at: 12 }));
-    let place = read_xid(b"XA END 'a',\"\",0x10 ;", 6).map(|it| it.1);
-    assert!(rt; place == Ok(18));
-    let place = read_literal(b"k '\x00\xff'", 2).map(|it| it.1);
-    assert!(rt; place == Ok(6));
+/// Whether a text is no statement, and is wrong at this byte.
+fn is_wrong_at(text: &[u8], at: u64) -> bool {
+    matches!(read_statement(text), Err(SyntaxFault { at: found }) if found == at)
+}
+
+/// Whether a text is `XA RECOVER`.
+fn is_recover(text: &[u8]) -> bool {
+    matches!(
+        read_statement(text),
+        Ok(Statement::Recover { convert: false })
+    )
+}
+
+/// Whether an identifier that begins at a place ends at another one.
+fn xid_ends_at(text: &[u8], at: usize, end: usize) -> bool
+    requires { at ≤ length text.now }
+{
+    match read_xid(text, at) {
+        Ok((_, next)) => next == end,
+        Err(_) => false,
+    }
+}
+
+/// Whether a literal that begins at a place ends at another one.
+fn literal_ends_at(text: &[u8], at: usize, end: usize) -> bool
+    requires { at ≤ length text.now }
+{
+    match read_literal(text, at) {
+        Ok((_, next)) => next == end,
+        Err(_) => false,
+    }
 }
 
 #[test]
-fn every_byte_may_stand_between_quotes_and_few_outside(rt: HostRuntime) -> Result<(), Fail> {
-    for byte in 0..=255u8 {
-        let wanted = if byte == b'"' || byte == b'\\' {
-            Err(SyntaxFault { at: 3 })
-        } else {
-            Ok(Statement::Get(Key::of(Bytes::try_from([byte].as_slice())?).ok_or("a key")?))
-        };
-        assert!(rt;
-            read_statement(&[b'G', b'E', b'T', b'"', byte, b'"']) == wanted,
-            "{byte}"
-        );
-        let mut text = Vec::from_slice(rt.alloc(), b"XA RECOVER ")?;
-        text.push(byte)?;
-        let wanted = if b" \t\n\r;".contains(&byte) {
-            Ok(Statement::Recover { convert: false })
-        } else {
-            Err(SyntaxFault { at: 11 })
-        };
-        assert!(rt; read_statement(text.as_slice()) == wanted, "{byte}");
+fn line_feeds_are_blanks_and_places_count_bytes(rt: HostRuntime) {
+    assert!(rt; is_recover(b"\t XA\r\nRECOVER \n;\t"));
+    assert!(rt; is_wrong_at(b" \n\t\r", 4));
+    assert!(rt; is_wrong_at(b"\nGET '\n\t;,' x", 12));
+    assert!(rt; xid_ends_at(b"XA END 'a',\"\",0x10 ;", 6, 18));
+    assert!(rt; literal_ends_at(b"k '\x00\xff'", 2, 6));
+}
+
+/// Whether a byte is read as the key between the quotes of a `GET`. A quote and a backslash can't be.
+fn is_read_in_quotes(byte: u8) -> bool {
+    let text = [b'G', b'E', b'T', b'"', byte, b'"'];
+    if byte == b'"' || byte == b'\\' {
+        return is_wrong_at(&text, 3);
     }
-    Ok(())
+    match read_statement(&text) {
+        Ok(Statement::Get(key)) => key.as_slice() == [byte].as_slice(),
+        _ => false,
+    }
+}
+
+/// Whether a byte that follows `XA RECOVER ` is read only if it is a blank or the semicolon.
+fn is_read_outside(byte: u8) -> bool {
+    let text = [
+        b'X', b'A', b' ', b'R', b'E', b'C', b'O', b'V', b'E', b'R', b' ', byte,
+    ];
+    if b" \t\n\r;".contains(&byte) {
+        is_recover(&text)
+    } else {
+        is_wrong_at(&text, 11)
+    }
+}
+
+#[test]
+fn every_byte_may_stand_between_quotes_and_few_outside(rt: HostRuntime) {
+    for byte in 0..=255u8 {
+        assert!(rt; is_read_in_quotes(byte), "{byte}");
+        assert!(rt; is_read_outside(byte), "{byte}");
+    }
 }
 
 #[test]
@@ -148,6 +244,6 @@ fn a_megabyte_without_its_closing_quote_is_read_once(rt: HostRuntime) -> Result<
     for _ in 0..65536 {
         text.extend_from_slice(b"0123456789abcdef")?;
     }
-    assert!(rt; read_statement(text.as_slice()) == Err(SyntaxFault { at: 9 }));
+    assert!(rt; is_wrong_at(text.as_slice(), 9));
     Ok(())
 }

@@ -5,7 +5,7 @@ use crate::{is_answer, split_case};
 use std::alloc::Global;
 use std::process::Abort;
 use std::sync::Wait;
-use xa_coordinator::{Fused, Speak};
+use xa_coordinator::{Decisions, Fused, Speak};
 use xa_lines::{Answer, split_line};
 use xa_manager::{Call, Manager, Response, read_call, write_response};
 
@@ -26,6 +26,17 @@ fn answered<S: Speak, T: Speak, R: Abort + Wait>(
     response
 }
 
+/// The text of a response. If there was no memory for it, it is written again.
+fn written(rt: &impl Abort, alloc: Global, decisions: &Decisions, response: &Response) -> Answer {
+    if let Ok(text) = write_response(alloc, Vec::new(alloc), decisions, response) {
+        return text;
+    }
+    let Ok(text) = write_response(alloc, Vec::new(alloc), decisions, response) else {
+        panic!(rt; "refused twice")
+    };
+    text
+}
+
 /// What a manager answers to a call, as text.
 pub(crate) fn told<S: Speak, T: Speak, R: Abort + Wait>(
     rt: &R,
@@ -34,12 +45,8 @@ pub(crate) fn told<S: Speak, T: Speak, R: Abort + Wait>(
     call: &[u8],
 ) -> Answer {
     let response = answered(rt, alloc, manager, call);
-    if let Ok(text) = write_response(alloc, Vec::new(alloc), manager.decisions(), &response) {
-        return text;
-    }
-    let Ok(text) = write_response(alloc, Vec::new(alloc), manager.decisions(), &response) else {
-        panic!(rt; "refused twice")
-    };
+    let text = written(rt, alloc, manager.decisions(), &response);
+    drop(response);
     text
 }
 

@@ -165,36 +165,57 @@ fn reads(
     }
 }
 
-/// Coordinators of two names over the first two sessions of two stores.
-fn two_names<'a>(
-    rt: &impl Abort,
+/// Coordinators of two names over the first two sessions of two stores leave each other's branches.
+fn two_names<R: Abort + Wait>(
+    rt: &R,
     alloc: Global,
-    one: &'a Store,
+    one: &Store,
     passes_0: &mut Vec<Pass>,
-    two: &'a Store,
+    two: &Store,
     passes_1: &mut Vec<Pass>,
-) -> (Coordinator<Session<'a, Log>>, Coordinator<Session<'a, Log>>)
+)
     requires one { All (λ pass. log_of pass ≡ identity_of one.now.log) passes_0.old.items }
     requires two { All (λ pass. log_of pass ≡ identity_of two.now.log) passes_1.old.items }
-    ensures first { vec_len result.0.stores ≡ 2 }
-    ensures second { vec_len result.1.stores ≡ 2 }
 {
     let (first_0, second_0) = both(rt, one, passes_0);
     let (first_1, second_1) = both(rt, two, passes_1);
-    let first = over(rt, alloc, b'c', first_0, first_1);
-    (first, over(rt, alloc, b'd', second_0, second_1))
+    let mut first = over(rt, alloc, b'c', first_0, first_1);
+    let mut second = over(rt, alloc, b'd', second_0, second_1);
+    names_stand_apart(rt, alloc, &mut first, &mut second);
+    drop(first);
+    drop(second);
+}
+
+/// Whether another client finds what coordinators of two names have left: the row of one of them.
+fn finds_one<R: Abort + Wait>(
+    rt: &R,
+    alloc: Global,
+    one: &Store,
+    mut passes_0: Vec<Pass>,
+    two: &Store,
+    mut passes_1: Vec<Pass>,
+) -> bool
+    requires one { All (λ pass. log_of pass ≡ identity_of one.now.log) passes_0.items }
+    requires two { All (λ pass. log_of pass ≡ identity_of two.now.log) passes_1.items }
+{
+    let mut reader = next_session(rt, one, &mut passes_0);
+    two_names(rt, alloc, one, &mut passes_0, two, &mut passes_1);
+    drop(passes_0);
+    drop(passes_1);
+    let is_so = reads(rt, alloc, &mut reader, b"GET 'k'", b"NONE")
+        && reads(rt, alloc, &mut reader, b"GET 'm'", b"VALUE 0x76");
+    drop(reader);
+    is_so
 }
 
 #[test]
 fn coordinators_of_two_names_leave_each_others_branches(rt: HostRuntime) {
-    let alloc = rt.alloc();
-    let (one, mut passes_0) = opened(&rt, alloc, 32, 3);
-    let (two, mut passes_1) = opened(&rt, alloc, 32, 2);
-    let mut reader = next_session(&rt, &one, &mut passes_0);
-    let (mut first, mut second) = two_names(&rt, alloc, &one, &mut passes_0, &two, &mut passes_1);
-    names_stand_apart(&rt, alloc, &mut first, &mut second);
-    assert!(rt; reads(&rt, alloc, &mut reader, b"GET 'k'", b"NONE"));
-    assert!(rt; reads(&rt, alloc, &mut reader, b"GET 'm'", b"VALUE 0x76"));
+    let (one, passes_0) = opened(&rt, rt.alloc(), 32, 3);
+    let (two, passes_1) = opened(&rt, rt.alloc(), 32, 2);
+    let is_so = finds_one(&rt, rt.alloc(), &one, passes_0, &two, passes_1);
+    drop(one);
+    drop(two);
+    assert!(rt; is_so);
 }
 
 /// Both stores vote, and the transaction is decided or isn't. In full stores neither its end nor a recovery
@@ -253,6 +274,7 @@ fn votes_over<R: Abort + Wait>(
     let second = joined(rt, two, own_1);
     let mut coordinator = over(rt, alloc, b'c', first, second);
     votes(rt, alloc, &mut coordinator, decisions, decides, is_full);
+    drop(coordinator);
 }
 
 /// Another coordinator of the name commits both branches, or rolls them back, and then finds nothing.
@@ -278,7 +300,21 @@ fn finds(rt: &impl Wait, alloc: Global, reader: &mut Session<'_, Log>, decides: 
     reads(rt, alloc, reader, b"GET 'k'", wanted)
 }
 
-/// Another coordinator of the name recovers in two stores, and their readers find what was decided.
+/// Another coordinator of the name recovers by these sessions.
+fn ends_by<R: Abort + Wait>(
+    rt: &R,
+    alloc: Global,
+    first: Session<'_, Log>,
+    second: Session<'_, Log>,
+    decisions: &mut Decisions,
+    decides: bool,
+) {
+    let mut anew = over(rt, alloc, b'c', first, second);
+    ends(rt, alloc, &mut anew, decisions, decides);
+    drop(anew);
+}
+
+/// Whether readers of two stores find what was decided, once another coordinator of the name has recovered there.
 fn ends_over<R: Abort + Wait>(
     rt: &R,
     alloc: Global,
@@ -288,16 +324,46 @@ fn ends_over<R: Abort + Wait>(
     mut passes_1: Vec<Pass>,
     decisions: &mut Decisions,
     decides: bool,
-)
+) -> bool
     requires one { All (λ pass. log_of pass ≡ identity_of one.now.log) passes_0.items }
     requires two { All (λ pass. log_of pass ≡ identity_of two.now.log) passes_1.items }
 {
-    let (first, mut reader_0) = both(rt, one, &mut passes_0);
-    let (second, mut reader_1) = both(rt, two, &mut passes_1);
-    let mut anew = over(rt, alloc, b'c', first, second);
-    ends(rt, alloc, &mut anew, decisions, decides);
-    assert!(rt; finds(rt, alloc, &mut reader_0, decides));
-    assert!(rt; finds(rt, alloc, &mut reader_1, decides));
+    let mut reader_0 = next_session(rt, one, &mut passes_0);
+    let mut reader_1 = next_session(rt, two, &mut passes_1);
+    let first = next_session(rt, one, &mut passes_0);
+    let second = next_session(rt, two, &mut passes_1);
+    drop(passes_0);
+    drop(passes_1);
+    ends_by(rt, alloc, first, second, decisions, decides);
+    let is_so = finds(rt, alloc, &mut reader_0, decides)
+        && finds(rt, alloc, &mut reader_1, decides);
+    drop(reader_0);
+    drop(reader_1);
+    is_so
+}
+
+/// Both stores are renewed once their readers have left them, and another coordinator of the name recovers there.
+fn ends_renewed<R: Abort + Wait>(
+    rt: &R,
+    alloc: Global,
+    one: Store,
+    reader_0: Pass,
+    two: Store,
+    reader_1: Pass,
+    decisions: &mut Decisions,
+    decides: bool,
+)
+    requires one { log_of reader_0 ≡ identity_of one.log }
+    requires two { log_of reader_1 ≡ identity_of two.log }
+{
+    let (one, passes_0) = renewed(rt, alloc, one, reader_0);
+    let (two, passes_1) = renewed(rt, alloc, two, reader_1);
+    let is_so = ends_over(
+        rt, alloc, &one, passes_0, &two, passes_1, decisions, decides,
+    );
+    drop(one);
+    drop(two);
+    assert!(rt; is_so);
 }
 
 /// Both stores vote, the coordinator is gone with its sessions, and the stores are renewed. Another one of
@@ -319,15 +385,13 @@ fn goes_on_renewed<R: Abort + Wait>(rt: &R, alloc: Global, capacity: u64, decide
         decides,
         is_full,
     );
-    let (one, passes_0) = renewed(rt, alloc, one, reader_0);
-    let (two, passes_1) = renewed(rt, alloc, two, reader_1);
-    ends_over(
+    ends_renewed(
         rt,
         alloc,
-        &one,
-        passes_0,
-        &two,
-        passes_1,
+        one,
+        reader_0,
+        two,
+        reader_1,
         &mut decisions,
         decides,
     );
@@ -348,8 +412,11 @@ fn spends<S: Speak, R: Abort + Wait>(rt: &R, alloc: Global, coordinator: &Coordi
         assert!(rt; coordinator.begin(&mut decisions).is_ok());
     }
     let begun = coordinator.begin(&mut decisions);
-    assert!(rt; matches!(begun, Err(BeginFault::NumbersSpent)));
-    assert!(rt; !decisions.is_decided(1_000_000) && !decisions.is_decided(0));
+    let is_spent = matches!(begun, Err(BeginFault::NumbersSpent));
+    drop(begun);
+    let has_none = !decisions.is_decided(1_000_000) && !decisions.is_decided(0);
+    drop(decisions);
+    assert!(rt; is_spent && has_none);
 }
 
 #[test]
@@ -359,6 +426,9 @@ fn numbers_are_spent(rt: HostRuntime) {
     let (first, second) = both(&rt, &store, &mut passes);
     let coordinator = over(&rt, alloc, b'c', first, second);
     spends(&rt, alloc, &coordinator);
+    drop(coordinator);
+    drop(passes);
+    drop(store);
 }
 
 #[test]

@@ -4,8 +4,9 @@ ghost use Rattle.std.specs.List.{All};
 ghost use Rattle.xa_store.specs.Passes.{identity_of, log_of};
 
 use crate::calls::{calls, is_told, told};
+use crate::seats::Seats;
 use crate::split_case;
-use crate::stores::{both, opened, pushed};
+use crate::stores::{both, opened};
 use std::alloc::Global;
 use std::process::Abort;
 use std::sync::Wait;
@@ -177,42 +178,39 @@ fn recovers<S: Speak, T: Speak, R: Abort + Wait>(
 }
 
 /// The sessions of the coordinator, and the other clients'.
-#[derive(Drop)]
-struct Seats<'a> {
-    sessions: Vec<Fused<Session<'a, Log>>>,
-    readers: Vec<Session<'a, Log>>,
-}
+type TwoSeats<'a> = Seats<Session<'a, Log>, Session<'a, Log>>;
 
 /// Seats both sessions of a store.
-fn seat<'a>(rt: &impl Abort, seats: &mut Seats<'a>, store: &'a Store, mut passes: Vec<Pass>)
+fn seat<'a>(rt: &impl Abort, seats: &mut TwoSeats<'a>, store: &'a Store, mut passes: Vec<Pass>)
     requires { All (λ pass. log_of pass ≡ identity_of store.now.log) passes.items }
 {
     let (session, reader) = both(rt, store, &mut passes);
-    pushed(rt, &mut seats.sessions, Fused::new(session, u64::MAX));
-    pushed(rt, &mut seats.readers, reader);
+    drop(passes);
+    seats.seat(rt, session, reader);
 }
 
 /// A coordinator of these sessions takes a course.
-fn swept_over<R: Abort + Wait>(rt: &R, alloc: Global, seats: Seats<'_>, course: Course) {
-    let Seats { sessions, readers } = seats;
-    if sessions.len() != 2 || readers.len() != 2 {
-        panic!(rt; "two seats")
-    }
-    let mut manager = Manager::new(alloc, sessions, readers);
+fn swept_over<S: Speak + Drop, T: Speak + Drop, R: Abort + Wait>(
+    rt: &R,
+    alloc: Global,
+    seats: Seats<S, T>,
+    course: Course,
+) {
+    let mut manager = seats.manager(rt, alloc, 2);
     recovers(rt, alloc, &mut manager, course);
+    drop(manager);
 }
 
 /// A coordinator of two stores takes a course.
 fn swept<R: Abort + Wait>(rt: &R, alloc: Global, course: Course) {
     let (one, passes_0) = opened(rt, alloc, 16, 2);
     let (two, passes_1) = opened(rt, alloc, 16, 2);
-    let mut seats = Seats {
-        sessions: Vec::new(alloc),
-        readers: Vec::new(alloc),
-    };
+    let mut seats = Seats::new(alloc);
     seat(rt, &mut seats, &one, passes_0);
     seat(rt, &mut seats, &two, passes_1);
     swept_over(rt, alloc, seats, course);
+    drop(one);
+    drop(two);
 }
 
 #[test]

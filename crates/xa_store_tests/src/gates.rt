@@ -30,6 +30,7 @@ impl Gate for Rendezvous {
 }
 
 /// A gate that shuts session 1 before its second statement, and each other session before statement `others`.
+#[derive(Drop)]
 pub(crate) struct ShutsFirst {
     pub(crate) others: u64,
 }
@@ -94,6 +95,13 @@ impl KeepsAccount {
     pub(crate) fn is_told_of_two(&self) -> bool {
         self.announced.load(Ordering::SeqCst) == 1 && self.runs.load(Ordering::SeqCst) == 2
     }
+
+    /// Whether sessions 1 and 2 have asked so often, and no question was odd.
+    pub(crate) fn was_asked(&self, asked: [u64; 2]) -> bool {
+        self.first.load(Ordering::SeqCst) == asked[0]
+            && self.second.load(Ordering::SeqCst) == asked[1]
+            && self.odd.load(Ordering::SeqCst) == 0
+    }
 }
 
 impl Gate for KeepsAccount {
@@ -135,6 +143,11 @@ impl<G: Gate> Watches<G> {
             come: AtomicU64::new(0),
             alone: AtomicU64::new(0),
         }
+    }
+
+    /// Whether both sessions have come, and neither was let past its first line alone.
+    pub(crate) fn have_met(&self) -> bool {
+        self.come.load(Ordering::SeqCst) == 2 && self.alone.load(Ordering::SeqCst) == 0
     }
 
     /// Comes to the first line, and notes whether both had come when the gate let this session past.

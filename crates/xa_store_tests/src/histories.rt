@@ -83,18 +83,34 @@ fn added<'s, R: Abort + Wait>(
     sessions
 }
 
+/// Whether each session has seen the whole history.
+fn have_seen_all(sessions: &mut Vec<Session<'_, Log>>) -> bool {
+    for session in sessions.iter_mut() {
+        if session.seen() != 4 || !has_history(session, HISTORY) {
+            return false;
+        }
+    }
+    true
+}
+
+/// Whether the history of a store is handed out to which its sessions have added, and each of them has all of it.
+fn is_handed_out<R: Abort + Wait>(rt: &R, alloc: Global, store: &Store, passes: Vec<Pass>) -> bool
+    requires { All (λ pass. log_of pass ≡ identity_of store.now.log) passes.items }
+{
+    let mut sessions = added(rt, alloc, store, passes);
+    let history = history_of(rt, alloc, store, &mut sessions);
+    let is_so = is_added(history.as_slice()) && have_seen_all(&mut sessions);
+    drop(sessions);
+    is_so
+}
+
 /// Two sessions add to a store's history; it is asked for, and each of them has all of it.
 #[test]
 fn store_survives(rt: HostRuntime) {
-    let alloc = rt.alloc();
-    let (store, passes) = opened(&rt, alloc, 8, 2);
-    let mut sessions = added(&rt, alloc, &store, passes);
-    let history = history_of(&rt, alloc, &store, &mut sessions);
-    assert!(rt; is_added(history.as_slice()));
-    for session in sessions.iter_mut() {
-        assert_eq!(rt; session.seen(), 4);
-        assert!(rt; has_history(session, HISTORY));
-    }
+    let (store, passes) = opened(&rt, rt.alloc(), 8, 2);
+    let is_so = is_handed_out(&rt, rt.alloc(), &store, passes);
+    drop(store);
+    assert!(rt; is_so);
 }
 
 /// What sessions 2 and 3 are answered once session 1 was dropped: its branch is there, and holds its row.
@@ -115,15 +131,33 @@ fn left_alone<'s, R: Abort + Wait>(
     let (mut first, mut second) = both(rt, store, passes);
     let script = b"1 XA START 'a' = 0 OK\n1 PUT 'k','v' = 1 OK\n";
     play(rt, alloc, &mut first, &mut second, script);
+    drop(first);
     second
+}
+
+/// Whether session 1's branch stays when it is dropped, as sessions 2 and 3 find.
+fn leaves_its_branch<R: Abort + Wait>(
+    rt: &R,
+    alloc: Global,
+    store: &Store,
+    mut passes: Vec<Pass>,
+) -> bool
+    requires { All (λ pass. log_of pass ≡ identity_of store.now.log) passes.items }
+{
+    let mut third = next_session(rt, store, &mut passes);
+    let mut second = left_alone(rt, alloc, store, &mut passes);
+    drop(passes);
+    play(rt, alloc, &mut second, &mut third, LEFT);
+    drop(third);
+    let is_so = has_history(&mut second, b"1 XA START 'a'\n1 PUT 'k','v'\n");
+    drop(second);
+    is_so
 }
 
 #[test]
 fn dropped_session_leaves_its_branch(rt: HostRuntime) {
-    let alloc = rt.alloc();
-    let (store, mut passes) = opened(&rt, alloc, 8, 3);
-    let mut third = next_session(&rt, &store, &mut passes);
-    let mut second = left_alone(&rt, alloc, &store, &mut passes);
-    play(&rt, alloc, &mut second, &mut third, LEFT);
-    assert!(rt; has_history(&mut second, b"1 XA START 'a'\n1 PUT 'k','v'\n"));
+    let (store, passes) = opened(&rt, rt.alloc(), 8, 3);
+    let is_so = leaves_its_branch(&rt, rt.alloc(), &store, passes);
+    drop(store);
+    assert!(rt; is_so);
 }

@@ -15,6 +15,9 @@
 //! sessions; each scene runs over the log with a turn and over the chain. `chain_log` has tests of its own, for what it
 //! keeps private. Examples that the program can show are in cases/.
 //!
+//! Stores, sessions and what holds them are let go by name, as in `drop(first)`. A function that lets them go where its
+//! block ends takes several times as long to prove.
+//!
 //! A test whose name ends in `_survives` passes whether or not one allocation in it fails; `scripts/sweep` makes each
 //! fail in turn.
 #![tactic(auto)]
@@ -55,6 +58,8 @@ mod replies;
 mod runs;
 #[cfg(test)]
 mod scenes;
+#[cfg(test)]
+mod seats;
 #[cfg(test)]
 mod sessions;
 #[cfg(test)]

@@ -42,6 +42,7 @@ pub(crate) fn over_a_turn<R: Abort + Threads + Wait + Sync>(
         panic!(rt; "not opened")
     };
     scene.show(rt, alloc, &log, passes);
+    drop(log);
 }
 
 /// A chain with so much room shows a scene.
@@ -55,6 +56,7 @@ pub(crate) fn over_a_chain<R: Abort + Threads + Wait + Sync>(
         panic!(rt; "not opened")
     };
     scene.show(rt, alloc, &log, passes);
+    drop(log);
 }
 
 #[test]

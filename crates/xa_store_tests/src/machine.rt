@@ -7,7 +7,8 @@ ghost use Rattle.xa_store.specs.Passes.{identity_of, log_of};
 
 use crate::calls::{calls, is_told, told};
 use crate::meddled::{ANOTHER, CALM, COMMITTED, Meddled, PREPARED, ROLLED_BACK, WAS_PREPARED, Way};
-use crate::stores::{both, next_session, opened, pushed};
+use crate::seats::Seats;
+use crate::stores::{both, next_session, opened};
 use std::alloc::Global;
 use std::process::Abort;
 use std::sync::Wait;
@@ -53,16 +54,12 @@ fn way_in(plan: Plan, store: u8) -> Way {
 }
 
 /// The coordinator's sessions, and the other clients'.
-#[derive(Drop)]
-pub(crate) struct Seats<'a> {
-    pub(crate) sessions: Vec<Fused<Meddled<'a, Session<'a, Log>>>>,
-    pub(crate) readers: Vec<Session<'a, Log>>,
-}
+type ThreeSeats<'a> = Seats<Meddled<'a, Session<'a, Log>>, Session<'a, Log>>;
 
 /// Seats the coordinator's session of a store of three, and another client's.
 fn seat<'a>(
     rt: &impl Abort,
-    seats: &mut Seats<'a>,
+    seats: &mut ThreeSeats<'a>,
     plan: Plan,
     at: u8,
     store: &'a Store,
@@ -73,6 +70,7 @@ fn seat<'a>(
 {
     let reader = next_session(rt, store, &mut passes);
     let (inner, other_client) = both(rt, store, &mut passes);
+    drop(passes);
     let meddled = Meddled {
         inner,
         other_client,
@@ -82,13 +80,23 @@ fn seat<'a>(
         listed: None,
         account,
     };
-    let session = Fused::new(meddled, u64::MAX);
-    pushed(rt, &mut seats.sessions, session);
-    pushed(rt, &mut seats.readers, reader);
+    seats.seat(rt, meddled, reader);
 }
 
 /// Three accounts.
 type Accounts = [AtomicU64; 3];
+
+/// Whether transaction 1 works in all three stores.
+fn works<S: Speak, T: Speak, R: Abort + Wait>(
+    rt: &R,
+    alloc: Global,
+    manager: &mut Manager<Fused<S>, T>,
+) -> bool {
+    calls(rt, alloc, manager, b"BEGIN = TRANSACTION 1\n");
+    is_told(rt, alloc, manager, b"WORK 1 0 PUT 'k','v'", b"OK")
+        && is_told(rt, alloc, manager, b"WORK 1 1 PUT 'k','v'", b"OK")
+        && is_told(rt, alloc, manager, b"WORK 1 2 PUT 'k','v'", b"OK")
+}
 
 /// Drives transaction 1 as far as it goes: whether it was decided.
 fn drive<S: Speak, T: Speak, R: Abort + Wait>(
@@ -97,18 +105,14 @@ fn drive<S: Speak, T: Speak, R: Abort + Wait>(
     manager: &mut Manager<Fused<S>, T>,
     decides: bool,
 ) -> bool {
-    calls(rt, alloc, manager, b"BEGIN = TRANSACTION 1\n");
-    let works = is_told(rt, alloc, manager, b"WORK 1 0 PUT 'k','v'", b"OK")
-        && is_told(rt, alloc, manager, b"WORK 1 1 PUT 'k','v'", b"OK")
-        && is_told(rt, alloc, manager, b"WORK 1 2 PUT 'k','v'", b"OK");
-    if !works {
-        let _ = told(rt, alloc, manager, b"ABANDON 1");
+    if !works(rt, alloc, manager) {
+        drop(told(rt, alloc, manager, b"ABANDON 1"));
         return false;
     }
     let is_decided = is_told(rt, alloc, manager, b"PREPARE 1", b"READY")
         && decides
         && is_told(rt, alloc, manager, b"DECIDE 1", b"DECIDED");
-    let _ = told(rt, alloc, manager, b"FINISH 1");
+    drop(told(rt, alloc, manager, b"FINISH 1"));
     is_decided
 }
 
@@ -199,7 +203,7 @@ fn is_recovered(
     text == wanted.as_bytes()
 }
 
-/// Holds what a recovery that ends with this text has left to the account.
+/// Whether what a recovery that ends with this text has left is as the account says.
 fn holds<S: Speak, T: Speak, R: Abort + Wait>(
     rt: &R,
     alloc: Global,
@@ -208,17 +212,36 @@ fn holds<S: Speak, T: Speak, R: Abort + Wait>(
     accounts: &[u64; 3],
     plan: Plan,
     is_decided: bool,
-) {
+) -> bool {
     if text.starts_with(b"UNRECOVERED") {
-        let is_left = is_left(rt, alloc, manager, text, plan, is_decided);
-        assert!(rt; is_left, "{plan:?}");
-        return;
+        return is_left(rt, alloc, manager, text, plan, is_decided);
     }
-    let is_recovered = is_recovered(rt, alloc, text, accounts, is_decided);
-    assert!(rt; is_recovered, "{plan:?}");
+    if !is_recovered(rt, alloc, text, accounts, is_decided) {
+        return false;
+    }
     calls(rt, alloc, manager, NOTHING);
-    let agrees = agrees(rt, alloc, manager, accounts, is_decided);
-    assert!(rt; agrees, "{plan:?}");
+    agrees(rt, alloc, manager, accounts, is_decided)
+}
+
+/// Whether a recovery leaves what the account says.
+fn recovers<S: Speak, T: Speak, R: Abort + Wait>(
+    rt: &R,
+    alloc: Global,
+    manager: &mut Manager<Fused<S>, T>,
+    accounts: &[u64; 3],
+    plan: Plan,
+    is_decided: bool,
+) -> bool {
+    let answer = told(rt, alloc, manager, b"RECOVER");
+    holds(
+        rt,
+        alloc,
+        manager,
+        answer.as_slice(),
+        accounts,
+        plan,
+        is_decided,
+    )
 }
 
 /// What an account says; nothing happens in its store from now on.
@@ -226,6 +249,32 @@ fn calmed(account: &AtomicU64) -> u64 {
     let number = account.load(Ordering::SeqCst);
     account.store(CALM, Ordering::SeqCst);
     number
+}
+
+/// What the accounts say; nothing happens in the stores from now on.
+fn all_calmed(accounts: &Accounts) -> [u64; 3] {
+    [
+        calmed(&accounts[0]),
+        calmed(&accounts[1]),
+        calmed(&accounts[2]),
+    ]
+}
+
+/// Whether the coordinator's stop and its recovery leave what the accounts say, and no other decision.
+fn stops<S: Speak, T: Speak, R: Abort + Wait>(
+    rt: &R,
+    alloc: Global,
+    manager: &mut Manager<Fused<S>, T>,
+    accounts: &[u64; 3],
+    plan: Plan,
+    is_decided: bool,
+) -> bool {
+    if manager.decisions().is_decided(1) != is_decided {
+        return false;
+    }
+    calls(rt, alloc, manager, b"STOP = STOPPED\n");
+    recovers(rt, alloc, manager, accounts, plan, is_decided)
+        && manager.decisions().is_decided(1) == is_decided
 }
 
 /// Runs one combination.
@@ -237,63 +286,66 @@ fn combination<S: Speak, T: Speak, R: Abort + Wait>(
     plan: Plan,
 ) {
     let is_decided = drive(rt, alloc, manager, plan.decides);
-    let found = [
-        calmed(&accounts[0]),
-        calmed(&accounts[1]),
-        calmed(&accounts[2]),
-    ];
-    let were_prepared = count_of(&found, WAS_PREPARED) == 3;
-    assert!(rt; !is_decided || were_prepared, "{plan:?}");
-    assert!(rt; manager.decisions().is_decided(1) == is_decided);
-    calls(rt, alloc, manager, b"STOP = STOPPED\n");
-    let answer = told(rt, alloc, manager, b"RECOVER");
-    holds(
-        rt,
-        alloc,
-        manager,
-        answer.as_slice(),
-        &found,
-        plan,
-        is_decided,
-    );
-    assert!(rt; manager.decisions().is_decided(1) == is_decided);
+    let found = all_calmed(accounts);
+    let may_be_decided = !is_decided || count_of(&found, WAS_PREPARED) == 3;
+    let is_so = may_be_decided && stops(rt, alloc, manager, &found, plan, is_decided);
+    assert!(rt; is_so, "{plan:?}");
 }
 
 /// Runs the combination of a plan over three stores, or the script of calls if there is one.
-fn run_over<R: Abort + Wait>(
+fn run_over<S: Speak + Drop, T: Speak + Drop, R: Abort + Wait>(
     rt: &R,
     alloc: Global,
-    seats: Seats<'_>,
+    seats: Seats<S, T>,
     accounts: &Accounts,
     plan: Plan,
     script: &[u8],
 ) {
-    let Seats { sessions, readers } = seats;
-    if sessions.len() != 3 || readers.len() != 3 {
-        panic!(rt; "three seats")
-    }
-    let mut manager = Manager::new(alloc, sessions, readers);
+    let mut manager = seats.manager(rt, alloc, 3);
     if script.is_empty() {
         combination(rt, alloc, &mut manager, accounts, plan);
     } else {
         calls(rt, alloc, &mut manager, script);
     }
+    drop(manager);
+}
+
+/// Seats the sessions of three stores. Runs the combination of a plan, or the script of calls if there is one.
+fn run_in<'a, R: Abort + Wait>(
+    rt: &R,
+    alloc: Global,
+    one: &'a Store,
+    passes_0: Vec<Pass>,
+    two: &'a Store,
+    passes_1: Vec<Pass>,
+    three: &'a Store,
+    passes_2: Vec<Pass>,
+    plan: Plan,
+    script: &[u8],
+)
+    requires one { All (λ pass. log_of pass ≡ identity_of one.now.log) passes_0.items }
+    requires two { All (λ pass. log_of pass ≡ identity_of two.now.log) passes_1.items }
+    requires three { All (λ pass. log_of pass ≡ identity_of three.now.log) passes_2.items }
+{
+    let accounts = [AtomicU64::new(0), AtomicU64::new(0), AtomicU64::new(0)];
+    let mut seats = Seats::new(alloc);
+    seat(rt, &mut seats, plan, 0, one, passes_0, &accounts[0]);
+    seat(rt, &mut seats, plan, 1, two, passes_1, &accounts[1]);
+    seat(rt, &mut seats, plan, 2, three, passes_2, &accounts[2]);
+    run_over(rt, alloc, seats, &accounts, plan, script);
 }
 
 /// Opens three stores for a plan. Runs its combination, or the script of calls if there is one.
 fn run<R: Abort + Wait>(rt: &R, alloc: Global, plan: Plan, script: &[u8]) {
-    let accounts = [AtomicU64::new(0), AtomicU64::new(0), AtomicU64::new(0)];
     let (one, passes_0) = opened(rt, alloc, 40, 3);
     let (two, passes_1) = opened(rt, alloc, 40, 3);
     let (three, passes_2) = opened(rt, alloc, 40, 3);
-    let mut seats = Seats {
-        sessions: Vec::new(alloc),
-        readers: Vec::new(alloc),
-    };
-    seat(rt, &mut seats, plan, 0, &one, passes_0, &accounts[0]);
-    seat(rt, &mut seats, plan, 1, &two, passes_1, &accounts[1]);
-    seat(rt, &mut seats, plan, 2, &three, passes_2, &accounts[2]);
-    run_over(rt, alloc, seats, &accounts, plan, script);
+    run_in(
+        rt, alloc, &one, passes_0, &two, passes_1, &three, passes_2, plan, script,
+    );
+    drop(one);
+    drop(two);
+    drop(three);
 }
 
 /// 7 ways at 16 calls, decided and not: 224 combinations.

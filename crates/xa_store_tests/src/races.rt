@@ -1,6 +1,5 @@
 //! Races of runs, and the gates that let them pass.
 ghost use Rattle.std.specs.Prelude.{◌≡◌};
-ghost use Rattle.std.specs.List.{All};
 ghost use Rattle.xa_store.specs.Passes.{identity_of, log_of};
 
 use crate::gates::{CountsQuestions, KeepsAccount, Rendezvous, ShutsFirst, Watches};
@@ -14,7 +13,7 @@ use std::thread::Threads;
 use xa_server::{Reply, XaError};
 use xa_session::{Answer, Session};
 use xa_store::{
-    Gate, Log, OpenGate, Outcome, RaceFault, Run, ShuffledGate, Store, TogetherGate, race,
+    Gate, Log, OpenGate, Outcome, Pass, RaceFault, ShuffledGate, Store, TogetherGate, race,
 };
 use xa_xid::{SessionNo, Statement};
 
@@ -46,18 +45,40 @@ fn is_started_once(outcome: &Outcome) -> bool {
         && loser.iter().all(is_dupid)
 }
 
+/// What a race gives of this script by sessions 1 to the last, in a store with so much room.
+fn raced<G: Gate + Sync, R: Abort + Threads + Wait + Sync>(
+    rt: &R,
+    alloc: Global,
+    capacity: u64,
+    sessions: u64,
+    script: &[u8],
+    gate: &G,
+) -> Result<Outcome, RaceFault> {
+    let (store, runs) = entered(rt, alloc, capacity, sessions, script);
+    let outcome = race(rt, alloc, &store, runs, gate);
+    drop(store);
+    outcome
+}
+
+/// What a race gave, which had no fault.
+fn outcome_of(rt: &impl Abort, raced: Result<Outcome, RaceFault>) -> Outcome {
+    match raced {
+        Ok(outcome) => outcome,
+        Err(fault) => panic!(rt; "fault {}", fault.number()),
+    }
+}
+
 #[test]
 fn two_runs_start_one_branch_side_by_side(rt: HostRuntime) {
     let script = b"1 XA START 'a'\n2 XA START 'a'\n";
-    let (store, runs) = entered(&rt, rt.alloc(), 1024, 2, script);
     let gate = Rendezvous {
         first: AtomicU64::new(0),
         second: AtomicU64::new(0),
     };
-    match race(&rt, rt.alloc(), &store, runs, &gate) {
-        Ok(outcome) => assert!(rt; is_started_once(&outcome)),
-        Err(fault) => panic!(rt; "fault {}", fault.number()),
-    }
+    let outcome = outcome_of(&rt, raced(&rt, rt.alloc(), 1024, 2, script, &gate));
+    let is_started_once = is_started_once(&outcome);
+    drop(outcome);
+    assert!(rt; is_started_once);
 }
 
 /// Whether a race gave no history, no answers and no passes.
@@ -67,31 +88,21 @@ fn is_nothing(outcome: &Outcome) -> bool {
 
 #[test]
 fn race_without_runs_gives_nothing(rt: HostRuntime) {
-    let alloc = rt.alloc();
-    let (store, _) = opened(&rt, alloc, 4, 2);
-    let Ok(outcome) = race(&rt, alloc, &store, Vec::new(alloc), &OpenGate) else {
-        panic!(rt; "a fault")
-    };
-    assert!(rt; is_nothing(&outcome));
-}
-
-/// The fault of a race of one session.
-fn fault_of_one<G: Gate + Sync, R: Abort + Threads + Wait + Sync>(
-    rt: &R,
-    alloc: Global,
-    capacity: u64,
-    script: &[u8],
-    gate: &G,
-) -> Option<RaceFault> {
-    let (store, runs) = entered(rt, alloc, capacity, 1, script);
-    race(rt, alloc, &store, runs, gate).err()
+    let (store, passes) = opened(&rt, rt.alloc(), 4, 2);
+    drop(passes);
+    let raced = race(&rt, rt.alloc(), &store, Vec::new(rt.alloc()), &OpenGate);
+    drop(store);
+    let outcome = outcome_of(&rt, raced);
+    let is_nothing = is_nothing(&outcome);
+    drop(outcome);
+    assert!(rt; is_nothing);
 }
 
 #[test]
 fn full_history_stops_a_run(rt: HostRuntime) {
     let script = b"1 XA START 'a'\n1 XA END 'a'\n1 XA RECOVER\n";
     let session = SessionNo::of(1).unwrap();
-    let fault = fault_of_one(&rt, rt.alloc(), 1, script, &OpenGate);
+    let fault = raced(&rt, rt.alloc(), 1, 1, script, &OpenGate).err();
     assert!(rt; fault == Some(RaceFault::Full { session, line: 1 }));
 }
 
@@ -104,7 +115,7 @@ fn gate_is_asked_once_before_each_statement(rt: HostRuntime) {
         is_in_order: true,
     };
     let session = SessionNo::of(1).unwrap();
-    let fault = fault_of_one(&rt, rt.alloc(), 2, script, &gate);
+    let fault = raced(&rt, rt.alloc(), 2, 1, script, &gate).err();
     assert!(rt; fault == Some(RaceFault::Full { session, line: 3 }));
     assert_eq!(rt; gate.asked.load(Ordering::SeqCst), 4);
 }
@@ -115,18 +126,21 @@ fn is_first_shut(fault: Option<RaceFault>) -> bool {
     fault == Some(RaceFault::GateShut { session, line: 1 })
 }
 
-/// A race, in which the gate shuts session 1 out before its second statement.
-fn shuts_first<R: Abort + Threads + Wait + Sync>(
+/// The fault of a race by a store's first two passes, the second first.
+fn fault_of_two<R: Abort + Threads + Wait + Sync>(
     rt: &R,
     alloc: Global,
     store: &Store,
-    runs: Vec<Run>,
+    first: Pass,
+    second: Pass,
+    script: &[u8],
     gate: &ShutsFirst,
-)
-    requires { All (λ run. log_of run.pass ≡ identity_of store.now.log) runs.items }
+) -> Option<RaceFault>
+    requires first { log_of first ≡ identity_of store.now.log }
+    requires second { log_of second ≡ identity_of store.now.log }
 {
-    let fault = race(rt, alloc, store, runs, gate).err();
-    assert!(rt; is_first_shut(fault));
+    let runs = two_runs(rt, alloc, store, first, second, script);
+    race(rt, alloc, store, runs, gate).err()
 }
 
 /// Whether a session is answered, at place 4, with only the branch 'b'.
@@ -145,36 +159,56 @@ fn lists_the_branch(session: &mut Session<'_, Log>) -> bool {
     }
 }
 
-/// Session 1 is shut out before its second statement, and session 2 prepares a branch, which session 3 then
-/// lists.
+/// Sessions 1 and 2, each with a branch.
+const EACH_A_BRANCH: &[u8] =
+    b"1 XA START 'a'\n1 XA END 'a'\n2 XA START 'b'\n2 XA END 'b'\n2 XA PREPARE 'b'\n";
+
+/// Whether session 1 is shut out of a store before its second statement, and session 2 prepares a branch, which
+/// session 3 then lists.
+fn stops_the_first<R: Abort + Threads + Wait + Sync>(
+    rt: &R,
+    alloc: Global,
+    store: &Store,
+    first: Pass,
+    second: Pass,
+    third: Pass,
+) -> bool
+    requires first { log_of first ≡ identity_of store.now.log }
+    requires second { log_of second ≡ identity_of store.now.log }
+    requires third { log_of third ≡ identity_of store.now.log }
+{
+    let gate = ShutsFirst { others: 3 };
+    let fault = fault_of_two(rt, alloc, store, first, second, EACH_A_BRANCH, &gate);
+    is_first_shut(fault) && lists_the_branch(&mut joined(rt, store, third))
+}
+
 #[test]
 fn gate_stops_one_run_and_no_other(rt: HostRuntime) {
-    let alloc = rt.alloc();
-    let script = b"1 XA START 'a'\n1 XA END 'a'\n2 XA START 'b'\n2 XA END 'b'\n2 XA PREPARE 'b'\n";
-    let (store, first, second, third) = three_passes(&rt, alloc, 8);
-    let runs = two_runs(&rt, alloc, &store, first, second, script);
-    shuts_first(&rt, alloc, &store, runs, &ShutsFirst { others: 3 });
-    let mut third = joined(&rt, &store, third);
-    assert!(rt; lists_the_branch(&mut third));
+    let (store, first, second, third) = three_passes(&rt, rt.alloc(), 8);
+    assert!(rt; stops_the_first(&rt, rt.alloc(), &store, first, second, third));
 }
 
 /// Two sessions, the first with two statements.
 const SHUT: &[u8] = b"1 XA START 'a'\n1 XA END 'a'\n2 XA START 'b'\n";
 
-/// A race of these, the second first.
-fn shuts_the_second_first<R: Abort + Threads + Wait + Sync>(rt: &R, alloc: Global) {
+/// The fault of a race of these, the second first.
+fn fault_of_the_second_first<R: Abort + Threads + Wait + Sync>(
+    rt: &R,
+    alloc: Global,
+    gate: &ShutsFirst,
+) -> Option<RaceFault> {
     let (store, first, second) = two_passes(rt, alloc, 8);
-    let runs = two_runs(rt, alloc, &store, first, second, SHUT);
-    shuts_first(rt, alloc, &store, runs, &ShutsFirst { others: 0 });
+    fault_of_two(rt, alloc, &store, first, second, SHUT, gate)
 }
 
 #[test]
 fn fault_of_the_lowest_session_is_told(rt: HostRuntime) {
-    let alloc = rt.alloc();
-    shuts_the_second_first(&rt, alloc);
+    let gate = ShutsFirst { others: 0 };
+    let fault = fault_of_the_second_first(&rt, rt.alloc(), &gate);
+    assert!(rt; is_first_shut(fault));
 
-    let (store, runs) = entered(&rt, alloc, 8, 2, SHUT);
-    shuts_first(&rt, alloc, &store, runs, &ShutsFirst { others: 0 });
+    let fault = raced(&rt, rt.alloc(), 8, 2, SHUT, &gate).err();
+    assert!(rt; is_first_shut(fault));
 }
 
 /// Sessions 1 and 2 have four statements and three, session 3 none.
@@ -190,13 +224,12 @@ fn is_asked_in_order<R: Abort + Threads + Wait + Sync>(
     asked: [u64; 2],
 ) {
     let gate = KeepsAccount::new(shut_from);
-    let (store, runs) = entered(rt, alloc, 8, 3, SPEAKERS);
-    let is_answered = race(rt, alloc, &store, runs, &gate).is_ok();
-    assert_eq!(rt; is_answered, shut_from == u64::MAX);
-    assert!(rt; gate.is_told_of_two());
-    assert_eq!(rt; gate.first.load(Ordering::SeqCst), asked[0]);
-    assert_eq!(rt; gate.second.load(Ordering::SeqCst), asked[1]);
-    assert_eq!(rt; gate.odd.load(Ordering::SeqCst), 0);
+    let is_answered = raced(rt, alloc, 8, 3, SPEAKERS, &gate).is_ok();
+    assert!(rt; is_answered == (shut_from == u64::MAX), "{shut_from}");
+    assert!(rt;
+        gate.is_told_of_two() && gate.was_asked(asked),
+        "{shut_from}"
+    );
 }
 
 #[test]
@@ -216,8 +249,7 @@ fn meet_first<G: Gate + Sync + Drop, R: Abort + Threads + Wait + Sync>(
     let watched = Watches::new(gate);
     for _ in 0..2 {
         write_all(rt, alloc, &watched);
-        assert_eq!(rt; watched.come.load(Ordering::SeqCst), 2);
-        assert_eq!(rt; watched.alone.load(Ordering::SeqCst), 0);
+        assert!(rt; watched.have_met());
     }
 }
 
@@ -238,17 +270,22 @@ fn is_done(answer: &Answer) -> bool {
     answer.place < 16 && matches!(answer.reply, Reply::Ok)
 }
 
+/// Whether each write of two sessions was carried out.
+fn is_written(outcome: &Outcome) -> bool {
+    for answers in outcome.answers.iter() {
+        if answers.len() != 8 || !answers.iter().all(is_done) {
+            return false;
+        }
+    }
+    outcome.history.len() == 16 && outcome.answers.len() == 2
+}
+
 /// Each write is carried out, at a place of its own.
 fn write_all<G: Gate + Sync, R: Abort + Threads + Wait + Sync>(rt: &R, alloc: Global, gate: &G) {
-    let (store, runs) = entered(rt, alloc, 16, 2, WRITES);
-    let Ok(outcome) = race(rt, alloc, &store, runs, gate) else {
-        panic!(rt; "a fault")
-    };
-    assert_eq!(rt; outcome.history.len(), 16);
-    assert_eq!(rt; outcome.answers.len(), 2);
-    for answers in outcome.answers.iter() {
-        assert!(rt; answers.len() == 8 && answers.iter().all(is_done));
-    }
+    let outcome = outcome_of(rt, raced(rt, alloc, 16, 2, WRITES, gate));
+    let is_written = is_written(&outcome);
+    drop(outcome);
+    assert!(rt; is_written);
 }
 
 #[test]
@@ -266,18 +303,26 @@ fn gate_of_which_nobody_is_told_is_open(rt: HostRuntime) {
     assert!(rt; ShuffledGate::new(7).enter(session, u64::MAX));
 }
 
+/// Sessions 1 and 2 start one branch.
+const ONE_BRANCH: &[u8] = b"1 XA START 'a'\n2 XA START 'a'\n";
+
 /// Whether a race of two sessions, one of which starts the branch, found memory and threads.
 fn is_raced<R: Abort + Threads + Wait + Sync>(
     rt: &R,
     alloc: Global,
     store: &Store,
-    runs: Vec<Run>,
+    first: Pass,
+    second: Pass,
 ) -> bool
-    requires { All (λ run. log_of run.pass ≡ identity_of store.now.log) runs.items }
+    requires first { log_of first ≡ identity_of store.now.log }
+    requires second { log_of second ≡ identity_of store.now.log }
 {
+    let runs = two_runs(rt, alloc, store, first, second, ONE_BRANCH);
     match race(rt, alloc, store, runs, &OpenGate) {
         Ok(outcome) => {
-            assert!(rt; outcome.history.len() == 1 && outcome.answers.len() == 2);
+            let is_so = outcome.history.len() == 1 && outcome.answers.len() == 2;
+            drop(outcome);
+            assert!(rt; is_so);
             true
         }
         Err(RaceFault::NoMemory) | Err(RaceFault::ThreadRefused) => false,
@@ -285,16 +330,28 @@ fn is_raced<R: Abort + Threads + Wait + Sync>(
     }
 }
 
+/// Whether a third session finds the branch that two have raced for started exactly if the history has it.
+fn is_found<R: Abort + Threads + Wait + Sync>(
+    rt: &R,
+    alloc: Global,
+    store: &Store,
+    first: Pass,
+    second: Pass,
+    third: Pass,
+) -> bool
+    requires first { log_of first ≡ identity_of store.now.log }
+    requires second { log_of second ≡ identity_of store.now.log }
+    requires third { log_of third ≡ identity_of store.now.log }
+{
+    let is_raced = is_raced(rt, alloc, store, first, second);
+    let count = joined(rt, store, third).look();
+    count <= 1 && (!is_raced || count == 1)
+}
+
 /// Two sessions start one branch at once, in a store of three. A third then finds it started exactly if the
 /// history has it.
 #[test]
 fn race_survives(rt: HostRuntime) {
-    let alloc = rt.alloc();
-    let script = b"1 XA START 'a'\n2 XA START 'a'\n";
-    let (store, first, second, third) = three_passes(&rt, alloc, 1024);
-    let runs = two_runs(&rt, alloc, &store, first, second, script);
-    let is_raced = is_raced(&rt, alloc, &store, runs);
-    let mut third = joined(&rt, &store, third);
-    let count = third.look();
-    assert!(rt; count <= 1 && (!is_raced || count == 1));
+    let (store, first, second, third) = three_passes(&rt, rt.alloc(), 1024);
+    assert!(rt; is_found(&rt, rt.alloc(), &store, first, second, third));
 }

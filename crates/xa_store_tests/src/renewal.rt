@@ -93,7 +93,7 @@ pub(crate) fn play<R: Abort + Wait>(
     ensures second { log_of second.new.pass ≡ log_of second.old.pass }
 {
     let found = first_difference(rt, alloc, first, second, script);
-    assert_eq!(rt; found, None);
+    assert!(rt; found.is_none(), "{found:?}");
 }
 
 /// Sessions 1 and 2 of a store play a script. Session 1 may be dropped then; the others are given in order.
@@ -196,7 +196,8 @@ fn goes_on<R: Abort + Wait>(
     let opened = opened(rt, alloc, capacity, 2);
     let opened = next_history(rt, alloc, way, opened, first, still);
     let (store, passes) = next_history(rt, alloc, way, opened, second, b"");
-    let _ = generation(rt, alloc, way, &store, passes, third);
+    drop(generation(rt, alloc, way, &store, passes, third));
+    drop(store);
 }
 
 /// Session 1 fills a history of four entries with a branch that it prepares. Nobody can commit it.

@@ -1,16 +1,15 @@
 //! What two passes of a log show, and two sessions over it.
 ghost use Rattle.std.specs.Prelude.{◌≡◌, All};
 
-use crate::adders::two_threads_add;
-use crate::preparers::two_threads_prepare;
-use crate::sessions::{connected, disconnects, keeps_its_replica, play, stays_open};
-use crate::trying::tries;
+use crate::adders::add_all;
+use crate::preparers::prepare_both;
+use crate::sessions::{disconnects, keeps_its_replica, play_all, stays_open};
+use crate::trying::try_all;
 use decision_log::DecisionLog;
 use std::alloc::Global;
 use std::process::Abort;
 use std::sync::Wait;
 use std::thread::Threads;
-use xa_server::Server;
 
 /// What a log's first two passes show, or sessions over them.
 #[derive(Clone, Copy)]
@@ -113,6 +112,19 @@ pub(crate) const SCENES: [(u64, Scene); 10] = [
     (8, Scene::Prepares),
 ];
 
+/// The last pass of a list.
+fn last_pass<L: DecisionLog>(rt: &impl Abort, log: &L, passes: &mut Vec<L::Pass>) -> L::Pass
+    requires { All (λ pass. L.belongs_to pass ≡ L.identity log.now) passes.old.items }
+    ensures own { L.belongs_to result ≡ L.identity log.now }
+    ensures others { All (λ pass. L.belongs_to pass ≡ L.identity log.now) passes.new.items }
+{
+    let _log = log;
+    let Some(pass) = passes.pop() else {
+        panic!(rt; "no pass is left")
+    };
+    pass
+}
+
 impl Scene {
     /// Shows the scene by the first two passes of a log.
     pub(crate) fn show<L: DecisionLog + Sync, R: Abort + Threads + Wait + Sync>(
@@ -126,18 +138,13 @@ impl Scene {
         L::Pass: Send + Drop,
         requires { All (λ pass. L.belongs_to pass ≡ L.identity log.now) passes.items }
     {
-        let (Some(mut second), Some(mut first)) = (passes.pop(), passes.pop()) else {
-            panic!(rt; "two passes")
-        };
-        match self {
-            Scene::Tries(script) => tries(rt, alloc, log, &mut first, &mut second, script),
-            Scene::Adds => assert!(rt; two_threads_add(rt, log, first, second)),
-            _ => self.show_by_sessions(rt, alloc, log, first, second),
-        }
+        let second = last_pass(rt, log, &mut passes);
+        let first = last_pass(rt, log, &mut passes);
+        self.show_by_passes(rt, alloc, log, first, second);
     }
 
-    /// Shows the scene by sessions of two passes.
-    fn show_by_sessions<L: DecisionLog + Sync, R: Abort + Threads + Wait + Sync>(
+    /// Shows the scene by two passes.
+    fn show_by_passes<L: DecisionLog + Sync, R: Abort + Threads + Wait + Sync>(
         self,
         rt: &R,
         alloc: Global,
@@ -150,17 +157,16 @@ impl Scene {
         requires first { L.belongs_to first ≡ L.identity log.now }
         requires second { L.belongs_to second ≡ L.identity log.now }
     {
-        let base = Server::new(alloc);
-        let mut first = connected(rt, log, first, &base);
-        let mut second = connected(rt, log, second, &base);
         match self {
+            Scene::Tries(script) => try_all(rt, alloc, log, first, second, script),
+            Scene::Adds => add_all(rt, log, first, second),
             Scene::Plays(script, history) => {
-                play(rt, alloc, &mut first, &mut second, script, history)
+                play_all(rt, alloc, log, first, second, script, history)
             }
-            Scene::Keeps => keeps_its_replica(rt, alloc, &mut first, &mut second),
-            Scene::StaysOpen => stays_open(rt, alloc, log, &base, first, second),
-            Scene::Disconnects => disconnects(rt, first, second),
-            _ => assert!(rt; two_threads_prepare(rt, first, second)),
+            Scene::Keeps => keeps_its_replica(rt, alloc, log, first, second),
+            Scene::StaysOpen => stays_open(rt, alloc, log, first, second),
+            Scene::Disconnects => disconnects(rt, alloc, log, first, second),
+            Scene::Prepares => prepare_both(rt, alloc, log, first, second),
         }
     }
 }

@@ -49,7 +49,7 @@ pub(crate) fn play<L: DecisionLog, R: Abort + Wait>(
     ensures second { L.belongs_to second.new.pass ≡ L.belongs_to second.old.pass }
 {
     let found = first_difference(rt, alloc, first, second, script);
-    assert_eq!(rt; found, None);
+    assert!(rt; found.is_none(), "{found:?}");
     assert!(rt; has_history(first, history) && has_history(second, history));
 }
 
@@ -92,14 +92,59 @@ fn answers_again<L: DecisionLog>(rt: &impl Abort, session: &mut Session<'_, L>, 
     }
 }
 
+/// Two sessions of these passes play a script, which leaves this history.
+pub(crate) fn play_all<L: DecisionLog, R: Abort + Wait>(
+    rt: &R,
+    alloc: Global,
+    log: &L,
+    first: L::Pass,
+    second: L::Pass,
+    script: &[u8],
+    history: &[u8],
+)
+where
+    L::Pass: Drop,
+    requires first { L.belongs_to first ≡ L.identity log.now }
+    requires second { L.belongs_to second ≡ L.identity log.now }
+{
+    let base = Server::new(alloc);
+    let mut first = connected(rt, log, first, &base);
+    let mut second = connected(rt, log, second, &base);
+    play(rt, alloc, &mut first, &mut second, script, history);
+    drop(first);
+    drop(second);
+    drop(base);
+}
+
+/// Whether a session has replayed its four entries, and another one all of them once it has looked; asked again, it
+/// answers the same with nothing to replay.
+fn have_kept<L: DecisionLog>(
+    rt: &impl Abort,
+    first: &Session<'_, L>,
+    second: &mut Session<'_, L>,
+) -> bool {
+    first.folded() == 4
+        && second.look() == 4
+        && second.folded() == 4
+        && second.seen() == 4
+        && answers_again(rt, second, 4)
+        && second.folded() == 4
+}
+
 /// A session has replayed each of its entries once it is answered. Another one reads the row, and has
 /// replayed all of them; asked again, it answers the same with nothing to replay.
 pub(crate) fn keeps_its_replica<L: DecisionLog, R: Abort + Wait>(
     rt: &R,
     alloc: Global,
-    first: &mut Session<'_, L>,
-    second: &mut Session<'_, L>,
-) {
+    log: &L,
+    first: L::Pass,
+    second: L::Pass,
+)
+where
+    L::Pass: Drop,
+    requires first { L.belongs_to first ≡ L.identity log.now }
+    requires second { L.belongs_to second ≡ L.identity log.now }
+{
     let script = b"1 XA START 'a' = 0 OK
 1 PUT 'k','v' = 1 OK
 1 XA END 'a' = 2 OK
@@ -111,10 +156,15 @@ pub(crate) fn keeps_its_replica<L: DecisionLog, R: Abort + Wait>(
 1 XA END 'a'
 1 XA PREPARE 'a'
 ";
-    play(rt, alloc, first, second, script, history);
-    assert!(rt; first.folded() == 4 && second.look() == 4);
-    assert!(rt; second.folded() == 4 && second.seen() == 4);
-    assert!(rt; answers_again(rt, second, 4) && second.folded() == 4);
+    let base = Server::new(alloc);
+    let mut first = connected(rt, log, first, &base);
+    let mut second = connected(rt, log, second, &base);
+    play(rt, alloc, &mut first, &mut second, script, history);
+    let is_kept = have_kept(rt, &first, &mut second);
+    drop(first);
+    drop(second);
+    drop(base);
+    assert!(rt; is_kept);
 }
 
 /// The pass of a session that owns a branch, which can't disconnect in a full log, since that would be
@@ -124,10 +174,10 @@ where
     L::Pass: Drop,
     ensures { L.belongs_to result ≡ L.belongs_to session.entry.pass }
 {
-    let Err((session, Fault::Full)) = session.disconnect(rt) else {
-        panic!(rt; "disconnected in a full log")
-    };
-    session.leave()
+    match session.disconnect(rt) {
+        Err((session, Fault::Full)) => session.leave(),
+        _ => panic!(rt; "disconnected in a full log"),
+    }
 }
 
 /// The pass of a session that disconnects.
@@ -136,10 +186,10 @@ where
     L::Pass: Drop,
     ensures { L.belongs_to result ≡ L.belongs_to session.entry.pass }
 {
-    let Ok(pass) = session.disconnect(rt) else {
-        panic!(rt; "didn't disconnect")
-    };
-    pass
+    match session.disconnect(rt) {
+        Ok(pass) => pass,
+        Err(_) => panic!(rt; "didn't disconnect"),
+    }
 }
 
 /// A pass makes a session of this number once more, which has seen two entries.
@@ -149,23 +199,24 @@ where
     requires { L.belongs_to pass ≡ L.identity log.now }
 {
     let session = connected(rt, log, pass, base);
-    assert!(rt; session.number().get() == number && session.seen() == 2);
+    let is_back = session.number().get() == number && session.seen() == 2;
+    drop(session);
+    assert!(rt; is_back);
 }
 
 /// In a full log a session that owns a branch can't disconnect, and keeps what it had; a free session can.
 /// Their passes are good for sessions of the same numbers, which have seen what they had seen.
-pub(crate) fn stays_open<'a, L: DecisionLog, R: Abort + Wait>(
+pub(crate) fn stays_open<L: DecisionLog, R: Abort + Wait>(
     rt: &R,
     alloc: Global,
-    log: &'a L,
-    base: &'a Server,
-    mut first: Session<'a, L>,
-    mut second: Session<'a, L>,
+    log: &L,
+    first: L::Pass,
+    second: L::Pass,
 )
 where
     L::Pass: Drop,
-    requires first { L.belongs_to first.pass ≡ L.identity log.now }
-    requires second { L.belongs_to second.pass ≡ L.identity log.now }
+    requires first { L.belongs_to first ≡ L.identity log.now }
+    requires second { L.belongs_to second ≡ L.identity log.now }
 {
     let script = b"1 XA START 'a' = 0 OK
 1 PUT 'k','v' = 1 OK
@@ -174,9 +225,13 @@ where
 1 GET 'm' = FULL
 ";
     let history = b"1 XA START 'a'\n1 PUT 'k','v'\n";
+    let base = Server::new(alloc);
+    let mut first = connected(rt, log, first, &base);
+    let mut second = connected(rt, log, second, &base);
     play(rt, alloc, &mut first, &mut second, script, history);
-    comes_back(rt, log, kept_open(rt, first), base, 1);
-    comes_back(rt, log, disconnected(rt, second), base, 2);
+    comes_back(rt, log, kept_open(rt, first), &base, 1);
+    comes_back(rt, log, disconnected(rt, second), &base, 2);
+    drop(base);
 }
 
 /// Whether a session starts the branch `a` at this place.
@@ -201,15 +256,25 @@ fn starts_at<L: DecisionLog, R: Abort + Wait>(
 
 /// A session that owns a branch disconnects, its branch is rolled back, and another one starts a branch of
 /// the same identifier.
-pub(crate) fn disconnects<'a, L: DecisionLog, R: Abort + Wait>(
+pub(crate) fn disconnects<L: DecisionLog, R: Abort + Wait>(
     rt: &R,
-    mut first: Session<'a, L>,
-    mut second: Session<'a, L>,
+    alloc: Global,
+    log: &L,
+    first: L::Pass,
+    second: L::Pass,
 )
 where
     L::Pass: Drop,
+    requires first { L.belongs_to first ≡ L.identity log.now }
+    requires second { L.belongs_to second ≡ L.identity log.now }
 {
-    assert!(rt; starts_at(rt, &mut first, 0));
-    let _ = disconnected(rt, first);
-    assert!(rt; starts_at(rt, &mut second, 2));
+    let base = Server::new(alloc);
+    let mut first = connected(rt, log, first, &base);
+    let mut second = connected(rt, log, second, &base);
+    let is_first = starts_at(rt, &mut first, 0);
+    drop(disconnected(rt, first));
+    let is_third = starts_at(rt, &mut second, 2);
+    drop(second);
+    drop(base);
+    assert!(rt; is_first && is_third);
 }

@@ -1,7 +1,9 @@
 //! Literals, numbers, identifiers and statements, each with what is read of it.
+ghost use Rattle.std.specs.Prelude.{◌≢◌};
+
 use std::alloc::Global;
 use std::process::Abort;
-use std::test::Fail;
+use xa_lines::push_number;
 use xa_statement::{read_statement, write_statement};
 use xa_xid::{Statement, read_literal, read_number, read_xid, with_part, with_xid};
 
@@ -111,61 +113,72 @@ DEL '\'' => DEL 0x27
  XA START 'ab => fault at 10
 "#;
 
+/// A number between two texts.
+fn numbered(alloc: Global, before: &[u8], number: u64, after: &[u8]) -> Option<Vec<u8>> {
+    let mut text = Vec::from_slice(alloc, before).ok()?;
+    push_number(&mut text, number).ok()?;
+    text.extend_from_slice(after).ok()?;
+    Some(text)
+}
+
+/// Two numbers after two texts.
+fn numbered_twice(
+    alloc: Global,
+    before: &[u8],
+    first: u64,
+    between: &[u8],
+    second: u64,
+) -> Option<Vec<u8>> {
+    let mut text = numbered(alloc, before, first, between)?;
+    push_number(&mut text, second).ok()?;
+    Some(text)
+}
+
 /// What is read of a literal.
-fn literal_told(alloc: Global, text: &[u8]) -> Result<Vec<u8>, Fail> {
+fn literal_told(alloc: Global, text: &[u8]) -> Option<Vec<u8>> {
     match read_literal(text, 0) {
         Ok((bytes, next)) => {
-            let place = format!(in alloc; "{next} ")?;
-            Ok(with_part(Vec::from_slice(alloc, place.as_bytes())?, bytes.as_slice())?)
+            with_part(numbered(alloc, b"", next as u64, b" ")?, bytes.as_slice()).ok()
         }
-        Err(fault) => {
-            let told = format!(in alloc; "fault {}", fault.number())?;
-            Ok(Vec::from_slice(alloc, told.as_bytes())?)
-        }
+        Err(fault) => numbered(alloc, b"fault ", fault.number(), b""),
     }
 }
 
 /// What is read of a number.
-fn number_told(alloc: Global, text: &[u8]) -> Result<Vec<u8>, Fail> {
-    let told = match read_number(text, 0) {
-        Ok((number, next)) => format!(in alloc; "{next} {number}")?,
-        Err(fault) => format!(in alloc; "fault {}", fault.number())?,
-    };
-    Ok(Vec::from_slice(alloc, told.as_bytes())?)
+fn number_told(alloc: Global, text: &[u8]) -> Option<Vec<u8>> {
+    match read_number(text, 0) {
+        Ok((number, next)) => numbered_twice(alloc, b"", next as u64, b" ", number),
+        Err(fault) => numbered(alloc, b"fault ", fault.number(), b""),
+    }
 }
 
 /// What is read of an identifier.
-fn xid_told(alloc: Global, text: &[u8]) -> Result<Vec<u8>, Fail> {
+fn xid_told(alloc: Global, text: &[u8]) -> Option<Vec<u8>> {
     match read_xid(text, 0) {
-        Ok((xid, next)) => {
-            let place = format!(in alloc; "{next} ")?;
-            Ok(with_xid(Vec::from_slice(alloc, place.as_bytes())?, &xid)?)
-        }
+        Ok((xid, next)) => with_xid(numbered(alloc, b"", next as u64, b" ")?, &xid).ok(),
         Err((fault, place)) => {
-            let told = format!(in alloc; "fault {} at {place}", fault.number())?;
-            Ok(Vec::from_slice(alloc, told.as_bytes())?)
+            numbered_twice(alloc, b"fault ", fault.number(), b" at ", place as u64)
         }
     }
 }
 
+/// The canonical text of a statement, if it is read back as the same one.
+fn canonical_text(alloc: Global, statement: &Statement) -> Option<Vec<u8>>
+    requires { statement.now ≢ Statement.Unsupported }
+{
+    let written = write_statement(alloc, statement).ok()?;
+    match read_statement(written.as_slice()) {
+        Ok(again) if again == *statement => Some(written),
+        _ => None,
+    }
+}
+
 /// What is read of a statement. Its canonical text has to be read back.
-fn statement_told(alloc: Global, text: &[u8]) -> Result<Vec<u8>, Fail> {
+fn statement_told(alloc: Global, text: &[u8]) -> Option<Vec<u8>> {
     match read_statement(text) {
-        Ok(statement) => {
-            if statement == Statement::Unsupported {
-                return Ok(Vec::from_slice(alloc, b"unsupported")?);
-            }
-            let written = write_statement(alloc, &statement)?;
-            let again = read_statement(written.as_slice());
-            if again.ok().ok_or("a canonical text")? != statement {
-                return Err("a text of another statement".into());
-            }
-            Ok(written)
-        }
-        Err(fault) => {
-            let told = format!(in alloc; "fault at {}", fault.at)?;
-            Ok(Vec::from_slice(alloc, told.as_bytes())?)
-        }
+        Ok(Statement::Unsupported) => Vec::from_slice(alloc, b"unsupported").ok(),
+        Ok(statement) => canonical_text(alloc, &statement),
+        Err(fault) => numbered(alloc, b"fault at ", fault.at, b""),
     }
 }
 
@@ -178,37 +191,50 @@ enum Kind {
     Statements,
 }
 
-/// Fails unless each line's text is read as the line says.
-fn all_are_told(rt: &impl Abort, alloc: Global, kind: Kind, table: &str) -> Result<(), Fail> {
-    for line in table.lines() {
-        let (text, wanted) = line.split_once(" => ").ok_or("two parts")?;
-        let told = match kind {
-            Kind::Literals => literal_told(alloc, text.as_bytes())?,
-            Kind::Numbers => number_told(alloc, text.as_bytes())?,
-            Kind::Xids => xid_told(alloc, text.as_bytes())?,
-            Kind::Statements => statement_told(alloc, text.as_bytes())?,
-        };
-        assert!(rt; told.as_slice() == wanted.as_bytes(), "{line}");
+/// What is read of a text of this kind.
+fn told(alloc: Global, kind: Kind, text: &[u8]) -> Option<Vec<u8>> {
+    match kind {
+        Kind::Literals => literal_told(alloc, text),
+        Kind::Numbers => number_told(alloc, text),
+        Kind::Xids => xid_told(alloc, text),
+        Kind::Statements => statement_told(alloc, text),
     }
-    Ok(())
+}
+
+/// Whether a line's text is read as the line says.
+fn is_told(alloc: Global, kind: Kind, line: &str) -> bool {
+    let Some((text, wanted)) = line.split_once(" => ") else {
+        return false;
+    };
+    match told(alloc, kind, text.as_bytes()) {
+        Some(told) => told.as_slice() == wanted.as_bytes(),
+        None => false,
+    }
+}
+
+/// Fails unless each line's text is read as the line says.
+fn all_are_told(rt: &impl Abort, alloc: Global, kind: Kind, table: &str) {
+    for line in table.lines() {
+        assert!(rt; is_told(alloc, kind, line), "{line}");
+    }
 }
 
 #[test]
-fn literals_are_read_to_their_end(rt: HostRuntime) -> Result<(), Fail> {
-    all_are_told(&rt, rt.alloc(), Kind::Literals, LITERALS)
+fn literals_are_read_to_their_end(rt: HostRuntime) {
+    all_are_told(&rt, rt.alloc(), Kind::Literals, LITERALS);
 }
 
 #[test]
-fn numbers_are_read_to_their_end(rt: HostRuntime) -> Result<(), Fail> {
-    all_are_told(&rt, rt.alloc(), Kind::Numbers, NUMBERS)
+fn numbers_are_read_to_their_end(rt: HostRuntime) {
+    all_are_told(&rt, rt.alloc(), Kind::Numbers, NUMBERS);
 }
 
 #[test]
-fn xids_are_read_to_their_last_token(rt: HostRuntime) -> Result<(), Fail> {
-    all_are_told(&rt, rt.alloc(), Kind::Xids, XIDS)
+fn xids_are_read_to_their_last_token(rt: HostRuntime) {
+    all_are_told(&rt, rt.alloc(), Kind::Xids, XIDS);
 }
 
 #[test]
-fn statements_are_written_in_canonical_form(rt: HostRuntime) -> Result<(), Fail> {
-    all_are_told(&rt, rt.alloc(), Kind::Statements, STATEMENTS)
+fn statements_are_written_in_canonical_form(rt: HostRuntime) {
+    all_are_told(&rt, rt.alloc(), Kind::Statements, STATEMENTS);
 }

@@ -97,8 +97,12 @@ fn loses<S: Speak, R: Abort + Wait>(
     let Some(key) = Key::of(name(b'k')) else {
         panic!(rt; "a key")
     };
-    let told = coordinator.work(rt, transaction, 0, &Statement::Get(key));
-    assert!(rt; matches!(told, Err(WorkFault::Lost)));
+    let get = Statement::Get(key);
+    let told = coordinator.work(rt, transaction, 0, &get);
+    drop(get);
+    let is_lost = matches!(told, Err(WorkFault::Lost));
+    drop(told);
+    assert!(rt; is_lost);
 }
 
 /// A recovery that store 1 stops at once. Store 0 has let go, so that the transaction's work is lost there;
@@ -155,13 +159,23 @@ fn stops<S: Speak, R: Abort + Wait>(rt: &R, alloc: Global, coordinator: &mut Coo
     recovers(rt, alloc, coordinator, &mut decisions, 0, 0);
 }
 
+/// A store of two sessions, and the pass of the first. The other session is given up.
+fn first_pass(rt: &impl Abort, alloc: Global, capacity: u64) -> (Store, Pass)
+    ensures { log_of result.1 ≡ identity_of result.0.log }
+{
+    let (store, first, _) = two_passes(rt, alloc, capacity);
+    (store, first)
+}
+
 #[test]
 fn branch_is_ended_before_it_is_rolled_back_after_a_fault(rt: HostRuntime) {
-    let alloc = rt.alloc();
-    let (one, first, _) = two_passes(&rt, alloc, 64);
-    let (two, second, _) = two_passes(&rt, alloc, 64);
-    let mut coordinator = of_two(&rt, alloc, &one, first, &two, second);
-    stops(&rt, alloc, &mut coordinator);
+    let (one, first) = first_pass(&rt, rt.alloc(), 64);
+    let (two, second) = first_pass(&rt, rt.alloc(), 64);
+    let mut coordinator = of_two(&rt, rt.alloc(), &one, first, &two, second);
+    stops(&rt, rt.alloc(), &mut coordinator);
+    drop(coordinator);
+    drop(one);
+    drop(two);
 }
 
 /// Store 1 is full once the branch has its row: neither the vote, the end nor a recovery gets further there,
@@ -190,9 +204,11 @@ fn fills<S: Speak, R: Abort + Wait>(rt: &R, alloc: Global, coordinator: &mut Coo
 
 #[test]
 fn branch_in_a_full_store_stays_open(rt: HostRuntime) {
-    let alloc = rt.alloc();
-    let (one, first, _) = two_passes(&rt, alloc, 16);
-    let (two, second, _) = two_passes(&rt, alloc, 2);
-    let mut coordinator = of_two(&rt, alloc, &one, first, &two, second);
-    fills(&rt, alloc, &mut coordinator);
+    let (one, first) = first_pass(&rt, rt.alloc(), 16);
+    let (two, second) = first_pass(&rt, rt.alloc(), 2);
+    let mut coordinator = of_two(&rt, rt.alloc(), &one, first, &two, second);
+    fills(&rt, rt.alloc(), &mut coordinator);
+    drop(coordinator);
+    drop(one);
+    drop(two);
 }

@@ -217,5 +217,7 @@ fn server_survives(rt: HostRuntime) {
     replies(&rt, alloc, &mut server, LINES);
     let mut copy = copied(&rt, &server);
     replies(&rt, alloc, &mut copy, LEFT);
+    drop(copy);
     replies(&rt, alloc, &mut server, LEFT);
+    drop(server);
 }

@@ -153,6 +153,23 @@ fn is_so<L: DecisionLog>(
     }
 }
 
+/// Two passes play a script, as `tries` says.
+pub(crate) fn try_all<L: DecisionLog>(
+    rt: &impl Abort,
+    alloc: Global,
+    log: &L,
+    mut first: L::Pass,
+    mut second: L::Pass,
+    script: &[u8],
+)
+where
+    L::Pass: Drop,
+    requires first { L.belongs_to first ≡ L.identity log.now }
+    requires second { L.belongs_to second ≡ L.identity log.now }
+{
+    tries(rt, alloc, log, &mut first, &mut second, script);
+}
+
 /// Plays a script of the first two passes of a log. A line has a pass's number, and after `= ` what it is
 /// answered: of a statement, which it tries to add, `OK` with how many entries it has seen then, `OVERTAKEN`
 /// with the new front, or `FULL`; of `LOOK` and `LENGTH`, how many it has seen; of `MEET`, how many the other
