@@ -80,7 +80,10 @@ struct Pair {
 fn new_pair(alloc: Global, rows: u64) -> Option<Pair> {
     let store = opened(alloc, rows, 2)?;
     let first = taken(&store, 1)?;
-    let second = taken(&store, 2)?;
+    let Some(second) = taken(&store, 2) else {
+        drop(first);
+        return None;
+    };
     Some(Pair {
         store,
         first,
@@ -608,7 +611,10 @@ fn others_get_a_checkpoint_while_some_are_copied_survives(rt: HostRuntime) {
 
 #[test]
 fn faults_have_the_numbers_of_the_table(rt: HostRuntime) {
-    assert_eq!(rt; EndlessFault::Overtaken { front: 7 }.number(), 1);
-    assert_eq!(rt; EndlessFault::NoMemory.number(), 3);
-    assert_eq!(rt; EndlessFault::Behind.number(), 5);
+    let overtaken = EndlessFault::Overtaken { front: 7 }.number();
+    let no_memory = EndlessFault::NoMemory.number();
+    assert_eq!(rt;
+        (overtaken, no_memory, EndlessFault::Behind.number()),
+        (1, 3, 5)
+    );
 }

@@ -246,7 +246,10 @@ struct Clients {
 /// Takes the session of a number of each store.
 fn clients_of(stores: &Stores, number: u64) -> Option<Clients> {
     let first = taken(&stores.north, number)?;
-    let second = taken(&stores.south, number)?;
+    let Some(second) = taken(&stores.south, number) else {
+        drop(first);
+        return None;
+    };
     Some(Clients { first, second })
 }
 
@@ -358,13 +361,20 @@ fn writes<R: Wait>(rt: &R, session: &mut EndlessSession, letter: u8) -> bool {
 }
 
 /// Whether so many branches of another client commit.
-fn writes_each<R: Wait>(rt: &R, mut session: EndlessSession, letter: u8, count: u64) -> bool {
+fn writes_often<R: Wait>(rt: &R, session: &mut EndlessSession, letter: u8, count: u64) -> bool {
     for _ in 0..count {
-        if !writes(rt, &mut session, letter) {
+        if !writes(rt, session, letter) {
             return false;
         }
     }
     true
+}
+
+/// The same, of a client that ends then.
+fn writes_each<R: Wait>(rt: &R, mut session: EndlessSession, letter: u8, count: u64) -> bool {
+    let written = writes_often(rt, &mut session, letter, count);
+    drop(session);
+    written
 }
 
 impl Clients {
@@ -498,7 +508,10 @@ fn two_clients(store: &Arc<EndlessStore>, number: u64) -> Option<Two>
     requires { number < 20 }
 {
     let one = client_of(store, number)?;
-    let other = client_of(store, number + 1)?;
+    let Some(other) = client_of(store, number + 1) else {
+        drop(one);
+        return None;
+    };
     Some(Two { one, other })
 }
 
