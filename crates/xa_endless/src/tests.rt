@@ -233,32 +233,44 @@ fn is_refused(session: &mut EndlessSession, letter: u8) -> bool {
 }
 
 impl Pair {
-    /// Whether the first's branches and their locks stand while it sleeps for 200 laps of eight rows.
-    fn sleeps(&mut self) -> bool {
+    /// Whether the first's branches and their locks stand while it sleeps and the second adds so many entries.
+    fn sleeps(&mut self, added: u64) -> bool {
         begins(&mut self.first)
-            && puts(&mut self.second, b'r', 1_600)
-            && self.second.seen() == 1_606
+            && puts(&mut self.second, b'r', added)
+            && self.second.seen() == added.saturating_add(6)
             && self.first.seen() == 6
             && is_refused(&mut self.second, b'p')
     }
 
     /// Whether it goes on after that, and the second finds all that it wrote.
-    fn wakes(&mut self) -> bool {
+    fn wakes(&mut self, added: u64) -> bool {
+        let all = added.saturating_add(10);
         ends(&mut self.first)
-            && finds(&mut self.second, b'p', 1_610)
-            && finds(&mut self.second, b'o', 1_610)
-            && finds(&mut self.second, b'm', 1_610)
+            && finds(&mut self.second, b'p', all)
+            && finds(&mut self.second, b'o', all)
+            && finds(&mut self.second, b'm', all)
     }
 }
 
-#[test]
-fn session_that_sleeps_for_200_laps_survives(rt: HostRuntime) {
-    let Some(mut pair) = new_pair(rt.alloc(), 8) else {
-        panic!(rt; "two sessions")
+/// Whether a session finds all as it was after a sleep in which another adds so many entries to eight rows.
+fn sleeps_well(alloc: Global, added: u64) -> bool {
+    let Some(mut pair) = new_pair(alloc, 8) else {
+        return false;
     };
-    let survives = pair.sleeps() && pair.wakes();
+    let woken = pair.sleeps(added) && pair.wakes(added);
     drop(pair);
-    assert!(rt; survives);
+    woken
+}
+
+#[test]
+fn a_session_sleeps_for_200_laps(rt: HostRuntime) {
+    assert!(rt; sleeps_well(rt.alloc(), 1_600));
+}
+
+/// Each lap takes memory as the one before, so growths of 20 are refused in turn, and not those of 200.
+#[test]
+fn session_that_sleeps_for_20_laps_survives(rt: HostRuntime) {
+    assert!(rt; sleeps_well(rt.alloc(), 160));
 }
 
 /// Whether a session that leaves with two branches is taken again with all that it had: its branches, its replica, and

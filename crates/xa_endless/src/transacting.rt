@@ -226,14 +226,15 @@ fn stopped<R: Wait>(
     Some(team.stops())
 }
 
-/// Whether another client adds 200 laps of eight rows to a store, in which two branches are prepared.
-fn goes_round(other: &mut EndlessSession) -> bool {
-    puts(other, b'r', 1_600) && lists(other, 2)
+/// Whether another client adds so many entries to a store, in which two branches are prepared.
+fn goes_round(other: &mut EndlessSession, added: u64) -> bool {
+    puts(other, b'r', added) && lists(other, 2)
 }
 
-/// Whether the decided transaction is committed in a store, and the other rolled back. There are two entries more.
-fn stands(other: &mut EndlessSession) -> bool {
-    finds(other, b'k', 1_610) && misses(other, b'u', 1_610) && lists(other, 0)
+/// Whether the decided transaction is committed in a store, and the other rolled back, once the store has so many
+/// entries.
+fn stands(other: &mut EndlessSession, entries: u64) -> bool {
+    finds(other, b'k', entries) && misses(other, b'u', entries) && lists(other, 0)
 }
 
 /// A client of each of two stores, beside a coordinator.
@@ -254,14 +255,16 @@ fn clients_of(stores: &Stores, number: u64) -> Option<Clients> {
 }
 
 impl Clients {
-    /// Whether each adds 200 laps to its store, in which two branches are prepared.
-    fn go_round(&mut self) -> bool {
-        goes_round(&mut self.first) && goes_round(&mut self.second)
+    /// Whether each adds so many entries to its store, in which two branches are prepared.
+    fn go_round(&mut self, added: u64) -> bool {
+        goes_round(&mut self.first, added) && goes_round(&mut self.second, added)
     }
 
-    /// Whether the decided transaction is committed in both stores, and the other rolled back.
-    fn stand(&mut self) -> bool {
-        stands(&mut self.first) && stands(&mut self.second)
+    /// Whether the decided transaction is committed in both stores, and the other rolled back. Each store has eight
+    /// entries of the coordinator from before, and two of the recovery.
+    fn stand(&mut self, added: u64) -> bool {
+        let entries = added.saturating_add(10);
+        stands(&mut self.first, entries) && stands(&mut self.second, entries)
     }
 }
 
@@ -275,44 +278,46 @@ fn recovers<R: Wait>(
     Team::over(alloc, &stores.north, &stores.south, decisions)?.recovers(rt, alloc)
 }
 
-/// The decisions of a coordinator that stopped 200 laps ago, if both its transactions are still prepared.
+/// The decisions of a coordinator that stopped before the clients went round, if its transactions are still prepared.
 fn stopped_long_ago<R: Wait>(
     rt: &R,
     alloc: Global,
     stores: &Stores,
     clients: &mut Clients,
+    added: u64,
 ) -> Option<Decisions> {
     let decisions = stopped(rt, alloc, &stores.north, &stores.south)?;
-    if clients.go_round() {
+    if clients.go_round(added) {
         Some(decisions)
     } else {
         None
     }
 }
 
-/// What a recovery does, 200 laps after a coordinator stopped.
+/// What a recovery does, long after a coordinator stopped.
 fn recovered_beside<R: Wait>(
     rt: &R,
     alloc: Global,
     stores: &Stores,
     clients: &mut Clients,
+    added: u64,
 ) -> Option<Report> {
-    let decisions = stopped_long_ago(rt, alloc, stores, clients)?;
+    let decisions = stopped_long_ago(rt, alloc, stores, clients, added)?;
     recovers(rt, alloc, stores, decisions)
 }
 
 /// The same, if both stores then are as they should be.
-fn recovered_in<R: Wait>(rt: &R, alloc: Global, stores: &Stores) -> Option<Report> {
+fn recovered_in<R: Wait>(rt: &R, alloc: Global, stores: &Stores, added: u64) -> Option<Report> {
     let mut clients = clients_of(stores, 2)?;
-    let report = recovered_beside(rt, alloc, stores, &mut clients);
-    let stands = clients.stand();
+    let report = recovered_beside(rt, alloc, stores, &mut clients, added);
+    let stands = clients.stand(added);
     drop(clients);
     if stands { report } else { None }
 }
 
-/// What a recovery does in two new stores of eight rows.
-fn recovered<R: Wait>(rt: &R, alloc: Global) -> Option<Report> {
-    recovered_in(rt, alloc, &two_stores(alloc, 8, 2)?)
+/// What a recovery does in two new stores of eight rows, after other clients have added so many entries to each.
+fn recovered<R: Wait>(rt: &R, alloc: Global, added: u64) -> Option<Report> {
+    recovered_in(rt, alloc, &two_stores(alloc, 8, 2)?, added)
 }
 
 /// Whether a recovery has committed two branches and rolled back two, and missed none.
@@ -322,16 +327,17 @@ fn is_whole(report: &Report) -> bool {
 
 #[test]
 fn recovery_finds_what_was_prepared_200_laps_ago(rt: HostRuntime) {
-    let found = match recovered(&rt, rt.alloc()) {
+    let found = match recovered(&rt, rt.alloc(), 1_600) {
         Some(report) => is_whole(&report),
         None => false,
     };
     assert!(rt; found);
 }
 
+/// Growths of 20 laps are refused in turn: those of 200 repeat them.
 #[test]
-fn recovery_after_200_laps_survives(rt: HostRuntime) {
-    assert!(rt; recovered(&rt, rt.alloc()).is_some());
+fn recovery_after_20_laps_survives(rt: HostRuntime) {
+    assert!(rt; recovered(&rt, rt.alloc(), 160).is_some());
 }
 
 /// Whether a statement is carried out.
