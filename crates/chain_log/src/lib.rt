@@ -35,6 +35,8 @@ mod ring_layout;
 mod ring_open;
 mod ring_pass;
 mod ring_rule;
+#[cfg(test)]
+mod ring_spare_tests;
 mod ring_steps;
 #[cfg(test)]
 mod ring_tests;
