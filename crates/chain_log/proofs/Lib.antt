@@ -15,4 +15,5 @@ pub mod Reading
 pub mod Tables
 pub mod Walks
 pub mod Passes
+pub mod Dealt
 pub mod RingLaws
