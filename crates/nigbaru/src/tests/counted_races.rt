@@ -8,6 +8,7 @@ ghost use Rattle.decision_log.specs.Opens.{IsCapacity};
 ghost use Rattle.xa_races.specs.Came.{IsRunCount};
 
 use std::alloc::{Alloc, Global};
+use std::process::Abort;
 use std::sync::atomic::{AtomicU64, Ordering};
 use std::sync::{Arc, Wait};
 use std::thread::{Threads, yield_now};
@@ -68,31 +69,46 @@ impl Gate for LetsOne {
     }
 }
 
-/// Races a script so often, and returns the fault.
+/// Races a script so often, and returns the fault and what is written.
 fn raced<G: Gate + Sync, R: Threads + Wait + Sync + Alloc<A = Global>>(
     rt: &R,
     script: &[u8],
-    output: &mut Vec<u8>,
     capacity: u64,
     renews: bool,
     runs: u64,
     gate: &G,
-) -> Option<ScriptFault>
+) -> (Option<ScriptFault>, Vec<u8>)
     requires capacity { IsCapacity capacity }
     requires runs { IsRunCount runs }
 {
     let mut input = script;
-    runs_script(
+    let mut output = Vec::new(rt.alloc());
+    let fault = runs_script(
         rt,
         rt.alloc(),
         &mut input,
-        output,
+        &mut output,
         capacity,
         renews,
         runs,
         gate,
     )
-    .err()
+    .err();
+    (fault, output)
+}
+
+/// Asks for races that end in no fault, with this text written.
+fn is_written(rt: &impl Abort, raced: (Option<ScriptFault>, Vec<u8>), text: &[u8]) {
+    let (fault, output) = raced;
+    assert_eq!(rt; fault, None);
+    assert_eq!(rt; output.as_slice(), text);
+}
+
+/// Asks for races that end in this fault, with nothing written.
+fn is_refused(rt: &impl Abort, raced: (Option<ScriptFault>, Vec<u8>), wanted: ScriptFault) {
+    let (fault, output) = raced;
+    assert_eq!(rt; fault, Some(wanted));
+    assert!(rt; output.is_empty());
 }
 
 /// Two sessions that start one branch.
@@ -118,18 +134,16 @@ fn each_race_is_counted_for_what_it_came_to(rt: HostRuntime) {
         races: AtomicU64::new(0),
         has_answer: AtomicU64::new(0),
     };
-    let mut output = Vec::new(rt.alloc());
-    let fault = raced(&rt, BOTH_START, &mut output, 8, false, 5, &gate);
-    assert_eq!(rt; fault, None);
-    assert_eq!(rt; output.as_slice(), BOTH_CAME);
+    is_written(&rt, raced(&rt, BOTH_START, 8, false, 5, &gate), BOTH_CAME);
 }
 
 #[test]
 fn shut_gate_is_told_of_counted_races(rt: HostRuntime) {
-    let mut output = Vec::new(rt.alloc());
-    let fault = raced(&rt, BOTH_START, &mut output, 8, true, 3, &LetsOne);
-    assert_eq!(rt; fault, Some(ScriptFault::GateShut));
-    assert!(rt; output.is_empty());
+    is_refused(
+        &rt,
+        raced(&rt, BOTH_START, 8, true, 3, &LetsOne),
+        ScriptFault::GateShut,
+    );
 }
 
 /// One row is written before, and two by lines side by side.
@@ -140,43 +154,48 @@ const WRITTEN: &[u8] = b"OUTCOME 1 CAME 2\n1 OK\n1 OK\n2 OK\nSEEN 1 OF 1 OUTCOME
 
 #[test]
 fn full_is_told_only_where_lines_side_by_side_add_more(rt: HostRuntime) {
-    let mut output = Vec::new(rt.alloc());
-    let fault = raced(&rt, WRITES, &mut output, 1, false, 2, &OpenGate);
-    assert_eq!(rt; fault, Some(ScriptFault::Full));
-    assert!(rt; output.is_empty());
-    let fault = raced(&rt, WRITES, &mut output, 2, false, 2, &OpenGate);
-    assert_eq!(rt; fault, None);
-    assert_eq!(rt; output.as_slice(), WRITTEN);
-    output.clear();
-    let fault = raced(&rt, WRITES, &mut output, 1, true, 2, &OpenGate);
-    assert_eq!(rt; fault, None);
-    assert_eq!(rt; output.as_slice(), WRITTEN);
+    is_refused(
+        &rt,
+        raced(&rt, WRITES, 1, false, 2, &OpenGate),
+        ScriptFault::Full,
+    );
+    is_written(&rt, raced(&rt, WRITES, 2, false, 2, &OpenGate), WRITTEN);
+    is_written(&rt, raced(&rt, WRITES, 1, true, 2, &OpenGate), WRITTEN);
+}
+
+/// Statements that start a branch and end it.
+fn lines(alloc: Global) -> Option<Vec<Statement>> {
+    let start = read_statement(b"XA START 'a'").ok()?;
+    let end = read_statement(b"XA END 'a'").ok()?;
+    vec![in alloc; start, end].ok()
 }
 
 /// The run of session 1, which starts a branch and ends it.
 fn only_run(alloc: Global, store: &Arc<EndlessStore>) -> Option<Vec<LongRun>>
     ensures { IfSome result (λ runs. All (λ run. run.session.store.value ≡ store.now.value) runs.items) }
 {
+    let lines = lines(alloc)?;
     let session = EndlessStore::take(store, 1).ok()?;
-    let mut lines = Vec::new(alloc);
-    lines.push(read_statement(b"XA START 'a'").ok()?).ok()?;
-    lines.push(read_statement(b"XA END 'a'").ok()?).ok()?;
-    let mut runs = Vec::new(alloc);
-    runs.push(LongRun { session, lines }).ok()?;
-    Some(runs)
+    vec![in alloc; LongRun { session, lines }].ok()
 }
 
-/// How many entries there are after the gate has stopped that run before its second statement.
+/// Whether the gate stops that run before its second statement.
+fn stops<R: Threads + Wait + Sync>(rt: &R, alloc: Global, store: &Arc<EndlessStore>) -> bool {
+    match only_run(alloc, store) {
+        Some(runs) => race_on(rt, alloc, store, 0, runs, &LetsOne).is_err(),
+        None => false,
+    }
+}
+
+/// How many entries there are after a stop, by an answer of session 2.
 fn entries_after_a_stop<R: Threads + Wait + Sync + Alloc<A = Global>>(rt: &R) -> Option<u64> {
-    let alloc = rt.alloc();
-    let store = EndlessStore::open(alloc, 8, 2).ok()?;
+    let store = EndlessStore::open(rt.alloc(), 8, 2).ok()?;
     let mut other = EndlessStore::take(&store, 2).ok()?;
-    let runs = only_run(alloc, &store)?;
-    race_on(rt, alloc, &store, 0, runs, &LetsOne).err()?;
-    let answer = other
-        .execute(rt, &Statement::Recover { convert: false })
-        .ok()?;
-    Some(answer.place)
+    if !stops(rt, rt.alloc(), &store) {
+        return None;
+    }
+    let recover = Statement::Recover { convert: false };
+    Some(other.execute(rt, &recover).ok()?.place)
 }
 
 #[test]

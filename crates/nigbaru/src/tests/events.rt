@@ -63,9 +63,19 @@ fn moves_lead_through_what_was_seen_with_their_effects_alone(rt: HostRuntime) ->
     Ok(())
 }
 
+/// Whether that is legal, by these moves.
+fn is_legal_by(alloc: Global, order: &[Move]) -> bool {
+    let Ok(events) = overlapping(alloc) else {
+        return false;
+    };
+    match judge(alloc, &Server::new(alloc), events.as_slice(), 2) {
+        Ok(Verdict::Legal(moves)) => moves.as_slice() == order,
+        _ => false,
+    }
+}
+
 #[test]
-fn read_that_overlaps_a_write_may_come_before_it(rt: HostRuntime) -> Result<(), Fail> {
-    let events = overlapping(rt.alloc())?;
+fn read_that_overlaps_a_write_may_come_before_it(rt: HostRuntime) {
     let order = [
         Move::Event,
         Move::Event,
@@ -74,11 +84,7 @@ fn read_that_overlaps_a_write_may_come_before_it(rt: HostRuntime) -> Result<(), 
         effect(1),
         Move::Event,
     ];
-    match judge(rt.alloc(), &Server::new(rt.alloc()), events.as_slice(), 2)? {
-        Verdict::Legal(moves) => assert_eq!(rt; moves.as_slice(), order.as_slice()),
-        _ => assert!(rt; false),
-    }
-    Ok(())
+    assert!(rt; is_legal_by(rt.alloc(), &order));
 }
 
 /// Counts how often progress is reported to it.
@@ -96,14 +102,19 @@ impl Progress for Counted {
     }
 }
 
+/// Whether that is legal, with its progress counted.
+fn is_legal(alloc: Global, counted: &mut Counted) -> bool {
+    let Ok(events) = overlapping(alloc) else {
+        return false;
+    };
+    let base = Server::new(alloc);
+    let verdict = judge_telling(alloc, &base, events.as_slice(), 2, counted);
+    matches!(verdict, Ok(Verdict::Legal(_)))
+}
+
 #[test]
-fn progress_is_told_before_each_event(rt: HostRuntime) -> Result<(), Fail> {
-    let events = overlapping(rt.alloc())?;
+fn progress_is_told_before_each_event(rt: HostRuntime) {
     let mut counted = Counted { times: 0, all: 0 };
-    let base = Server::new(rt.alloc());
-    let verdict = judge_telling(rt.alloc(), &base, events.as_slice(), 2, &mut counted)?;
-    assert!(rt; matches!(verdict, Verdict::Legal(_)));
-    assert_eq!(rt; counted.times, 4);
-    assert_eq!(rt; counted.all, 4);
-    Ok(())
+    assert!(rt; is_legal(rt.alloc(), &mut counted));
+    assert_eq!(rt; (counted.times, counted.all), (4, 4));
 }

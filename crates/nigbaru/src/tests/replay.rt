@@ -33,6 +33,22 @@ fn is_entry(entry: Option<&Entry>, session: SessionNo, statement: &Statement) ->
     }
 }
 
+/// Whether an answer was logged, or nothing if the server doesn't reply so, or the next entry isn't the one logged.
+fn logged(
+    server: &Server,
+    session: SessionNo,
+    statement: &Statement,
+    told: &Reply,
+    next: Option<&Entry>,
+) -> Option<bool> {
+    let (reply, enters) = server.reply(session, statement).ok()?;
+    if is_same(told, &reply) && (!enters || is_entry(next, session, statement)) {
+        Some(enters)
+    } else {
+        None
+    }
+}
+
 /// What answers of one place came to.
 #[derive(Clone, Copy)]
 struct Explained {
@@ -61,18 +77,9 @@ fn explains_at(
         if answer.place != place {
             return explained;
         }
-        let Ok((reply, enters)) = server.reply(session, statement) else {
-            panic!(rt; "no memory")
+        let Some(enters) = logged(server, session, statement, &answer.reply, next) else {
+            panic!(rt; "{statement:?} at {place}: {:?}", answer.reply)
         };
-        assert!(rt;
-            is_same(&answer.reply, &reply),
-            "{statement:?} at {place}: {:?}",
-            answer.reply
-        );
-        assert!(rt;
-            !enters || is_entry(next, session, statement),
-            "{statement:?} at {place}"
-        );
         explained.next = explained.next.saturating_add(1);
         if enters {
             explained.entered = explained.entered.saturating_add(1);
@@ -118,6 +125,31 @@ fn explains_all_at(
     entered
 }
 
+/// Asks the server for each answer at this place, and gives it the next entry, which is to be that of one answer.
+fn goes_on(
+    rt: &impl Abort,
+    server: &mut Server,
+    accounts: &mut [Account],
+    place: u64,
+    next: Option<&Entry>,
+) {
+    let entered = explains_all_at(rt, server, accounts, place, next);
+    assert_eq!(rt; entered, u64::from(next.is_some()), "at {place}");
+    if let Some(entry) = next {
+        assert!(rt; server.apply(entry.session(), entry.statement()).is_ok());
+    }
+}
+
+/// Whether all answers were explained.
+fn are_explained(accounts: &[Account]) -> bool {
+    for account in accounts {
+        if account.explained != account.told.len() {
+            return false;
+        }
+    }
+    true
+}
+
 /// Gives the history to a server, entry by entry, and asks it for each answer at its place. Each entry is to
 /// be that of one answer.
 pub(crate) fn explains(
@@ -128,14 +160,7 @@ pub(crate) fn explains(
 ) {
     let mut server = Server::new(alloc);
     for place in 0..=history.len() {
-        let next = history.get(place);
-        let entered = explains_all_at(rt, &server, accounts, place as u64, next);
-        assert_eq!(rt; entered, u64::from(next.is_some()), "at {place}");
-        if let Some(entry) = next {
-            assert!(rt; server.apply(entry.session(), entry.statement()).is_ok());
-        }
+        goes_on(rt, &mut server, accounts, place as u64, history.get(place));
     }
-    for account in accounts.iter() {
-        assert_eq!(rt; account.explained, account.told.len());
-    }
+    assert!(rt; are_explained(accounts));
 }

@@ -1,7 +1,6 @@
 //! Copies of a server, what a call lists, and the codes and texts of refusals.
 use std::alloc::Global;
 use std::process::Abort;
-use std::test::Fail;
 use xa_server::{BranchState, Reply, Server, XaError};
 use xa_statement::read_statement;
 use xa_xid::{SessionNo, read_xid, with_part};
@@ -55,10 +54,13 @@ fn rows(alloc: Global, server: &Server, xid: &[u8]) -> Option<usize> {
     Some(server.rows_of(alloc, &xid).ok()?.len())
 }
 
-/// A refusal's codes and its text.
-fn told(alloc: Global, error: XaError) -> Result<String, Fail> {
+/// Whether a refusal's codes and its text are these.
+fn is_told(alloc: Global, error: XaError, wanted: &str) -> bool {
     let code = error.xa_code().unwrap_or(0);
-    Ok(format!(in alloc; "{} {} {code} {error}", error.number(), error.sqlstate())?)
+    match format!(in alloc; "{} {} {code} {error}", error.number(), error.sqlstate()) {
+        Ok(told) => told.as_str() == wanted,
+        Err(_) => false,
+    }
 }
 
 /// What is said before the copy is made.
@@ -72,41 +74,57 @@ const APART: &str =
 /// What is said last, to the server itself.
 const STAYED: &str = "2 GET 'k' => 0x76\n2 PUT 'm','y' => 3572\n2 PUT 's','x' => 3572\n";
 
-#[test]
-fn copy_goes_its_own_way(rt: HostRuntime) -> Result<(), Fail> {
-    let mut server = Server::new(rt.alloc());
-    replies(&rt, rt.alloc(), &mut server, BEGUN);
-    let mut copy = server.copy()?;
-    replies(&rt, rt.alloc(), &mut copy, APART);
-    replies(&rt, rt.alloc(), &mut server, STAYED);
-    Ok(())
+/// A server to which that was said.
+fn begun(rt: &impl Abort, alloc: Global) -> Server {
+    let mut server = Server::new(alloc);
+    replies(rt, alloc, &mut server, BEGUN);
+    server
+}
+
+/// A copy of a server.
+fn copied(rt: &impl Abort, server: &Server) -> Server {
+    let Ok(copy) = server.copy() else {
+        panic!(rt; "no memory")
+    };
+    copy
 }
 
 #[test]
-fn servers_of_the_same_statements_are_the_same(rt: HostRuntime) -> Result<(), Fail> {
-    let mut server = Server::new(rt.alloc());
-    replies(&rt, rt.alloc(), &mut server, BEGUN);
-    let mut other = Server::new(rt.alloc());
-    replies(&rt, rt.alloc(), &mut other, BEGUN);
-    let copy = server.copy()?;
-    let is_same = server.is_same(&other) && server.is_same(&copy);
-    assert!(rt; is_same);
+fn copy_goes_its_own_way(rt: HostRuntime) {
+    let mut server = begun(&rt, rt.alloc());
+    let mut copy = copied(&rt, &server);
+    replies(&rt, rt.alloc(), &mut copy, APART);
+    replies(&rt, rt.alloc(), &mut server, STAYED);
+}
+
+/// Whether a server is the same as its copy.
+fn is_same_as_its_copy(rt: &impl Abort, server: &Server) -> bool {
+    let copy = copied(rt, server);
+    server.is_same(&copy)
+}
+
+#[test]
+fn servers_of_the_same_statements_are_the_same(rt: HostRuntime) {
+    let server = begun(&rt, rt.alloc());
+    let mut other = begun(&rt, rt.alloc());
+    let is_same = server.is_same(&other) & is_same_as_its_copy(&rt, &server);
     replies(&rt, rt.alloc(), &mut other, "2 PUT 'z','x' => OK\n");
-    let is_same = server.is_same(&other);
-    assert!(rt; !is_same);
-    Ok(())
+    let is_same_later = server.is_same(&other);
+    assert!(rt; is_same & !is_same_later);
 }
 
 #[test]
 fn no_rows_are_listed_of_no_branch(rt: HostRuntime) {
-    let mut server = Server::new(rt.alloc());
-    replies(&rt, rt.alloc(), &mut server, BEGUN);
-    assert!(rt; rows(rt.alloc(), &server, b"'a'") == Some(2));
-    assert!(rt; rows(rt.alloc(), &server, b"'c'") == Some(0));
+    let server = begun(&rt, rt.alloc());
+    let listed = [
+        rows(rt.alloc(), &server, b"'a'"),
+        rows(rt.alloc(), &server, b"'c'"),
+    ];
+    assert!(rt; listed == [Some(2), Some(0)]);
 }
 
 #[test]
-fn refusals_have_their_codes_and_texts(rt: HostRuntime) -> Result<(), Fail> {
+fn refusals_have_their_codes_and_texts(rt: HostRuntime) {
     let errors = [
         XaError::Nota,
         XaError::Inval,
@@ -118,8 +136,6 @@ fn refusals_have_their_codes_and_texts(rt: HostRuntime) -> Result<(), Fail> {
         XaError::RowLocked,
     ];
     for (error, wanted) in errors.iter().zip(REFUSALS.lines()) {
-        let told = told(rt.alloc(), *error)?;
-        assert_eq!(rt; told.as_str(), wanted);
+        assert!(rt; is_told(rt.alloc(), *error, wanted), "{wanted}");
     }
-    Ok(())
 }

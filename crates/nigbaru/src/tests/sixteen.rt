@@ -13,6 +13,7 @@ use std::thread::Threads;
 use xa_session::{Fault, Session};
 use xa_statement::read_statement;
 use xa_store::{Log, Pass, Store};
+use xa_words::Entry;
 use xa_xid::{Bytes, Key, Statement, Xid};
 
 /// How many branches each session has.
@@ -34,27 +35,36 @@ fn branch(session: u8, number: u8) -> Xid {
     }
 }
 
-/// The statements of a branch: it reads a row that all sessions write, writes it, and is committed. Its list
-/// of the prepared branches may be anything.
-fn statements(session: u8, number: u8) -> Option<[Statement; 8]> {
+/// A statement that writes one of seven rows, which sessions share.
+fn write(session: u8, number: u8) -> Option<Statement> {
     let mut name = Bytes::new();
     name.push(number % 7);
     let mut value = Bytes::new();
     value.push(session);
     value.push(number);
-    Some([
-        read_statement(b"GET 'k'").ok()?,
-        Statement::Start(branch(session, number)),
-        Statement::Put(Key::of(name)?, value),
-        read_statement(b"PUT 'k','v'").ok()?,
-        Statement::End(branch(session, number)),
-        Statement::Prepare(branch(session, number)),
-        Statement::Recover { convert: false },
-        Statement::Commit {
+    Some(Statement::Put(Key::of(name)?, value))
+}
+
+/// How many statements a branch has.
+const STEPS: u8 = 8;
+
+/// The statement of a branch at this step: it reads a row that all sessions write, writes it, and is
+/// committed. Its list of the prepared branches may be anything.
+fn statement(session: u8, number: u8, step: u8) -> Option<Statement> {
+    match step {
+        0 => read_statement(b"GET 'k'").ok(),
+        1 => Some(Statement::Start(branch(session, number))),
+        2 => write(session, number),
+        3 => read_statement(b"PUT 'k','v'").ok(),
+        4 => Some(Statement::End(branch(session, number))),
+        5 => Some(Statement::Prepare(branch(session, number))),
+        6 => Some(Statement::Recover { convert: false }),
+        7 => Some(Statement::Commit {
             xid: branch(session, number),
             one_phase: false,
-        },
-    ])
+        }),
+        _ => None,
+    }
 }
 
 /// What a session has worked.
@@ -93,12 +103,11 @@ fn works_through<L: DecisionLog, R: Wait>(rt: &R, worked: &mut Worked<'_, L>, nu
     ensures { L.belongs_to worked.new.session.pass ≡ L.belongs_to worked.old.session.pass }
 {
     let session = worked.session.number().get() as u8;
-    let Some(statements) = statements(session, number) else {
-        worked.is_sound = false;
-        return;
-    };
-    for statement in statements {
-        tells(rt, worked, statement);
+    for step in 0..STEPS {
+        match statement(session, number, step) {
+            Some(statement) => tells(rt, worked, statement),
+            None => worked.is_sound = false,
+        }
     }
 }
 
@@ -195,21 +204,52 @@ fn apart<'a>(
     (sessions, accounts)
 }
 
+/// Has sessions of these passes work side by side. Each session by itself, and what it was answered.
+fn accounts_of<'a, R: Abort + Threads + Wait + Sync>(
+    rt: &R,
+    alloc: Global,
+    store: &'a Store,
+    passes: Vec<Pass>,
+) -> (Vec<Session<'a, Log>>, Vec<Account>)
+    requires { All (λ pass. log_of pass ≡ identity_of store.now.log) passes.items }
+    ensures { All (λ session. log_of session.pass ≡ identity_of store.now.log) result.0.items }
+{
+    let sessions = connected(rt, alloc, store, passes);
+    let Some(worked) = side_by_side(rt, alloc, store, sessions) else {
+        panic!(rt; "no memory")
+    };
+    apart(rt, alloc, store, worked)
+}
+
+/// Whether there are sixteen accounts, and enough of them were answered that the log is full.
+fn are_full(accounts: &[Account]) -> bool {
+    let full = accounts.iter().filter(|account| account.is_full).count();
+    accounts.len() == 16 && full >= AT_LEAST_FULL
+}
+
+/// The whole history of the sessions, which has 1,024 entries.
+fn whole_history(
+    rt: &impl Abort,
+    alloc: Global,
+    store: &Store,
+    mut sessions: Vec<Session<'_, Log>>,
+) -> Vec<Entry>
+    requires { All (λ session. log_of session.pass ≡ identity_of store.now.log) sessions.items }
+{
+    let Ok(history) = store.history(alloc, &mut sessions) else {
+        panic!(rt; "no memory")
+    };
+    assert_eq!(rt; history.len(), 1024);
+    history
+}
+
 #[test]
 fn sixteen_sessions_fill_one_history(rt: HostRuntime) {
     let Ok((store, passes)) = Store::open(rt.alloc(), 1024, 16) else {
         panic!(rt; "not opened")
     };
-    let sessions = connected(&rt, rt.alloc(), &store, passes);
-    let Some(worked) = side_by_side(&rt, rt.alloc(), &store, sessions) else {
-        panic!(rt; "no memory")
-    };
-    let (mut sessions, mut accounts) = apart(&rt, rt.alloc(), &store, worked);
-    assert_eq!(rt; accounts.len(), 16);
-    assert!(rt; accounts.iter().filter(|account| account.is_full).count() >= AT_LEAST_FULL);
-    let Ok(history) = store.history(rt.alloc(), &mut sessions) else {
-        panic!(rt; "no memory")
-    };
-    assert_eq!(rt; history.len(), 1024);
+    let (sessions, mut accounts) = accounts_of(&rt, rt.alloc(), &store, passes);
+    assert!(rt; are_full(&accounts));
+    let history = whole_history(&rt, rt.alloc(), &store, sessions);
     explains(&rt, rt.alloc(), history.as_slice(), &mut accounts);
 }

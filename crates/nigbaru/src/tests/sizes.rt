@@ -43,10 +43,22 @@ fn branch(rt: &impl Abort) -> Xid {
 fn says<R: Abort + Wait>(rt: &R, session: &mut Session<'_, Log>, statement: &Statement)
     ensures { log_of session.new.pass ≡ log_of session.old.pass }
 {
-    let Ok(answer) = session.execute(rt, statement) else {
-        panic!(rt; "not answered: {statement:?}")
+    let is_carried_out = match session.execute(rt, statement) {
+        Ok(answer) => matches!(answer.reply, Reply::Ok),
+        Err(_) => false,
     };
-    assert!(rt; matches!(answer.reply, Reply::Ok), "{statement:?}");
+    assert!(rt; is_carried_out, "{statement:?}");
+}
+
+/// Has a session write 1,020 rows.
+fn writes<R: Abort + Wait>(rt: &R, session: &mut Session<'_, Log>)
+    ensures { log_of session.new.pass ≡ log_of session.old.pass }
+{
+    for number in 0..1020u64 {
+        let byte = (number % 256) as u8;
+        let put = Statement::Put(row(rt, byte), longest(rt, byte));
+        says(rt, session, &put);
+    }
 }
 
 /// Has a session fill a history of 1,024 entries.
@@ -54,11 +66,7 @@ fn fills<R: Abort + Wait>(rt: &R, session: &mut Session<'_, Log>)
     ensures { log_of session.new.pass ≡ log_of session.old.pass }
 {
     says(rt, session, &Statement::Start(branch(rt)));
-    for number in 0..1020u64 {
-        let byte = (number % 256) as u8;
-        let put = Statement::Put(row(rt, byte), longest(rt, byte));
-        says(rt, session, &put);
-    }
+    writes(rt, session);
     says(rt, session, &Statement::End(branch(rt)));
     says(rt, session, &Statement::Prepare(branch(rt)));
     let commit = Statement::Commit {
@@ -112,32 +120,64 @@ fn is_longest(reply: &Reply, byte: u8) -> bool {
     }
 }
 
+/// Whether a session answers by the longest value of this byte.
+fn finds<S: Speak>(session: &mut S, get: &Statement, byte: u8) -> bool {
+    match session.attempt(get) {
+        Ok(answer) => is_longest(&answer.reply, byte),
+        Err(_) => false,
+    }
+}
+
+/// Whether a session with one call left finds the row of the greatest byte, and then is cut off.
+fn is_cut_off<S: Speak>(fused: &mut Fused<S>, get: &Statement) -> bool {
+    let recover = Statement::Recover { convert: false };
+    fused.left() == 1
+        && finds(fused, get, 255)
+        && fused.left() == 0
+        && fused.attempt(&recover).err() == Some(Fault::NoMemory)
+}
+
 /// The row of the greatest byte is there, and a session leaves that was cut off after one call.
 fn goes_on<R: Abort + Wait>(rt: &R, session: Session<'_, Log>) {
-    let mut session = Fused::new(session, 1);
-    assert!(rt; session.left() == 1);
-    let Ok(answer) = session.attempt(&Statement::Get(row(rt, 255))) else {
-        panic!(rt; "not answered")
+    let get = Statement::Get(row(rt, 255));
+    let mut fused = Fused::new(session, 1);
+    assert!(rt; is_cut_off(&mut fused, &get));
+    leaves(rt, fused.into_inner());
+}
+
+/// A session answers, and leaves.
+fn leaves<R: Abort + Wait>(rt: &R, mut session: Session<'_, Log>) {
+    let answers = session
+        .attempt(&Statement::Recover { convert: false })
+        .is_ok();
+    let leaves = session.disconnect(rt).is_ok();
+    assert!(rt; answers && leaves);
+}
+
+/// The store renewed after its last session has filled the history, and passes of its sixteen sessions.
+fn renewed<R: Abort + Wait>(
+    rt: &R,
+    alloc: Global,
+    store: Store,
+    mut passes: Vec<Pass>,
+) -> (Store, Vec<Pass>)
+    requires { All (λ pass. log_of pass ≡ identity_of store.log) passes.items }
+    ensures { All (λ pass. log_of pass ≡ identity_of result.0.log) result.1.items }
+{
+    let gathered = filled(rt, alloc, &store, &mut passes);
+    let Ok((store, passes)) = store.renew(alloc, gathered) else {
+        panic!(rt; "not renewed")
     };
-    assert!(rt; is_longest(&answer.reply, 255));
-    let recover = Statement::Recover { convert: false };
-    assert!(rt; session.left() == 0);
-    assert!(rt; session.attempt(&recover).err() == Some(Fault::NoMemory));
-    let mut session = session.into_inner();
-    assert!(rt; session.attempt(&recover).is_ok());
-    assert!(rt; session.disconnect(rt).is_ok());
+    assert_eq!(rt; passes.len(), 16);
+    (store, passes)
 }
 
 #[test]
 fn greatest_store_is_renewed(rt: HostRuntime) {
-    let Ok((store, mut passes)) = Store::open(rt.alloc(), 1024, 16) else {
+    let Ok((store, passes)) = Store::open(rt.alloc(), 1024, 16) else {
         panic!(rt; "not opened")
     };
-    let gathered = filled(&rt, rt.alloc(), &store, &mut passes);
-    let Ok((store, mut passes)) = store.renew(rt.alloc(), gathered) else {
-        panic!(rt; "not renewed")
-    };
-    assert_eq!(rt; passes.len(), 16);
+    let (store, mut passes) = renewed(&rt, rt.alloc(), store, passes);
     let session = last_session(&rt, &store, &mut passes);
     goes_on(&rt, session);
 }

@@ -38,8 +38,8 @@ fn calls_are_answered_alike_in_any_pieces(rt: HostRuntime) {
     for piece in 1..40 {
         let mut client = Recorded::new(rt.alloc(), CALLS, piece, 1000, 1000);
         let done = converse(&rt, rt.alloc(), &mut client);
-        assert_eq!(rt; done, Ok(()));
-        assert_eq!(rt; client.told(), ANSWERS, "in pieces of {piece}");
+        let is_answered = done == Ok(()) && client.told() == ANSWERS;
+        assert!(rt; is_answered, "in pieces of {piece}");
     }
 }
 
@@ -48,8 +48,8 @@ fn a_part_of_an_answer_is_written_before_a_write_fault(rt: HostRuntime) {
     let calls = b"BEGIN\nWORK 1 0 PUT 'k','v'\nPREP";
     let mut client = Recorded::new(rt.alloc(), calls, 8, 100, 9);
     let done = converse(&rt, rt.alloc(), &mut client);
-    assert_eq!(rt; done, Err(ScriptFault::Write));
-    assert_eq!(rt; client.given(), b"TRANSACTI".as_slice());
+    let is_cut = done == Err(ScriptFault::Write) && client.given() == b"TRANSACTI".as_slice();
+    assert!(rt; is_cut);
 }
 
 #[test]
@@ -57,6 +57,7 @@ fn whole_lines_are_answered_before_a_read_fault(rt: HostRuntime) {
     let calls = b"BEGIN\nWORK 1 0 PUT 'k','v'\nPREP";
     let mut client = Recorded::new(rt.alloc(), calls, 8, 4, 1000);
     let done = converse(&rt, rt.alloc(), &mut client);
-    assert_eq!(rt; done, Err(ScriptFault::Read));
-    assert_eq!(rt; client.told(), b"TRANSACTION 1\nOK\n".as_slice());
+    let is_answered = done == Err(ScriptFault::Read)
+        && client.told() == b"TRANSACTION 1\nOK\n".as_slice();
+    assert!(rt; is_answered);
 }

@@ -63,19 +63,45 @@ fn pieces_of_a_script_make_no_difference(rt: HostRuntime) -> Result<(), Fail> {
     Ok(())
 }
 
-#[test]
-fn script_takes_at_most_2097152_reads(rt: HostRuntime) -> Result<(), Fail> {
-    let mut spaces = Vec::new(rt.alloc());
-    for _ in 0..1_048_576 {
-        spaces.push(b' ')?;
+/// So many spaces.
+fn spaces(alloc: Global, count: u64) -> Option<Vec<u8>> {
+    let mut spaces = Vec::new(alloc);
+    for _ in 0..count {
+        spaces.push(b' ').ok()?;
     }
-    let mut input = CutReader::new(spaces.as_slice(), 1, 2_097_152);
-    let mut output = Vec::new(rt.alloc());
-    run_script(rt.alloc(), &mut input, &mut output)?;
-    assert!(rt; output.is_empty());
-    assert_eq!(rt; input.reads_left(), 2_097_152 - 1_048_577);
-    spaces.push(b' ')?;
-    let result = run_script(rt.alloc(), &mut spaces.as_slice(), &mut output);
-    assert_eq!(rt; result, Err(ScriptFault::TooLong));
-    Ok(())
+    Some(spaces)
+}
+
+/// How many reads of 2,097,152 are left after a run that takes a byte at a time, if it writes nothing.
+fn reads_left(alloc: Global, script: &[u8]) -> Option<u64> {
+    let mut input = CutReader::new(script, 1, 2_097_152);
+    let mut output = Vec::new(alloc);
+    run_script(alloc, &mut input, &mut output).ok()?;
+    if output.is_empty() {
+        Some(input.reads_left())
+    } else {
+        None
+    }
+}
+
+/// Whether a script is too long, and nothing is written for it.
+fn is_too_long(alloc: Global, mut script: &[u8]) -> bool {
+    let mut output = Vec::new(alloc);
+    let result = run_script(alloc, &mut script, &mut output);
+    result == Err(ScriptFault::TooLong) && output.is_empty()
+}
+
+#[test]
+fn script_takes_at_most_2097152_reads(rt: HostRuntime) {
+    let alloc = rt.alloc();
+    let left = match spaces(alloc, 1_048_576) {
+        Some(script) => reads_left(alloc, script.as_slice()),
+        None => None,
+    };
+    assert_eq!(rt; left, Some(2_097_152 - 1_048_577));
+    let is_refused = match spaces(alloc, 1_048_577) {
+        Some(script) => is_too_long(alloc, script.as_slice()),
+        None => false,
+    };
+    assert!(rt; is_refused);
 }
