@@ -3,7 +3,7 @@ ghost use Rattle.std.specs.Prelude.{◌≡◌, ◌<◌, ◌∷◌, [], IfOk, vec
 ghost use Rattle.nigbaru.specs.coordinator.Work.{IsRow};
 ghost use Rattle.nigbaru.specs.store.Passes.{log_of, identity_of};
 
-use crate::meeting::{connected, opened};
+use crate::meeting::{connected, opened_for_one};
 use anyhow::{Result, bail};
 use nigbaru::{
     Bytes, Coordinator, Decisions, Ending, Key, Log, Pass, Reply, Session, Speak, Statement, Store,
@@ -114,8 +114,8 @@ fn write_in_both<S: Speak, R: Wait>(
 
 /// How a transaction ends that writes a row in two stores.
 pub fn in_both<R: Wait>(rt: &R, alloc: Global) -> Result<Ending> {
-    let (north, first, _) = opened(alloc)?;
-    let (south, second, _) = opened(alloc)?;
+    let (north, first) = opened_for_one(alloc)?;
+    let (south, second) = opened_for_one(alloc)?;
     let mut coordinator = over_both(alloc, &north, first, &south, second)?;
     write_in_both(rt, &mut coordinator, &mut Decisions::new(alloc))
 }

@@ -15,15 +15,25 @@ fn tell<R: Wait>(rt: &R, session: &mut EndlessSession, text: &str) -> Result<Rep
     Ok(answer.reply)
 }
 
-/// What a session reads after another has written. Then both leave, and one of them is taken again.
-pub fn read_without_an_end<R: Wait>(rt: &R, alloc: Global) -> Result<Reply> {
-    let store = EndlessStore::open(alloc, 1_024, 2)?;
-    let mut first = EndlessStore::take(&store, 1)?;
-    let mut second = EndlessStore::take(&store, 2)?;
+/// Each of two sessions writes a row. Then both leave.
+fn write_and_leave<R: Wait>(
+    rt: &R,
+    mut first: EndlessSession,
+    mut second: EndlessSession,
+) -> Result<()> {
     tell(rt, &mut first, "PUT 'k','v'")?;
     tell(rt, &mut second, "PUT 'm','w'")?;
     first.leave();
     second.leave();
+    Ok(())
+}
+
+/// What a session reads that is taken again, after it and another one have written and left.
+pub fn read_without_an_end<R: Wait>(rt: &R, alloc: Global) -> Result<Reply> {
+    let store = EndlessStore::open(alloc, 1_024, 2)?;
+    let first = EndlessStore::take(&store, 1)?;
+    let second = EndlessStore::take(&store, 2)?;
+    write_and_leave(rt, first, second)?;
     let mut again = EndlessStore::take(&store, 1)?;
     tell(rt, &mut again, "GET 'm'")
 }

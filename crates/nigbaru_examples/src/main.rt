@@ -27,7 +27,7 @@ use std::alloc::Global;
 use std::sync::Wait;
 use std::thread::Threads;
 
-/// The examples on one thread.
+/// The examples of sessions on one thread.
 fn show_sessions<R: Print + Wait>(rt: &R, alloc: Global) -> Result<()> {
     show_reply(rt, "meet, and read", &meeting::read_elsewhere(rt, alloc)?)?;
     show_reply(
@@ -45,7 +45,11 @@ fn show_sessions<R: Print + Wait>(rt: &R, alloc: Global) -> Result<()> {
         rt,
         "leave, and read without an end",
         &endless::read_without_an_end(rt, alloc)?,
-    )?;
+    )
+}
+
+/// The examples of coordinators.
+fn show_transactions<R: Print + Wait>(rt: &R, alloc: Global) -> Result<()> {
     show_ending(rt, &agreement::in_both(rt, alloc)?)?;
     show_recovery(rt, &recovery::recovered(rt, alloc)?)
 }
@@ -61,5 +65,6 @@ fn main(rt: HostRuntime) -> Result<()> {
     let alloc = rt.alloc();
     show_statements(&rt, alloc)?;
     show_sessions(&rt, alloc)?;
+    show_transactions(&rt, alloc)?;
     show_threads(&rt, alloc)
 }

@@ -21,6 +21,14 @@ pub fn opened(alloc: Global) -> Result<(Store, Pass, Pass)>
     Ok((store, first, second))
 }
 
+/// A store with room for 64 entries, and the pass of its first session.
+pub fn opened_for_one(alloc: Global) -> Result<(Store, Pass)>
+    ensures { IfOk result (λ opened. log_of opened.1 ≡ identity_of opened.0.log) }
+{
+    let (store, first, _) = opened(alloc)?;
+    Ok((store, first))
+}
+
 /// A session of a store, of one of its passes.
 pub fn connected(store: &Store, pass: Pass) -> Result<Session<'_, Log>>
     requires { log_of pass ≡ identity_of store.now.log }
@@ -30,6 +38,21 @@ pub fn connected(store: &Store, pass: Pass) -> Result<Session<'_, Log>>
         Ok(session) => Ok(session),
         Err((_, error)) => Err(error.into()),
     }
+}
+
+/// A session of a store, of each of two passes.
+pub fn both_connected(
+    store: &Store,
+    first: Pass,
+    second: Pass,
+) -> Result<(Session<'_, Log>, Session<'_, Log>)>
+    requires first { log_of first ≡ identity_of store.now.log }
+    requires second { log_of second ≡ identity_of store.now.log }
+    ensures { IfOk result (λ sessions. log_of sessions.0.pass ≡ log_of sessions.1.pass) }
+{
+    let first = connected(store, first)?;
+    let second = connected(store, second)?;
+    Ok((first, second))
 }
 
 /// Has a session write a row and meet another session, which then reads the row.
@@ -48,8 +71,7 @@ fn read_by_second<R: Wait>(
 /// What one session of a store reads after the other has written.
 pub fn read_elsewhere<R: Wait>(rt: &R, alloc: Global) -> Result<Reply> {
     let (store, first, second) = opened(alloc)?;
-    let mut first = connected(&store, first)?;
-    let mut second = connected(&store, second)?;
+    let (mut first, mut second) = both_connected(&store, first, second)?;
     read_by_second(rt, &mut first, &mut second)
 }
 

@@ -2,7 +2,7 @@
 ghost use Rattle.std.specs.Prelude.{◌≡◌};
 ghost use Rattle.nigbaru.specs.store.Passes.{log_of, identity_of};
 
-use crate::meeting::opened;
+use crate::meeting::opened_for_one;
 use crate::speech::say;
 use anyhow::{Result, bail};
 use nigbaru::{Pass, Reply, Store};
@@ -24,7 +24,7 @@ fn ask<R: Wait>(rt: &R, store: &Store, pass: Pass, text: &str) -> (Pass, Result<
 
 /// Gives a session a text that is no statement, and then uses the pass once more.
 pub fn asked_again<R: Wait>(rt: &R, alloc: Global) -> Result<Reply> {
-    let (store, pass, _) = opened(alloc)?;
+    let (store, pass) = opened_for_one(alloc)?;
     let (pass, reply) = ask(rt, &store, pass, "XA GO 'a'");
     if reply.is_ok() {
         bail!("a statement");

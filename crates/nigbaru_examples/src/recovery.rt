@@ -1,12 +1,15 @@
 //! A coordinator that stops, and another one that goes on with its decisions.
 ghost use Rattle.std.specs.Prelude.{◌≡◌, IfOk, vec_len};
+ghost use Rattle.nigbaru.specs.coordinator.Work.{IsRow};
 ghost use Rattle.nigbaru.specs.store.Passes.{log_of, identity_of};
 
 use crate::agreement::{put, text, work};
 use crate::kept::{read_back, write_down};
-use crate::meeting::{connected, opened};
+use crate::meeting::{connected, opened_for_one};
 use anyhow::{Result, bail};
-use nigbaru::{Coordinator, Decisions, Log, Pass, Report, Session, Speak, Store, Vote};
+use nigbaru::{
+    Coordinator, Decisions, Log, Pass, Report, Session, Speak, Statement, Store, Transaction, Vote,
+};
 use std::alloc::Global;
 use std::sync::Wait;
 
@@ -47,6 +50,44 @@ fn of_three<'a>(
     Ok(sessions)
 }
 
+/// Whether each of three stores carries a transaction's work out. The transaction stays the coordinator's.
+fn work_in_three<S: Speak, R: Wait>(
+    rt: &R,
+    coordinator: &mut Coordinator<S>,
+    transaction: &mut Transaction,
+    statement: &Statement,
+) -> bool
+    requires name { transaction.old.name.items ≡ coordinator.old.name.items }
+    requires stores { transaction.old.stores ≡ vec_len coordinator.old.stores }
+    requires three { vec_len coordinator.old.stores ≡ 3 }
+    requires row { IsRow statement.now }
+    ensures name { transaction.new.name.items ≡ coordinator.new.name.items }
+    ensures stores { transaction.new.stores ≡ vec_len coordinator.new.stores }
+    ensures three { vec_len coordinator.new.stores ≡ 3 }
+{
+    work(rt, coordinator, transaction, 0, statement)
+        && work(rt, coordinator, transaction, 1, statement)
+        && work(rt, coordinator, transaction, 2, statement)
+}
+
+/// Prepares a transaction, and decides it if its stores vote yes.
+fn decide<S: Speak, R: Wait>(
+    rt: &R,
+    coordinator: &mut Coordinator<S>,
+    decisions: &mut Decisions,
+    transaction: Transaction,
+) -> Result<()>
+    requires name { transaction.name.items ≡ coordinator.old.name.items }
+    requires stores { transaction.stores ≡ vec_len coordinator.old.stores }
+    ensures { vec_len coordinator.new.stores ≡ vec_len coordinator.old.stores }
+{
+    let Vote::Ready(prepared) = coordinator.prepare(rt, transaction) else {
+        bail!("a store has not voted yes");
+    };
+    decisions.decide(&prepared)?;
+    Ok(())
+}
+
 /// Has a transaction write a row in each of three stores, and decides it.
 fn decide_over_three<S: Speak, R: Wait>(
     rt: &R,
@@ -58,17 +99,10 @@ fn decide_over_three<S: Speak, R: Wait>(
 {
     let put = put()?;
     let mut transaction = coordinator.begin(decisions)?;
-    let worked = work(rt, coordinator, &mut transaction, 0, &put)
-        && work(rt, coordinator, &mut transaction, 1, &put)
-        && work(rt, coordinator, &mut transaction, 2, &put);
-    if !worked {
+    if !work_in_three(rt, coordinator, &mut transaction, &put) {
         bail!("a store has not done its work");
     }
-    let Vote::Ready(prepared) = coordinator.prepare(rt, transaction) else {
-        bail!("a store has not voted yes");
-    };
-    decisions.decide(&prepared)?;
-    Ok(())
+    decide(rt, coordinator, decisions, transaction)
 }
 
 /// Decides a transaction and stops its coordinator. The sessions are left, and the decisions as a text.
@@ -108,11 +142,26 @@ fn handed_on<S: Speak + Drop, R: Wait>(rt: &R, alloc: Global, sessions: Vec<S>) 
     taken_up(rt, alloc, sessions, text.as_slice())
 }
 
+/// The report of a recovery of two stores and a third one, with decisions that were read back.
+fn recovered_with_a_third<R: Wait>(
+    rt: &R,
+    alloc: Global,
+    north: &Store,
+    first: Pass,
+    south: &Store,
+    second: Pass,
+) -> Result<Report>
+    requires north { log_of first ≡ identity_of north.now.log }
+    requires south { log_of second ≡ identity_of south.now.log }
+{
+    let (east, third) = opened_for_one(alloc)?;
+    let sessions = of_three(alloc, north, first, south, second, &east, third)?;
+    handed_on(rt, alloc, sessions)
+}
+
 /// The report of a recovery of three stores with decisions that were read back.
 pub fn recovered<R: Wait>(rt: &R, alloc: Global) -> Result<Report> {
-    let (north, first, _) = opened(alloc)?;
-    let (south, second, _) = opened(alloc)?;
-    let (east, third, _) = opened(alloc)?;
-    let sessions = of_three(alloc, &north, first, &south, second, &east, third)?;
-    handed_on(rt, alloc, sessions)
+    let (north, first) = opened_for_one(alloc)?;
+    let (south, second) = opened_for_one(alloc)?;
+    recovered_with_a_third(rt, alloc, &north, first, &south, second)
 }

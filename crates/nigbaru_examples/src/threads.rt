@@ -1,30 +1,29 @@
 //! Sessions of one store on threads of their own.
-ghost use Rattle.std.specs.Prelude.{◌≡◌};
+ghost use Rattle.std.specs.Prelude.{◌≡◌, IfOk};
 
-use crate::meeting::{connected, opened};
+use crate::meeting::{both_connected, opened};
 use anyhow::{Result, bail};
 use nigbaru::history::DecisionLog;
-use nigbaru::{Answer, Bytes, OpenGate, Outcome, Reply, Run, Session, Statement, Xid, race};
+use nigbaru::{Answer, Bytes, OpenGate, Outcome, Pass, Reply, Run, Session, Statement, Xid, race};
 use std::alloc::Global;
 use std::sync::Wait;
 use std::thread;
 use std::thread::Threads;
 
+/// The run of a pass that starts a branch.
+fn starting(alloc: Global, pass: Pass) -> Result<Run>
+    ensures { IfOk result (λ run. run.pass ≡ pass) }
+{
+    let lines = vec![in alloc; Statement::Start(branch(b'a'))]?;
+    Ok(Run { pass, lines })
+}
+
 /// Two runs of one statement each, raced: each on a thread of its own, and one history that explains all answers.
 pub fn raced<R: Threads + Wait + Sync>(rt: &R, alloc: Global) -> Result<Outcome> {
     let (store, first, second) = opened(alloc)?;
-    let left = vec![in alloc; Statement::Start(branch(b'a'))]?;
-    let right = vec![in alloc; Statement::Start(branch(b'a'))]?;
-    let runs = vec![in alloc;
-        Run {
-            pass: first,
-            lines: left
-        },
-        Run {
-            pass: second,
-            lines: right
-        },
-    ]?;
+    let first = starting(alloc, first)?;
+    let second = starting(alloc, second)?;
+    let runs = vec![in alloc; first, second]?;
     Ok(race(rt, alloc, &store, runs, &OpenGate)?)
 }
 
@@ -71,6 +70,19 @@ fn prepare<'a, L: DecisionLog, R: Wait>(
     (session, prepared)
 }
 
+/// Has a session meet another one of its store, which then lists what is prepared.
+fn meet_and_list<L: DecisionLog, R: Wait>(
+    rt: &R,
+    first: &mut Session<'_, L>,
+    second: &mut Session<'_, L>,
+) -> Option<Reply>
+    requires { L.belongs_to first.old.pass ≡ L.belongs_to second.old.pass }
+{
+    first.meet(second);
+    let recover = Statement::Recover { convert: false };
+    Some(second.execute(rt, &recover).ok()?.reply)
+}
+
 /// Has two sessions of one store prepare a branch each, on threads of their own. Then they meet, and the
 /// second lists what is prepared. The result is none if a branch isn't prepared.
 fn listed_by_second<'a, L: DecisionLog + Sync, R: Threads + Wait + Sync>(
@@ -93,19 +105,14 @@ where
     if !first_prepared || !second_prepared {
         return None;
     }
-    first.meet(&mut second);
-    let answer = second
-        .execute(rt, &Statement::Recover { convert: false })
-        .ok()?;
-    Some(answer.reply)
+    meet_and_list(rt, &mut first, &mut second)
 }
 
 /// The list of the prepared branches of a store after two sessions have prepared one each, on threads of
 /// their own.
 pub fn side_by_side<R: Threads + Wait + Sync>(rt: &R, alloc: Global) -> Result<Reply> {
     let (store, first, second) = opened(alloc)?;
-    let first = connected(&store, first)?;
-    let second = connected(&store, second)?;
+    let (first, second) = both_connected(&store, first, second)?;
     let Some(reply) = listed_by_second(rt, first, second, branch(b'a'), branch(b'b')) else {
         bail!("a branch isn't prepared");
     };

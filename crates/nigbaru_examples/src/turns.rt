@@ -2,7 +2,7 @@
 ghost use Rattle.std.specs.Prelude.{◌≡◌};
 ghost use Rattle.nigbaru.specs.store.Passes.{log_of};
 
-use crate::meeting::{connected, opened};
+use crate::meeting::{both_connected, opened};
 use crate::speech::say;
 use anyhow::Result;
 use nigbaru::{Log, Reply, Session};
@@ -45,7 +45,6 @@ fn read_after<R: Wait>(
 /// Has two sessions write the same rows in turn. Then the first reads what is there after both have met.
 pub fn written_in_turn<R: Wait>(rt: &R, alloc: Global) -> Result<Reply> {
     let (store, first, second) = opened(alloc)?;
-    let mut first = connected(&store, first)?;
-    let mut second = connected(&store, second)?;
+    let (mut first, mut second) = both_connected(&store, first, second)?;
     read_after(rt, &mut first, &mut second, &["PUT 'k','v'", "PUT 'm','w'"])
 }
