@@ -63,7 +63,7 @@ fn moves_lead_through_what_was_seen_with_their_effects_alone(rt: HostRuntime) ->
     Ok(())
 }
 
-/// Whether that is legal, by these moves.
+/// Whether what was seen is legal, by these moves.
 fn is_legal_by(alloc: Global, order: &[Move]) -> bool {
     let Ok(events) = overlapping(alloc) else {
         return false;
@@ -102,7 +102,7 @@ impl Progress for Counted {
     }
 }
 
-/// Whether that is legal, with its progress counted.
+/// Whether what was seen is legal, with its progress counted.
 fn is_legal(alloc: Global, counted: &mut Counted) -> bool {
     let Ok(events) = overlapping(alloc) else {
         return false;

@@ -74,7 +74,7 @@ const APART: &str =
 /// What is said last, to the server itself.
 const STAYED: &str = "2 GET 'k' => 0x76\n2 PUT 'm','y' => 3572\n2 PUT 's','x' => 3572\n";
 
-/// A server to which that was said.
+/// A server to which is said what comes before a copy.
 fn begun(rt: &impl Abort, alloc: Global) -> Server {
     let mut server = Server::new(alloc);
     replies(rt, alloc, &mut server, BEGUN);
