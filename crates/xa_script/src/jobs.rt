@@ -33,7 +33,7 @@ use std::rt::Clock;
 use std::sync::Wait;
 use std::thread::Threads;
 use xa_audit::Form;
-use xa_lines::{ScriptFault, Transport, run_script, serve_statements, show_statements};
+use xa_lines::{LineServer, ScriptFault, Transport, run_script, serve_statements, show_statements};
 use xa_manager::{
     BesideServer, CallServer, converse, converse_lasting, lasting_manager, manager_over,
     open_stores,
@@ -265,6 +265,21 @@ fn client_over<'a, I: Read, W: Write + Drop>(
     }
 }
 
+/// Has a server answer each call, and explains each one that is out of turn.
+fn serve_advised<S: LineServer + Drop, I: Read, W: Write + Drop, R: Eprint + Alloc<A = Global>>(
+    rt: &R,
+    client: &mut Transport<&mut I, &mut BufWriter<W>>,
+    server: S,
+) -> Result<u8, ScriptFault>
+    requires { S.begins server }
+    ensures { HasConversed result }
+{
+    let mut server = Advised::new(rt, server);
+    xa_lines::serve(rt.alloc(), &mut server, client)?;
+    server.looked()?;
+    Ok(DONE)
+}
+
 /// Carries out the calls over stores that are never full. If `speaks`, each call that is out of turn is
 /// explained.
 pub fn coordinate<I: Read, W: Write + Drop, R: Eprint + Alloc<A = Global> + Wait>(
@@ -283,10 +298,7 @@ pub fn coordinate<I: Read, W: Write + Drop, R: Eprint + Alloc<A = Global> + Wait
         return Ok(DONE);
     }
     let manager = lasting_manager(rt.alloc(), stores)?;
-    let mut server = Advised::new(rt, BesideServer::new(rt, manager));
-    xa_lines::serve(rt.alloc(), &mut server, &mut client)?;
-    server.looked()?;
-    Ok(DONE)
+    serve_advised(rt, &mut client, BesideServer::new(rt, manager))
 }
 
 /// Carries out the calls over stores whose histories have room for `capacity` entries.
@@ -311,10 +323,7 @@ pub fn coordinate_fixed<I: Read, W: Write + Drop, R: Eprint + Alloc<A = Global> 
         return Ok(DONE);
     }
     let manager = manager_over(rt.alloc(), stores, firsts, seconds)?;
-    let mut server = Advised::new(rt, CallServer::new(rt, manager));
-    xa_lines::serve(rt.alloc(), &mut server, &mut client)?;
-    server.looked()?;
-    Ok(DONE)
+    serve_advised(rt, &mut client, CallServer::new(rt, manager))
 }
 
 /// Answers each line before it reads more.

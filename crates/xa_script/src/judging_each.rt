@@ -68,6 +68,37 @@ fn verdict_on<I: Read + Drop, R: Clock + Eprint + Alloc<A = Global>>(
 }
 
 /// Judges the next record, and adds what is written for it.
+fn add_verdict<I: Read + Drop, R: Clock + Eprint + Alloc<A = Global>>(
+    rt: &R,
+    base: &Server,
+    listed: &mut Listed,
+    input: &mut Watch<'_, I, R>,
+    allowances: &[Allowance],
+    asked: Asked,
+    quiet: bool,
+) -> Result<(), ScriptFault>
+    requires limit { IsLimit asked.limit }
+    requires room { listed.old.count < 1000 }
+    ensures count { OnOk result (listed.new.count ≡ listed.old.count + 1) }
+    ensures tap { OnOk result (listed.new.tap ≡ listed.old.tap) }
+    ensures taken { OnOk result (IfSome (I.remaining input.old.inner)
+        (λ seen. (verdict : ℕ × List ℕ) × IsVerdictOn base.now allowances.now asked seen verdict
+        × (listed.new.status ≡ worse_of listed.old.status verdict.0)
+        × (listed.new.text.items ≡ listed.old.text.items
+        ++ piece listed.old.tap (listed.old.count + 1)
+        (unwrap_or (option_map (λ name. name.now) input.old.name) []) verdict))) }
+    ensures fault { IfErr result (λ fault. fault ≡ ScriptFault.Write → ⊥) }
+{
+    let name = input.name();
+    let verdict = verdict_on(rt, base, input, allowances, asked, quiet)?;
+    listed.count += 1;
+    push_piece(&mut listed.text, listed.tap, listed.count, name, &verdict)?;
+    listed.status = worse(listed.status, verdict.status);
+    listed.faulty |= input.has_faults()?;
+    Ok(())
+}
+
+/// Judges the next record, adds what is written for it, and closes it.
 fn list_next<I: Read + Drop, R: Clock + Eprint + Alloc<A = Global>>(
     rt: &R,
     base: &Server,
@@ -89,13 +120,7 @@ fn list_next<I: Read + Drop, R: Clock + Eprint + Alloc<A = Global>>(
         (unwrap_or (option_map (λ name. name.now) input.entry.name) []) verdict))) }
     ensures fault { IfErr result (λ fault. fault ≡ ScriptFault.Write → ⊥) }
 {
-    let name = input.name();
-    let verdict = verdict_on(rt, base, &mut input, allowances, asked, quiet)?;
-    listed.count += 1;
-    push_piece(&mut listed.text, listed.tap, listed.count, name, &verdict)?;
-    listed.status = worse(listed.status, verdict.status);
-    listed.faulty |= input.has_faults()?;
-    Ok(())
+    add_verdict(rt, base, listed, &mut input, allowances, asked, quiet)
 }
 
 /// Judges each record.

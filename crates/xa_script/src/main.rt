@@ -228,19 +228,36 @@ fn carry_out<R: Files + Clock + Input + Print + Eprint + Alloc<A = Global> + Thr
     let Some(base) = first_store(rt, manner)? else {
         return Ok(COMMAND_FAULT);
     };
-    let allowances = allowances.as_slice();
+    carry_out_from(rt, job, manner, records, allowances.as_slice(), &base)
+}
+
+/// Does a job that isn't to audit, with what the files of `--allow` and `--from` hold, and returns the exit status.
+fn carry_out_from<
+    R: Files + Clock + Input + Print + Eprint + Alloc<A = Global> + Threads + Wait + Sync,
+>(
+    rt: &R,
+    job: Job,
+    manner: &Manner<'_>,
+    records: &Records<'_>,
+    allowances: &[Allowance],
+    base: &Server,
+) -> Result<u8, ScriptFault>
+    requires done { CanBeDone job }
+    requires input { ReadsInput job }
+    requires records { length records.now.names.items ≤ 1000 }
+{
     if let Some(asked) = judging_in(job)
         && records.are_listed()
     {
-        let done = carry_out_records(rt, asked, manner, records, allowances, &base);
+        let done = carry_out_records(rt, asked, manner, records, allowances, base);
         tell_too_long(rt, job, manner.verbose, &done);
         return done;
     }
     let done = match records.only_name().or(manner.file) {
-        None => carry_out_on(rt, rt.reader(), job, manner, allowances, &base),
+        None => carry_out_on(rt, rt.reader(), job, manner, allowances, base),
         Some(name) => {
             let file = opened(rt, name)?;
-            carry_out_on(rt, file, job, manner, allowances, &base)
+            carry_out_on(rt, file, job, manner, allowances, base)
         }
     };
     tell_too_long(rt, job, manner.verbose, &done);
@@ -307,6 +324,23 @@ fn carry_out_each<I: Read + Drop, R: Clock + Print + Eprint + Alloc<A = Global>>
     )
 }
 
+/// Judges the record that a reader holds, lists what it came to, and returns the exit status.
+fn carry_out_one<I: Read + Drop, R: Clock + Print + Eprint + Alloc<A = Global>>(
+    rt: &R,
+    input: Watch<'_, I, R>,
+    asked: Asked,
+    manner: &Manner<'_>,
+    tap: bool,
+    allowances: &[Allowance],
+    base: &Server,
+) -> Result<u8, ScriptFault>
+    requires { IsLimit asked.limit }
+{
+    let mut inputs = Vec::new(rt.alloc());
+    inputs.push(input)?;
+    carry_out_each(rt, inputs, asked, manner, tap, allowances, base)
+}
+
 /// Judges the record of `--file`, or else of the standard input, lists what it came to, and returns the exit status.
 fn carry_out_alone<R: Files + Clock + Input + Print + Eprint + Alloc<A = Global>>(
     rt: &R,
@@ -321,16 +355,13 @@ fn carry_out_alone<R: Files + Clock + Input + Print + Eprint + Alloc<A = Global>
     let (kind, speaks, counts) = (LineKind::Record, manner.verbose, manner.strict);
     match manner.file {
         None => {
-            let mut inputs = Vec::new(rt.alloc());
             let input = Watch::of_file(rt, rt.reader(), STANDARD_INPUT, kind, speaks, counts);
-            inputs.push(input)?;
-            carry_out_each(rt, inputs, asked, manner, tap, allowances, base)
+            carry_out_one(rt, input, asked, manner, tap, allowances, base)
         }
         Some(name) => {
             let file = opened(rt, name)?;
-            let mut inputs = Vec::new(rt.alloc());
-            inputs.push(Watch::of_file(rt, file, name, kind, speaks, counts))?;
-            carry_out_each(rt, inputs, asked, manner, tap, allowances, base)
+            let input = Watch::of_file(rt, file, name, kind, speaks, counts);
+            carry_out_one(rt, input, asked, manner, tap, allowances, base)
         }
     }
 }
@@ -356,6 +387,24 @@ fn carry_out_records<R: Files + Clock + Input + Print + Eprint + Alloc<A = Globa
     carry_out_each(rt, inputs, asked, manner, records.tap, allowances, base)
 }
 
+/// Audits histories that readers hold, and returns the exit status.
+fn carry_out_readers<I: Read + Drop, R: Print + Eprint + Alloc<A = Global>>(
+    rt: &R,
+    inputs: Vec<Watch<'_, I, R>>,
+    job: Job,
+    form: Form,
+    manner: &Manner<'_>,
+) -> Result<u8, ScriptFault>
+    requires { length inputs.items ≤ 64 }
+{
+    let Some(lines) = text_form(job, manner) else {
+        let mut output = jobs::output(rt, manner.verbose)?;
+        return jobs::audit(rt, inputs, &mut output, form);
+    };
+    let mut output = jobs::text_output(rt, manner.verbose, lines)?;
+    jobs::audit(rt, inputs, &mut output, form)
+}
+
 /// Audits the histories, and returns the exit status.
 fn carry_out_audit<R: Files + Print + Eprint + Alloc<A = Global>>(
     rt: &R,
@@ -368,16 +417,7 @@ fn carry_out_audit<R: Files + Print + Eprint + Alloc<A = Global>>(
 {
     let names = histories.names.as_slice();
     let inputs = opened_each(rt, names, LineKind::Shown, manner.verbose, false)?;
-    let done = match text_form(job, manner) {
-        Some(lines) => {
-            let mut output = jobs::text_output(rt, manner.verbose, lines)?;
-            jobs::audit(rt, inputs, &mut output, form)
-        }
-        None => {
-            let mut output = jobs::output(rt, manner.verbose)?;
-            jobs::audit(rt, inputs, &mut output, form)
-        }
-    };
+    let done = carry_out_readers(rt, inputs, job, form, manner);
     tell_too_long(rt, job, manner.verbose, &done);
     done
 }
