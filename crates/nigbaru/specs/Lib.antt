@@ -1,3 +1,4 @@
+pub mod Overlapping
 pub use Rattle.xa_xid.specs as xid
 pub use Rattle.xa_statement.specs as statement
 pub use Rattle.xa_server.specs as server

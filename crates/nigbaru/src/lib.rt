@@ -4,9 +4,15 @@
 //! and coordinators. `script` runs and races scripts, `conversation` answers clients line by line, `history`
 //! has entries and logs, `records` the judge, `manager` a transaction manager. A clause of yours finds definitions in
 //! `specs/`, as in `Rattle.nigbaru.specs.store.Passes.{log_of}`. Read docs/RATTLE.md first.
+//!
+//! `race_is_explained` is a law that ties the judge to the store, the contract of a function that does nothing:
+//! whatever a race of fresh sessions returns, the judge's definition of an explained record accepts, once it is
+//! written down as overlapping calls. Read `specs/Overlapping.antt` first: it says how a race becomes a record. Then
+//! read docs/PROOF.md#the-judge.
 #![tactic(auto)]
 
 pub mod conversation;
+mod explained;
 pub mod history;
 pub mod manager;
 pub mod records;
@@ -14,6 +20,7 @@ pub mod script;
 #[cfg(test)]
 mod tests;
 
+pub use explained::race_is_explained;
 pub use xa_coordinator::{
     BeginFault, Beside, Cause, Closed, Closing, Coordinator, Decision, Decisions, Ending,
     FORMAT_ID, Fused, LastingStore, Paused, Prepared, RecoverFault, Report, Speak, Transaction,

@@ -1,5 +1,5 @@
 -- Races that are counted, and what is written for them.
-use Rattle.std.proofs.Common.{◌≡◌, ℕ, ◌+◌, ◌≤◌, List, [], ◌∷◌, ◌++◌, length, map, codes, decimal, refl, ap, sym, ◌∙◌}
+use Rattle.std.proofs.Common.{◌≡◌, ℕ, ◌+◌, ◌≤◌, Bool, true, false, List, [], ◌∷◌, ◌++◌, length, map, codes, decimal, refl, ap, sym, ◌∙◌}
 use Rattle.std.proofs.Common.{subst, inl, inr, arith}
 use Rattle.std.specs.Prelude.{nat_lt, count_by}
 use Rattle.std.specs.List.{All, Contains}
@@ -11,9 +11,9 @@ use Rattle.xa_orders.specs.Found.{IsWide}
 use Rattle.xa_races.specs.declared.came_tally.CameTally.{CameTally}
 use Rattle.xa_races.specs.CountedRaced.{HasCome}
 use Rattle.xa_races.specs.Came.{came_texts, count_seen, seen_text, some_seen_text, ways_limit, ComesBefore, IsSeenOfAll}
-use Rattle.xa_races.specs.Came.{IsSeenOfSome}
+use Rattle.xa_races.specs.Came.{IsSeenOfSome, IsPartsCome}
 use Rattle.xa_races.specs.HeldRuns.{IsSeenOf}
-use Rattle.xa_races.specs.Tallied.{texts_of, Tallied, IsCounted, tallies_text}
+use Rattle.xa_races.specs.Tallied.{texts_of, Tallied, AreFirst, IsCounted, counted_head, counted_text}
 use Rattle.xa_races.proofs.Law.{came_listed}
 use Rattle.xa_races.proofs.Counting.{came_texts_are, count_seen_is, counts_within}
 
@@ -67,10 +67,6 @@ pub counted_within : (parts : Parts) (runs : ℕ) (came : List (List ℕ)) (old 
 counted_within parts runs came old new few counted =
     counts_within came new 1000000 (omega (arith, counted.raced.count, few)) counted.tallied
 
--- how often each text came, and how many of the texts came at all
-abbrev pub counted_head : List CameTally → List ℕ
-counted_head xs = tallies_text 1 xs ++ codes "SEEN " ++ decimal (count_by (λ one. nat_lt 0 one.came) xs)
-
 -- the program's counts are those of the races that were held
 head_is : (came : List (List ℕ)) (xs : List CameTally) → Tallied came xs
     → counted_head xs ≡ came_texts 1 came (texts_of xs) ++ codes "SEEN " ++ decimal (count_seen came (texts_of xs))
@@ -104,7 +100,7 @@ text_of_all parts runs came outcomes old new text explored listed counted is =
     ∙ ap (λ (l : List (List ℕ)). seen_text came l) same
 
 -- what is written if all outcomes are listed, as the clause about a script's races states it
-pub seen_all : (parts : Parts) (runs : ℕ) (came : List (List ℕ)) (outcomes : List Outcome) (old new : List CameTally)
+seen_all : (parts : Parts) (runs : ℕ) (came : List (List ℕ)) (outcomes : List Outcome) (old new : List CameTally)
     (text : List ℕ) → IsExplored parts outcomes → texts_of old ≡ map (λ one. one.text.items) outcomes
     → IsCounted parts runs came old new → text ≡ counted_head new ++ codes " OF " ++ decimal (length new)
     ++ codes " OUTCOMES\n" → IsSeenOfAll parts runs text
@@ -118,7 +114,7 @@ seen_all parts runs came outcomes old new text explored listed counted is = reco
 }
 
 -- what is written if all outcomes are listed, as the clause about any races states it
-pub seen_of_all : (parts : Parts) (runs : ℕ) (came : List (List ℕ)) (outcomes : List Outcome)
+seen_of_all : (parts : Parts) (runs : ℕ) (came : List (List ℕ)) (outcomes : List Outcome)
     (old new : List CameTally) (text : List ℕ) → IsExplored parts outcomes
     → texts_of old ≡ map (λ one. one.text.items) outcomes
     → IsCounted parts runs came old new → text ≡ counted_head new ++ codes " OF " ++ decimal (length new)
@@ -137,7 +133,7 @@ text_of_some parts runs came old new text counted is =
     is ∙ ap (λ h. h ++ codes "\n") (head_is came new counted.tallied)
 
 -- if there are too many ways to list the outcomes, only those that came are listed
-pub seen_some : (parts : Parts) (runs : ℕ) (came : List (List ℕ)) (old new : List CameTally) (text : List ℕ)
+seen_some : (parts : Parts) (runs : ℕ) (came : List (List ℕ)) (old new : List CameTally) (text : List ℕ)
     → IsWide parts.beside (base_of parts) ways_limit → old ≡ []
     → IsCounted parts runs came old new
     → text ≡ counted_head new ++ codes "\n" → IsSeenOfSome parts runs text
@@ -155,10 +151,27 @@ seen_some parts runs came old new text wide empty counted is =
     }
 
 -- what is written if not all outcomes can be listed, as the clause about any races states it
-pub seen_of_some : (parts : Parts) (runs : ℕ) (came : List (List ℕ)) (old new : List CameTally) (text : List ℕ)
+seen_of_some : (parts : Parts) (runs : ℕ) (came : List (List ℕ)) (old new : List CameTally) (text : List ℕ)
     → IsCounted parts runs came old new → text ≡ counted_head new ++ codes "\n" → IsSeenOf came text
 seen_of_some parts runs came old new text counted is = record {
   listed = texts_of new;
   all = counted.tallied.listed;
   text_is = inr (text_of_some parts runs came old new text counted is);
 }
+
+-- what is written, as the clause about a script's races states it, whether or not all outcomes are known
+pub come_either : (parts : Parts) (runs : ℕ) (came : List (List ℕ)) (known : Bool) (old new : List CameTally)
+    (text : List ℕ) → AreFirst parts known old → IsCounted parts runs came old new → text ≡ counted_text known new
+    → IsPartsCome parts runs text
+come_either parts runs came true old new text first counted is =
+    inl (seen_all parts runs came first.0 old new text first.1 first.2 counted is)
+come_either parts runs came false old new text first counted is =
+    inr (seen_some parts runs came old new text first.0 first.1 counted is)
+
+-- the same, as the clause about any races states it
+pub seen_either : (parts : Parts) (runs : ℕ) (came : List (List ℕ)) (known : Bool) (old new : List CameTally)
+    (text : List ℕ) → AreFirst parts known old → IsCounted parts runs came old new → text ≡ counted_text known new
+    → IsSeenOf came text
+seen_either parts runs came true old new text first counted is =
+    seen_of_all parts runs came first.0 old new text first.1 first.2 counted is
+seen_either parts runs came false old new text first counted is = seen_of_some parts runs came old new text counted is

@@ -1,7 +1,7 @@
 -- The order in which the lines of a race that is counted have their turns.
 --     itself            what a line says
 --     counted_goes      their turns lead to the end
-use Rattle.std.proofs.Common.{◌≡◌, ℕ, ◌+◌, Some, List, [], length, refl, ap, sym, ◌∙◌, arith}
+use Rattle.std.proofs.Common.{◌≡◌, ℕ, Some, List, [], length, refl, ap, sym, ◌∙◌, arith}
 use Rattle.std.specs.Prelude.{slice_get}
 use Rattle.std.specs.List.{All}
 use Rattle.xa_words.specs.Entry.{Entry}

@@ -21,8 +21,7 @@ use Rattle.xa_session.specs.Replay.{state_at}
 use Rattle.xa_session.specs.Answer.{entry_of}
 use Rattle.xa_session.specs.declared.answer.Answer.{Answer}
 use Rattle.xa_store.specs.Legal.{Answered, entered}
-use Rattle.xa_judge.proofs.Places.{same_number}
-use Rattle.xa_races.proofs.Tests.{same_test, apart_test}
+use Rattle.xa_races.proofs.Tests.{same_number, same_test, apart_test}
 
 -- a statement of a session, and what it was answered
 pub record Said : Type 0 where

@@ -6,10 +6,10 @@
 use Rattle.std.proofs.Common.{◌≡◌, ℕ, suc, ◌+◌, ◌≤◌, ◌==◌, ◌&&◌, Bool, true, false, not, cond, Option, Some, None, List}
 use Rattle.std.proofs.Common.{[], ◌∷◌, ◌++◌, length, map}
 use Rattle.std.proofs.Common.{refl, ap, sym, ◌∙◌, subst, inl, inr, arith, append-nil}
-use Rattle.std.specs.Prelude.{slice_get, nat_lt}
-use Rattle.std.specs.List.{All, Contains, concat}
+use Rattle.std.specs.Prelude.{nat_lt}
+use Rattle.std.specs.List.{Contains, concat}
 use Rattle.std.specs.Option.{option_map}
-use Rattle.std.proofs.lemmas.Option.{none-some, same_Some, slice_get_within, get_or_from_slice_get}
+use Rattle.std.proofs.lemmas.Option.{none-some, same_Some}
 use Rattle.xa_xid.specs.declared.statement.Statement.{Statement}
 use Rattle.xa_statement.specs.Reading.{read_of}
 use Rattle.xa_words.specs.Entry.{Entry}
@@ -24,16 +24,10 @@ use Rattle.xa_orders.specs.declared.outcome.Outcome.{Outcome}
 use Rattle.xa_orders.specs.Orders.{Told, Parts, Config, opening, text_at, carried_out, turn, IsSession, LeadsTo, Gives}
 use Rattle.xa_orders.specs.Orders.{AtMost, Any, IsExplored, told_text, told_state}
 use Rattle.xa_races.specs.CountedRaced.{statements_of, laid_texts, IsRaced, HasCome}
-use Rattle.xa_races.proofs.Tests.{same_of_test}
+use Rattle.xa_races.proofs.Tests.{same_of_test, all_at}
 use Rattle.xa_races.proofs.Histories.{Remains, statements_in, answers_in}
 use Rattle.xa_races.proofs.Turns.{Lines, Stands, Goes, said_of, opening_agrees, opening_left, all_empty}
 use Rattle.xa_races.proofs.CountedSchedules.{itself, counted_goes}
-
--- what holds of each element holds of the one at a place
-all_at : {A : Type 0} (P : A → Type 0) (list : List A) (place : ℕ) (x : A) → All P list → slice_get list place ≡ Some x
-    → P x
-all_at P list place x all found =
-    subst P (get_or_from_slice_get list place x x found) (all place x (slice_get_within list place x found))
 
 -- turns lead to these texts, and to this state
 pub record Leads (base : State) (lines : List Told) (texts : List (List ℕ)) (new : State) : Type 0 where

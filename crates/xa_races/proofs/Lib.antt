@@ -26,6 +26,3 @@ pub mod Ended
 pub mod HeldRuns
 pub mod Whole
 pub mod Written
-pub mod OverlapSteps
-pub mod OverlapSchedules
-pub mod OverlapOutcomes

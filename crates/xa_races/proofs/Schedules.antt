@@ -15,10 +15,9 @@ use Rattle.xa_server.proofs.Entering.{unentered_leaves}
 use Rattle.xa_session.specs.Replay.{state_at}
 use Rattle.xa_session.specs.Answer.{entry_of}
 use Rattle.xa_session.proofs.Replaying.{state_at-next}
-use Rattle.xa_judge.specs.Explained.{IsSession}
-use Rattle.xa_judge.proofs.Places.{same_number, get_within}
-use Rattle.xa_races.specs.Overlapping.{with_lines}
-use Rattle.xa_races.proofs.Tests.{lines_own, lines_other}
+use Rattle.xa_orders.specs.Orders.{IsSession}
+use Rattle.xa_races.specs.LinesLeft.{with_lines}
+use Rattle.xa_races.proofs.Tests.{same_number, get_within, lines_own, lines_other}
 use Rattle.xa_races.proofs.Histories.{Said, Remains, Drained, skipped, entering, enters_there, waiting, Due, due, ended}
 
 -- Lines of any kind have their turns in configurations of any kind. `Stands` says how things stand, and `Goes` that

@@ -1,10 +1,12 @@
--- Numbers that are told apart by a test, first places, and lines after a change.
-use Rattle.std.proofs.Common.{◌≡◌, ◌≢◌, ℕ, zero, suc, ◌+◌, ◌<◌, ◌==◌, Bool, true, false, not, cond, Some, None}
-use Rattle.std.proofs.Common.{List, ◌∷◌, length, position, replicate, refl, ap, ◌∙◌, arith}
+-- Numbers that are told apart, by a test or without one, what stands at a place, first places, and lines after a
+-- change.
+use Rattle.std.proofs.Common.{◌≡◌, ◌≢◌, ◌⊎◌, ℕ, zero, suc, ◌+◌, ◌<◌, ◌==◌, Bool, true, false, not, cond, Some, None}
+use Rattle.std.proofs.Common.{List, [], ◌∷◌, length, position, inl, inr, refl, ap, ◌∙◌, subst, arith}
 use Rattle.std.specs.Prelude.{slice_get, nat_lt}
-use Rattle.std.specs.List.{prefix_len, position_or_len}
+use Rattle.std.specs.List.{All, prefix_len, position_or_len}
 use Rattle.std.proofs.lemmas.Bool.Decides.{nat_tests}
-use Rattle.xa_races.specs.Overlapping.{with_lines}
+use Rattle.std.proofs.lemmas.Option.{slice_get_within, get_or_from_slice_get}
+use Rattle.xa_races.specs.LinesLeft.{with_lines}
 
 -- a number is equal to itself by the test
 pub same_test : (n : ℕ) → (n == n) ≡ true
@@ -17,6 +19,14 @@ apart_test m n apart = grind (arith, nat_tests)
 -- numbers that are equal by the test are the same
 pub same_of_test : (m n : ℕ) → (m == n) ≡ true → m ≡ n
 same_of_test m n test = grind (arith, nat_tests)
+
+-- two numbers are the same or not
+pub same_number : (m n : ℕ) → (m ≡ n) ⊎ (m ≢ n)
+same_number zero zero = inl refl
+same_number zero (suc n) = inr (λ e. absurd (omega arith))
+same_number (suc m) zero = inr (λ e. absurd (omega arith))
+same_number (suc m) (suc n) =
+    elim (same_number m n) [ inl is ↦ inl (ap suc is) | inr apart ↦ inr (λ e. apart (omega arith)) ]
 
 -- a smaller number is below by the test
 below_test : (m n : ℕ) → m < n → nat_lt m n ≡ true
@@ -47,9 +57,14 @@ pub lines_other : {L : Type 0} (lines : ℕ → List L) (session other : ℕ) (r
     → with_lines lines session rest other ≡ lines other
 lines_other lines session other rest apart = ap (λ b. cond b rest (lines other)) (apart_test other session apart)
 
--- each element of a repeated one is that one
-pub get_replicate : {A : Type 0} (count place : ℕ) (x : A) → place < count
-    → slice_get (replicate count x) place ≡ Some x
-get_replicate zero place x within = absurd (omega arith)
-get_replicate (suc count) zero x within = refl
-get_replicate (suc count) (suc place) x within = get_replicate count place x (omega arith)
+-- each place of a list has an element
+pub get_within : {A : Type 0} (xs : List A) (i : ℕ) → i < length xs → (x : A) × (slice_get xs i ≡ Some x)
+get_within [] i within = absurd (omega arith)
+get_within (y ∷ xs) zero within = (y, refl)
+get_within (y ∷ xs) (suc i) within = get_within xs i (omega arith)
+
+-- what holds of each element holds of the one at a place
+pub all_at : {A : Type 0} (P : A → Type 0) (list : List A) (place : ℕ) (x : A) → All P list → slice_get list place ≡ Some x
+    → P x
+all_at P list place x all found =
+    subst P (get_or_from_slice_get list place x x found) (all place x (slice_get_within list place x found))

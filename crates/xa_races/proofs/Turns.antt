@@ -28,11 +28,10 @@ use Rattle.xa_lines.specs.Transcript.{answer_to, state_then}
 use Rattle.xa_orders.specs.Orders.{Told, Config, is_left, text_at, carried_out, turn, IsSession, LeadsTo}
 use Rattle.xa_races.specs.CountedRaced.{IsReadLine, statement_in, statements_of, converts_in, line_text, rank_in}
 use Rattle.xa_races.specs.CountedRaced.{laid_texts}
-use Rattle.xa_judge.proofs.Places.{same_number}
-use Rattle.xa_races.proofs.Tests.{same_test, apart_test, same_of_test, first_passes, first_fails}
+use Rattle.xa_races.proofs.Tests.{same_number, same_test, apart_test, same_of_test, first_passes, first_fails}
 use Rattle.xa_races.proofs.Tests.{position_is, lines_own, lines_other}
 use Rattle.xa_races.proofs.Histories.{Said}
-use Rattle.xa_races.specs.Overlapping.{with_lines}
+use Rattle.xa_races.specs.LinesLeft.{with_lines}
 
 -- each line has no answer yet, or that of the end
 abbrev pub Agrees : List Told → List (List ℕ) → List (List ℕ) → Type 0

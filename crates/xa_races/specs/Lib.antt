@@ -11,4 +11,4 @@ pub mod CountedBases
 pub mod Tallied
 pub mod HeldRuns
 pub mod Course
-pub mod Overlapping
+pub mod LinesLeft

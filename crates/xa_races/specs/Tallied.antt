@@ -3,14 +3,19 @@
 --     once_if            1 if two texts are the same, else 0
 --     counted_up         a tally after a text has come
 --     Tallied            the list says how often each text came
+--     AreFirst           the list before the first race
 --     IsCounted          races were counted
 --     tallies_text       what is written for a list
-use Rattle.std.specs.Prelude.{◌≡◌, ℕ, ◌+◌, nat_eq, cond, List, [], ◌∷◌, ◌++◌, map}
+--     counted_head, counted_text     the same, and how many of the list came;  and whether these are all outcomes
+use Rattle.std.specs.Prelude.{◌≡◌, ℕ, ◌+◌, nat_eq, nat_lt, cond, Bool, true, false, List, [], ◌∷◌, ◌++◌, length, map}
+use Rattle.std.specs.Prelude.{count_by, codes, decimal}
 use Rattle.std.specs.List.{All, Contains}
 use Rattle.std.specs.Cmp.Lexicographic.{pointwise}
-use Rattle.xa_orders.specs.Orders.{Parts, Pairwise}
+use Rattle.xa_orders.specs.declared.outcome.Outcome.{Outcome}
+use Rattle.xa_orders.specs.Found.{IsWide}
+use Rattle.xa_orders.specs.Orders.{Parts, base_of, IsExplored, Pairwise}
 use Rattle.xa_races.specs.declared.came_tally.CameTally.{CameTally}
-use Rattle.xa_races.specs.Came.{times, came_text, ComesBefore, HaveCome}
+use Rattle.xa_races.specs.Came.{times, came_text, ComesBefore, HaveCome, ways_limit}
 
 -- the texts of a list, in order
 abbrev pub texts_of : List CameTally → List (List ℕ)
@@ -29,6 +34,13 @@ pub record Tallied (came : List (List ℕ)) (tallies : List CameTally) : Type 0 
   pub counts : All (λ one. one.came ≡ times one.text.items came) tallies
   pub listed : All (Contains (texts_of tallies)) came
 
+-- the list before the first race: all outcomes of the parts, if they are known; else it is empty, since there are too
+-- many ways to know them
+abbrev pub AreFirst : Parts → (known : Bool) → List CameTally → Type 0
+AreFirst parts true tallies =
+    (outcomes : List Outcome) × IsExplored parts outcomes × (texts_of tallies ≡ map (λ one. one.text.items) outcomes)
+AreFirst parts false tallies = IsWide parts.beside (base_of parts) ways_limit × (tallies ≡ [])
+
 -- races of the parts, which gave these texts, were counted. If all texts that came were listed before, none is added;
 -- an empty list gets only what came, ascending
 pub record IsCounted (parts : Parts) (runs : ℕ) (came : List (List ℕ)) (old new : List CameTally) : Type 0 where
@@ -42,3 +54,13 @@ pub record IsCounted (parts : Parts) (runs : ℕ) (came : List (List ℕ)) (old 
 unfoldable pub tallies_text : ℕ → List CameTally → List ℕ
 tallies_text number [] = []
 tallies_text number (one ∷ tallies) = came_text number one.came one.text.items ++ tallies_text (number + 1) tallies
+
+-- the outcomes of a list that came, and how many of the list did
+abbrev pub counted_head : List CameTally → List ℕ
+counted_head tallies =
+    tallies_text 1 tallies ++ codes "SEEN " ++ decimal (count_by (λ one. nat_lt 0 one.came) tallies)
+
+-- the same, and how many outcomes there are, if the list has all of them
+abbrev pub counted_text : (known : Bool) → List CameTally → List ℕ
+counted_text true tallies = counted_head tallies ++ codes " OF " ++ decimal (length tallies) ++ codes " OUTCOMES\n"
+counted_text false tallies = counted_head tallies ++ codes "\n"

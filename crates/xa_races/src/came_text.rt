@@ -1,7 +1,7 @@
 //! Writes the outcomes that came.
-ghost use Rattle.std.specs.Prelude.{◌≡◌, ◌++◌, codes, decimal, length, nat_lt, count_by, OnOk, IfOk};
+ghost use Rattle.std.specs.Prelude.{◌≡◌, ◌++◌, codes, decimal, true, false, nat_lt, count_by, OnOk, IfOk};
 ghost use Rattle.xa_races.specs.Came.{came_text};
-ghost use Rattle.xa_races.specs.Tallied.{tallies_text};
+ghost use Rattle.xa_races.specs.Tallied.{tallies_text, counted_text};
 
 use crate::came_tally::CameTally;
 use std::alloc::Global;
@@ -53,17 +53,8 @@ fn push_seen(text: &mut Vec<u8>, tallies: &[CameTally]) -> Result<(), NoMemory>
 }
 
 /// Returns what is written if the list has all outcomes: those that came, and how many of all that is.
-///
-/// May return `NoMemory`.
-pub fn seen_of_all(alloc: Global, tallies: &[CameTally]) -> Result<Vec<u8>, NoMemory>
-    ensures { IfOk result
-        (λ text. text.items
-        ≡ tallies_text 1 tallies.now
-        ++ codes "SEEN "
-        ++ decimal (count_by (λ one. nat_lt 0 one.came) tallies.now)
-        ++ codes " OF "
-        ++ decimal (length tallies.now)
-        ++ codes " OUTCOMES\n") }
+fn seen_of_all(alloc: Global, tallies: &[CameTally]) -> Result<Vec<u8>, NoMemory>
+    ensures { IfOk result (λ text. text.items ≡ counted_text true tallies.now) }
 {
     let mut text = Vec::new(alloc);
     push_seen(&mut text, tallies)?;
@@ -74,16 +65,24 @@ pub fn seen_of_all(alloc: Global, tallies: &[CameTally]) -> Result<Vec<u8>, NoMe
 }
 
 /// Returns what is written if the list has only those that came.
-///
-/// May return `NoMemory`.
-pub fn seen_of_some(alloc: Global, tallies: &[CameTally]) -> Result<Vec<u8>, NoMemory>
-    ensures { IfOk result
-        (λ text. text.items
-        ≡ tallies_text 1 tallies.now ++ codes "SEEN " ++ decimal (count_by (λ one. nat_lt 0 one.came) tallies.now)
-        ++ codes "\n") }
+fn seen_of_some(alloc: Global, tallies: &[CameTally]) -> Result<Vec<u8>, NoMemory>
+    ensures { IfOk result (λ text. text.items ≡ counted_text false tallies.now) }
 {
     let mut text = Vec::new(alloc);
     push_seen(&mut text, tallies)?;
     text.extend_from_slice(b"\n")?;
     Ok(text)
+}
+
+/// Returns what is written for races that were counted, by whether the list has all outcomes.
+///
+/// May return `NoMemory`.
+pub fn seen_of(alloc: Global, tallies: &[CameTally], is_known: bool) -> Result<Vec<u8>, NoMemory>
+    ensures { IfOk result (λ text. text.items ≡ counted_text is_known tallies.now) }
+{
+    if is_known {
+        seen_of_all(alloc, tallies)
+    } else {
+        seen_of_some(alloc, tallies)
+    }
 }

@@ -63,10 +63,44 @@ fn sessions_of(script: &Script<'_>) -> u64
     greatest_of(script.later.as_slice(), beside)
 }
 
-/// Races the script once, in a store of its own, and returns what all lines are answered. Notes it in the course.
+/// Races the script once, in a store of its own, and writes what all lines are answered into an empty text.
 ///
 /// The lines before are carried out one after another, then the lines side by side race, each session on its
 /// own thread, then the later lines are carried out one after another.
+fn race_into<G: Gate + Sync, R: Threads + Wait + Sync>(
+    rt: &R,
+    alloc: Global,
+    script: &Script<'_>,
+    capacity: u64,
+    renews: bool,
+    gate: &G,
+    text: &mut Vec<u8>,
+) -> Result<(), ScriptFault>
+    requires capacity { IsCapacity capacity }
+    requires read { AreRead (parts_of (read_kept script.now)) }
+    requires empty { text.old.items ≡ [] }
+    ensures come { OnOk result (HasCome (parts_of (read_kept script.now)) text.new.items) }
+    ensures held { OnOk result (IsHeldOnce (G.may_answer gate.now) capacity renews
+        (parts_of (read_kept script.now)) text.new.items) }
+    ensures fault { IfErr result (IsOfRace renews) }
+    ensures cause { IfErr result (EndsBeside (G.may_answer gate.now) capacity renews
+        (told_state no_state (parts_of (read_kept script.now)).before) (parts_of (read_kept script.now)).beside) }
+{
+    let first = Opened::new(alloc, capacity, sessions_of(script))?;
+    let before = script.before.as_slice();
+    let opened = race_each(rt, alloc, first, before, text)?;
+    let beside = script.beside.as_slice();
+    let raced = race_lines(rt, alloc, opened, beside, capacity, renews, gate)?;
+    let (behind, answers) = raced;
+    text.extend_from_slice(answers.as_slice())?;
+    let later = script.later.as_slice();
+    let last = race_each(rt, alloc, behind, later, text)?;
+    drop(last);
+    Ok(())
+}
+
+/// Races the script once, and returns what all lines are answered. Notes it in the course.
+///
 /// Errors: `NoMemory`, `GateShut` and `ThreadRefused`, and if the race doesn't renew its store `Full`, as the
 /// race returns them.
 /// May return `NoMemory`. Waits for its threads.
@@ -90,19 +124,7 @@ pub fn race_parts<G: Gate + Sync, R: Threads + Wait + Sync>(
         (told_state no_state (parts_of (read_kept script.now)).before) (parts_of (read_kept script.now)).beside) }
 {
     let mut text = Vec::new(alloc);
-    let first = Opened::new(alloc, capacity, sessions_of(script))?;
-    let before = script.before.as_slice();
-    let opened = race_each(rt, alloc, first, before, &mut text)?;
-    let beside = script.beside.as_slice();
-    let raced = race_lines(rt, alloc, opened, beside, capacity, renews, gate)?;
-    let (behind, answers) = raced;
-    text.extend_from_slice(answers.as_slice())?;
-    let later = script.later.as_slice();
-    match race_each(rt, alloc, behind, later, &mut text) {
-        Ok(_) => {
-            course.note(&text)?;
-            Ok(text)
-        }
-        Err(fault) => Err(fault),
-    }
+    race_into(rt, alloc, script, capacity, renews, gate, &mut text)?;
+    course.note(&text)?;
+    Ok(text)
 }

@@ -15,11 +15,6 @@
 //! its own thread. The law in `src/counted_laws.rt` says that whatever comes is one of the outcomes that `xa_orders`
 //! explores. Read docs/COMMANDS.md#race-statistics, then `specs/CountedRaced.antt`, `specs/Came.antt` and
 //! `src/runs.rt`.
-//!
-//! `race_is_explained` is a law that ties the judge to the store, the contract of a function that does nothing:
-//! whatever a race of fresh sessions returns, the judge's definition of an explained record accepts, once it is
-//! written down as overlapping calls. Read `specs/Overlapping.antt` first: it says how a race becomes a record. Then
-//! read docs/PROOF.md#the-judge.
 #![tactic(auto)]
 
 mod added;
@@ -32,7 +27,6 @@ mod counted_lines;
 mod counted_opened;
 mod counted_parts;
 mod counted_statements;
-mod explained;
 mod given;
 mod holding;
 mod laying;
@@ -58,7 +52,6 @@ mod saying;
 mod tallies;
 
 pub use added::Added;
-pub use explained::race_is_explained;
 pub use long_outcome::LongOutcome;
 pub use long_race::race_script_in_rounds;
 pub use long_racing::{count_seen, hold_long_race, race_on};

@@ -1,5 +1,5 @@
 //! Races a script many times, and counts its outcomes.
-ghost use Rattle.std.specs.Prelude.{◌≡◌, ◌++◌, [], None, map, codes, IfOk, IfErr, OnOk, IfSome};
+ghost use Rattle.std.specs.Prelude.{◌≡◌, [], None, IfOk, IfErr, OnOk, IfSome};
 ghost use Rattle.std.specs.List.{All};
 ghost use Rattle.decision_log.specs.Opens.{IsCapacity};
 ghost use Rattle.xa_orders.specs.Orders.{base_of, told_state, IsExplored};
@@ -7,8 +7,8 @@ ghost use Rattle.xa_orders.specs.Found.{IsWide};
 ghost use Rattle.xa_orders.specs.Scripts.{script_read, parts_of};
 ghost use Rattle.xa_orders.specs.Kept.{read_kept};
 ghost use Rattle.xa_races.specs.CountedRaced.{AreRead};
-ghost use Rattle.xa_races.specs.Tallied.{texts_of, IsCounted};
-ghost use Rattle.xa_races.specs.Came.{IsRunCount, ways_limit, IsSeenOfAll, IsSeenOfSome, IsRunsText, IsOfRace};
+ghost use Rattle.xa_races.specs.Tallied.{AreFirst, IsCounted};
+ghost use Rattle.xa_races.specs.Came.{IsRunCount, ways_limit, IsRunsText, IsOfRace};
 ghost use Rattle.xa_races.specs.Came.{IsOfRuns};
 ghost use Rattle.xa_races.specs.Came.{IsPartsCome, IsWellRead};
 ghost use Rattle.xa_races.specs.Course.{held_in};
@@ -16,7 +16,7 @@ ghost use Rattle.xa_races.specs.HeldRuns.{AreHeld, IsSeenOf, EndsBeside, EndsRun
 ghost use Rattle.xa_server.specs.State.{no_state};
 
 use crate::came_tally::CameTally;
-use crate::came_text::{seen_of_all, seen_of_some};
+use crate::came_text::seen_of;
 use crate::counted_parts::{Course, race_parts};
 use crate::tallies::{note, tallies_of};
 use std::alloc::Global;
@@ -100,85 +100,19 @@ fn outcomes_of(alloc: Global, script: &Script<'_>) -> Result<Option<Vec<Outcome>
     )
 }
 
-/// What is written for races of the script if all its outcomes are known.
-fn came_of_all<G: Gate + Sync, R: Threads + Wait + Sync>(
-    rt: &R,
-    alloc: Global,
-    outcomes: Vec<Outcome>,
-    script: &Script<'_>,
-    capacity: u64,
-    renews: bool,
-    runs: u64,
-    gate: &G,
-    course: &mut Course,
-) -> Result<Vec<u8>, ScriptFault>
-    requires explored { IsExplored (parts_of (read_kept script.now)) outcomes.items }
-    requires fresh { held_in course.old ≡ [] }
-    requires capacity { IsCapacity capacity }
-    requires read { AreRead (parts_of (read_kept script.now)) }
-    requires runs { IsRunCount runs }
-    ensures come { IfOk result (λ text. IsSeenOfAll (parts_of (read_kept script.now)) runs text.items) }
-    ensures seen { IfOk result (λ text. IsSeenOf (held_in course.new) text.items) }
-    ensures held { OnOk result (AreHeld (G.may_answer gate.now) capacity renews runs (parts_of (read_kept script.now))
-        (held_in course.new)) }
-    ensures fault { IfErr result (IsOfRace renews) }
-    ensures cause { IfErr result (EndsBeside (G.may_answer gate.now) capacity renews
-        (told_state no_state (parts_of (read_kept script.now)).before) (parts_of (read_kept script.now)).beside) }
+/// The list that the outcomes of races are counted in, and whether it has all outcomes of the script. It is empty if
+/// there are too many ways to know them.
+fn first_tallies(alloc: Global, script: &Script<'_>) -> Result<(Vec<CameTally>, bool), NoMemory>
+    ensures none { IfOk result (λ first. All (λ one. one.came ≡ 0) first.0.items) }
+    ensures first { IfOk result (λ first. AreFirst (parts_of (read_kept script.now)) first.1 first.0.items) }
 {
-    let mut tallies = tallies_of(alloc, outcomes)?;
-    count_runs(
-        rt,
-        alloc,
-        &mut tallies,
-        script,
-        capacity,
-        renews,
-        runs,
-        gate,
-        course,
-    )?;
-    let text = seen_of_all(alloc, tallies.as_slice())?;
-    Ok(text)
-}
-
-/// What is written for races of the script if it has too many ways to know all its outcomes.
-fn came_of_some<G: Gate + Sync, R: Threads + Wait + Sync>(
-    rt: &R,
-    alloc: Global,
-    script: &Script<'_>,
-    capacity: u64,
-    renews: bool,
-    runs: u64,
-    gate: &G,
-    course: &mut Course,
-) -> Result<Vec<u8>, ScriptFault>
-    requires wide { IsWide script.now.beside.items (base_of (parts_of (read_kept script.now))) ways_limit }
-    requires fresh { held_in course.old ≡ [] }
-    requires capacity { IsCapacity capacity }
-    requires read { AreRead (parts_of (read_kept script.now)) }
-    requires runs { IsRunCount runs }
-    ensures come { IfOk result (λ text. IsSeenOfSome (parts_of (read_kept script.now)) runs text.items) }
-    ensures seen { IfOk result (λ text. IsSeenOf (held_in course.new) text.items) }
-    ensures held { OnOk result (AreHeld (G.may_answer gate.now) capacity renews runs (parts_of (read_kept script.now))
-        (held_in course.new)) }
-    ensures fault { IfErr result (IsOfRace renews) }
-    ensures cause { IfErr result (EndsBeside (G.may_answer gate.now) capacity renews
-        (told_state no_state (parts_of (read_kept script.now)).before) (parts_of (read_kept script.now)).beside) }
-{
-    let mut tallies = Vec::new(alloc);
-    count_runs(
-        rt,
-        alloc,
-        &mut tallies,
-        script,
-        capacity,
-        renews,
-        runs,
-        gate,
-        course,
-    )?;
-    let text = seen_of_some(alloc, tallies.as_slice())?;
-    Ok(text)
+    match outcomes_of(alloc, script)? {
+        None => Ok((Vec::new(alloc), false)),
+        Some(outcomes) => {
+            let tallies = tallies_of(alloc, outcomes)?;
+            Ok((tallies, true))
+        }
+    }
 }
 
 /// What is written for races of the script.
@@ -204,12 +138,20 @@ fn came_of<G: Gate + Sync, R: Threads + Wait + Sync>(
     ensures cause { IfErr result (EndsBeside (G.may_answer gate.now) capacity renews
         (told_state no_state (parts_of (read_kept script.now)).before) (parts_of (read_kept script.now)).beside) }
 {
-    match outcomes_of(alloc, script)? {
-        None => came_of_some(rt, alloc, script, capacity, renews, runs, gate, course),
-        Some(outcomes) => came_of_all(
-            rt, alloc, outcomes, script, capacity, renews, runs, gate, course,
-        ),
-    }
+    let (mut tallies, is_known) = first_tallies(alloc, script)?;
+    count_runs(
+        rt,
+        alloc,
+        &mut tallies,
+        script,
+        capacity,
+        renews,
+        runs,
+        gate,
+        course,
+    )?;
+    let text = seen_of(alloc, tallies.as_slice(), is_known)?;
+    Ok(text)
 }
 
 /// What is read of a script. Each line of its parts has a statement.

@@ -2,14 +2,13 @@
 -- Every rule here is the project's own: docs/PROOF.md#the-judge.
 --     RunLine               a statement of a run, its answer, and what the record shows of that answer
 --     Lines                 the lines of each session
---     with_lines            the same, with one session's lines replaced
 --     next_call             the call for the first line of a list
 --     first_calls           each session calls for its first line
 --     Overlap               events in which a session calls again as soon as its call has returned
 --     IsExplainedOverlap    written down so, the lines are explained
 --     AreFreshRuns          runs of the sessions 1, 2 and so on, which have done nothing before
 --     AreLinesOf            the lines are those of the runs, with these answers
-use Rattle.std.specs.Prelude.{◌≡◌, ℕ, zero, suc, ◌+◌, ◌<◌, ◌==◌, true, cond, Some, List, [], ◌∷◌, ◌++◌, length, map}
+use Rattle.std.specs.Prelude.{◌≡◌, ℕ, zero, suc, ◌+◌, ◌<◌, true, Some, List, [], ◌∷◌, ◌++◌, length, map}
 use Rattle.std.specs.Prelude.{slice_get}
 use Rattle.xa_xid.specs.declared.statement.Statement.{Statement}
 use Rattle.xa_server.specs.State.{State}
@@ -23,6 +22,7 @@ use Rattle.xa_judge.specs.declared.event.Seen.{Seen}
 use Rattle.xa_judge.specs.declared.event.Event.{Event}
 use Rattle.xa_judge.specs.declared.event.Event.TheVariants.{Call, Return}
 use Rattle.xa_judge.specs.Explained.{shows_answer, IsSession, Explained}
+use Rattle.xa_races.specs.LinesLeft.{with_lines}
 
 -- a statement of a run, its answer in the race, and what the record shows as its return
 pub record RunLine : Type 0 where
@@ -34,10 +34,6 @@ pub record RunLine : Type 0 where
 -- at each session's number, its lines in order
 abbrev pub Lines : Type 0
 Lines = ℕ → List RunLine
-
--- the lines of all sessions, of whatever kind, with those of one session replaced
-abbrev pub with_lines : {L : Type 0} → (ℕ → List L) → ℕ → List L → ℕ → List L
-with_lines lines session rest = λ other. cond (other == session) rest (lines other)
 
 -- the session calls for the first of these lines, if there is one
 abbrev pub next_call : ℕ → List RunLine → List Event

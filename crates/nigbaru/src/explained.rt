@@ -5,7 +5,7 @@ ghost use Rattle.decision_log.specs.Known.{AllOf};
 ghost use Rattle.xa_store.specs.declared.run.Run.{Run};
 ghost use Rattle.xa_store.specs.declared.outcome.Outcome.{Outcome};
 ghost use Rattle.xa_store.specs.Legal.{IsOutcome};
-ghost use Rattle.xa_races.specs.Overlapping.{Lines, AreFreshRuns, AreLinesOf, IsExplainedOverlap};
+ghost use Rattle.nigbaru.specs.Overlapping.{Lines, AreFreshRuns, AreLinesOf, IsExplainedOverlap};
 
 /// States that the answers of a race of fresh sessions are explained once they are written down as
 /// overlapping calls. Does nothing when it is called.

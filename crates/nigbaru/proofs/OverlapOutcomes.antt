@@ -2,9 +2,9 @@
 use Rattle.std.proofs.Common.{◌≡◌, ℕ, zero, suc, ◌+◌, ◌<◌, ◌≤◌, Some, List, [], ◌∷◌, length, map, refl, sym, ◌∙◌, subst}
 use Rattle.std.proofs.Common.{inl, inr, arith, add-one}
 use Rattle.std.specs.Prelude.{slice_get}
-use Rattle.std.specs.List.{All, AllZip}
+use Rattle.std.specs.List.{AllZip}
 use Rattle.std.proofs.lemmas.Bool.{cases_lt}
-use Rattle.std.proofs.lemmas.Option.{none-some, same_Some, slice_get_within, get_or_from_slice_get}
+use Rattle.std.proofs.lemmas.Option.{none-some, same_Some}
 use Rattle.std.proofs.lemmas.Slice.Zip.{AllZip-long}
 use Rattle.xa_xid.specs.declared.statement.Statement.{Statement}
 use Rattle.xa_words.specs.Entry.{Entry}
@@ -19,15 +19,10 @@ use Rattle.xa_store.specs.declared.run.Run.{Run}
 use Rattle.xa_store.specs.declared.outcome.Outcome.{Outcome}
 use Rattle.xa_judge.specs.Explained.{IsSession}
 use Rattle.xa_judge.proofs.Places.{get_within}
-use Rattle.xa_races.specs.Overlapping.{RunLine, Lines, AreFreshRuns, AreLinesOf, IsExplainedOverlap}
+use Rattle.nigbaru.specs.Overlapping.{RunLine, Lines, AreFreshRuns, AreLinesOf, IsExplainedOverlap}
+use Rattle.xa_races.proofs.Tests.{all_at}
 use Rattle.xa_races.proofs.Histories.{Remains, statements_in, answers_in, entries_of-other}
-use Rattle.xa_races.proofs.OverlapSchedules.{spoken, overlap_explained}
-
--- what holds of each element holds of the one at a place
-all_at : {A : Type 0} (P : A → Type 0) (list : List A) (place : ℕ) (x : A) → All P list → slice_get list place ≡ Some x
-    → P x
-all_at P list place x all found =
-    subst P (get_or_from_slice_get list place x x found) (all place x (slice_get_within list place x found))
+use Rattle.nigbaru.proofs.OverlapSchedules.{spoken, overlap_explained}
 
 -- what holds place by place of two lists holds of their elements at a place
 zip_at : {A B : Type 0} (R : A → B → Type 0) (xs : List A) (ys : List B) (place : ℕ) (x : A) (y : B) → AllZip R xs ys

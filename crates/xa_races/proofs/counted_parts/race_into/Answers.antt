@@ -10,10 +10,10 @@ use Rattle.xa_races.specs.HeldRuns.{GivesRacedBy, EndsBeside}
 use Rattle.xa_races.specs.CountedBases.{base_of}
 use Rattle.xa_races.proofs.HeldRuns.{held_whole, left_in, ends_same, passed_on}
 use Rattle.xa_races.proofs.Whole.{come_whole}
-use Rattle.xa_races.proofs.counted_parts.race_parts.Goals as goal
+use Rattle.xa_races.proofs.counted_parts.race_into.Goals as goal
 
-pub returns-in_ok-note-in-Ok-clause-come : goal.returns-in_ok-note-in-Ok-clause-come
-returns-in_ok-note-in-Ok-clause-come g c =
+pub returns-clause-come : goal.returns-clause-come
+returns-clause-come g c =
     let base = base_of c.in_ok-first.first in
     let first = base_of c.in_ok-opened.opened in
     let behind = base_of c.in_ok-raced.raced.0 in
@@ -22,18 +22,18 @@ returns-in_ok-note-in-Ok-clause-come g c =
     c.extend_from_slice.new.self.items
     c.race_each-2.new.text.items c.in_ok-first.ensures.base
     (c.in_ok-opened.ensures.text ∙ ap (λ (t : List ℕ). t ++ told_text base c.as_slice-before.result.now)
-    c.new-text.ensures.items
+    c.requires.empty
     ∙ ap (λ (l : List Told). told_text base l) c.as_slice-before.ensures.value)
     (c.in_ok-opened.ensures.state ∙ ap (λ (l : List Told). told_state base l) c.as_slice-before.ensures.value)
     (subst (λ (l : List Told). GivesRaced first l answers behind) c.as_slice-beside.ensures.value
     c.in_ok-raced.ensures.raced)
     (c.in_ok-extend_from_slice.ensures.items ∙ ap (λ (t : List ℕ). c.race_each.new.text.items
     ++ t) c.as_slice.ensures.value)
-    (c.in-Ok.ensures.text ∙ ap (λ (l : List Told). c.extend_from_slice.new.self.items
+    (c.in_ok-last.ensures.text ∙ ap (λ (l : List Told). c.extend_from_slice.new.self.items
     ++ told_text behind l) c.as_slice-later.ensures.value)
 
-pub returns-in_ok-note-in-Ok-clause-held : goal.returns-in_ok-note-in-Ok-clause-held
-returns-in_ok-note-in-Ok-clause-held g c =
+pub returns-clause-held : goal.returns-clause-held
+returns-clause-held g c =
     let gate = g.G.Gate.may_answer c.args.gate.now in
     let capacity = c.args.capacity in
     let renews = c.args.renews in
@@ -46,14 +46,14 @@ returns-in_ok-note-in-Ok-clause-held g c =
     c.extend_from_slice.new.self.items
     c.race_each-2.new.text.items c.in_ok-first.ensures.base
     (c.in_ok-opened.ensures.text ∙ ap (λ (t : List ℕ). t ++ told_text base c.as_slice-before.result.now)
-    c.new-text.ensures.items
+    c.requires.empty
     ∙ ap (λ (l : List Told). told_text base l) c.as_slice-before.ensures.value)
     (c.in_ok-opened.ensures.state ∙ ap (λ (l : List Told). told_state base l) c.as_slice-before.ensures.value)
     (subst (λ (l : List Told). GivesRacedBy gate capacity renews first l answers behind) c.as_slice-beside.ensures.value
     c.in_ok-raced.ensures.by)
     (c.in_ok-extend_from_slice.ensures.items ∙ ap (λ (t : List ℕ). c.race_each.new.text.items
     ++ t) c.as_slice.ensures.value)
-    (c.in-Ok.ensures.text ∙ ap (λ (l : List Told). c.extend_from_slice.new.self.items
+    (c.in_ok-last.ensures.text ∙ ap (λ (l : List Told). c.extend_from_slice.new.self.items
     ++ told_text behind l) c.as_slice-later.ensures.value)
     (left_in c.in_ok-raced.raced.0 capacity
     (ap (λ (s : EndlessStore). s.log.rows) (c.in_ok-raced.ensures.store ∙ c.in_ok-opened.ensures.store)

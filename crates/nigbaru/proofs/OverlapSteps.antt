@@ -6,7 +6,7 @@
 --     emits              a line of a session is next
 --     begins             each session calls for its first line
 use Rattle.std.proofs.Common.{◌≡◌, ◌≢◌, ℕ, zero, suc, ◌<◌, ◌≤◌, true, cond, Option, Some, None, List, [], ◌∷◌, ◌++◌}
-use Rattle.std.proofs.Common.{set, refl, ap, sym, ◌∙◌, subst, inl, inr}
+use Rattle.std.proofs.Common.{set, replicate, refl, ap, sym, ◌∙◌, subst, inl, inr}
 use Rattle.std.proofs.Common.{arith, append_assoc}
 use Rattle.std.specs.Prelude.{slice_get}
 use Rattle.xa_server.specs.State.{State}
@@ -27,9 +27,10 @@ use Rattle.xa_judge.specs.Explained.{Config, with_client, opening_config, effect
 use Rattle.xa_judge.specs.Explained.{returned, shows_answer, IsSession}
 use Rattle.xa_judge.specs.Explained.{LeadsThrough}
 use Rattle.xa_judge.proofs.Places.{same_number, get_written, get_apart}
-use Rattle.xa_races.specs.Overlapping.{RunLine, Lines, with_lines, next_call, first_calls, Overlap}
-use Rattle.xa_races.specs.Overlapping.{returned as returned_next}
-use Rattle.xa_races.proofs.Tests.{lines_own, lines_other, get_replicate}
+use Rattle.xa_races.specs.LinesLeft.{with_lines}
+use Rattle.nigbaru.specs.Overlapping.{RunLine, Lines, next_call, first_calls, Overlap}
+use Rattle.nigbaru.specs.Overlapping.{returned as returned_next}
+use Rattle.xa_races.proofs.Tests.{lines_own, lines_other}
 
 -- some moves lead through the events
 pub record RunsOn (config : Config) (events : List Event) : Type 0 where
@@ -296,6 +297,13 @@ begins (suc count) within lines config have =
           (first_calls count lines) events))
           (one.back (first_calls count lines ++ events) (all.back events run));
     }
+
+-- each element of a repeated one is that one
+get_replicate : {A : Type 0} (count place : ℕ) (x : A) → place < count
+    → slice_get (replicate count x) place ≡ Some x
+get_replicate zero place x within = absurd (omega arith)
+get_replicate (suc count) zero x within = refl
+get_replicate (suc count) (suc place) x within = get_replicate count place x (omega arith)
 
 -- before the first call every session is idle
 pub none_called : (lines : Lines) (base : State) → HaveCalled 16 lines (opening_config base)

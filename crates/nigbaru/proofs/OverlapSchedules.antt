@@ -11,9 +11,10 @@ use Rattle.xa_server.specs.Step.{after}
 use Rattle.xa_session.specs.Replay.{state_at}
 use Rattle.xa_session.proofs.Replaying.{state_after-nil}
 use Rattle.xa_judge.specs.Explained.{Config, opening_config, IsSession}
-use Rattle.xa_races.specs.Overlapping.{RunLine, Lines, with_lines, first_calls, over, IsExplainedOverlap}
+use Rattle.xa_races.specs.LinesLeft.{with_lines}
+use Rattle.nigbaru.specs.Overlapping.{RunLine, Lines, first_calls, over, IsExplainedOverlap}
 use Rattle.xa_races.proofs.Tests.{lines_other}
-use Rattle.xa_races.proofs.OverlapSteps.{RunsOn, Stands, Goes, emits, Begun, begins, none_called, opening-state}
+use Rattle.nigbaru.proofs.OverlapSteps.{RunsOn, Stands, Goes, emits, Begun, begins, none_called, opening-state}
 use Rattle.xa_races.proofs.Histories.{Said, Remains}
 use Rattle.xa_races.proofs.Schedules.{goes}
 

@@ -1,0 +1,3 @@
+pub mod OverlapOutcomes
+pub mod OverlapSchedules
+pub mod OverlapSteps
