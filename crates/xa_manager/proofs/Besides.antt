@@ -1,7 +1,7 @@
 -- A manager whose sessions hold the other clients' beside them: its calls leave those alone, but for AT and SHOW.
-use Rattle.std.proofs.Common.{◌≡◌, ◌∙◌, ◌+◌, ℕ, zero, suc, List, [], ◌∷◌, ◌++◌, length, map, get_or, refl, ap, sym}
-use Rattle.std.proofs.Common.{subst, Result, Ok, Err, Some, inl, inr, ⊎_elim, arith}
-use Rattle.std.specs.Prelude.{◌⊎◌, true, slice_get, IfOk}
+use Rattle.std.proofs.Common.{◌≡◌, ◌∙◌, ◌+◌, ℕ, suc, List, [], ◌∷◌, ◌++◌, length, map, refl, ap, sym}
+use Rattle.std.proofs.Common.{subst, Result, Ok, Err, inl, inr, ⊎_elim, arith}
+use Rattle.std.specs.Prelude.{true, IfOk}
 use Rattle.xa_xid.specs.declared.statement.Statement.{Statement}
 use Rattle.xa_xid.specs.declared.statement.Statement.TheVariants.{Recover as RecoverStatement}
 use Rattle.xa_server.specs.declared.reply.Reply.{Reply}
@@ -21,7 +21,7 @@ use Rattle.xa_manager.specs.declared.response.Response.{Response}
 use Rattle.xa_manager.specs.declared.stage.Stage.{Stage}
 use Rattle.xa_manager.specs.Beside.{within, others_of, LeavesAlone, CarriesBeside, PerformsBeside}
 use Rattle.xa_manager.specs.Carried.{WholeManager, SpeaksAlone, Carries}
-use Rattle.xa_manager.specs.Said.{IsGiven, IsListed, RepliesAs, reply_of}
+use Rattle.xa_manager.specs.Said.{IsGiven, IsListed, reply_of}
 use Rattle.xa_manager.specs.Whole.{Performs}
 use Rattle.xa_manager.proofs.Passes.{map_within}
 use Rattle.xa_manager.proofs.Said.{get_before, get_last}

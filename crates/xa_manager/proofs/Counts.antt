@@ -1,9 +1,9 @@
 -- The calls that lines make, the stops in them, and the limits at a stop.
-use Rattle.std.proofs.Common.{◌≡◌, ◌<◌, ◌≤◌, ◌+◌, ◌-◌, ◌∙◌, ℕ, zero, suc, min, max, List, [], ◌∷◌, ◌++◌, Option, Some}
-use Rattle.std.proofs.Common.{None, length, take, drop, get_or, map, All}
+use Rattle.std.proofs.Common.{◌≡◌, ◌<◌, ◌≤◌, ◌+◌, ◌-◌, ◌∙◌, ℕ, zero, suc, min, max, List, [], ◌∷◌, ◌++◌, Some}
+use Rattle.std.proofs.Common.{length, drop, get_or, map, All}
 use Rattle.std.proofs.Common.{refl, ap, sym, subst, arith, add-one}
 use Rattle.std.specs.Prelude.{if◌then◌else◌}
-use Rattle.std.specs.Prelude.{slice_get, unwrap_or, sum, true, false, Bool}
+use Rattle.std.specs.Prelude.{slice_get, sum, true, false, Bool}
 use Rattle.std.proofs.lemmas.Grind.{common_steps}
 use Rattle.std.proofs.lemmas.List.{drop_more, drop_all}
 use Rattle.std.proofs.lemmas.List.Elements.{All-push, All-append}

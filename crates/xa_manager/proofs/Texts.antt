@@ -1,8 +1,8 @@
 -- The texts of faulty lines, of rows and of stops.
-use Rattle.std.proofs.Common.{◌≡◌, ◌<◌, ◌≤◌, ◌+◌, ◌∙◌, ℕ, zero, suc, List, [], ◌∷◌, ◌++◌, Some, length, take, drop}
+use Rattle.std.proofs.Common.{◌≡◌, ◌<◌, ◌≤◌, ◌+◌, ◌∙◌, ℕ, List, [], ◌∷◌, ◌++◌, Some, length, drop}
 use Rattle.std.proofs.Common.{get_or, map}
 use Rattle.std.proofs.Common.{refl, ap, sym, subst, arith, append_assoc, append-nil}
-use Rattle.std.specs.Prelude.{slice_get, true, ◌==◌, codes, decimal, Option, None, Result, Ok, Err, IfSome, IfOk, IfErr}
+use Rattle.std.specs.Prelude.{true, ◌==◌, codes, decimal, Option, None, Result, Ok, Err, IfSome, IfOk, IfErr}
 use Rattle.std.specs.Prelude.{OnOk, OnErr}
 use Rattle.std.specs.Io.KnownBytes.{Appends, Consumes, IsAtEnd}
 use Rattle.xa_lines.specs.declared.script_fault.ScriptFault.{ScriptFault}

@@ -3,6 +3,7 @@
 --     MakesCalls       how many calls of sessions a line makes in each store
 --     stops_in         the stops of calls
 --     limits_for       how many of a line's first calls go to each store
+--     IsRecovered      a coordinator was stopped, and a new one recovered
 --     ended_calls      calls, and then STOP and RECOVER
 --     stopped_calls    the calls that are carried out for a stop
 --     IsLeft           what a recovery leaves after calls
@@ -23,7 +24,7 @@ use Rattle.xa_manager.specs.declared.counted_store.CountedStore.{CountedStore}
 use Rattle.xa_manager.specs.declared.stop.Stop.{Stop}
 use Rattle.xa_manager.specs.Counted.{state_in}
 use Rattle.xa_manager.specs.Rows.{rows_text}
-use Rattle.xa_manager.specs.Runs.{Managing, IsRun, IsGiven, is_unanswered, AreAnswered}
+use Rattle.xa_manager.specs.Runs.{Managing, IsAnswered, IsRun, IsGiven, is_unanswered, AreAnswered}
 
 -- a call that the coordinator carries out: not another client's, and not a blank line or a comment
 abbrev pub is_own : Call → Bool
@@ -79,6 +80,16 @@ limits_for (there ∷ made) calls = min there calls ∷ limits_for made (calls -
 unfoldable pub fails_from : ℕ → List ℕ → List Call
 fails_from store [] = []
 fails_from store (limit ∷ limits) = Fail store limit ∷ fails_from (store + 1) limits
+
+-- the coordinator was stopped, and a new one recovered, to which each session answered: this is its answer
+pub record IsRecovered (old : Managing) (answer : List ℕ) (new : Managing) : Type 0 where
+  pub stopped : Response
+  pub mid : Managing
+  pub stops : IsAnswered old StopCall stopped mid
+  pub response : Response
+  pub recovers : IsAnswered mid Recover response new
+  pub answered : is_unanswered response ≡ false
+  pub text_is : answer ≡ answer_text new.decisions response
 
 -- calls, and after them STOP and RECOVER
 abbrev pub ended_calls : List Call → List Call

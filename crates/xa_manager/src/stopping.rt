@@ -1,14 +1,16 @@
 //! Stopping a coordinator, and what its recovery leaves.
 ghost use Rattle.std.specs.Prelude.{◌≡◌, ◌≤◌, ◌<◌, ◌++◌, ◌∷◌, [], List, ℕ, All, length, map, vec_len, take, drop};
 ghost use Rattle.std.specs.Prelude.{IfOk};
+ghost use Rattle.xa_lines.specs.Answer.{bytes_of};
 ghost use Rattle.xa_manager.specs.Calls.{IsWritten};
 ghost use Rattle.xa_manager.specs.Managed.{whole_of};
 ghost use Rattle.xa_manager.specs.declared.call.Call.{Call as CallOf};
 ghost use Rattle.xa_manager.specs.declared.call.Call.TheVariants.{Stop as StopCall, Recover as RecoverCall};
 ghost use Rattle.xa_manager.specs.declared.response.Response.{Response as ResponseOf};
-ghost use Rattle.xa_manager.specs.Rows.{AreNamed};
+ghost use Rattle.xa_manager.specs.Rows.{AreNamed, rows_text};
+ghost use Rattle.xa_manager.specs.Counted.{state_in};
 ghost use Rattle.xa_manager.specs.Runs.{IsAnswered, HasCarried};
-ghost use Rattle.xa_manager.specs.Stops.{IsLeft, limits_for as limits_of, fails_from, stopped_calls, ended_calls};
+ghost use Rattle.xa_manager.specs.Stops.{IsRecovered, IsLeft, limits_for as limits_of, fails_from, stopped_calls, ended_calls};
 ghost use Rattle.xa_manager.specs.Stops.{IsWhole, IsCutShort, IsCutAt};
 
 use crate::carrying::{carry_out, is_unanswered, limit_each};
@@ -19,6 +21,7 @@ use crate::{Call, CountedStore, Manager, Response, Stop, write_response};
 use std::alloc::{AllocError, Global};
 use std::sync::Wait;
 use xa_coordinator::{Fused, LastingStore};
+use xa_lines::Answer;
 use xa_xid::{Key, NoMemory};
 
 /// Stops the coordinator.
@@ -43,12 +46,45 @@ fn recover<R: Wait>(
     manager.answer_beside(rt, alloc, &Call::Recover)
 }
 
+/// Stops the coordinator, has a new one recover, and returns its answer.
+fn recovered<R: Wait>(
+    rt: &R,
+    alloc: Global,
+    manager: &mut Manager<Fused<CountedStore>, LastingStore>,
+) -> Result<Answer, NoMemory>
+    ensures { IfOk result (λ answer. IsRecovered (whole_of manager.old) (bytes_of answer) (whole_of manager.new)) }
+{
+    // What is shown is what the recovery finds. The response to STOP says nothing about that.
+    let _stopped = stop(rt, alloc, manager)?;
+    let response = recover(rt, alloc, manager)?;
+    // No session has a limit after the stop, so memory was refused.
+    if is_unanswered(&response) {
+        return Err(AllocError);
+    }
+    write_response(alloc, Vec::new(alloc), manager.decisions(), &response)
+}
+
+/// Appends an answer and the rows to a text.
+fn with_shown(
+    mut text: Vec<u8>,
+    answer: &[u8],
+    stores: &[CountedStore],
+    keys: &[Vec<Key>],
+) -> Result<Vec<u8>, NoMemory>
+    requires { length stores.now ≡ length keys.now }
+    ensures { IfOk result (λ longer. (calls : List CallOf) → AreNamed calls (map (λ one. one.items) keys.now)
+        → longer.items ≡ text.items ++ (answer.now ++ rows_text calls 0 (map state_in stores.now))) }
+{
+    text.extend_from_slice(answer)?;
+    with_rows_of_each(text, stores, keys)
+}
+
 /// Stops the coordinator, has a new one recover, and appends its answer and the rows to a text.
 fn with_recovery<R: Wait>(
     rt: &R,
     alloc: Global,
     mut manager: Manager<Fused<CountedStore>, LastingStore>,
-    mut text: Vec<u8>,
+    text: Vec<u8>,
     keys: &[Vec<Key>],
 ) -> Result<Vec<u8>, NoMemory>
     requires { vec_len manager.coordinator.stores ≡ length keys.now }
@@ -58,17 +94,9 @@ fn with_recovery<R: Wait>(
         × ((stopped : ResponseOf) × (left.responses ≡ before.responses ++ stopped ∷ []))
         × (longer.items ≡ text.items ++ rest)) }
 {
-    // What is shown is what the recovery finds. The response to STOP says nothing about that.
-    let _stopped = stop(rt, alloc, &mut manager)?;
-    let response = recover(rt, alloc, &mut manager)?;
-    // No session has a limit after the stop, so memory was refused.
-    if is_unanswered(&response) {
-        return Err(AllocError);
-    }
-    let answer = write_response(alloc, Vec::new(alloc), manager.decisions(), &response)?;
-    text.extend_from_slice(answer.as_slice())?;
+    let answer = recovered(rt, alloc, &mut manager)?;
     let stores = fed_stores(alloc, manager)?;
-    let longer = with_rows_of_each(text, stores.as_slice(), keys)?;
+    let longer = with_shown(text, answer.as_slice(), stores.as_slice(), keys)?;
     Ok(longer)
 }
 

@@ -1,5 +1,4 @@
-use Rattle.std.proofs.Common.{◌≡◌, ◌∙◌, ◌≤◌, ℕ, List, subst, length, arith}
-use Rattle.xa_manager.specs.declared.call.Call.{Call}
+use Rattle.std.proofs.Common.{◌∙◌, ◌≤◌, ℕ, List, subst, length, arith}
 use Rattle.xa_manager.specs.Stops.{IsLeft, IsCutAt, limits_for, stopped_calls}
 use Rattle.xa_manager.proofs.Runs.{left_whole_at, left_cut_at}
 use Rattle.xa_manager.proofs.stopping.with_stop.Goals as goal
