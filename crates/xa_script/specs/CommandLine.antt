@@ -220,83 +220,41 @@ IsRunsOf runs (Some count) = IsSomeAnd runs (IsLimitText count)
 -- the job is a race of the capacity that a value's text is, in the schedule that two others give, over a store without
 -- an end where a fourth says so, and as often as a fifth says
 abbrev pub IsRaceOf : (capacity together shuffle renew runs : Option Text) → Job → Type 0
-IsRaceOf capacity together shuffle renew runs Run = ⊥
 IsRaceOf capacity together shuffle renew runs (Race room schedule renews count) =
     IsSomeAnd capacity (IsCapacityText room) × IsScheduleOf together shuffle schedule × IsFlagOf renew renews
     × IsRunsOf runs count
-IsRaceOf capacity together shuffle renew runs (Coordinate stores room fixed) = ⊥
-IsRaceOf capacity together shuffle renew runs Serve = ⊥
-IsRaceOf capacity together shuffle renew runs Show = ⊥
-IsRaceOf capacity together shuffle renew runs (Judge limit explain json strict shrink) = ⊥
-IsRaceOf capacity together shuffle renew runs (Explore limit) = ⊥
-IsRaceOf capacity together shuffle renew runs (Stops stores room) = ⊥
-IsRaceOf capacity together shuffle renew runs (Audit json) = ⊥
+IsRaceOf capacity together shuffle renew runs job = ⊥
 
 -- the job is of calls over as many stores, with as much room in each, as two values' texts are, and with histories that
 -- end there where a third says so
 abbrev pub IsCoordinateOf : (stores capacity fixed : Option Text) → Job → Type 0
-IsCoordinateOf stores capacity fixed Run = ⊥
-IsCoordinateOf stores capacity fixed Serve = ⊥
-IsCoordinateOf stores capacity fixed Show = ⊥
-IsCoordinateOf stores capacity fixed (Race room schedule renews count) = ⊥
-IsCoordinateOf stores capacity fixed (Judge limit explain json strict shrink) = ⊥
-IsCoordinateOf stores capacity fixed (Explore limit) = ⊥
-IsCoordinateOf stores capacity fixed (Stops count room) = ⊥
-IsCoordinateOf stores capacity fixed (Audit json) = ⊥
 IsCoordinateOf stores capacity fixed (Coordinate count room ends) =
     IsSomeAnd stores (IsStoresText count) × IsSomeAnd capacity (IsCapacityText room) × IsFlagOf fixed ends
+IsCoordinateOf stores capacity fixed job = ⊥
 
 -- the job is to stop a coordinator of as many stores, with as much room in each, as two values' texts are
 abbrev pub IsStopsOf : (stores capacity : Option Text) → Job → Type 0
-IsStopsOf stores capacity Run = ⊥
-IsStopsOf stores capacity Serve = ⊥
-IsStopsOf stores capacity Show = ⊥
-IsStopsOf stores capacity (Race room schedule renews count) = ⊥
-IsStopsOf stores capacity (Judge limit explain json strict shrink) = ⊥
-IsStopsOf stores capacity (Explore limit) = ⊥
-IsStopsOf stores capacity (Audit json) = ⊥
-IsStopsOf stores capacity (Coordinate count room ends) = ⊥
 IsStopsOf stores capacity (Stops count room) =
     IsSomeAnd stores (IsStoresText count) × IsSomeAnd capacity (IsCapacityText room)
+IsStopsOf stores capacity job = ⊥
 
 -- the job is to judge, with the limit that a value's text is, with reasons where a second says so, as an object of JSON
 -- where a third does, with calls tested where a fourth does, and with a smaller record where a fifth does
 abbrev pub IsJudgeOf : (limit explain json strict shrink : Option Text) → Job → Type 0
-IsJudgeOf limit explain json strict shrink Run = ⊥
-IsJudgeOf limit explain json strict shrink Serve = ⊥
-IsJudgeOf limit explain json strict shrink Show = ⊥
-IsJudgeOf limit explain json strict shrink (Race room schedule renews count) = ⊥
-IsJudgeOf limit explain json strict shrink (Coordinate count room fixed) = ⊥
 IsJudgeOf limit explain json strict shrink (Judge kept explains writes tests shrinks) =
     IsSomeAnd limit (IsLimitText kept) × IsFlagOf explain explains × IsFlagOf json writes
     × IsFlagOf strict tests × IsFlagOf shrink shrinks
-IsJudgeOf limit explain json strict shrink (Explore kept) = ⊥
-IsJudgeOf limit explain json strict shrink (Stops count room) = ⊥
-IsJudgeOf limit explain json strict shrink (Audit object) = ⊥
+IsJudgeOf limit explain json strict shrink job = ⊥
 
 -- the job is to explore, with the limit that a value's text is
 abbrev pub IsExploreOf : (limit : Option Text) → Job → Type 0
-IsExploreOf limit Run = ⊥
-IsExploreOf limit Serve = ⊥
-IsExploreOf limit Show = ⊥
-IsExploreOf limit (Race room schedule renews count) = ⊥
-IsExploreOf limit (Coordinate count room fixed) = ⊥
-IsExploreOf limit (Judge kept explain json strict shrink) = ⊥
 IsExploreOf limit (Explore kept) = IsSomeAnd limit (IsLimitText kept)
-IsExploreOf limit (Stops count room) = ⊥
-IsExploreOf limit (Audit json) = ⊥
+IsExploreOf limit job = ⊥
 
 -- the job is to audit, as an object of JSON where a value says so
 abbrev pub IsAuditOf : (json : Option Text) → Job → Type 0
-IsAuditOf json Run = ⊥
-IsAuditOf json Serve = ⊥
-IsAuditOf json Show = ⊥
-IsAuditOf json (Race room schedule renews count) = ⊥
-IsAuditOf json (Coordinate count room fixed) = ⊥
-IsAuditOf json (Judge kept explain object strict shrink) = ⊥
-IsAuditOf json (Explore kept) = ⊥
-IsAuditOf json (Stops count room) = ⊥
 IsAuditOf json (Audit writes) = IsFlagOf json writes
+IsAuditOf json job = ⊥
 
 -- the job of a subcommand, with what `clap` found for its arguments
 abbrev pub IsJob : Job → Text × List Row → Type 0
@@ -348,15 +306,8 @@ CanBeDone (Audit json) = Unit {0}
 
 -- whether an audit is written as an object of JSON, if the job is to audit
 abbrev pub audit_asked : Job → Option Bool
-audit_asked Run = None
-audit_asked (Race capacity schedule renews runs) = None
-audit_asked (Coordinate stores capacity fixed) = None
-audit_asked Serve = None
-audit_asked Show = None
-audit_asked (Judge limit explain json strict shrink) = None
-audit_asked (Explore limit) = None
-audit_asked (Stops stores capacity) = None
 audit_asked (Audit json) = Some json
+audit_asked job = None
 
 -- the job reads one input: it isn't to audit
 abbrev pub ReadsInput : Job → Type 0

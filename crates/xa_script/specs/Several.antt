@@ -1,11 +1,12 @@
 -- What is written for several records that are judged in one call, and how that ends.
 --     IsVerdictOn          a verdict is right for a record
+--     ListsOne             one record more was judged and listed
 --     IsListing            a text is what is written for records, and a status is the one that counts
 --     AppendsListing       the writer got such a text
 --     ListsAll             the same, with what `--strict` makes of the status
 --     AfterListing         what a fault leaves in the writer
 --     judging_asked        what is asked of judging, if the job is to judge
-use Rattle.std.specs.Prelude.{◌≡◌, ◌++◌, ◌∷◌, [], ℕ, Bool, Option, Some, None, List, length, map}
+use Rattle.std.specs.Prelude.{◌≡◌, ◌+◌, ◌++◌, ◌∷◌, [], ℕ, Bool, Option, Some, None, List, length, map, IfSome}
 use Rattle.std.specs.Io.KnownBytes.{Keeps, Appends}
 use Rattle.xa_lines.specs.Transcript.{AppendsPrefix}
 use Rattle.xa_lines.specs.declared.script_fault.ScriptFault.{ScriptFault}
@@ -13,16 +14,26 @@ use Rattle.xa_lines.specs.declared.script_fault.ScriptFault.TheVariants.{Write}
 use Rattle.xa_server.specs.State.{State}
 use Rattle.xa_record.specs.declared.allowance.Allowance.{Allowance}
 use Rattle.xa_record.specs.declared.asked.Asked.{Asked}
-use Rattle.xa_script.specs.Listing.{worst_from, pieces, heading}
+use Rattle.xa_script.specs.Listing.{worse, worst_from, piece, pieces, heading}
 use Rattle.xa_script.specs.Status.{AppendsVerdict, asked_of, strict_status}
 use Rattle.xa_script.specs.declared.command.Job.{Job}
-use Rattle.xa_script.specs.declared.command.Job.TheVariants.{Run, Race, Coordinate, Serve, Show, Judge, Explore, Stops}
-use Rattle.xa_script.specs.declared.command.Job.TheVariants.{Audit}
+use Rattle.xa_script.specs.declared.listed.Listed.{Listed}
+use Rattle.xa_script.specs.declared.command.Job.TheVariants.{Judge}
 
 -- a status and a text are what judging this record alone comes to
 abbrev pub IsVerdictOn : State → List Allowance → Asked → (seen : List ℕ) → ℕ × List ℕ → Type 0
 IsVerdictOn base allowances asked seen verdict =
     AppendsVerdict base allowances asked verdict.0 (Some seen) (Some []) (Some verdict.1)
+
+-- one record more was judged: its verdict is right, if what the reader held is known, what is written for it comes
+-- behind what was written for those before, and the status that counts is the worse one
+pub record ListsOne (base : State) (allowances : List Allowance) (asked : Asked) (seen : Option (List ℕ))
+    (name : List ℕ) (old new : Listed) : Type 0 where
+  pub count : new.count ≡ old.count + 1
+  pub tap : new.tap ≡ old.tap
+  pub taken : IfSome seen (λ text. (verdict : ℕ × List ℕ) × IsVerdictOn base allowances asked text verdict
+      × (new.status ≡ worse old.status verdict.0)
+      × (new.text.items ≡ old.text.items ++ piece old.tap (old.count + 1) name verdict))
 
 -- a verdict on each record, in the same order
 abbrev pub AreVerdicts : State → List Allowance → Asked → (records : List (List ℕ)) → List (ℕ × List ℕ) → Type 0
@@ -67,12 +78,5 @@ AfterListing base allowances asked tap names records fault old new = Keeps old n
 
 -- what is asked of judging, if the job is to judge
 abbrev pub judging_asked : Job → Option Asked
-judging_asked Run = None
-judging_asked (Race capacity schedule renews runs) = None
-judging_asked (Coordinate stores capacity fixed) = None
-judging_asked Serve = None
-judging_asked Show = None
 judging_asked (Judge limit explain json strict shrink) = Some (asked_of limit explain json strict shrink)
-judging_asked (Explore limit) = None
-judging_asked (Stops stores capacity) = None
-judging_asked (Audit json) = None
+judging_asked job = None

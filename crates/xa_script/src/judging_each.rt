@@ -1,14 +1,14 @@
 //! Judges several records, and writes what each came to.
-ghost use Rattle.std.specs.Prelude.{◌≡◌, ◌≤◌, ◌<◌, ◌+◌, ◌++◌, [], ℕ, List, Some, IfOk, IfErr, OnOk};
+ghost use Rattle.std.specs.Prelude.{◌≡◌, ◌≤◌, ◌<◌, [], ℕ, List, Some, IfOk, IfErr, OnOk};
 ghost use Rattle.std.specs.Prelude.{IfSome, map, length, option_map, unwrap_or};
 ghost use Rattle.xa_script.specs.CommandLine.{IsLimit};
-ghost use Rattle.xa_script.specs.Several.{IsVerdictOn, IsListing, ListsAll, AfterListing};
-ghost use Rattle.xa_script.specs.Listing.{heading as heading_of, piece, worse as worse_of};
+ghost use Rattle.xa_script.specs.Several.{IsVerdictOn, ListsOne, IsListing, ListsAll, AfterListing};
+ghost use Rattle.xa_script.specs.Listing.{heading as heading_of};
 
+use crate::from_reader::looked_at;
 use crate::judging_read::judge_read;
 use crate::listed::Listed;
 use crate::listing::{heading, push_piece, worse};
-use crate::looked_at;
 use crate::manner::Manner;
 use crate::telling::Telling;
 use crate::undecided::{is_undecided, tell_limit};
@@ -79,14 +79,8 @@ fn add_verdict<I: Read + Drop, R: Clock + Eprint + Alloc<A = Global>>(
 ) -> Result<(), ScriptFault>
     requires limit { IsLimit asked.limit }
     requires room { listed.old.count < 1000 }
-    ensures count { OnOk result (listed.new.count ≡ listed.old.count + 1) }
-    ensures tap { OnOk result (listed.new.tap ≡ listed.old.tap) }
-    ensures taken { OnOk result (IfSome (I.remaining input.old.inner)
-        (λ seen. (verdict : ℕ × List ℕ) × IsVerdictOn base.now allowances.now asked seen verdict
-        × (listed.new.status ≡ worse_of listed.old.status verdict.0)
-        × (listed.new.text.items ≡ listed.old.text.items
-        ++ piece listed.old.tap (listed.old.count + 1)
-        (unwrap_or (option_map (λ name. name.now) input.old.name) []) verdict))) }
+    ensures listed { OnOk result (ListsOne base.now allowances.now asked (I.remaining input.old.inner)
+        (unwrap_or (option_map (λ name. name.now) input.old.name) []) listed.old listed.new) }
     ensures fault { IfErr result (λ fault. fault ≡ ScriptFault.Write → ⊥) }
 {
     let name = input.name();
@@ -110,14 +104,8 @@ fn list_next<I: Read + Drop, R: Clock + Eprint + Alloc<A = Global>>(
 ) -> Result<(), ScriptFault>
     requires limit { IsLimit asked.limit }
     requires room { listed.old.count < 1000 }
-    ensures count { OnOk result (listed.new.count ≡ listed.old.count + 1) }
-    ensures tap { OnOk result (listed.new.tap ≡ listed.old.tap) }
-    ensures taken { OnOk result (IfSome (I.remaining input.entry.inner)
-        (λ seen. (verdict : ℕ × List ℕ) × IsVerdictOn base.now allowances.now asked seen verdict
-        × (listed.new.status ≡ worse_of listed.old.status verdict.0)
-        × (listed.new.text.items ≡ listed.old.text.items
-        ++ piece listed.old.tap (listed.old.count + 1)
-        (unwrap_or (option_map (λ name. name.now) input.entry.name) []) verdict))) }
+    ensures listed { OnOk result (ListsOne base.now allowances.now asked (I.remaining input.entry.inner)
+        (unwrap_or (option_map (λ name. name.now) input.entry.name) []) listed.old listed.new) }
     ensures fault { IfErr result (λ fault. fault ≡ ScriptFault.Write → ⊥) }
 {
     add_verdict(rt, base, listed, &mut input, allowances, asked, quiet)

@@ -40,13 +40,13 @@ loop-input-preserved g c =
     let old = c.loop-input.listed in
     let new = c.list_next.new.listed in
     record {
-      count = omega (arith, so_far.count, c.in_ok-list_next.ensures.count, length-append yielded (input ∷ []));
-      tap = c.in_ok-list_next.ensures.tap ∙ so_far.tap;
+      count = omega (arith, so_far.count, c.in_ok-list_next.ensures.listed.count, length-append yielded (input ∷ []));
+      tap = c.in_ok-list_next.ensures.listed.tap ∙ so_far.tap;
       taken = list_more yielded input (λ source. g.I.Read.remaining source.inner)
           (λ source. unwrap_or (option_map (λ name. name.now) source.name) []) c.args.base.now c.args.allowances.now
           c.args.asked c.args.tap old.tap (heading c.args.tap (length c.args.inputs.items)) old.count old.status
           new.status old.text.items new.text.items so_far.tap so_far.count so_far.taken
-          c.in_ok-list_next.ensures.taken;
+          c.in_ok-list_next.ensures.listed.taken;
     }
 
 pub returns-clause-listed : goal.returns-clause-listed

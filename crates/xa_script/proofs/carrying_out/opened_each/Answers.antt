@@ -1,5 +1,5 @@
 use Rattle.std.proofs.Common.{◌∷◌, [], ap, length, length-append, arith}
-use Rattle.xa_script.proofs.opened_each.Goals as goal
+use Rattle.xa_script.proofs.carrying_out.opened_each.Goals as goal
 
 pub loop-name-preserved : goal.loop-name-preserved
 loop-name-preserved g c =

@@ -1,7 +1,7 @@
 use Rattle.std.proofs.Common.{subst}
 use Rattle.std.specs.Io.Buffered.{writer_contents}
 use Rattle.xa_script.specs.Jobs.{HasDone}
-use Rattle.xa_script.proofs.carry_out_to.Goals as goal
+use Rattle.xa_script.proofs.from_reader.carry_out_to.Goals as goal
 
 pub returns : goal.returns
 returns g c = record {
